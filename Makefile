@@ -24,7 +24,7 @@ test:
 play:
 	tools/play $(PROGRAM)
 
-# The jobs of lines whose called leg has no peer of its own, 100 times and behind a crash with 20 of them, and a machine that rings for
+# The jobs of lines whose called leg has no peer of its own, 100 times and after a crash with 20 of them, and a machine that rings for
 # 60 s. It wants half an hour.
 asked:
 	FAXGATE_TIMES=100 FAXGATE_JOBS=20 FAXGATE_RINGS=60 tools/play $(PROGRAM) --slow 4 -k asked
@@ -45,7 +45,7 @@ format:
 
 # Refuses each allocation of a run in turn, both ways and in both codings, of scripts, of a page over sockets, and each of a
 # page that is read and written in pieces, of faults that the calls for C tell without memory, of a whole call through the
-# gateway, and of one that is driven over a wire. It wants a C compiler, and a minute at most behind the proofs of the
+# gateway, and of one that is driven over a wire. It wants a C compiler, and a minute at most after the proofs of the
 # crates.
 memory: all bench/c_tests
 	tools/refuse-memory $(PROGRAM) samples/hello.hex page
@@ -68,7 +68,7 @@ memory: all bench/c_tests
 # time the next process has to find what was told as put, and at most the one under way besides. Then kills `faxgate serve` with
 # machines on its lines, 20 times: each page whose MCF its caller saw has to come in the end. Then turns an octet of a spool, 40
 # times, and, as root, fills the disk under one: nothing wrong may be sent. It wants Python 3, a C compiler, and some twenty
-# minutes behind the proofs of the crates.
+# minutes after the proofs of the crates.
 crash: all
 	cd crates/spool_tests && $(RT) test > /dev/null
 	tools/crash crates/spool_tests/out/spool_tests_tests

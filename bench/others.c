@@ -127,7 +127,7 @@ size_t libtiff_write(const uint8_t *pixels, uint16_t width, uint32_t rows, bool 
     TIFFGetField(made, TIFFTAG_STRIPBYTECOUNTS, &counts);
     uint64_t place = offsets[0];
     TIFFClose(made);
-    /* the return to control goes behind the strip where the file is closed */
+    /* the return to control goes after the strip where the file is closed */
     TIFF *read = opened(&file, "r");
     TIFFGetField(read, TIFFTAG_STRIPBYTECOUNTS, &counts);
     size_t count = (size_t)counts[0];

@@ -22,7 +22,7 @@ class Client:
         self.events = collections.deque()
 
     def say(self, word):
-        """What a word is answered with: `ok`, and what is told behind it."""
+        """What a word is answered with: `ok`, and what is told after it."""
         self.stream.sendall(word.encode() + b"\n")
         while (line := next(self.lines)).startswith("{"):
             self.events.append(json.loads(line))
@@ -47,9 +47,9 @@ def place(client, line, called):
 
 def main(path, caller, called):
     client = Client(path)
-    # first it is told what is on: behind a crash of either side calls of jobs may be asked for (`dial`), each with its tag
+    # first it is told what is on: after a crash of either side calls of jobs may be asked for (`dial`), each with its tag
     client.say("events")
-    # a line that is idle takes the call; `octets=300` behind the tag where the caller's SDP has `T38FaxMaxDatagram:300`
+    # a line that is idle takes the call; `octets=300` after the tag where the caller's SDP has `T38FaxMaxDatagram:300`
     _, line, _ = client.say(f"ring any {TAG}")
     # here the element answers with T.38 at the address of the line's calling leg
     client.say(f"peer {line} calling {caller}")

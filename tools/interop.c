@@ -4,7 +4,7 @@
 
    usage: interop FAXGATE [NUMBER]    (the proved program; that one call alone, whose script is then printed)
 
-   A call is a script that grows: each round of 40 ms the terminals' datagrams are put behind it, and a tick. The program
+   A call is a script that grows: each round of 40 ms the terminals' datagrams are put after it, and a tick. The program
    is run on the whole script, and what it prints more than on the last one is what the gateway gave in this round. */
 #include "terminals.h"
 #include <sys/wait.h>

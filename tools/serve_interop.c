@@ -88,7 +88,7 @@ static void hear_socket(int s, Peer *p, int lost_percent) {
         if (count > 0 && p && (int)chance(100) >= lost_percent) receive(p, octets, (int)count);
 }
 
-/* A media gateway, and behind it a fax machine on a telephone line. */
+/* A media gateway, and after it a fax machine on a telephone line. */
 static Peer *new_modem_peer(const Setting *s, const char *gets, void (*emit)(Peer *, const uint8_t *, int), void *to) {
     Peer *p = new_peer_of(s->lost_percent, emit, to);
     p->gateway = t38_gateway_init(NULL, send_packet, p);
@@ -206,7 +206,7 @@ static void prepare(Line *l, int i, const Kind *kind) {
     write_tiff(l->sent, &l->setting, l->pages);
 }
 
-/* The caller of a line hangs up a second behind its first page, in the middle of the second. */
+/* The caller of a line hangs up a second after its first page, in the middle of the second. */
 static void may_hang_up(Line *l, int i, Server *server) {
     if (l->has_hung_up || l->pages_kept == 0 || ++l->steps < STEPS_TO_A_HANGUP) return;
     l->has_hung_up = 1;
@@ -260,7 +260,7 @@ static void close_line(Line *l, const Kind *kind) {
     if (!kind->is_direct) close(l->calling_socket), close(l->called_socket);
 }
 
-/* Calls of one kind, all at once; a line of the table. It answers how many pages differ behind a gateway. */
+/* Calls of one kind, all at once; a line of the table. It answers how many pages differ after a gateway. */
 static int play(const Kind *kind, int count) {
     static Server server;
     char configuration[96];

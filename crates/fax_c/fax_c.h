@@ -14,7 +14,7 @@
    Threads. The calls share no state. They may run in several threads at once, as long as none writes a
    slice that another reads or writes.
 
-   Linking. crates/fax_c/out/libfax_c.a (`rt lib` in crates/fax_c), and behind it liblibc_c.a of the Rattle
+   Linking. crates/fax_c/out/libfax_c.a (`rt lib` in crates/fax_c), and after it liblibc_c.a of the Rattle
    kit, in the folder `c` beside its START-HERE.md: see the Makefile. example.c, beside this file, is a whole
    program. */
 #ifndef FAX_C_H
@@ -38,9 +38,9 @@ enum {
     FAX_DONE = 0,
     /* no EOL in the octets */
     FAX_NO_EOL = 1,
-    /* a line that cannot be read: behind so many rows as `rows` says */
+    /* a line that cannot be read: after so many rows as `rows` says */
     FAX_BAD_LINE = 2,
-    /* no whole return to control behind the rows */
+    /* no whole return to control after the rows */
     FAX_NO_RTC = 3,
     /* a page of no rows */
     FAX_EMPTY = 4,
@@ -51,7 +51,7 @@ enum {
     FAX_NO_ROOM = 7,
     /* the width is not 1728, 2048 or 2432 */
     FAX_NO_WIDTH = 8,
-    /* behind so many rows as `rows` says come no run lengths of a row */
+    /* after so many rows as `rows` says come no run lengths of a row */
     FAX_NO_RUNS = 9,
     /* least_bits is above FAX_MOST_LEAST_BITS */
     FAX_LEAST_BITS = 10

@@ -1,6 +1,6 @@
 """Calls of jobs that clients are asked for: lines whose called leg has no peer of the configuration.
 
-`make asked` plays them longer: FAXGATE_TIMES says how often a machine is called anew, FAXGATE_JOBS how many jobs wait behind a crash,
+`make asked` plays them longer: FAXGATE_TIMES says how often a machine is called anew, FAXGATE_JOBS how many jobs wait after a crash,
 FAXGATE_RINGS how many seconds a machine rings before it answers.
 """
 import json
@@ -32,7 +32,7 @@ EOL, WHITE_ROW = "000000000001", "01001101100110101"
 
 
 def page(rows):
-    """The text of a page of so many white rows: each behind an EOL, and six times EOL behind the last (T.4, 4.1)."""
+    """The text of a page of so many white rows: each after an EOL, and six times EOL after the last (T.4, 4.1)."""
     bits = (EOL + WHITE_ROW) * rows + 6 * EOL
     bits += "0" * (-len(bits) % 8)
     return int(bits, 2).to_bytes(len(bits) // 8, "big").hex()
@@ -139,7 +139,7 @@ class Places(Asked):
         self.assertLess(max([Datagram(octets).number for _, octets in second.hear_all(QUIET)], default=0), 5)
 
     def test_a_peer_is_forgotten_with_its_job(self):
-        """Behind the end of a job nothing goes to its machine, the last datagram sent again neither."""
+        """After the end of a job nothing goes to its machine, the last datagram sent again neither."""
         self.begin()
         first = self.machine()
         self.confirm(1, "first")
@@ -236,7 +236,7 @@ class Questions(Asked):
         self.assertEqual((counts["faxgate_jobs_delivered_total"], counts["faxgate_jobs_failed_total"]), (1, 1))
 
     def test_a_question_that_nobody_answers(self):
-        """It is refused behind `dial_seconds`, and the next job is asked for."""
+        """It is refused after `dial_seconds`, and the next job is asked for."""
         self.begin(dial_seconds=1)
         self.confirm(1, "first")
         self.confirm(2, "second")
@@ -288,7 +288,7 @@ class Questions(Asked):
 
 
 class Restored(Asked):
-    """Jobs that wait behind a crash."""
+    """Jobs that wait after a crash."""
 
     def leave(self, jobs):
         """A server is killed, and so many jobs wait, each of a page of as many rows as its number."""
@@ -310,7 +310,7 @@ class Restored(Asked):
         until(lambda: self.server.metrics()["faxgate_pages_kept"] == 0, what="the last job's end")
 
     def test_one_that_is_refused_is_gone(self):
-        """It is not sent behind the next start either."""
+        """It is not sent after the next start either."""
         self.leave(2)
         self.server.start()
         self.client = self.server.events()
@@ -325,7 +325,7 @@ class Restored(Asked):
         until(lambda: self.server.metrics()["faxgate_pages_kept"] == 0, what="the job's end")
 
     def test_the_next_call_has_its_own_tag(self):
-        """Behind the last restored job that of this life is asked for, with its own tag."""
+        """After the last restored job that of this life is asked for, with its own tag."""
         self.leave(1)
         self.server.start()
         self.client = self.server.events()

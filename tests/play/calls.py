@@ -43,7 +43,7 @@ def datagram(number, packet):
 
 
 def take(octets, at):
-    """The packet that stands at a place, as hex, and the place behind it."""
+    """The packet that stands at a place, as hex, and the place after it."""
     length, at = octets[at], at + 1
     if length & 0x80:
         length, at = (length & 0x7F) << 8 | octets[at], at + 1

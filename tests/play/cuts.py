@@ -18,7 +18,7 @@ def captured(octets):
 
 
 def script(datagrams, last):
-    """The script of a caller's datagrams, each behind its tick, with ticks up to 40 s behind the tick of the last."""
+    """The script of a caller's datagrams, each after its tick, with ticks up to 40 s after the tick of the last."""
     lines = ["R"]
     for moment in range(0, last + 40_001, 40):
         lines += [f"T {moment}", *datagrams.get(moment, [])]
@@ -33,7 +33,7 @@ TWO = (0, script({80: ["A 000101080000"]}, 80), NO_CALLED)
 
 
 class Cuts(unittest.TestCase):
-    """Behind a record a cut capture is whole; behind its head, or a block without a datagram, it has no datagram; anywhere else it
+    """After a record a cut capture is whole; after its head, or a block without a datagram, it has no datagram; anywhere else it
     is cut, and of fewer than four octets it is none."""
 
     def cut(self, name, without, one, two):

@@ -47,7 +47,7 @@ class Told(Play):
         self.assertTrue(999 <= second - first <= spent + 1, (first, second, spent))
 
     def test_a_slow_reader_is_told_what_it_lost(self):
-        """Behind the lines that wait it loses whole ones; it is told at their place how many, and they are counted."""
+        """After the lines that wait it loses whole ones; it is told at their place how many, and they are counted."""
         lines = [self.line(f"a{i}") for i in range(60)]
         for line in lines:
             line.calling_peer = lines[0].calling_peer
@@ -204,7 +204,7 @@ class Kinds(Play):
 
     @on_time
     def test_turns_that_are_late(self):
-        """Behind a rest of the process of less than 1 s turns are made at once; behind a longer one time is skipped."""
+        """After a rest of the process of less than 1 s turns are made at once; after a longer one time is skipped."""
         self.begin()
         os.kill(self.server.process.pid, signal.SIGSTOP)
         time.sleep(0.4)

@@ -8,7 +8,7 @@ import t38
 from playing import OTHER_PAGE, PAGE, PATIENCE, SLOW, Playing, numbers
 from server import Line, Server, until
 
-# How long behind its first send a datagram is sent again, in seconds.
+# How long after its first send a datagram is sent again, in seconds.
 FULL, LAST, NONE = [0.02, 0.06, 0.14, 0.3, 0.62, 1.26], [0.04], []
 # By so much a moment may be another one, in seconds: the clock leaves parts of milliseconds out, and a turn lasts. What a machine
 # that is busy takes comes to it. Some lines are looked at, some times: of what is tried, one has to come out right.
@@ -39,7 +39,7 @@ class Watch(threading.Thread):
 
 class APageGoesThrough(Playing):
     def test_each_thing_is_told_once(self):
-        """What happens in a call and behind it is told once each; each leg's datagrams come from its own port."""
+        """What happens in a call and after it is told once each; each leg's datagrams come from its own port."""
         line = Line(self.ports)
         server, events = self.serve(line)
         called, calling = self.called(line), self.calling(line)
@@ -189,7 +189,7 @@ def are_quiet(legs):
 
 
 def are_at(moments, wanted, slack):
-    """Whether the sends of a datagram are the first one, and those that are wanted behind it; `slack`: they may be so much off."""
+    """Whether the sends of a datagram are the first one, and those that are wanted after it; `slack`: they may be so much off."""
     gaps = [moment - moments[0] for moment in moments[1:]]
     return len(gaps) == len(wanted) and all(want - EARLY - slack <= gap <= want + LATE + slack for gap, want in zip(gaps, wanted))
 
@@ -200,7 +200,7 @@ class WhatIsSentAgain(Playing):
     POLICIES = {"full": (FULL, 2, 7), "last": (LAST, 1, 2), "none": (NONE, 1, 1)}
 
     def test_the_last_datagram_of_each_leg(self):
-        """By each policy: on the calling leg an MCF, behind the end of its call, on the called leg a CNG that nobody answers."""
+        """By each policy: on the calling leg an MCF, after the end of its call, on the called leg a CNG that nobody answers."""
         lacking = {(policy, leg) for policy in self.POLICIES for leg in ("calling", "called")}
         for _ in range(TRIES):
             with Watch() as watch:
@@ -231,7 +231,7 @@ class WhatIsSentAgain(Playing):
 
     def last_of(self, line, leg, name, least):
         """The moments of the last datagram of a leg. Of those before it is seen that each comes as often as it may, of the same octets,
-        and none behind a newer one."""
+        and none after a newer one."""
         policy = line.name.split("-")[0]
         found, sends = numbers(leg.came), sends_of(leg.came)
         self.assertEqual(found, sorted(found), policy)
@@ -280,7 +280,7 @@ class ANewCallBegins(Playing):
 
     @staticmethod
     def came_behind(leg, moment, number):
-        """What came behind a moment, once the datagram of this number is the last of it."""
+        """What came after a moment, once the datagram of this number is the last of it."""
         leg.drain()
         behind = [it for it in leg.came if it[0] > moment]
         return behind if behind and numbers(behind)[-1] == number else None

@@ -22,7 +22,7 @@ def job(state, line, life, call, tag, first, pages, width=1728, resolution="stan
 
 
 def damaged(octets, before, sealed):
-    """A file in which the last octet of a record is another: the record behind `before`, of so many octets."""
+    """A file in which the last octet of a record is another: the record after `before`, of so many octets."""
     octets = bytearray(octets)
     octets[len(file_of(*before)) - len(SHUT) + HEADER + 32 + len(sealed) - 1] ^= 1
     return bytes(octets)

@@ -1,4 +1,4 @@
-"""A whole call with the usual pause behind a preamble, and with longer ones: the same packets, each at its moment."""
+"""A whole call with the usual pause after a preamble, and with longer ones: the same packets, each at its moment."""
 import os
 import subprocess
 import unittest
@@ -7,7 +7,7 @@ CHECK = f"A 00028131c201f0012b{'0' * 604}\n"  # the training check: a datagram w
 PAUSES = (40, 1000, 2000)  # milliseconds
 
 # A caller sends a page of one row, which goes on to a called machine, and is delivered. Lines that come are one text; a list has the
-# beginnings of the lines that a tick answers, 40 ms behind the one before, or where that gave a preamble, when the pause is over.
+# beginnings of the lines that a tick answers, 40 ms after the one before, or where that gave a preamble, when the pause is over.
 GIVES, FOLLOWS, COMES = "gives", "follows", "comes"
 STEPS = [
     (GIVES, ["a 00010106"]),

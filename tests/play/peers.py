@@ -30,7 +30,7 @@ class Peers(Play):
         self.assertEqual(self.server.say(word), ["ok"], word)
 
     def each(self, *deeds):
-        """What these deeds came to, done at once."""
+        """What these actions came to, done at once."""
         with ThreadPoolExecutor(len(deeds)) as pool:
             return [deed.result() for deed in [pool.submit(deed) for deed in deeds]]
 
@@ -66,7 +66,7 @@ class AnyLine(Peers):
         self.assertEqual((counts["faxgate_calls_total"], counts["faxgate_send_failures_total"]), (3, 0))
 
     def test_the_machine_of_the_call_before_gets_nothing(self):
-        """Behind the ring the line has no peer, until one is said."""
+        """After the ring the line has no peer, until one is said."""
         a1 = self.line(calling_peer=False)
         self.server = self.serve(a1)
         events = self.server.events()
@@ -92,7 +92,7 @@ class AnyLine(Peers):
 
 class AnyPeer(Peers):
     def test_the_first_sender_is_the_peer(self):
-        """Nothing is sent before its first datagram; another is not heard behind it, and gets nothing."""
+        """Nothing is sent before its first datagram; another is not heard after it, and gets nothing."""
         a1 = self.line(calling_peer=False)
         self.server = self.serve(a1)
         peer, other = self.machine(a1.calling), self.machine(a1.calling)
@@ -268,7 +268,7 @@ class Tags(Peers):
         return line
 
     def test_status_tells_the_tags_of_what_is_on(self):
-        """Behind the counts: the tag of the call that is on, and that of the job that is sent, where they have one."""
+        """After the counts: the tag of the call that is on, and that of the job that is sent, where they have one."""
         a1 = self.line(called_peer=False)
         self.server = self.serve(a1)
         events, caller = self.server.events(), Caller(self.peer(a1, "calling"))

@@ -13,7 +13,7 @@ CAPTURES = pathlib.Path(__file__).resolve().parent.parent / "captures"
 SECONDS = 60 * int(os.environ.get("FAXGATE_SLOW", "1"))  # how long a run may take
 SMALL = {**os.environ, "ASAN_OPTIONS": "quarantine_size_mb=1"}  # a program of `rt try` does not keep what it has freed
 LARGE = 64 * 2**20  # octets of a capture: four times what the other commands read
-# The datagram of either machine, behind the gateway's first one, in each of tests/captures.
+# The datagram of either machine, after the gateway's first one, in each of tests/captures.
 THREE = script({80: ["A 000101080000"], 120: ["B 00020106"]}, 120)
 
 

@@ -27,7 +27,7 @@ LOAD, JUMP_EQUAL, JUMP_NOT_BELOW, RETURN = 0x20, 0x15, 0x35, 0x06
 ALLOW, REFUSE = 0x7FFF0000, 0x00050000
 SET_NO_NEW_PRIVILEGES, SET_SECCOMP, FILTER_MODE = 38, 22, 2
 
-# The socket of the called machine: the third that a run makes, behind the three streams.
+# The socket of the called machine: the third that a run makes, after the three streams.
 ANSWERER = 5
 
 
@@ -86,7 +86,7 @@ class RefusedCalls(unittest.TestCase):
         self.expect(f"sendto:{ANSWERER}", PAGE, 5, "job 0 1728 standard 1 0 NoAnswer\n", told)
 
     def test_the_called_machine_sends_nothing_behind_its_dis(self):
-        """The datagrams up to its DIS have 23 octets at most, with what they repeat, and those behind it more."""
+        """The datagrams up to its DIS have 23 octets at most, with what they repeat, and those after it more."""
         told = "faxgate: the page was not delivered: NoReply\n"
         self.expect(f"sendto:{ANSWERER}:24", PAGE, 5, "job 0 1728 standard 1 0 NoReply\n", told)
 

@@ -71,7 +71,7 @@ class Answered(unittest.TestCase):
     """Servers that are no `faxgate serve`."""
 
     def answered(self, *pieces, word="status"):
-        """What a word comes to that is answered by these pieces, behind which the socket is closed."""
+        """What a word comes to that is answered by these pieces, after which the socket is closed."""
         with tempfile.TemporaryDirectory() as folder, socket.socket(socket.AF_UNIX) as listener:
             path, heard = os.path.join(folder, "control"), []
             listener.bind(path)
@@ -102,7 +102,7 @@ class Answered(unittest.TestCase):
         self.assertEqual(self.answered(word="stop"), (4, "", "faxgate: PATH: closed before the end of an answer\n"))
 
     def test_in_pieces(self):
-        """An answer ends with its last line, however it is cut, and nothing behind it is printed."""
+        """An answer ends with its last line, however it is cut, and nothing after it is printed."""
         for text in (b"line a1\nok 3\n", b"refused \n", b"ok\n"):
             pieces = [text[at : at + 1] for at in range(len(text))]
             with self.subTest(text=text):
@@ -116,6 +116,6 @@ class Answered(unittest.TestCase):
                 self.assertEqual(self.answered(text)[1:], (text.decode(), ""))
 
     def test_what_comes_behind_a_refused_word(self):
-        """Behind `stop` and `events` all is printed that comes, where they were done."""
+        """After `stop` and `events` all is printed that comes, where they were done."""
         self.assertEqual(self.answered(b"ok\n", b"more\n", b"refused\n", word="events"), (0, "ok\nmore\nrefused\n", ""))
         self.assertEqual(self.answered(b"refused 3 NoMemory\nmore\n", word="events"), (1, "refused 3 NoMemory\n", ""))

@@ -179,7 +179,7 @@ class Client:
             octets = octets[os.write(self._writes, octets[:4096]):]
 
     def line(self, within=LONGEST):
-        """The next line, without its end; None where none comes, or the other side is gone."""
+        """The next line, without its end; None where none comes, or the peer is gone."""
         end = time.monotonic() + within
         while b"\n" not in self._octets:
             ready, _, _ = select.select([self._reads], [], [], max(0, end - time.monotonic()))
@@ -237,9 +237,9 @@ class Client:
 
 class Server:
     """`faxgate serve` over a configuration, in a folder of its own. As a context manager it is there and answers within, and its
-    processes, its folder and its ports are gone behind.
+    processes, its folder and its ports are gone after.
 
-    `config` is the text of the configuration without `control` and `spool`, or lines (`Line`). `spool`: pages are kept in a folder.
+    `config` is the text of the configuration without `control` and `spool`, or lines (`Line`). `spool`: pages are stored in a folder.
     `control`: words come on a socket (a text: of this name, which the configuration says itself); else on standard input.
     `head`: further keys above the lines.
     """

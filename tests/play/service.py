@@ -61,7 +61,7 @@ class Legs(Play):
         self.assertLess(time.monotonic() - begun, 3.6 * SLOW)
 
     def test_a_hang_up_comes_behind_the_newest_datagram(self):
-        """Its DCN has the number behind the newest that came, so that it is not taken for one that comes late."""
+        """Its DCN has the number after the newest that came, so that it is not taken for one that comes late."""
         line = self.line()
         server = self.serve(line)
         events, peer = server.events(), self.peer(line, "calling")
@@ -155,7 +155,7 @@ class Lines(Play):
 
 class Jobs(Play):
     def test_jobs_are_told_with_the_tags_of_their_calls(self):
-        """Three calls, whose jobs go out one behind the other; `report` tells them again, oldest first."""
+        """Three calls, whose jobs go out one after the other; `report` tells them again, oldest first."""
         line = self.line()
         server = self.serve(line)
         events = server.events()

@@ -22,7 +22,7 @@ class Settings(Play):
         return callers, called
 
     def each(self, *deeds):
-        """What these deeds came to, done at once."""
+        """What these actions came to, done at once."""
         with ThreadPoolExecutor(len(deeds)) as pool:
             return [deed.result() for deed in [pool.submit(deed) for deed in deeds]]
 
@@ -59,13 +59,13 @@ class Preamble(Settings):
             self.assertTrue(1.7 < waited[2] < 1.7 + 0.9 * SLOW, waited)
 
     def waited_behind_preamble(self, machine):
-        """How long the packet behind the first preamble waited, in seconds."""
+        """How long the packet after the first preamble waited, in seconds."""
         i = machine.packets().index(PREAMBLE)
         return machine.came[i + 1][0] - machine.came[i][0]
 
 
 class Repeats(Settings):
-    # When the last datagram of a leg comes, in seconds behind its first time.
+    # When the last datagram of a leg comes, in seconds after its first time.
     WANTED = {
         "full": [0, 0.02, 0.06, 0.14, 0.3, 0.62, 1.26],
         "last": [0, 0.04],
@@ -74,7 +74,7 @@ class Repeats(Settings):
 
     @on_time
     def test_the_last_datagram_is_sent_again(self):
-        """It is the DIS here, behind which nothing is sent for 3 s. Without a word of it repeats are `full`."""
+        """It is the DIS here, after which nothing is sent for 3 s. Without a word of it repeats are `full`."""
         settings = [{}] + [{"repeat": repeat} for repeat in self.WANTED]
         callers, _ = self.serve_lines(settings)
         self.each(*(lambda caller=caller: caller.wait_for(GATEWAY_DIS) for caller in callers))

@@ -1,4 +1,4 @@
-"""A server whose pages are kept in the spool of a folder: what waits there goes on behind a crash."""
+"""A server whose pages are stored in the spool of a folder: what waits there goes on after a crash."""
 import hashlib
 import os
 import resource
@@ -14,7 +14,7 @@ GATE, HEAD, DIGEST = 3, 15, 32
 
 
 def records(octets):
-    """Where the records of a spool's file begin and end, behind their digests."""
+    """Where the records of a spool's file begin and end, after their digests."""
     at, found = 0, []
     while octets[at] == 1:
         end = at + HEAD + int.from_bytes(octets[at + GATE : at + GATE + 4], "big")

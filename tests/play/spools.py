@@ -31,13 +31,13 @@ HEADER = 15
 
 
 def record(octets):
-    """A record of these octets, behind its open gate."""
+    """A record of these octets, after its open gate."""
     sealed = hashlib.sha256(octets).digest() + octets
     return OPEN + 3 * struct.pack(">I", len(sealed)) + sealed
 
 
 def file_of(*records):
-    """A file of records, with a shut gate behind them."""
+    """A file of records, with a shut gate after them."""
     return b"".join(map(record, records)) + SHUT
 
 
@@ -96,7 +96,7 @@ class Spooling(Playing):
 
     @staticmethod
     def limit(server, octets):
-        """From now on its disk is full: a write behind this place in a file fails (setrlimit(2))."""
+        """From now on its disk is full: a write after this place in a file fails (setrlimit(2))."""
         _, most = resource.prlimit(server.process.pid, resource.RLIMIT_FSIZE)
         resource.prlimit(server.process.pid, resource.RLIMIT_FSIZE, (octets, most))
 
@@ -278,7 +278,7 @@ class DamagedRecords(Spooling):
         return counts["faxgate_records_damaged_total"], counts["faxgate_pages_kept"], counts["faxgate_pages_set_aside_total"]
 
     def test_their_calls_are_set_aside(self):
-        """Wherever the octet is, in the digest or behind it: the other pages of the call wait, and are not sent."""
+        """Wherever the octet is, in the digest or after it: the other pages of the call wait, and are not sent."""
         line = Line(self.ports)
         self.silent(line)
         server = self.serve(line)
@@ -292,7 +292,7 @@ class DamagedRecords(Spooling):
         self.assertIn("spool keeps damaged 1 passed_over 0 set_aside 2", server.say("status"))
 
     def test_an_octet_of_a_header_harms_nothing(self):
-        """Nor does one of the shut gate behind the last record."""
+        """Nor does one of the shut gate after the last record."""
         line = Line(self.ports)
         self.silent(line)
         server = self.serve(line)
@@ -301,7 +301,7 @@ class DamagedRecords(Spooling):
             self.assertEqual(self.told_of(server, at), (0, 3, 0), at)
 
     def test_a_call_before_octets_that_are_passed_over_is_set_aside(self):
-        """Two octets of one length are turned, so nothing can be read behind: a call that was on before is not sent, one that had
+        """Two octets of one length are turned, so nothing can be read after: a call that was on before is not sent, one that had
         ended is."""
         line = Line(self.ports)
         called = self.called(line)
@@ -337,7 +337,7 @@ class DamagedRecords(Spooling):
 
 class AFullDisk(Spooling):
     def refused(self, server, line, call, pages, confirmed):
-        """A call whose disk is full behind so many pages: no MCF comes for the next, and nothing at all from then on, until it ends. No
+        """A call whose disk is full after so many pages: no MCF comes for the next, and nothing at all from then on, until it ends. No
         line is rung from then on, and who comes later is told why first."""
         events = server.events()
         machine = self.calling(line, pages, t4=SHORT_T4)
@@ -376,7 +376,7 @@ class AFullDisk(Spooling):
         return server.events()
 
     def test_it_claims_nothing(self):
-        """A page fits, and then the disk is full. What was confirmed is sent by the next run, with the page behind it at most, though both
+        """A page fits, and then the disk is full. What was confirmed is sent by the next run, with the page after it at most, though both
         were sent before, since the end of that job was not noted; and that run keeps pages again."""
         line = Line(self.ports)
         server = self.serve(line)
@@ -400,8 +400,8 @@ class AFullDisk(Spooling):
 
 class ADiskThatStaysFull(AFullDisk):
     def test_it_claims_nothing(self):
-        """A page is kept and waits for its call, and the next one finds the disk full, which it stays for a while: no call is asked for
-        and no line rung meanwhile. Then the page that was kept goes out, alone, and another one behind it."""
+        """A page is stored and waits for its call, and the next one finds the disk full, which it stays for a while: no call is asked for
+        and no line rung meanwhile. Then the page that was stored goes out, alone, and another one after it."""
         line = Line(self.ports, called_peer=False)
         server = self.serve(line)
         events = server.events()

@@ -76,7 +76,7 @@ def has_bit(field, bit):
 
 
 def counted(octets):
-    """Octets behind their count (X.691: one octet below 128, or two that begin with the bits 10)."""
+    """Octets after their count (X.691: one octet below 128, or two that begin with the bits 10)."""
     count = len(octets)
     return (bytes([count]) if count < 128 else struct.pack(">H", 0x8000 | count)) + octets
 
@@ -88,7 +88,7 @@ def datagram(number, packets):
 
 
 def read_counted(octets):
-    """What octets begin with behind its count, and the rest."""
+    """What octets begin with after its count, and the rest."""
     if octets[0] < 128:
         count, rest = octets[0], octets[1:]
     else:
@@ -265,7 +265,7 @@ def delaying(seconds):
 
 
 def reordering(number, octets):
-    """Each third comes behind the one that follows it."""
+    """Each third comes after the one that follows it."""
     return [1.5 * PACKET_SECONDS] if number % 3 == 1 else [0]
 
 
@@ -350,7 +350,7 @@ class Leg:
 
 
 class Hidden(Exception):
-    """Nothing came for as long as a machine waits, or the other side is gone."""
+    """Nothing came for as long as a machine waits, or the peer is gone."""
 
 
 class Machine(threading.Thread):
@@ -423,7 +423,7 @@ class Machine(threading.Thread):
             self.pause(PACKET_SECONDS)
 
     def say(self, fcf, field=b""):
-        """Sends a frame behind the pause that T.30 wants; or leaves it out."""
+        """Sends a frame after the pause that T.30 wants; or leaves it out."""
         left = self._leaves_out.get(fcf & ~X if fcf != DIS else fcf, 0)
         if left:
             self._leaves_out[fcf & ~X if fcf != DIS else fcf] = left - 1
@@ -435,7 +435,7 @@ class Machine(threading.Thread):
 class Calling(Machine):
     """A machine that calls and sends pages, each the text of one by T.4, with the bits of its format in a DCS.
 
-    `commands`: what stands behind each page; MPS, and EOP behind the last one, where nothing is said; None: it is gone, without a word.
+    `commands`: what stands after each page; MPS, and EOP after the last one, where nothing is said; None: it is gone, without a word.
     `confirmed`: how many pages an MCF answered. `at_mcf`: what is done as soon as one is heard. `t1`, `t4`: how long it waits for a
     DIS and for an answer, in seconds; for an answer it asks three times. `hangs_up`: it says DCN at the end.
     """
@@ -493,7 +493,7 @@ class Calling(Machine):
         raise Hidden
 
     def ask(self, command):
-        """A command behind a page, until it is answered: with what."""
+        """A command after a page, until it is answered: with what."""
         for _ in range(MOST_TRIES):
             self.say(command | X)
             answer = self.await_frame((MCF, RTN), self._t4)
@@ -507,7 +507,7 @@ class Calling(Machine):
 
 class Called(Machine):
     """A machine that is called by the first datagram that comes, answers `calls` calls, and keeps what it confirms: `pages`, and of
-    each the field of its DCS, `formats`, and what stood behind it, `commands`. `refuses`: which of the images that come, counted from
+    each the field of its DCS, `formats`, and what stood after it, `commands`. `refuses`: which of the images that come, counted from
     0, it answers with RTN; so it does one in which something is missing."""
 
     def __init__(self, leg, bits=DIS_BITS, calls=1, within=60, refuses=(), **more):
@@ -551,7 +551,7 @@ class Called(Machine):
         return True
 
     def take(self, heard):
-        """A training check behind a DCS, or a page."""
+        """A training check after a DCS, or a page."""
         if self._dcs and not self._is_trained:
             rate = next(it.rate for it in MODEMS if it.data == heard.kind)
             # a second of zeros at least

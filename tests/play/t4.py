@@ -58,8 +58,8 @@ def octets_of(bits):
 
 
 def text(rows, two_d=False):
-    """The text of a page (T.4, 4.1): each row behind an EOL, and six EOLs. `two_d`: as the two-dimensional coding has rows in one
-    dimension (T.4, 4.2), each EOL with a 1 behind it."""
+    """The text of a page (T.4, 4.1): each row after an EOL, and six EOLs. `two_d`: as the two-dimensional coding has rows in one
+    dimension (T.4, 4.2), each EOL with a 1 after it."""
     eol = EOL + "1" if two_d else EOL
     return octets_of("".join(eol + row_word(row) for row in rows) + 6 * eol)
 

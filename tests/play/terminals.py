@@ -238,7 +238,7 @@ class PagesAreReceived(InAFolder):
 
 
 class PicturesAreRead(InAFolder):
-    # heads of pictures (pbm(5)), how many zeros stand behind them, and what is told
+    # heads of pictures (pbm(5)), how many zeros stand after them, and what is told
     FAULTS = [
         (b"P4\n1728\n", 216, "no P4 picture"),
         (b"P4\n1728 -1\n", 216, "no P4 picture"),

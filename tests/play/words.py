@@ -27,7 +27,7 @@ class Words(Play):
                 self.assertIsNone(client.line(within=0.05))
 
     def test_words_are_answered_in_their_order(self):
-        """A word is heard once it is whole; the next one is answered behind it."""
+        """A word is heard once it is whole; the next one is answered after it."""
         client = self.serve(self.line()).client()
         client.send(b"sta")
         self.assertIsNone(client.line(within=0.3))
@@ -113,7 +113,7 @@ class Words(Play):
 
 class Sockets(Play):
     def test_a_control_socket_has_one_server(self):
-        """One on which a process serves is not taken; one that a dead process has left is, and it is gone behind a stop."""
+        """One on which a process serves is not taken; one that a dead process has left is, and it is gone after a stop."""
         line = self.line()
         server = self.serve(line)
         status, _, errors = finish(server.run("serve", "--config", "lines.toml"))
@@ -142,7 +142,7 @@ class Sockets(Play):
         self.assertEqual(server.output(), "")
 
     def test_the_sample_is_served(self):
-        """samples/serve.toml, with other ports: three lines, of which the second waits for 1 s behind a preamble."""
+        """samples/serve.toml, with other ports: three lines, of which the second waits for 1 s after a preamble."""
         text = (TOP / "samples" / "serve.toml").read_text(encoding="utf-8")
         for port in (40000, 40002, 40004, 40006, 40008, 40010, 6000, 6002, 6004, 6006):
             text = text.replace(address(port), address(self.ports.take()))

@@ -42,7 +42,7 @@ static void tell_waits(const char *what, Client *clients) {
 }
 
 /* The moment of turn 0 of a server, modulo a turn, in nanoseconds. A datagram of line i leaves in a turn that is due at a
-   moment of i modulo 40 ms, and not before it: so most arrivals less that lie close behind one moment, the first of them. */
+   moment of i modulo 40 ms, and not before it: so most arrivals less that lie close after one moment, the first of them. */
 static int64_t first_turn(const Server *server) {
     enum { BINS = 400 };
     static size_t bins[BINS];
@@ -79,7 +79,7 @@ static size_t turns_late(const Server *server, int64_t *late) {
     return server->arrived;
 }
 
-/* How many datagrams of called legs came a turn later than the pace has them: some 80 ms behind the one before. */
+/* How many datagrams of called legs came a turn later than the pace has them: some 80 ms after the one before. */
 static size_t turns_left_out(const Server *server) {
     int64_t *latest = calloc((size_t)server->lines, sizeof *latest);
     size_t count = 0;

@@ -13,10 +13,10 @@
      rows=N        the rows of the page, 1000
      page=PATH     a page in two dimensions of 1728 elements, bench/pages/text-1728.mr
      repeat=WORD   which datagrams the gateways send again: full, last or none; full
-     net=N         the addresses are those of 127.0.N.0/24 and, one a process, of those behind it, 1
-     cores=A,B,..  the core of this program and those of the servers, one behind the other; else any
+     net=N         the addresses are those of 127.0.N.0/24 and, one a process, of those after it, 1
+     cores=A,B,..  the core of this program and those of the servers, one after the other; else any
      priority=N    the servers and this program have real-time scheduling (SCHED_FIFO) of this priority; else none
-     limit=N       everything ends at the latest behind so many seconds, 600
+     limit=N       everything ends at the latest after so many seconds, 600
 
    It binds to addresses of 127.0.0.0/8 alone, and ends what it started. */
 #include "figures.h"
@@ -105,7 +105,7 @@ static void gather(Server *server, int number, int is_called, const Datagram *da
     if (++gathered == BATCH) send_gathered(socket);
 }
 
-/* A machine whose moment has come sends its next datagram. Behind its last one its call is over. */
+/* A machine whose moment has come sends its next datagram. After its last one its call is over. */
 static void send_next(Server *server, int number, int is_called, int socket, int64_t moment) {
     Line *line = &lines[server->first + number];
     Machine *machine = is_called ? &line->called : &line->calling;

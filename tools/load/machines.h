@@ -71,7 +71,7 @@ static void hear_caller(Line *line, int what, int64_t moment) {
     else hear(line, &line->calling, what, moment);
 }
 
-/* A part of a high-speed signal: of the training check, and behind the CFR of the page. */
+/* A part of a high-speed signal: of the training check, and after the CFR of the page. */
 static void hear_part(Line *line, const uint8_t *octets, int count, int is_last, int64_t moment) {
     if (line->is_checked) {
         line->is_same &= line->octets + count <= page_length && !memcmp(page + line->octets, octets, (size_t)count);

@@ -20,8 +20,8 @@ enum { CNG = 0x02, CED = 0x04, PREAMBLE = 0x06, SHORT_TRAINING = 0x1c, LONG_TRAI
 
 typedef struct {
     uint8_t octets[MOST_DATAGRAM];
-    uint8_t counted[MOST_PACKET + 1]; /* its packet behind its length */
-    int length, awaits;               /* what is waited for behind it */
+    uint8_t counted[MOST_PACKET + 1]; /* its packet after its length */
+    int length, awaits;               /* what is waited for after it */
 } Datagram;
 
 /* All that a machine sends in a call: the same in each, since no datagram is lost on this host. */
@@ -61,7 +61,7 @@ static void add_indicator(Script *s, uint8_t indicator) {
     add_packet(s, &indicator, 1);
 }
 
-/* A frame behind its preamble, as one packet that ends well, and what is waited for then. */
+/* A frame after its preamble, as one packet that ends well, and what is waited for then. */
 static void add_frame(Script *s, int awaits, int count, const uint8_t *field) {
     uint8_t packet[MOST_PACKET] = {0xc0, 0x02, 0x80, 0, (uint8_t)(count + 1), 0xff, 0xc8};
     add_indicator(s, PREAMBLE);

@@ -10,7 +10,7 @@
 
 enum {
     GATEWAY_PORT = 20000, /* a line has two ports of its process' address */
-    CALLERS_PORT = 10000, /* whence all callers of a process send, and the called machines one behind it */
+    CALLERS_PORT = 10000, /* whence all callers of a process send, and the called machines one after it */
     MOST_TOLD = 1 << 20,  /* octets of an answer to a word */
     MOST_WAITS = 20000,
 };

@@ -5,7 +5,7 @@ use std::alloc::Global;
 use std::process::Abort;
 use std::test::Fail;
 
-/// Modified Huffman pages of one and two white rows of 1728 elements: an EOL, each row with an EOL behind it, five
+/// Modified Huffman pages of one and two white rows of 1728 elements: an EOL, each row with an EOL after it, five
 /// more EOLs, and bits of 0 to the octet's end. (ITU-T T.4, 4.1, tables 2/T.4 and 3a/T.4.)
 const ONE_ROW: &[u8] = b"\x00\x14\xd9\xa8\x00\x80\x08\x00\x80\x08\x00\x80\x08";
 
@@ -130,7 +130,7 @@ fn book_of_two_pages(rt: &impl Abort, alloc: Global) -> Result<Jobs<PlainRows>, 
 }
 
 /// Sends the job that waits first, of which no page but the first is taken: how many jobs wait then, whether nothing was
-/// reported before, its call, and whether nothing is sent behind it.
+/// reported before, its call, and whether nothing is sent after it.
 fn refuse_one(jobs: &mut Jobs<PlainRows>) -> Option<(usize, bool, u32, bool)> {
     if jobs.sending().is_some() {
         return None;

@@ -13,8 +13,8 @@ fn at_the_first_bit() -> ([Option<u32>; 3], bool) {
     (peeked, reader.has(3))
 }
 
-/// Behind three bits: the next five, and how many are passed and left.
-fn behind_three_bits() -> Option<(Option<u32>, u128, u128)> {
+/// After three bits: the next five, and how many are passed and left.
+fn after_three_bits() -> Option<(Option<u32>, u128, u128)> {
     let mut reader = BitReader::new(&OCTETS);
     if !reader.has(3) {
         return None;
@@ -56,7 +56,7 @@ fn written_with_room(alloc: Global) -> Result<Octets, NoMemory> {
 #[test]
 fn reads_the_most_significant_bit_first(rt: HostRuntime) {
     assert!(rt; at_the_first_bit() == ([Some(1), Some(0xa50f), None], true));
-    assert!(rt; behind_three_bits() == Some((Some(0b00101), 3, 13)) && zeros_before_a_one() == 11);
+    assert!(rt; after_three_bits() == Some((Some(0b00101), 3, 13)) && zeros_before_a_one() == 11);
 }
 
 #[test]

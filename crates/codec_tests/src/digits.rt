@@ -23,7 +23,7 @@ impl Digits {
     }
 }
 
-/// The octets that texts of digits show, one behind another.
+/// The octets that texts of digits show, one after another.
 pub(crate) fn octets_of(alloc: Global, digits: Digits, texts: &[&str]) -> Result<Octets, NoMemory> {
     let mut writer = BitWriter::new(alloc);
     put_digits(&mut writer, digits, texts)?;
@@ -47,7 +47,7 @@ pub(crate) fn put_digits(
     Ok(())
 }
 
-/// The octets of binary digits: of those of texts, of others so many times, and of those of texts behind them.
+/// The octets of binary digits: of those of texts, of others so many times, and of those of texts after them.
 pub(crate) fn octets_between(
     alloc: Global,
     first: &[&str],

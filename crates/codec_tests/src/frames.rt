@@ -140,7 +140,7 @@ const WIDEST_DCS: Dcs = Dcs {
     ..LEAST_DCS
 };
 
-/// What a DIS says that has a further octet behind it.
+/// What a DIS says that has a further octet after it.
 const LONG_DIS: Dis = Dis {
     caps: Caps(0x00_77_5F),
 };
@@ -447,7 +447,7 @@ fn is_refused(bits: u32, format: Format, step: u8, refusal: Refusal) -> bool {
     }
 }
 
-/// The frame of a facsimile control field with three zero octets behind it.
+/// The frame of a facsimile control field with three zero octets after it.
 fn frame_named(field: u8) -> Frame {
     for (named, frame) in FIELDS {
         if field == *named {

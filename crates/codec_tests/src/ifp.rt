@@ -238,7 +238,7 @@ const REFUSED: &[(&[u8], IfpFault)] = &[
     (&[0xc0, 0x01, 0x80, 0x00, 0x01, 0xff], IfpFault::Short),
     (&[0x86, 0x01, 0xf0], IfpFault::Short),
     (&[0x86, 0x02, 0x1f, 0xff, 0xff], IfpFault::BadCount),
-    // The ninth field and the eleventh are not there: want of memory comes behind that.
+    // The ninth field and the eleventh are not there: want of memory comes after that.
     (&[0xc0, 0x09, 0x33, 0x33, 0x33, 0x33], IfpFault::Short),
     (&[0xc0, 0x0b, 0x33, 0x33, 0x33, 0x33, 0x33], IfpFault::Short),
 ];
@@ -254,12 +254,12 @@ const FAULTS: &[(IfpFault, u8)] = &[
 
 /// Octets that are read, and never written so, with the packet and how many fields it has.
 const READ_ONLY: &[(&[u8], Head, usize)] = &[
-    // An indicator with no fields, with a field of either kind, and with an octet behind it.
+    // An indicator with no fields, with a field of either kind, and with an octet after it.
     (&[0x86, 0x00], Head::Indicator(3), 0),
     (&[0x86, 0x01, 0x20], Head::Indicator(3), 0),
     (&[0x86, 0x01, 0x80, 0x00, 0x00, 0xff], Head::Indicator(3), 0),
     (&[0x06, 0xff], Head::Indicator(3), 0),
-    // Data with a count of 0, and with octets behind the fields.
+    // Data with a count of 0, and with octets after the fields.
     (&[0xc0, 0x00], Head::Message { kind: 0 }, 0),
     (&[0xc0, 0x00, 0xff], Head::Message { kind: 0 }, 0),
     (&[0xc0, 0x02, 0x24, 0xff], Head::Message { kind: 0 }, 2),

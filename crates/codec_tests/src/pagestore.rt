@@ -44,7 +44,7 @@ const AS_WHITE: &str = "1";
 const AS_MARKED: &str = "111";
 
 /// A two-dimensional line of a marked row against a white one: horizontal, white 1, black 2, and V0.
-const MARKED_BEHIND_WHITE: &str = "001000111111";
+const MARKED_AFTER_WHITE: &str = "001000111111";
 
 /// A return to control in one dimension.
 const RETURN: &[&str] = &[EOL, EOL, EOL, EOL, EOL, EOL];
@@ -90,7 +90,7 @@ const OF_TWO_FILLED: &[&str] = &[
     WHITE,
     "000",
     EOL_0,
-    MARKED_BEHIND_WHITE,
+    MARKED_AFTER_WHITE,
     "00000000",
     EOL_1,
     EOL_1,
@@ -113,7 +113,7 @@ const OF_FOUR: &[&str] = &[
     EOL_1,
     WHITE,
     EOL_0,
-    MARKED_BEHIND_WHITE,
+    MARKED_AFTER_WHITE,
     EOL_1,
     EOL_1,
     EOL_1,
@@ -130,7 +130,7 @@ const WHITE_2432: &str = "00000001110100110101";
 
 /// Pages by their texts, and the places at which their rows change colour.
 const PAGES: [(Width, Coding, Digits, &[&str], &[&[u16]]); 21] = [
-    // octets of fill before the first EOL, behind each line, behind each EOL of the return to control, and behind the sixth
+    // octets of fill before the first EOL, after each line, after each EOL of the return to control, and after the sixth
     (
         Width::W1728,
         Coding::Mh,
@@ -151,7 +151,7 @@ const PAGES: [(Width, Coding, Digits, &[&str], &[&[u16]]); 21] = [
             WHITE,
             FILL,
             EOL_0,
-            MARKED_BEHIND_WHITE,
+            MARKED_AFTER_WHITE,
             FILL,
             EOL_1,
             FILL,
@@ -168,7 +168,7 @@ const PAGES: [(Width, Coding, Digits, &[&str], &[&[u16]]); 21] = [
         ],
         &[&[], &[1, 3]],
     ),
-    // any bits before the first EOL, fill before another, and anything behind the sixth
+    // any bits before the first EOL, fill before another, and anything after the sixth
     (
         Width::W1728,
         Coding::Mh,
@@ -363,7 +363,7 @@ const REFUSED: [(Coding, Digits, &[&str], PageFault); 23] = [
         &[EOL_0, AS_WHITE, EOL_1],
         PageFault::BadLine(0),
     ),
-    // seven zeros, which begin no mode word, and a page behind them
+    // seven zeros, which begin no mode word, and a page after them
     (
         Coding::Mr,
         Digits::Binary,
@@ -372,7 +372,7 @@ const REFUSED: [(Coding, Digits, &[&str], PageFault); 23] = [
         ],
         PageFault::BadLine(1),
     ),
-    // an EOL of tag 0 in the return to control, and a page behind it
+    // an EOL of tag 0 in the return to control, and a page after it
     (
         Coding::Mr,
         Digits::Binary,
@@ -381,7 +381,7 @@ const REFUSED: [(Coding, Digits, &[&str], PageFault); 23] = [
         ],
         PageFault::NoRtc,
     ),
-    // an extension behind the first line, and a 1
+    // an extension after the first line, and a 1
     (
         Coding::Mr,
         Digits::Binary,
@@ -394,21 +394,21 @@ const REFUSED: [(Coding, Digits, &[&str], PageFault); 23] = [
         &[EOL_1, WHITE, "1", EOL_1],
         PageFault::BadLine(0),
     ),
-    // only zeros behind a line
+    // only zeros after a line
     (
         Coding::Mr,
         Digits::Binary,
         &[EOL_1, WHITE],
         PageFault::NoRtc,
     ),
-    // an EOL without its tag behind a line
+    // an EOL without its tag after a line
     (
         Coding::Mr,
         Digits::Binary,
         &[EOL_1, WHITE, EOL],
         PageFault::NoRtc,
     ),
-    // an EOL behind one with tag 0, and the sixth with tag 0
+    // an EOL after one with tag 0, and the sixth with tag 0
     (
         Coding::Mr,
         Digits::Binary,
@@ -421,7 +421,7 @@ const REFUSED: [(Coding, Digits, &[&str], PageFault); 23] = [
         &[EOL_1, WHITE, EOL_1, EOL_1, EOL_1, EOL_1, EOL_1, EOL_0],
         PageFault::NoRtc,
     ),
-    // a line behind two EOLs
+    // a line after two EOLs
     (
         Coding::Mr,
         Digits::Binary,
@@ -483,7 +483,7 @@ fn whole(
     read_page(alloc, octets, format, coding)
 }
 
-/// Reads the page that comes in pieces of so many octets. Behind each of them others come, and are taken
+/// Reads the page that comes in pieces of so many octets. After each of them others come, and are taken
 /// back.
 fn in_pieces(
     alloc: Global,
@@ -500,7 +500,7 @@ fn in_pieces(
     reader.finish()
 }
 
-/// Feeds a piece. Behind it others come, and are taken back.
+/// Feeds a piece. After it others come, and are taken back.
 fn feed_and_take_back(reader: &mut PageReader<PackedRows>, piece: &[u8]) -> Result<(), PageFault> {
     reader.feed(piece)?;
     let mark = reader.mark()?;
@@ -632,7 +632,7 @@ fn says_why_it_reads_no_page(rt: HostRuntime) -> Result<(), Fail> {
     Ok(())
 }
 
-/// A text in one dimension: what stands before what comes so many times, that, and what stands behind; the octets of the
+/// A text in one dimension: what stands before what comes so many times, that, and what stands after; the octets of the
 /// pieces in which it comes; and how many rows it has, or why none.
 struct Long {
     first: &'static [&'static str],
@@ -671,7 +671,7 @@ const LONG: [Long; 8] = [
         cuts: &[4096],
         rows: Err(PageFault::TooManyRows),
     },
-    // fill behind a line, behind an EOL, and behind the return to control
+    // fill after a line, after an EOL, and after the return to control
     Long {
         first: &[EOL, WHITE],
         again: &["0"],
@@ -705,7 +705,7 @@ const LONG: [Long; 8] = [
         cuts: &[300, 4096],
         rows: Ok(1),
     },
-    // one of too many elements, three white and two black ones in turn, which nothing behind it mends
+    // one of too many elements, three white and two black ones in turn, which nothing after it mends
     Long {
         first: &[EOL],
         again: &["1000", "11"],
@@ -736,7 +736,7 @@ fn reads_long_texts_whole_and_in_pieces(rt: HostRuntime) -> Result<(), Fail> {
 #[test]
 fn fill_is_not_kept(rt: HostRuntime) -> Result<(), Fail> {
     let mut reader: PageReader<PackedRows> = PageReader::new(rt.alloc(), STANDARD, Coding::Mh);
-    // an EOL, a white line, and the EOLs of the end, with fill before each and behind the last
+    // an EOL, a white line, and the EOLs of the end, with fill before each and after the last
     for piece in [
         &[0x00, 0x01, 0x4d, 0x9a, 0x80][..],
         &[0x01],
@@ -800,7 +800,7 @@ fn writes_the_one_fixed_text(rt: HostRuntime) -> Result<(), Fail> {
 
 #[test]
 fn gives_five_octets_at_a_time(rt: HostRuntime) -> Result<(), Fail> {
-    // a white row, filled to 48 bits with its EOL, and nothing behind the end
+    // a white row, filled to 48 bits with its EOL, and nothing after the end
     let pieces: [&[u8]; 4] = [
         &[0x00, 0x14, 0xd9, 0xa8, 0x00],
         &[0x00, 0x00, 0x10, 0x01, 0x00],

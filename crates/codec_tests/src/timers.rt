@@ -25,7 +25,7 @@ const SET_LAST: [(u64, u64, u64, bool); 5] = [
     (0, 0, 0, true),
 ];
 
-/// The moment at which a packet is given, two others, and what is shown behind it.
+/// The moment at which a packet is given, two others, and what is shown after it.
 const GIVEN: [(u64, [u64; 2], (Option<u64>, bool, bool)); 5] = [
     (1000, [0, 1000], (Some(1040), false, false)),
     (1000, [1039, 1040], (Some(1040), false, true)),
@@ -43,8 +43,8 @@ fn shown(pace: &Pace, first: u64, second: u64) -> (Option<u64>, bool, bool) {
     (pace.allowed_from(), pace.allows(first), pace.allows(second))
 }
 
-/// The same behind a packet that is given at a moment.
-fn shown_behind(pace: &mut Pace, at: u64, first: u64, second: u64) -> (Option<u64>, bool, bool) {
+/// The same after a packet that is given at a moment.
+fn shown_after(pace: &mut Pace, at: u64, first: u64, second: u64) -> (Option<u64>, bool, bool) {
     pace.given(false, at);
     shown(pace, first, second)
 }
@@ -112,12 +112,12 @@ fn packets_are_40_milliseconds_apart(rt: HostRuntime) {
     let mut pace = Pace::new(1000);
     assert!(rt; shown(&pace, 0, u64::MAX) == (Some(0), true, true));
     for (at, [first, second], wanted) in GIVEN {
-        assert!(rt; shown_behind(&mut pace, at, first, second) == wanted);
+        assert!(rt; shown_after(&mut pace, at, first, second) == wanted);
     }
 }
 
 #[test]
-fn the_packet_behind_a_preamble_waits_for_the_pause(rt: HostRuntime) {
+fn the_packet_after_a_preamble_waits_for_the_pause(rt: HostRuntime) {
     for (pause, at, now, allowed) in [
         (40, 1000, 1039, false),
         (40, 1000, 1040, true),

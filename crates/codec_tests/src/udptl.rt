@@ -8,8 +8,8 @@ use fax_udptl::{Packets, Receiver, Secondaries, Sender, UdptlFault, laws, read};
 use std::alloc::{AllocError, Global};
 use std::test::Fail;
 
-/// The first packets of a call's answering side, and their datagrams.
-const ANSWERING_SIDE: &[(&str, &str)] = &[
+/// The first packets of a call's answerer, and their datagrams.
+const ANSWERING_LEG: &[(&str, &str)] = &[
     ("04", "000001040000"),
     ("06", "0001010600010104"),
     (
@@ -33,7 +33,7 @@ const ANSWERING_SIDE: &[(&str, &str)] = &[
 
 /// The first packets of the call by which its page is sent on, and their datagrams: CNG, and the DCS with
 /// its preamble and training.
-const CALLED_SIDE: &[(&str, &str)] = &[
+const CALLED_LEG: &[(&str, &str)] = &[
     ("02", "000001020000"),
     ("06", "0001010600010102"),
     (
@@ -45,7 +45,7 @@ const CALLED_SIDE: &[(&str, &str)] = &[
 
 /// The datagrams of the machine that called, but for the training check: without secondaries. Numbers 0 to
 /// 1 and 3 to 6 of a call, with the packet of each.
-const OTHER_SIDE: &[(&str, u16, &str)] = &[
+const OTHER_LEG: &[(&str, u16, &str)] = &[
     (
         "00000cc002800005ffc8c1004000400000",
         0,
@@ -85,7 +85,7 @@ const FAULTS: &[(&[u8], UdptlFault)] = &[
     (b"\x00\x05\x01\x06\x00\x02\x01\x06\x01", UdptlFault::Short),
     (b"\x00\x05\x80", UdptlFault::Short),
     (b"\x00\x05\x01\x06\x00\x81", UdptlFault::Short),
-    // the first fault, not the shortage behind it
+    // the first fault, not the shortage after it
     (b"\x00\x05\xc1", UdptlFault::BadLength),
     (b"\x00\x05\x01\x06\x00\xc0", UdptlFault::BadLength),
     (b"\x00\x05\x01\x06\x00\x02\xff", UdptlFault::BadLength),
@@ -103,7 +103,7 @@ const READ: &[(&[u8], u16, &[u8], &[&[u8]])] = &[
         b"\x08",
         &[b"\x06", b"\x04\x05"],
     ),
-    // no secondaries, and anything behind them
+    // no secondaries, and anything after them
     (b"\x00\x05\x01\x06\x00\x00", 5, b"\x06", &[]),
     (b"\x00\x05\x01\x06\x00\x00\xff\xff", 5, b"\x06", &[]),
     // error correction, which is not read: any octet whose top bit is 1
@@ -120,7 +120,7 @@ const READ: &[(&[u8], u16, &[u8], &[&[u8]])] = &[
     ),
 ];
 
-/// A datagram that comes to a receiver, the first slot that it decides, how many are missing, and the packets behind these.
+/// A datagram that comes to a receiver, the first slot that it decides, how many are missing, and the packets after these.
 type Taken = (&'static [u8], u16, u16, &'static [&'static [u8]]);
 
 /// Datagrams in the order in which they come to a receiver.
@@ -319,14 +319,14 @@ fn are_fronts_short(octets: &[u8]) -> bool {
     all
 }
 
-/// Whether a sender sends the packets of one side as these datagrams, each front of a datagram is
+/// Whether a sender sends the packets of one end as these datagrams, each front of a datagram is
 /// short, and a receiver decides each packet.
-fn is_side_sent(alloc: Global, side: &[(&str, &str)]) -> Result<bool, NoMemory> {
+fn is_leg_sent(alloc: Global, leg: &[(&str, &str)]) -> Result<bool, NoMemory> {
     let mut sender = Sender::new(alloc, 3)?;
     let mut receiver = Receiver::new();
     let mut number = 0u16;
     let mut all = true;
-    for (packet, datagram) in side {
+    for (packet, datagram) in leg {
         let packet = octets_of(alloc, Digits::Hex, &[packet])?;
         let datagram = octets_of(alloc, Digits::Hex, &[datagram])?;
         let (packet, datagram) = (packet.as_slice(), datagram.as_slice());
@@ -341,8 +341,8 @@ fn is_side_sent(alloc: Global, side: &[(&str, &str)]) -> Result<bool, NoMemory> 
 
 #[test]
 fn sends_each_packet_with_the_three_before_it(rt: HostRuntime) -> Result<(), Fail> {
-    assert!(rt; is_side_sent(rt.alloc(), CALLED_SIDE)?);
-    assert!(rt; is_side_sent(rt.alloc(), ANSWERING_SIDE)?);
+    assert!(rt; is_leg_sent(rt.alloc(), CALLED_LEG)?);
+    assert!(rt; is_leg_sent(rt.alloc(), ANSWERING_LEG)?);
     Ok(())
 }
 
@@ -388,7 +388,7 @@ fn sends_into_room_that_is_there(rt: HostRuntime) -> Result<(), Fail> {
     Ok(())
 }
 
-/// How many packets a receiver decides of these datagrams of one side, in the order sent, where each is read, each front of it
+/// How many packets a receiver decides of these datagrams of one end, in the order sent, where each is read, each front of it
 /// is short, and none is missing.
 fn packets_of(alloc: Global, texts: &[&str]) -> Result<Option<usize>, NoMemory> {
     let mut receiver = Receiver::new();
@@ -421,12 +421,12 @@ fn takes_what_another_terminal_sent(rt: HostRuntime) -> Result<(), Fail> {
     Ok(())
 }
 
-/// Whether a receiver decides the packet of each datagram of one side, with the numbers that it missed.
-fn is_side_taken(alloc: Global, side: &[(&str, u16, &str)]) -> Result<bool, NoMemory> {
+/// Whether a receiver decides the packet of each datagrams of one end, with the numbers that it missed.
+fn is_leg_taken(alloc: Global, leg: &[(&str, u16, &str)]) -> Result<bool, NoMemory> {
     let mut receiver = Receiver::new();
     let mut expected = 0u16;
     let mut all = true;
-    for (datagram, number, packet) in side {
+    for (datagram, number, packet) in leg {
         let datagram = octets_of(alloc, Digits::Hex, &[datagram])?;
         let packet = octets_of(alloc, Digits::Hex, &[packet])?;
         let lost = number.wrapping_sub(expected);
@@ -439,8 +439,8 @@ fn is_side_taken(alloc: Global, side: &[(&str, u16, &str)]) -> Result<bool, NoMe
 
 #[test]
 fn takes_datagrams_without_secondaries(rt: HostRuntime) -> Result<(), Fail> {
-    assert!(rt; is_side_taken(rt.alloc(), OTHER_SIDE)?);
-    assert!(rt; is_side_taken(rt.alloc(), CALLED_MACHINE)?);
+    assert!(rt; is_leg_taken(rt.alloc(), OTHER_LEG)?);
+    assert!(rt; is_leg_taken(rt.alloc(), CALLED_MACHINE)?);
     Ok(())
 }
 

@@ -14,7 +14,7 @@ use fax_bits::NoMemory;
 use fax_command::{Output, PageOptions, page_of_hex};
 use fax_gateway::Settings;
 use fax_jobs::Outcome;
-use fax_loop::exchange::{Ended, Lines, exchange};
+use fax_loop::exchange::{CallEnd, Lines, exchange};
 use fax_pagestore::{Coding, Format, PackedRows, Page};
 use fax_runcodes::Width;
 use std::alloc::Global;
@@ -64,7 +64,7 @@ fn send_over(
     alloc: Global,
     lines: &mut Lines<TellingEnd, TellingWire>,
     page: Page<PackedRows>,
-) -> Result<Option<Ended>, NoMemory>
+) -> Result<Option<CallEnd>, NoMemory>
     requires caller { lines.old.caller.sent ≡ Some [] }
     requires wire { (lines.old.wire.received ≡ Some []) × (lines.old.wire.sent ≡ Some []) }
     requires answerer { (lines.old.answerer.received ≡ Some []) × (lines.old.answerer.sent ≡ Some []) }

@@ -1,6 +1,6 @@
 //! A page and a wire over sockets of the loopback interface, and a page of text for lines over such sockets.
 use fax_command::{Output, PageOptions, StdSink, StdSource, run_page};
-use fax_gateway::{Settings, Side, Wire, WireFault};
+use fax_gateway::{Leg, Settings, Wire, WireFault};
 use fax_loop::{UdpWire, run_loop};
 use fax_pagestore::{Coding, Format};
 use fax_runcodes::Width;
@@ -77,17 +77,17 @@ pub(crate) fn socket_pair<R: Net>(net: &R) -> io::Result<(UdpSocket, UdpSocket)>
 }
 
 /// Whether the next receive on a leg brings these octets.
-fn brings(wire: &mut UdpWire, side: Side, octets: &[u8]) -> bool {
+fn gives(wire: &mut UdpWire, leg: Leg, octets: &[u8]) -> bool {
     let mut buffer = [0; 100];
-    match wire.receive(side, &mut buffer) {
+    match wire.receive(leg, &mut buffer) {
         Ok(Some(count)) => is_in_front(&buffer, count, octets),
         _ => false,
     }
 }
 
 /// Whether it brings none.
-fn brings_none(wire: &mut UdpWire, side: Side) -> bool {
-    wire.receive(side, &mut [0; 100]) == Ok(None)
+fn gives_none(wire: &mut UdpWire, leg: Leg) -> bool {
+    wire.receive(leg, &mut [0; 100]) == Ok(None)
 }
 
 /// Whether these octets come to a socket.
@@ -111,22 +111,22 @@ fn goes_both_ways(
     caller: &UdpSocket,
     answerer: &UdpSocket,
 ) -> io::Result<bool> {
-    let begins_still = brings_none(wire, Side::Calling);
+    let begins_still = gives_none(wire, Leg::Calling);
     caller.send(b"first")?;
     caller.send(b"")?;
     answerer.send(b"third")?;
-    let calling_brings = brings(wire, Side::Calling, b"first")
-        && brings(wire, Side::Calling, b"")
-        && brings_none(wire, Side::Calling);
-    let called_brings = brings(wire, Side::Called, b"third");
-    let is_sent = wire.send(Side::Called, b"back") == Ok(()) && comes_to(answerer, b"back")?;
-    Ok(begins_still && calling_brings && called_brings && is_sent)
+    let calling_gives = gives(wire, Leg::Calling, b"first")
+        && gives(wire, Leg::Calling, b"")
+        && gives_none(wire, Leg::Calling);
+    let called_gives = gives(wire, Leg::Called, b"third");
+    let is_sent = wire.send(Leg::Called, b"back") == Ok(()) && comes_to(answerer, b"back")?;
+    Ok(begins_still && calling_gives && called_gives && is_sent)
 }
 
 /// Whether a datagram of the called leg is sent, and the system tells of it at the next receive.
 fn is_told_of_a_loss(wire: &mut UdpWire) -> bool {
-    wire.send(Side::Called, b"lost") == Ok(())
-        && wire.receive(Side::Called, &mut [0; 100]) == Err(WireFault)
+    wire.send(Leg::Called, b"lost") == Ok(())
+        && wire.receive(Leg::Called, &mut [0; 100]) == Err(WireFault)
 }
 
 /// Datagrams go over a wire on their legs; a receive that fails is counted.

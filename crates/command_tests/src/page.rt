@@ -19,7 +19,7 @@ const READ: PageOptions = PageOptions {
     output: Output::Runs,
 };
 
-/// A reader that gives a few octets at a time, each read behind one that is interrupted, and fails once
+/// A reader that gives a few octets at a time, each read after one that is interrupted, and fails once
 /// it gave so many.
 #[derive(Drop)]
 struct Halting<'a> {

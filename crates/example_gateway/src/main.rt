@@ -1,7 +1,7 @@
 //! Drives a gateway over a wire of its own: a call is rung, nobody says a word, and what the gateway sends is printed.
 #![tactic(auto)]
 
-use fax_gateway::{Driver, Gateway, Side, Wire, WireFault};
+use fax_gateway::{Driver, Gateway, Leg, Wire, WireFault};
 use fax_pagestore::PackedRows;
 use std::alloc::{AllocError, Global};
 use std::io;
@@ -17,22 +17,22 @@ impl Wire for Notes {
 
     ghost known = { λ notes. record { failures = 0; received = None; sent = None } };
 
-    fn receive(&mut self, _: Side, _: &mut [u8]) -> Result<Option<usize>, WireFault> {
+    fn receive(&mut self, _: Leg, _: &mut [u8]) -> Result<Option<usize>, WireFault> {
         Ok(None)
     }
 
-    fn send(&mut self, side: Side, octets: &[u8]) -> Result<(), WireFault> {
+    fn send(&mut self, leg: Leg, octets: &[u8]) -> Result<(), WireFault> {
         // what cannot be noted for want of memory is left out
-        let _ = note(&mut self.text, side, octets);
+        let _ = note(&mut self.text, leg, octets);
         Ok(())
     }
 }
 
 /// Writes a datagram down: its leg, and its octets as hex.
-fn note(text: &mut String, side: Side, octets: &[u8]) -> Result<(), AllocError> {
-    text.push_str(match side {
-        Side::Calling => "a ",
-        Side::Called => "b ",
+fn note(text: &mut String, leg: Leg, octets: &[u8]) -> Result<(), AllocError> {
+    text.push_str(match leg {
+        Leg::Calling => "a ",
+        Leg::Called => "b ",
     })?;
     for octet in octets {
         write!(text, "{octet:02x}")?;

@@ -21,17 +21,17 @@ use Rattle.fax_answer.specs.declared.state.State.TheVariants.{Page, Again}
 use Rattle.fax_answer.specs.Orders.{order_of}
 use Rattle.fax_answer.specs.History.{Entry, Decision, PassesOver, Trains, HangsUp, GivesCfr, GivesFtt, GivesMcf, GivesRtn, is_answer, since_answer, last_image}
 use Rattle.fax_answer.specs.Table.{Reading, is_one_image, is_repeat, judged, on_command, on_command_again, on_order, order_asks, decision, state_after}
-use Rattle.fax_answer.specs.Replies.{ConfirmedPage, Waiting, is_last, is_waiting}
-use Rattle.fax_answer.specs.Calls.{Answering, decided}
+use Rattle.fax_answer.specs.Replies.{ConfirmedPage, WaitingPacket, is_last, is_waiting}
+use Rattle.fax_answer.specs.Calls.{AnswererCore, decided}
 use Rattle.fax_answer.specs.Confirmation.{IfAsked, IsRight}
-use Rattle.fax_answer.specs.Kept.{verdict_of}
+use Rattle.fax_answer.specs.Rep.{verdict_of}
 use Rattle.fax_answer.specs.Images.{ImageValue, Confirms, MeansAt}
-use Rattle.fax_answer.specs.Following.{Follows, CanDecide, confirmed_behind}
+use Rattle.fax_answer.specs.Following.{Follows, CanDecide, confirmed_after}
 use Rattle.fax_answer.specs.declared.answer.Answer.{Answer}
 use Rattle.fax_answer.specs.declared.refusal.Refusal.{Refusal}
 use Rattle.fax_answer.specs.declared.refusal.Refusal.TheVariants.{Fault, NotWhole, GapBehind, SeveralImages, NoImage, Untrained}
 use Rattle.fax_answer.specs.Refusals.{HasReason, IsReasonInPage, IsWhy}
-use Rattle.fax_answer.specs.Reached.{AtRtn, IsFaultOf, Kept, Holds, Stands, Takes, Answers, AnswersAgain, AnswersCommand, AnswersImage}
+use Rattle.fax_answer.specs.Reached.{AtRtn, IsFaultOf, Rep, Holds, Stands, Takes, Answers, AnswersAgain, AnswersCommand, AnswersImage}
 use Rattle.fax_answer.proofs.Held.{IsNoCfr, holds_frame, frame_no_cfr, confirms_none}
 use Rattle.fax_answer.proofs.HearingLemmas.{Heard, can_decide, taken, confirms_now, follows_now, reason_now}
 use Rattle.fax_answer.proofs.Refused.{at_rtn, reason_after, reason_none, reason_over}
@@ -58,7 +58,7 @@ by_image dcs command history octets readers answer one same a =
       right = subst (λ (b : Bool). IfAsked (if b then Some (record { octets = last_image history; dcs = dcs }) else None) a.read) (sym one)
           (subst (λ (os : List ℕ). IsRight (record { octets = os; dcs = dcs }) a.read) same a.right);
       verdict_is = ap verdict_of d ∙ a.verdict_is;
-      page_is = subst (λ (x : Decision). Confirms answer.found readers None (confirmed_behind x None)) (sym d) a.page_is;
+      page_is = subst (λ (x : Decision). Confirms answer.found readers None (confirmed_after x None)) (sym d) a.page_is;
       why = subst (λ (x : Decision). AtRtn x (IsWhy (Page dcs) history answer.refused)) (sym d)
           (at_rtn (judged command a.read) (IsFaultOf octets dcs answer.refused) (IsWhy (Page dcs) history answer.refused)
           (λ h. fault_why dcs history answer.refused one (subst (λ (os : List ℕ). IsFaultOf os dcs answer.refused) same h)) a.why);
@@ -74,12 +74,12 @@ refused_in_page dcs command history readers refusal answer off once reason is =
       read = None;
       right = subst (λ (b : Bool). IfAsked (if b then Some (record { octets = last_image history; dcs = dcs }) else None) None) (sym off) tt;
       verdict_is = ap verdict_of d;
-      page_is = subst (λ (x : Decision). Confirms None readers None (confirmed_behind x None)) (sym d) refl;
+      page_is = subst (λ (x : Decision). Confirms None readers None (confirmed_after x None)) (sym d) refl;
       why = subst (λ (x : Decision). AtRtn x (IsWhy (Page dcs) history (Some refusal))) (sym d) reason;
     }
 
 -- where a command is answered in Page, and in Again
-pub in_page : (octets : List ℕ) (core : Answering) (dcs : Dcs) (command : Command) (readers : List ReaderValue) (answer : Answer) → core.state ≡ Page dcs → order_of octets ≡ Judge command
+pub in_page : (octets : List ℕ) (core : AnswererCore) (dcs : Dcs) (command : Command) (readers : List ReaderValue) (answer : Answer) → core.state ≡ Page dcs → order_of octets ≡ Judge command
     → AnswersCommand dcs command core.history readers answer → Answers octets core readers answer
 in_page octets core dcs command readers answer e o a =
     let h : List Entry = core.history in
@@ -89,12 +89,12 @@ in_page octets core dcs command readers answer e o a =
       read = a.read;
       right = subst (λ (x : State). IfAsked (order_asks x h (order_of octets)) a.read) (sym e) (subst (λ (x : Order). IfAsked (order_asks (Page dcs) h x) a.read) (sym o) a.right);
       verdict_is = ap verdict_of d ∙ a.verdict_is;
-      page_is = subst (λ (x : Decision). Confirms answer.found readers None (confirmed_behind x None)) (sym d) a.page_is;
+      page_is = subst (λ (x : Decision). Confirms answer.found readers None (confirmed_after x None)) (sym d) a.page_is;
       why = subst (λ (x : State). AtRtn (on_order a.read core.state h (order_of octets)) (IsWhy x h answer.refused)) (sym e)
           (subst (λ (x : Decision). AtRtn x (IsWhy (Page dcs) h answer.refused)) (sym d) a.why);
     }
 
-pub in_again : (octets : List ℕ) (core : Answering) (command : Command) (readers : List ReaderValue) (answer : Answer) → core.state ≡ Again → order_of octets ≡ Judge command
+pub in_again : (octets : List ℕ) (core : AnswererCore) (command : Command) (readers : List ReaderValue) (answer : Answer) → core.state ≡ Again → order_of octets ≡ Judge command
     → AnswersAgain command core.history readers answer → Answers octets core readers answer
 in_again octets core command readers answer e o a =
     let h : List Entry = core.history in
@@ -104,13 +104,13 @@ in_again octets core command readers answer e o a =
       read = None;
       right = subst (λ (x : State). IfAsked (order_asks x h (order_of octets)) None) (sym e) tt;
       verdict_is = ap verdict_of d ∙ a.verdict_is;
-      page_is = subst (λ (x : Decision). Confirms answer.found readers None (confirmed_behind x None)) (sym d) a.page_is;
+      page_is = subst (λ (x : Decision). Confirms answer.found readers None (confirmed_after x None)) (sym d) a.page_is;
       why = subst (λ (x : State). AtRtn (on_order None core.state h (order_of octets)) (IsWhy x h answer.refused)) (sym e)
           (subst (λ (x : Decision). AtRtn x (IsWhy Again h answer.refused)) (sym d) a.why);
     }
 
 -- a frame that is passed over, since packets wait
-pub frame_waits : (core : Answering) (octets : List ℕ) (now : ℕ) (old new : Kept) (procedure : Procedure) (s : Stands core old) → is_waiting core.waiting ≡ true
+pub frame_waits : (core : AnswererCore) (octets : List ℕ) (now : ℕ) (old new : Rep) (procedure : Procedure) (s : Stands core old) → is_waiting core.waiting ≡ true
     → Follows (decided core (Frame octets) PassesOver now) s.confirmed procedure → Heard old new procedure old.image old.refused → Takes (Frame octets) now core new
 frame_waits core octets now old new procedure s w f n =
     let d : Decision = decision None core.state (is_waiting core.waiting) core.history (Frame octets) in
@@ -125,7 +125,7 @@ frame_waits core octets now old new procedure s w f n =
     (ap (λ (i : ImageValue). i.readers) n.image_is) (λ q. ap (λ (i : ImageValue). i.accepted) n.image_is) (ap (λ (i : ImageValue). i.run) n.image_is) (ap (λ (i : ImageValue). i.longest) n.image_is) s.holds)
 
 -- a frame that is answered
-unanswered_none : (d : Decision) → is_answer d ≡ false → confirmed_behind d None ≡ None
+unanswered_none : (d : Decision) → is_answer d ≡ false → confirmed_after d None ≡ None
 unanswered_none PassesOver e = refl
 unanswered_none (Trains dcs) e = refl
 unanswered_none HangsUp e = refl
@@ -141,13 +141,13 @@ found_or (Some a) accepted e = refl
 abbrev pub accepted_image : Option Accepted → ImageValue → ImageValue
 accepted_image found i = record { readers = i.readers; accepted = if is_some found then found else i.accepted; run = i.run; longest = i.longest }
 
-none_waits : (ws : List Waiting) → is_waiting ws ≡ false → ws ≡ []
+none_waits : (ws : List WaitingPacket) → is_waiting ws ≡ false → ws ≡ []
 none_waits [] e = refl
 none_waits (w ∷ ws) e = cc
 
-pub frame_free : (core : Answering) (octets : List ℕ) (now : ℕ) (old new : Kept) (procedure : Procedure) (answer : Answer) (s : Stands core old) → is_waiting core.waiting ≡ false → s.confirmed ≡ None
+pub frame_free : (core : AnswererCore) (octets : List ℕ) (now : ℕ) (old new : Rep) (procedure : Procedure) (answer : Answer) (s : Stands core old) → is_waiting core.waiting ≡ false → s.confirmed ≡ None
     → Answers octets core old.image.readers answer
-    → ((d : Decision) → verdict_of d ≡ answer.decision → CanDecide core d → Follows (decided core (Frame octets) d now) (confirmed_behind d s.confirmed) procedure)
+    → ((d : Decision) → verdict_of d ≡ answer.decision → CanDecide core d → Follows (decided core (Frame octets) d now) (confirmed_after d s.confirmed) procedure)
     → Heard old new procedure (accepted_image answer.found old.image) answer.refused → Takes (Frame octets) now core new
 frame_free core octets now old new procedure answer s w none a noted n =
     let found : Option Accepted = answer.found in
@@ -156,9 +156,9 @@ frame_free core octets now old new procedure answer s w none a noted n =
     let decides : Decision = decision read core.state (is_waiting core.waiting) core.history (Frame octets) in
     let e : decides ≡ d = ap (λ (b : Bool). if b then PassesOver else on_order read core.state core.history (order_of octets)) w in
     let can : CanDecide core d = subst (CanDecide core) e (can_decide read core (Frame octets) s.follows.rests) in
-    let c : Option ConfirmedPage = confirmed_behind d None in
+    let c : Option ConfirmedPage = confirmed_after d None in
     let f : Follows (decided core (Frame octets) d now) c procedure =
-    subst (λ (x : Option ConfirmedPage). Follows (decided core (Frame octets) d now) (confirmed_behind d x) procedure) none (noted d a.verdict_is can) in
+    subst (λ (x : Option ConfirmedPage). Follows (decided core (Frame octets) d now) (confirmed_after d x) procedure) none (noted d a.verdict_is can) in
     let free = confirms_none old.image.accepted old.image.readers old.confirmed (subst (Confirms old.image.accepted old.image.readers old.confirmed) none s.confirms) in
     let is : (accepted_image found old.image).accepted ≡ found = found_or found old.image.accepted free.0 in
     let k : Confirms (accepted_image found old.image).accepted old.image.readers old.confirmed c =

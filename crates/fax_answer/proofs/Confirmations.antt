@@ -17,8 +17,8 @@ use Rattle.fax_answer.specs.declared.state.State.TheVariants.{Idle, Identify, Li
 use Rattle.fax_answer.specs.Orders.{order_of}
 use Rattle.fax_answer.specs.History.{Entry, Decision, PassesOver, Trains, HangsUp, GivesCfr, GivesFtt, GivesMcf, GivesRtn, is_answer, since_answer, images, gap, octets_since, last_image, last_whole, repeated, missing_in_training, dcs_asked, dcs_said, trained_dcs, answered_dcs}
 use Rattle.fax_answer.specs.Table.{Reading, has_zero_run, judged, is_one_image, is_quiet, is_repeat, on_command_again, on_order, decision, order_asks, asked_of, state_after}
-use Rattle.fax_answer.specs.Replies.{ConfirmedPage, is_last, Waiting, reply_to, is_waiting}
-use Rattle.fax_answer.specs.Calls.{Answering, rung, came, asked, says_goodbye, identifies_again, identifies_anew, timed_in, timed, state_when_given, Ticked, given_first, paced, ticked, CallEvent, Comes, Ticks, after_events}
+use Rattle.fax_answer.specs.Replies.{ConfirmedPage, is_last, WaitingPacket, reply_to, is_waiting}
+use Rattle.fax_answer.specs.Calls.{AnswererCore, rung, came, asked, says_goodbye, identifies_again, identifies_anew, timed_in, timed, state_when_given, TickResult, given_first, paced, ticked, CallEvent, Comes, Ticks, after_events}
 use Rattle.fax_answer.specs.Confirmation.{IsConfirmation, IsConfirmedIn, IfAsked, AreRead, GivesConfirmations}
 use Rattle.fax_answer.proofs.Neat.{mcf_with_page}
 use Rattle.fax_answer.specs.Following.{Rests}
@@ -208,7 +208,7 @@ abbrev pub IsBacked : List Entry → Option ConfirmedPage → Type 0
 IsBacked history None = Unit {0}
 IsBacked history (Some confirmed) = IsConfirmedIn history confirmed
 
-abbrev pub AreBacked : List Entry → List Waiting → Type 0
+abbrev pub AreBacked : List Entry → List WaitingPacket → Type 0
 AreBacked history [] = Unit {0}
 AreBacked history (w ∷ waiting) = IsBacked history w.confirmed × AreBacked history waiting
 
@@ -226,15 +226,15 @@ backed_later e history (Some c) n b =
       last = ap (λ (t : Bool). if◌then◌else◌ {A = List Entry} t [] (e ∷ since_answer history)) n ∙ ap (λ (h : List Entry). e ∷ h) b.last;
     }
 
-each_backed_later : (e : Entry) (history : List Entry) (waiting : List Waiting) → is_answer e.decision ≡ false → AreBacked history waiting → AreBacked (e ∷ history) waiting
+each_backed_later : (e : Entry) (history : List Entry) (waiting : List WaitingPacket) → is_answer e.decision ≡ false → AreBacked history waiting → AreBacked (e ∷ history) waiting
 each_backed_later e history [] n b = tt
 each_backed_later e history (w ∷ waiting) n b = (backed_later e history w.confirmed n b.0, each_backed_later e history waiting n b.1)
 
-all_backed_later : (e : Entry) (history : List Entry) (waiting : List Waiting) → NoneIf waiting e.decision → AreBacked history waiting → AreBacked (e ∷ history) waiting
+all_backed_later : (e : Entry) (history : List Entry) (waiting : List WaitingPacket) → NoneIf waiting e.decision → AreBacked history waiting → AreBacked (e ∷ history) waiting
 all_backed_later e history [] n b = tt
 all_backed_later e history (w ∷ waiting) n b = each_backed_later e history (w ∷ waiting) n b
 
-backed_both : (history : List Entry) (xs ys : List Waiting) → AreBacked history xs → AreBacked history ys → AreBacked history (xs ++ ys)
+backed_both : (history : List Entry) (xs ys : List WaitingPacket) → AreBacked history xs → AreBacked history ys → AreBacked history (xs ++ ys)
 backed_both history [] ys a b = b
 backed_both history (x ∷ xs) ys a b = (a.0, backed_both history xs ys a.1 b)
 
@@ -329,12 +329,12 @@ confirmed_at read state waits before (pieces.Start k) command page right knows h
 confirmed_at read state waits before (pieces.Octets o) command page right knows h = cc
 confirmed_at read state waits before pieces.Gap command page right knows h = cc
 
-pub record InCall (a : Answering) : Type 0 where
+pub record InCall (a : AnswererCore) : Type 0 where
   pub rests : Rests a.state a.waiting
   pub knows : KnowsDcs a.state a.history
   pub backed : AreBacked a.history a.waiting
 
-comes_keeps : (read : Reading) (a : Answering) (piece : pieces.Piece) (now : ℕ) → IfAsked (asked a piece) read → InCall a → InCall (came read a piece now)
+comes_keeps : (read : Reading) (a : AnswererCore) (piece : pieces.Piece) (now : ℕ) → IfAsked (asked a piece) read → InCall a → InCall (came read a piece now)
 comes_keeps read a piece now right i =
     let d : Decision = decision read a.state (is_waiting a.waiting) a.history piece in
     let e : Entry = record { piece = piece; decision = d } in
@@ -345,20 +345,20 @@ comes_keeps read a piece now right i =
           (reply_backed a.history piece d (λ command page h. confirmed_at read a.state (is_waiting a.waiting) a.history piece command page right i.knows h));
     }
 
-goodbye_keeps : (a : Answering) → InCall (says_goodbye a)
+goodbye_keeps : (a : AnswererCore) → InCall (says_goodbye a)
 goodbye_keeps a = record { rests = tt; knows = tt; backed = (tt, (tt, tt)) }
 
-again_keeps : (a : Answering) → a.state ≡ Identify → InCall a → InCall (identifies_again a)
+again_keeps : (a : AnswererCore) → a.state ≡ Identify → InCall a → InCall (identifies_again a)
 again_keeps a e i = record { rests = subst (λ (p : State). Rests p (identifies_again a).waiting) (sym e) tt; knows = i.knows; backed = (tt, (tt, tt)) }
 
-anew_keeps : (a : Answering) (now : ℕ) → InCall (identifies_anew a now)
+anew_keeps : (a : AnswererCore) (now : ℕ) → InCall (identifies_anew a now)
 anew_keeps a now = record { rests = tt; knows = tt; backed = (tt, (tt, tt)) }
 
-either : (b : Bool) (x y : Answering) → InCall x → InCall y → InCall (if b then x else y)
+either : (b : Bool) (x y : AnswererCore) → InCall x → InCall y → InCall (if b then x else y)
 either true x y i j = i
 either false x y i j = j
 
-timed_in_keeps : (state : State) (a : Answering) (now : ℕ) → a.state ≡ state → InCall a → InCall (timed_in state a now)
+timed_in_keeps : (state : State) (a : AnswererCore) (now : ℕ) → a.state ≡ state → InCall a → InCall (timed_in state a now)
 timed_in_keeps Idle a now e i = i
 timed_in_keeps Closing a now e i = i
 timed_in_keeps Identify a now e i =
@@ -368,14 +368,14 @@ timed_in_keeps (Train d) a now e i = either (is_due a.timers.t2 now) _ _ (goodby
 timed_in_keeps (Page d) a now e i = either (is_due a.timers.t2 now) _ _ (goodbye_keeps a) i
 timed_in_keeps Again a now e i = either (is_due a.timers.t2 now) _ _ (anew_keeps a now) i
 
-timed_keeps : (a : Answering) (now : ℕ) → InCall a → InCall (timed a now)
+timed_keeps : (a : AnswererCore) (now : ℕ) → InCall a → InCall (timed a now)
 timed_keeps a now i = either (is_waiting a.waiting) a (timed_in a.state a now) i (timed_in_keeps a.state a now refl i)
 
 -- what a tick gives is backed, and the core is as in a call
-record TickKeeps (history : List Entry) (t : Ticked) : Type 0 where
+record TickKeeps (history : List Entry) (t : TickResult) : Type 0 where
   core : InCall t.core
   same : t.core.history ≡ history
-  given : (w : Waiting) → t.given ≡ Some w → IsBacked history w.confirmed
+  given : (w : WaitingPacket) → t.given ≡ Some w → IsBacked history w.confirmed
 
 knows_when_sent : (state : State) (history : List Entry) → KnowsDcs state history → KnowsDcs (state_when_given state) history
 knows_when_sent Idle history k = tt
@@ -386,29 +386,29 @@ knows_when_sent (Page d) history k = k
 knows_when_sent Again history k = k
 knows_when_sent Closing history k = tt
 
-backed_first : (history : List Entry) (w v : Waiting) → IsBacked history w.confirmed → Some w ≡ Some v → IsBacked history v.confirmed
-backed_first history w v b h = let e : w ≡ v = cc in subst (λ (x : Waiting). IsBacked history x.confirmed) e b
+backed_first : (history : List Entry) (w v : WaitingPacket) → IsBacked history w.confirmed → Some w ≡ Some v → IsBacked history v.confirmed
+backed_first history w v b h = let e : w ≡ v = cc in subst (λ (x : WaitingPacket). IsBacked history x.confirmed) e b
 
-first_keeps : (a : Answering) (now : ℕ) (waiting : List Waiting) → Rests a.state waiting → KnowsDcs a.state a.history → AreBacked a.history waiting → InCall a → TickKeeps a.history (given_first a now waiting)
+first_keeps : (a : AnswererCore) (now : ℕ) (waiting : List WaitingPacket) → Rests a.state waiting → KnowsDcs a.state a.history → AreBacked a.history waiting → InCall a → TickKeeps a.history (given_first a now waiting)
 first_keeps a now [] r k b i = record { core = i; same = refl; given = λ w h. cc }
 first_keeps a now (w ∷ []) r k b i =
     record { core = record { rests = given_rests a.state; knows = knows_when_sent a.state a.history k; backed = tt }; same = refl; given = λ v h. backed_first a.history w v b.0 h }
 first_keeps a now (w ∷ v ∷ rest) r k b i =
     record { core = record { rests = fewer_rests a.state w v rest r; knows = k; backed = b.1 }; same = refl; given = λ u h. backed_first a.history w u b.0 h }
 
-tick_if : (b : Bool) (a : Answering) (t : Ticked) → InCall a → TickKeeps a.history t → TickKeeps a.history (if b then t else record { core = a; given = None; ended = false })
+tick_if : (b : Bool) (a : AnswererCore) (t : TickResult) → InCall a → TickKeeps a.history t → TickKeeps a.history (if b then t else record { core = a; given = None; ended = false })
 tick_if true a t i k = k
 tick_if false a t i k = record { core = i; same = refl; given = λ w h. cc }
 
-paced_keeps : (a : Answering) (now : ℕ) → InCall a → TickKeeps a.history (paced a now)
+paced_keeps : (a : AnswererCore) (now : ℕ) → InCall a → TickKeeps a.history (paced a now)
 paced_keeps a now i = tick_if (pace_allows a.pace.last now) a (given_first a now a.waiting) i (first_keeps a now a.waiting i.rests i.knows i.backed i)
 
 -- timers leave the history
-same_if : (b : Bool) (h : List Entry) (x y : Answering) → x.history ≡ h → y.history ≡ h → (if b then x else y).history ≡ h
+same_if : (b : Bool) (h : List Entry) (x y : AnswererCore) → x.history ≡ h → y.history ≡ h → (if b then x else y).history ≡ h
 same_if true h x y p q = p
 same_if false h x y p q = q
 
-timed_in_history : (state : State) (a : Answering) (now : ℕ) → (timed_in state a now).history ≡ a.history
+timed_in_history : (state : State) (a : AnswererCore) (now : ℕ) → (timed_in state a now).history ≡ a.history
 timed_in_history Idle a now = refl
 timed_in_history Closing a now = refl
 timed_in_history Identify a now =
@@ -418,34 +418,34 @@ timed_in_history (Train d) a now = same_if (is_due a.timers.t2 now) a.history (s
 timed_in_history (Page d) a now = same_if (is_due a.timers.t2 now) a.history (says_goodbye a) a refl refl
 timed_in_history Again a now = same_if (is_due a.timers.t2 now) a.history (identifies_anew a now) a refl refl
 
-pub timed_history : (a : Answering) (now : ℕ) → (timed a now).history ≡ a.history
+pub timed_history : (a : AnswererCore) (now : ℕ) → (timed a now).history ≡ a.history
 timed_history a now = same_if (is_waiting a.waiting) a.history a (timed_in a.state a now) refl (timed_in_history a.state a now)
 
-ticked_keeps : (a : Answering) (now : ℕ) → InCall a → TickKeeps a.history (ticked a now)
+ticked_keeps : (a : AnswererCore) (now : ℕ) → InCall a → TickKeeps a.history (ticked a now)
 ticked_keeps a now i = subst (λ (h : List Entry). TickKeeps h (ticked a now)) (timed_history a now) (paced_keeps (timed a now) now (timed_keeps a now i))
 
-pub ticked_history : (a : Answering) (now : ℕ) → (ticked a now).core.history ≡ a.history
+pub ticked_history : (a : AnswererCore) (now : ℕ) → (ticked a now).core.history ≡ a.history
 ticked_history a now = by (timed a now) (timed_history a now) (pace_allows (timed a now).pace.last now)
   where
-    first : (b : Answering) (ws : List Waiting) → (given_first b now ws).core.history ≡ b.history
+    first : (b : AnswererCore) (ws : List WaitingPacket) → (given_first b now ws).core.history ≡ b.history
     first b [] = refl
     first b (w ∷ []) = refl
     first b (w ∷ v ∷ ws) = refl
 
-    by : (b : Answering) → b.history ≡ a.history → (t : Bool) → (if◌then◌else◌ {A = Ticked} t (given_first b now b.waiting) (record { core = b; given = None; ended = false })).core.history ≡ a.history
+    by : (b : AnswererCore) → b.history ≡ a.history → (t : Bool) → (if◌then◌else◌ {A = TickResult} t (given_first b now b.waiting) (record { core = b; given = None; ended = false })).core.history ≡ a.history
     by b e true = first b b.waiting ∙ e
     by b e false = e
 
-pub rung_in_call : (a : Answering) (now : ℕ) → InCall (rung a now)
+pub rung_in_call : (a : AnswererCore) (now : ℕ) → InCall (rung a now)
 rung_in_call a now = record { rests = tt; knows = tt; backed = (tt, (tt, (tt, tt))) }
 
-pub events_keep : (a : Answering) (events : List CallEvent) → AreRead a events → InCall a → InCall (after_events a events)
+pub events_keep : (a : AnswererCore) (events : List CallEvent) → AreRead a events → InCall a → InCall (after_events a events)
 events_keep a [] right i = i
 events_keep a (Comes piece now read ∷ before) right i = comes_keeps read (after_events a before) piece now right.0 (events_keep a before right.1 i)
 events_keep a (Ticks now ∷ before) right i = (ticked_keeps (after_events a before) now (events_keep a before right i)).core
 
 pub gives_confirmations : GivesConfirmations
 gives_confirmations core start now events w confirmed right given is =
-    let a : Answering = after_events (rung core start) events in
+    let a : AnswererCore = after_events (rung core start) events in
     let k : InCall a = events_keep (rung core start) events right (rung_in_call core start) in
     (mcf_with_page core start now events w confirmed given is, subst (IsBacked a.history) is ((ticked_keeps a now k).given w given))

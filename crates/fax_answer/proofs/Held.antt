@@ -19,11 +19,11 @@ use Rattle.fax_answer.specs.Orders.{order_of}
 use Rattle.fax_answer.specs.History.{Entry, Decision, PassesOver, Trains, HangsUp, GivesCfr, GivesFtt, GivesMcf, GivesRtn, is_answer, since_answer, images, gap, octets_since, last_image, last_whole}
 use Rattle.fax_answer.specs.Table.{Reading, zeros, longest_zeros, is_one_image, is_quiet, is_repeat, judged, on_order, decision, state_after}
 use Rattle.fax_answer.specs.Replies.{ConfirmedPage}
-use Rattle.fax_answer.specs.Images.{ImageValue, IsReaderOf, HasOpen, HasEnded, begun, Feeds, FeedsIn, TakesIn, MeansAt, Confirms, run_behind, longest_behind}
+use Rattle.fax_answer.specs.Images.{ImageValue, IsReaderOf, HasOpen, HasEnded, begun, Feeds, FeedsIn, TakesIn, MeansAt, Confirms, run_after, longest_after}
 use Rattle.fax_answer.specs.Reached.{Holds, HoldsPage}
-use Rattle.fax_answer.proofs.ImageLemmas.{run_behind-append, longest_behind-append}
+use Rattle.fax_answer.proofs.ImageLemmas.{run_after-append, longest_after-append}
 
--- WHERE ONE IMAGE IS ASKED FOR: it is the one since the last answer, with nothing behind it
+-- WHERE ONE IMAGE IS ASKED FOR: it is the one since the last answer, with nothing after it
 none_one : is_one_image [] ≡ true → ⊥
 none_one h = cc
 
@@ -166,7 +166,7 @@ begun_in s dcs readers e = ap (λ (x : State). begun x readers) e
 
 new_of : (dcs : Dcs) → IsReaderOf dcs [] (new_reader (format_of dcs) (coding_of dcs))
 unfolding less_fill zeros_after
-new_of dcs = record { format = refl; coding = refl; read = record { behind = nothing_read (format_of dcs) (coding_of dcs); zeros = λ not_yet. refl } }
+new_of dcs = record { format = refl; coding = refl; read = record { after = nothing_read (format_of dcs) (coding_of dcs); zeros = λ not_yet. refl } }
 
 pub holds_start : (s : State) (h : List Entry) (i : ImageValue) (kind : ℕ) → Holds s (record { piece = Start kind; decision = PassesOver } ∷ h) (record { readers = begun s i.readers; accepted = i.accepted; run = 0; longest = 0 })
 holds_start s h i kind =
@@ -180,9 +180,9 @@ holds_start s h i kind =
       };
     }
 
-ended_behind : (dcs : Dcs) (octets : List ℕ) (r : ReaderValue) (readers : List ReaderValue) → HasOpen dcs octets readers → HasEnded dcs octets (r ∷ readers)
-ended_behind dcs octets r [] h = absurd h
-ended_behind dcs octets r (here ∷ before) h = h
+ended_after : (dcs : Dcs) (octets : List ℕ) (r : ReaderValue) (readers : List ReaderValue) → HasOpen dcs octets readers → HasEnded dcs octets (r ∷ readers)
+ended_after dcs octets r [] h = absurd h
+ended_after dcs octets r (here ∷ before) h = h
 
 means_apart : (readers : List ReaderValue) (place : ℕ) (page : PageValue) → MeansAt readers place page → place + 1 < length readers
 means_apart readers place page at =
@@ -207,7 +207,7 @@ holds_end s h i whole d k c x f =
         openly = subst (HasOpen dcs []) (sym (begun_in (state_after s d) dcs i.readers e)) (new_of dcs);
         last = λ one.
             let p : HoldsPage dcs h i = x.page dcs (in_page s d dcs (unanswered d (end_one (is_answer d) h whole d one)) e) in
-            subst (HasEnded dcs (octets_since h)) (sym (begun_in (state_after s d) dcs i.readers e)) (ended_behind dcs (octets_since h) (new_reader (format_of dcs) (coding_of dcs)) i.readers p.openly);
+            subst (HasEnded dcs (octets_since h)) (sym (begun_in (state_after s d) dcs i.readers e)) (ended_after dcs (octets_since h) (new_reader (format_of dcs) (coding_of dcs)) i.readers p.openly);
         apart = λ a g one.
             let few : a.place + 1 < length i.readers = confirms_apart i.accepted i.readers k c a f g in
             let long : length (begun (state_after s d) i.readers) ≡ suc (length i.readers) = ap length (begun_in (state_after s d) dcs i.readers e) in
@@ -237,10 +237,10 @@ fed_in s dcs piece xs ys e f = subst (λ (x : State). FeedsIn x piece xs ys) e f
 pub holds_octets : (s : State) (h : List Entry) (i j : ImageValue) (octets : List ℕ) → Holds s h i → TakesIn s octets i j → Holds s (record { piece = Octets octets; decision = PassesOver } ∷ h) j
 holds_octets s h i j octets x t =
     record {
-      run = t.run ∙ ap (λ (n : ℕ). run_behind n octets) x.run ∙ sym (run_behind-append 0 (octets_since h) octets);
-      longest = t.longest ∙ ap (λ (n : ℕ). longest_behind n i.longest octets) x.run
-          ∙ ap (λ (n : ℕ). longest_behind (run_behind 0 (octets_since h)) n octets) x.longest
-          ∙ sym (longest_behind-append 0 0 (octets_since h) octets);
+      run = t.run ∙ ap (λ (n : ℕ). run_after n octets) x.run ∙ sym (run_after-append 0 (octets_since h) octets);
+      longest = t.longest ∙ ap (λ (n : ℕ). longest_after n i.longest octets) x.run
+          ∙ ap (λ (n : ℕ). longest_after (run_after 0 (octets_since h)) n octets) x.longest
+          ∙ sym (longest_after-append 0 0 (octets_since h) octets);
       page = λ dcs e.
           let p : HoldsPage dcs h i = x.page dcs e in
           let f : Feeds octets i.readers j.readers = fed_in s dcs octets i.readers j.readers e t.readers in
@@ -332,19 +332,19 @@ zeros-few : (xs : List ℕ) → zeros xs ≤ longest_zeros xs
 zeros-few [] = omega arith
 zeros-few (x ∷ xs) = omega arith
 
-counted_zeros : (run longest : ℕ) (xs : List ℕ) → run ≤ longest → longest ≤ 65535 → longest_behind run longest xs ≡ max longest (min 65535 (max (run + zeros xs) (longest_zeros xs)))
+counted_zeros : (run longest : ℕ) (xs : List ℕ) → run ≤ longest → longest ≤ 65535 → longest_after run longest xs ≡ max longest (min 65535 (max (run + zeros xs) (longest_zeros xs)))
 counted_zeros run longest [] h k = omega arith
 counted_zeros run longest (zero ∷ xs) h k =
     let r : ℕ = min (run + 1) 65535 in
-    let more : longest_behind r (max longest r) xs ≡ max (max longest r) (min 65535 (max (r + zeros xs) (longest_zeros xs))) = counted_zeros r (max longest r) xs (omega arith) (omega arith) in
+    let more : longest_after r (max longest r) xs ≡ max (max longest r) (min 65535 (max (r + zeros xs) (longest_zeros xs))) = counted_zeros r (max longest r) xs (omega arith) (omega arith) in
     let few : zeros xs ≤ longest_zeros xs = zeros-few xs in
     more ∙ omega (arith, few)
 counted_zeros run longest (suc x ∷ xs) h k =
-    let more : longest_behind 0 (max longest 0) xs ≡ max (max longest 0) (min 65535 (max (0 + zeros xs) (longest_zeros xs))) = counted_zeros 0 (max longest 0) xs (omega arith) (omega arith) in
+    let more : longest_after 0 (max longest 0) xs ≡ max (max longest 0) (min 65535 (max (0 + zeros xs) (longest_zeros xs))) = counted_zeros 0 (max longest 0) xs (omega arith) (omega arith) in
     let few : zeros xs ≤ longest_zeros xs = zeros-few xs in
     more ∙ omega (arith, few)
 
-pub longest_is : (xs : List ℕ) → longest_behind 0 0 xs ≡ min 65535 (longest_zeros xs)
+pub longest_is : (xs : List ℕ) → longest_after 0 0 xs ≡ min 65535 (longest_zeros xs)
 longest_is xs = let few : zeros xs ≤ longest_zeros xs = zeros-few xs in counted_zeros 0 0 xs (omega arith) (omega arith) ∙ omega (arith, few)
 
 le_so : (m n : ℕ) → nat_le m n ≡ true → m ≤ n

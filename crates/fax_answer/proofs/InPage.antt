@@ -7,13 +7,13 @@ use Rattle.fax_answer.specs.declared.state.State.TheVariants.{Page}
 use Rattle.fax_answer.specs.History.{Entry, Decision, PassesOver, Trains, HangsUp, GivesCfr, GivesFtt, GivesMcf, GivesRtn, octets_with, octets_since}
 use Rattle.fax_answer.specs.Table.{Reading, decision}
 use Rattle.fax_answer.specs.Replies.{is_waiting}
-use Rattle.fax_answer.specs.Calls.{Answering, rung, came, ticked, CallEvent, Comes, Ticks, after_events}
+use Rattle.fax_answer.specs.Calls.{AnswererCore, rung, came, ticked, CallEvent, Comes, Ticks, after_events}
 use Rattle.fax_answer.specs.InPage.{is_cfr, since_cfr, BeginsInPage}
 use Rattle.fax_answer.proofs.Confirmations.{ticked_history}
 use Rattle.fax_answer.proofs.Held.{IsNoCfr, in_page, frame_no_cfr}
 use Rattle.fax_answer.proofs.ReachedLemmas.{ticked_page}
 
-abbrev Begins : Answering → Type 0
+abbrev Begins : AnswererCore → Type 0
 Begins a = (dcs : Dcs) → a.state ≡ Page dcs → octets_since a.history ≡ octets_since (since_cfr a.history)
 
 no_cfr : (d : Decision) → is_cfr d ≡ false → IsNoCfr d
@@ -42,7 +42,7 @@ cfr_ends read s waits h (Octets more) octets e = cc
 cfr_ends read s waits h (End whole) octets e = refl
 cfr_ends read s waits h Gap octets e = cc
 
-begins_on : (read : Reading) (a : Answering) (piece : Piece) (now : ℕ) → Begins a → Begins (came read a piece now)
+begins_on : (read : Reading) (a : AnswererCore) (piece : Piece) (now : ℕ) → Begins a → Begins (came read a piece now)
 begins_on read a piece now i dcs e = by (is_cfr d) refl
   where
     d : Decision
@@ -52,12 +52,12 @@ begins_on read a piece now i dcs e = by (is_cfr d) refl
     by true c = cfr_ends read a.state (is_waiting a.waiting) a.history piece (octets_since a.history) c
     by false c = ap (octets_with piece) (i dcs (in_page a.state d dcs (no_cfr d c) e))
 
-begins_ticked : (a : Answering) (now : ℕ) → Begins a → Begins (ticked a now).core
+begins_ticked : (a : AnswererCore) (now : ℕ) → Begins a → Begins (ticked a now).core
 begins_ticked a now i dcs e =
     let same : (ticked a now).core.history ≡ a.history = ticked_history a now in
     ap octets_since same ∙ i dcs (ticked_page a now dcs e) ∙ sym (ap (λ (h : List Entry). octets_since (since_cfr h)) same)
 
-pub begins_always : (core : Answering) (start : ℕ) (events : List CallEvent) → Begins (after_events (rung core start) events)
+pub begins_always : (core : AnswererCore) (start : ℕ) (events : List CallEvent) → Begins (after_events (rung core start) events)
 begins_always core start [] dcs e = cc
 begins_always core start (Comes piece now read ∷ before) dcs e = begins_on read (after_events (rung core start) before) piece now (begins_always core start before) dcs e
 begins_always core start (Ticks now ∷ before) dcs e = begins_ticked (after_events (rung core start) before) now (begins_always core start before) dcs e

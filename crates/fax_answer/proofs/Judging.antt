@@ -16,7 +16,7 @@ use Rattle.fax_answer.specs.Orders.{order_of}
 use Rattle.fax_answer.specs.History.{Entry, Decision, PassesOver, Trains, HangsUp, GivesCfr, GivesFtt, GivesMcf, GivesRtn, since_answer, images, gap, last_image, repeat_with, repeated, trained_dcs, dcs_with, answered_dcs}
 use Rattle.fax_answer.specs.Table.{Reading, Question, judged, is_one_image, same_command, is_repeat, on_command, on_command_again, on_order, decision, order_asks, asked_of}
 use Rattle.fax_answer.specs.Replies.{is_waiting}
-use Rattle.fax_answer.specs.Calls.{Answering, rung, CallEvent, Comes, Ticks, after_events}
+use Rattle.fax_answer.specs.Calls.{AnswererCore, rung, CallEvent, Comes, Ticks, after_events}
 use Rattle.fax_answer.specs.Confirmation.{IsRight, IfAsked, AreRead}
 use Rattle.fax_answer.specs.Judging.{MeansNone, IsAnswered, RefusesNoPage, JudgesExactly}
 use Rattle.fax_answer.specs.EachCommand.{JudgesEachCommand}
@@ -39,15 +39,15 @@ AllDecided : List Entry → Type 0
 AllDecided [] = Unit {0}
 AllDecided (e ∷ before) = IsDecided e before × AllDecided before
 
-all_decided : (core : Answering) (start : ℕ) (events : List CallEvent) → AreRead (rung core start) events → AllDecided (after_events (rung core start) events).history
+all_decided : (core : AnswererCore) (start : ℕ) (events : List CallEvent) → AreRead (rung core start) events → AllDecided (after_events (rung core start) events).history
 unfolding AllDecided
 all_decided core start [] right = tt
 all_decided core start (Comes piece now read ∷ before) right =
-    let a : Answering = after_events (rung core start) before in
+    let a : AnswererCore = after_events (rung core start) before in
     let k : InCall a = events_keep (rung core start) before right.1 (rung_in_call core start) in
     (record { read = read; state = a.state; waits = is_waiting a.waiting; knows = k.knows; right = right.0; decided = refl }, all_decided core start before right.1)
 all_decided core start (Ticks now ∷ before) right =
-    let a : Answering = after_events (rung core start) before in
+    let a : AnswererCore = after_events (rung core start) before in
     subst AllDecided (sym (ticked_history a now)) (all_decided core start before right)
 
 decided_at : (later : List Entry) (e : Entry) (before : List Entry) → AllDecided (later ++ e ∷ before) → IsDecided e before
@@ -212,7 +212,7 @@ mcf_at read state waits before (pieces.Start k) command page h = cc
 mcf_at read state waits before (pieces.Octets o) command page h = cc
 mcf_at read state waits before pieces.Gap command page h = cc
 
--- so behind an MCF there was a CFR
+-- so after an MCF there was a CFR
 abbrev HasDcs : List Entry → Type 0
 HasDcs before = (dcs : Dcs) × (answered_dcs before ≡ Some dcs)
 
@@ -223,23 +223,23 @@ dcs_listens e before i again (inr p) = again Eom (subst (λ (x : State). KnowsDc
 dcs_kept : (e : Entry) (before : List Entry) (d : Decision) → dcs_with d (trained_dcs before) (answered_dcs before) ≡ answered_dcs before → e.decision ≡ d → HasDcs before → HasDcs (e ∷ before)
 dcs_kept e before d k q p = (p.0, ap (λ (x : Decision). dcs_with x (trained_dcs before) (answered_dcs before)) q ∙ k ∙ p.1)
 
-dcs_behind : (e : Entry) (before : List Entry) (command : Command) → (i : IsDecided e before) → ((c : Command) → repeated before ≡ Some c → HasDcs before) →
+dcs_after : (e : Entry) (before : List Entry) (command : Command) → (i : IsDecided e before) → ((c : Command) → repeated before ≡ Some c → HasDcs before) →
     (d : Decision) → e.decision ≡ d → repeat_with e.decision (repeated before) ≡ Some command → HasDcs (e ∷ before)
-dcs_behind e before command i again (GivesMcf c page) q r =
+dcs_after e before command i again (GivesMcf c page) q r =
     dcs_kept e before (GivesMcf c page) refl q (dcs_listens e before i again (mcf_at i.read i.state i.waits before e.piece c page (sym i.decided ∙ q)))
-dcs_behind e before command i again (GivesCfr dcs) q r = let n : None ≡ Some command = sym (ap (λ (x : Decision). repeat_with x (repeated before)) q) ∙ r in cc
-dcs_behind e before command i again PassesOver q r = dcs_kept e before PassesOver refl q (again command (sym (ap (λ (x : Decision). repeat_with x (repeated before)) q) ∙ r))
-dcs_behind e before command i again (Trains dcs) q r = dcs_kept e before (Trains dcs) refl q (again command (sym (ap (λ (x : Decision). repeat_with x (repeated before)) q) ∙ r))
-dcs_behind e before command i again HangsUp q r = dcs_kept e before HangsUp refl q (again command (sym (ap (λ (x : Decision). repeat_with x (repeated before)) q) ∙ r))
-dcs_behind e before command i again GivesFtt q r = dcs_kept e before GivesFtt refl q (again command (sym (ap (λ (x : Decision). repeat_with x (repeated before)) q) ∙ r))
-dcs_behind e before command i again GivesRtn q r = dcs_kept e before GivesRtn refl q (again command (sym (ap (λ (x : Decision). repeat_with x (repeated before)) q) ∙ r))
+dcs_after e before command i again (GivesCfr dcs) q r = let n : None ≡ Some command = sym (ap (λ (x : Decision). repeat_with x (repeated before)) q) ∙ r in cc
+dcs_after e before command i again PassesOver q r = dcs_kept e before PassesOver refl q (again command (sym (ap (λ (x : Decision). repeat_with x (repeated before)) q) ∙ r))
+dcs_after e before command i again (Trains dcs) q r = dcs_kept e before (Trains dcs) refl q (again command (sym (ap (λ (x : Decision). repeat_with x (repeated before)) q) ∙ r))
+dcs_after e before command i again HangsUp q r = dcs_kept e before HangsUp refl q (again command (sym (ap (λ (x : Decision). repeat_with x (repeated before)) q) ∙ r))
+dcs_after e before command i again GivesFtt q r = dcs_kept e before GivesFtt refl q (again command (sym (ap (λ (x : Decision). repeat_with x (repeated before)) q) ∙ r))
+dcs_after e before command i again GivesRtn q r = dcs_kept e before GivesRtn refl q (again command (sym (ap (λ (x : Decision). repeat_with x (repeated before)) q) ∙ r))
 
 has_dcs : (before : List Entry) (command : Command) → AllDecided before → repeated before ≡ Some command → HasDcs before
 unfolding AllDecided
 has_dcs [] command all h = cc
 has_dcs (e ∷ before) command all h =
     let again : (c : Command) → repeated before ≡ Some c → HasDcs before = λ c r. has_dcs before c all.1 r in
-    dcs_behind e before command all.0 again e.decision refl h
+    dcs_after e before command all.0 again e.decision refl h
 
 decided_before : (later : List Entry) (e : Entry) (before : List Entry) → AllDecided (later ++ e ∷ before) → AllDecided before
 unfolding AllDecided

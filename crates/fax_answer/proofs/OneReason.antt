@@ -13,7 +13,7 @@ use Rattle.fax_answer.specs.History.{Entry, since_answer, images, gap, last_imag
 use Rattle.fax_answer.specs.Table.{is_one_image}
 use Rattle.fax_answer.specs.Refusals.{IsReasonInAgain, IsReasonInPage, ReasonsAreUnique}
 
--- the reason where not one image stands, whole and with nothing behind it, by how many there are and whether the last is whole
+-- the reason where not one image stands, whole and with nothing after it, by how many there are and whether the last is whole
 abbrev lacking : ℕ → Bool → Refusal
 lacking n whole = if nat_eq n 0 then NoImage else if nat_eq n 1 then (if whole then GapBehind else NotWhole) else SeveralImages
 

@@ -1,13 +1,13 @@
--- The packets of the answering side are short.
+-- The packets of the answerer are short.
 use Rattle.std.proofs.Common.{◌≡◌, ℕ, ◌≤◌, List, length, sym, subst, arith}
-use Rattle.fax_ifp.specs.WrittenPackets.{written_behind}
+use Rattle.fax_ifp.specs.WrittenPackets.{written_after}
 use Rattle.fax_answer.specs.declared.pending.Reply.TheVariants.{Dis, Plain}
 use Rattle.fax_answer.specs.declared.pending.Pending.{Pending}
 use Rattle.fax_answer.specs.declared.pending.Pending.TheVariants.{Nothing, Tone, Preamble, Frame}
 use Rattle.fax_answer.specs.Pending.{packet_text}
 
 pub packet_short : (p : Pending) → length (packet_text p) ≤ 12
-unfolding written_behind
+unfolding written_after
 packet_short Nothing = omega arith
 packet_short Tone = omega arith
 packet_short (Preamble reply) = omega arith

@@ -1,4 +1,4 @@
--- What an answering side keeps stands for the core of its call.
+-- What an answerer keeps stands for the core of its call.
 use Rattle.std.proofs.Common.{◌≡◌, ℕ, Bool, true, false, ◌&&◌, List, [], ◌∷◌, Option, Some, None, IsSome, refl, sym, ◌∙◌, ap, subst, if◌then◌else◌}
 use Rattle.fax_answer.specs.History.{Entry}
 use Rattle.fax_frames.specs.declared.dcs.Dcs.{Dcs}
@@ -14,11 +14,11 @@ use Rattle.fax_answer.specs.declared.pending.Pending.{Pending}
 use Rattle.fax_answer.specs.declared.pending.Pending.TheVariants.{Nothing, Tone, Preamble, Frame}
 use Rattle.fax_answer.specs.declared.procedure.Procedure.{Procedure}
 use Rattle.fax_timers.specs.Paces.{pace_allows}
-use Rattle.fax_answer.specs.Replies.{ConfirmedPage, Waiting, is_waiting}
-use Rattle.fax_answer.specs.Calls.{Answering, Ticked, ticked, timed, timed_in, given_first, says_goodbye, identifies_again, identifies_anew, state_when_given}
+use Rattle.fax_answer.specs.Replies.{ConfirmedPage, WaitingPacket, is_waiting}
+use Rattle.fax_answer.specs.Calls.{AnswererCore, TickResult, ticked, timed, timed_in, given_first, says_goodbye, identifies_again, identifies_anew, state_when_given}
 use Rattle.fax_answer.specs.Pending.{packet_text}
 use Rattle.fax_answer.specs.Following.{Follows, GivesNext, gives_now, confirmed_left, confirmed_with}
-use Rattle.fax_answer.specs.Reached.{Holds, Kept, Stands, IsReached}
+use Rattle.fax_answer.specs.Reached.{Holds, Rep, Stands, IsReached}
 use Rattle.fax_answer.specs.declared.refusal.Refusal.{Refusal}
 use Rattle.fax_answer.specs.Refusals.{HasReason}
 use Rattle.fax_answer.specs.declared.pending.Reply.TheVariants.{Plain}
@@ -36,14 +36,14 @@ confirmed_settled : (accepted : Option Accepted) (readers : List ReaderValue) (k
 confirmed_settled None readers k c e f = f
 confirmed_settled (Some a) readers k c e f = cc
 
-pub settled_follows : (heard : List Slot) (core : Answering) (kept : Kept) → IsReached heard core kept → Follows core kept.confirmed kept.procedure
+pub settled_follows : (heard : List Slot) (core : AnswererCore) (kept : Rep) → IsReached heard core kept → Follows core kept.confirmed kept.procedure
 settled_follows heard core kept r =
     subst (λ (c : Option ConfirmedPage). Follows core c kept.procedure) (confirmed_settled kept.image.accepted kept.image.readers kept.confirmed r.stands.confirmed r.settled r.stands.confirms) r.stands.follows
 
 abbrev pub no_image : ImageValue
 no_image = record { readers = []; accepted = None; run = 0; longest = 0 }
 
-pub stands_new : (core : Answering) (kept : Kept) → ((dcs : Dcs) → core.state ≡ Page dcs → ⊥) → core.history ≡ [] → kept.image ≡ no_image → Follows core kept.confirmed kept.procedure → HasReason core kept.refused → Stands core kept
+pub stands_new : (core : AnswererCore) (kept : Rep) → ((dcs : Dcs) → core.state ≡ Page dcs → ⊥) → core.history ≡ [] → kept.image ≡ no_image → Follows core kept.confirmed kept.procedure → HasReason core kept.refused → Stands core kept
 stands_new core kept n h i f r = record {
   confirmed = kept.confirmed;
   confirms = subst (λ (x : ImageValue). Confirms x.accepted x.readers kept.confirmed kept.confirmed) (sym i) refl;
@@ -53,17 +53,17 @@ stands_new core kept n h i f r = record {
 }
 
 -- the timers enter no Page
-by_if : (b : Bool) (x y : Answering) (dcs : Dcs) (P : Type 0) → (x.state ≡ Page dcs → P) → (y.state ≡ Page dcs → P) → (if b then x else y).state ≡ Page dcs → P
+by_if : (b : Bool) (x y : AnswererCore) (dcs : Dcs) (P : Type 0) → (x.state ≡ Page dcs → P) → (y.state ≡ Page dcs → P) → (if b then x else y).state ≡ Page dcs → P
 by_if true x y dcs P f g e = f e
 by_if false x y dcs P f g e = g e
 
-closed : (a : Answering) (dcs : Dcs) → (says_goodbye a).state ≡ Page dcs → a.state ≡ Page dcs
+closed : (a : AnswererCore) (dcs : Dcs) → (says_goodbye a).state ≡ Page dcs → a.state ≡ Page dcs
 closed a dcs e = cc
 
-anew : (a : Answering) (now : ℕ) (dcs : Dcs) → (identifies_anew a now).state ≡ Page dcs → a.state ≡ Page dcs
+anew : (a : AnswererCore) (now : ℕ) (dcs : Dcs) → (identifies_anew a now).state ≡ Page dcs → a.state ≡ Page dcs
 anew a now dcs e = cc
 
-timed_in_page : (s : State) (a : Answering) (now : ℕ) (dcs : Dcs) → (timed_in s a now).state ≡ Page dcs → a.state ≡ Page dcs
+timed_in_page : (s : State) (a : AnswererCore) (now : ℕ) (dcs : Dcs) → (timed_in s a now).state ≡ Page dcs → a.state ≡ Page dcs
 timed_in_page Idle a now dcs e = e
 timed_in_page Closing a now dcs e = e
 timed_in_page Identify a now dcs e =
@@ -74,7 +74,7 @@ timed_in_page Listen a now dcs e = by_if (is_due a.timers.t2 now) (says_goodbye 
 timed_in_page (Train t) a now dcs e = by_if (is_due a.timers.t2 now) (says_goodbye a) a dcs (a.state ≡ Page dcs) (closed a dcs) (λ h. h) e
 timed_in_page (Page t) a now dcs e = by_if (is_due a.timers.t2 now) (says_goodbye a) a dcs (a.state ≡ Page dcs) (closed a dcs) (λ h. h) e
 
-timed_page : (a : Answering) (now : ℕ) (dcs : Dcs) → (timed a now).state ≡ Page dcs → a.state ≡ Page dcs
+timed_page : (a : AnswererCore) (now : ℕ) (dcs : Dcs) → (timed a now).state ≡ Page dcs → a.state ≡ Page dcs
 timed_page a now dcs e = by_if (is_waiting a.waiting) a (timed_in a.state a now) dcs (a.state ≡ Page dcs) (λ h. h) (timed_in_page a.state a now dcs) e
 
 state_given : (s : State) (dcs : Dcs) → state_when_given s ≡ Page dcs → s ≡ Page dcs
@@ -86,24 +86,24 @@ state_given (Page t) dcs e = e
 state_given Again dcs e = e
 state_given Closing dcs e = cc
 
-given_page : (a : Answering) (now : ℕ) (ws : List Waiting) (dcs : Dcs) → (given_first a now ws).core.state ≡ Page dcs → a.state ≡ Page dcs
+given_page : (a : AnswererCore) (now : ℕ) (ws : List WaitingPacket) (dcs : Dcs) → (given_first a now ws).core.state ≡ Page dcs → a.state ≡ Page dcs
 given_page a now [] dcs e = e
 given_page a now (w ∷ []) dcs e = state_given a.state dcs e
 given_page a now (w ∷ v ∷ ws) dcs e = e
 
-pub ticked_page : (a : Answering) (now : ℕ) (dcs : Dcs) → (ticked a now).core.state ≡ Page dcs → a.state ≡ Page dcs
+pub ticked_page : (a : AnswererCore) (now : ℕ) (dcs : Dcs) → (ticked a now).core.state ≡ Page dcs → a.state ≡ Page dcs
 ticked_page a now dcs e = timed_page a now dcs (by (pace_allows (timed a now).pace.last now) (timed a now) e)
   where
-    by : (b : Bool) (x : Answering) → (if◌then◌else◌ {A = Ticked} b (given_first x now x.waiting) (record { core = x; given = None; ended = false })).core.state ≡ Page dcs → x.state ≡ Page dcs
+    by : (b : Bool) (x : AnswererCore) → (if◌then◌else◌ {A = TickResult} b (given_first x now x.waiting) (record { core = x; given = None; ended = false })).core.state ≡ Page dcs → x.state ≡ Page dcs
     by true x e = given_page x now x.waiting dcs e
     by false x e = e
 
 -- A TICK that gives nothing
-pub reached_rests : (heard : List Slot) (core : Answering) (now : ℕ) (old : Kept) (procedure : Procedure) → IsReached heard core old → Follows (timed core now) old.confirmed procedure
+pub reached_rests : (heard : List Slot) (core : AnswererCore) (now : ℕ) (old : Rep) (procedure : Procedure) → IsReached heard core old → Follows (timed core now) old.confirmed procedure
     → gives_now (timed core now) now ≡ false
     → IsReached heard (ticked core now).core (record { tracked = old.tracked; procedure = procedure; image = old.image; confirmed = old.confirmed; refused = old.refused; spare = old.spare })
 reached_rests heard core now old procedure r f none =
-    let new : Kept = record { tracked = old.tracked; procedure = procedure; image = old.image; confirmed = old.confirmed; refused = old.refused; spare = old.spare } in
+    let new : Rep = record { tracked = old.tracked; procedure = procedure; image = old.image; confirmed = old.confirmed; refused = old.refused; spare = old.spare } in
     let there : IsReached heard (timed core now) new = record {
       tracked = r.tracked;
       stands = record {
@@ -115,20 +115,20 @@ reached_rests heard core now old procedure r f none =
       };
       settled = r.settled;
     } in
-    subst (λ (t : Ticked). IsReached heard t.core new) (sym (ticked_rests core now none)) there
+    subst (λ (t : TickResult). IsReached heard t.core new) (sym (ticked_rests core now none)) there
 
-pub step_rests : {S : Type 0} → (core : Answering) (now : ℕ) → gives_now (timed core now) now ≡ false → IsStep {S = S} (ticked core now) (record { packet = None; confirmed = None; refused = None; ended = false })
+pub step_rests : {S : Type 0} → (core : AnswererCore) (now : ℕ) → gives_now (timed core now) now ≡ false → IsStep {S = S} (ticked core now) (record { packet = None; confirmed = None; refused = None; ended = false })
 step_rests {S = S} core now none =
     let s : Step S = record { packet = None; confirmed = None; refused = None; ended = false } in
-    subst (λ (t : Ticked). IsStep {S = S} t s) (sym (ticked_rests core now none)) (record { packet = refl; confirmed = refl; refused = record { rtn = λ h. absurd h; silent = λ off. refl }; ends = refl })
+    subst (λ (t : TickResult). IsStep {S = S} t s) (sym (ticked_rests core now none)) (record { packet = refl; confirmed = refl; refused = record { rtn = λ h. absurd h; silent = λ off. refl }; ends = refl })
 
 -- and one that gives a packet
-pub reached_gives : (heard : List Slot) (core : Answering) (now : ℕ) (old : Kept) (acted procedure : Procedure) (ended : Bool) (spare : ℕ) → IsReached heard core old
+pub reached_gives : (heard : List Slot) (core : AnswererCore) (now : ℕ) (old : Rep) (acted procedure : Procedure) (ended : Bool) (spare : ℕ) → IsReached heard core old
     → GivesNext (timed core now) old.confirmed now acted procedure ended → gives_now (timed core now) now ≡ true
     → IsReached heard (ticked core now).core (record { tracked = old.tracked; procedure = procedure; image = old.image; confirmed = confirmed_left procedure.pending old.confirmed; refused = old.refused; spare = spare })
 reached_gives heard core now old acted procedure ended spare r n gives =
-    let a : Answering = timed core now in
-    let new : Kept = record { tracked = old.tracked; procedure = procedure; image = old.image; confirmed = confirmed_left procedure.pending old.confirmed; refused = old.refused; spare = spare } in
+    let a : AnswererCore = timed core now in
+    let new : Rep = record { tracked = old.tracked; procedure = procedure; image = old.image; confirmed = confirmed_left procedure.pending old.confirmed; refused = old.refused; spare = spare } in
     let same = given_history a now a.waiting ∙ timed_history core now in
     let there : IsReached heard (given_first a now a.waiting).core new = record {
       tracked = r.tracked;
@@ -141,15 +141,15 @@ reached_gives heard core now old acted procedure ended spare r n gives =
       };
       settled = r.settled;
     } in
-    subst (λ (t : Ticked). IsReached heard t.core new) (sym (ticked_gives core now gives)) there
+    subst (λ (t : TickResult). IsReached heard t.core new) (sym (ticked_gives core now gives)) there
 
-pub step_gives : {S : Type 0} → (core : Answering) (now : ℕ) (confirmed : Option ConfirmedPage) (refused : Option Refusal) (acted procedure : Procedure) (step : Step S) → HasReason core refused → GivesNext (timed core now) confirmed now acted procedure step.ended → gives_now (timed core now) now ≡ true
+pub step_gives : {S : Type 0} → (core : AnswererCore) (now : ℕ) (confirmed : Option ConfirmedPage) (refused : Option Refusal) (acted procedure : Procedure) (step : Step S) → HasReason core refused → GivesNext (timed core now) confirmed now acted procedure step.ended → gives_now (timed core now) now ≡ true
     → step.packet ≡ Some (packet_text acted.pending) → confirmed_shown step.confirmed ≡ confirmed_with procedure.pending confirmed
     → (acted.pending ≡ Frame (Plain Rtn) → step.refused ≡ refused) → ((acted.pending ≡ Frame (Plain Rtn) → ⊥) → step.refused ≡ None)
     → IsStep {S = S} (ticked core now) step
 step_gives {S = S} core now confirmed refused acted procedure step r n gives packet page rtn other =
-    let a : Answering = timed core now in
-    subst (λ (t : Ticked). IsStep {S = S} t step) (sym (ticked_gives core now gives)) (record {
+    let a : AnswererCore = timed core now in
+    subst (λ (t : TickResult). IsStep {S = S} t step) (sym (ticked_gives core now gives)) (record {
       packet = packet ∙ sym (ap packet_in n.given);
       confirmed = page ∙ sym (ap confirmed_in n.given);
       refused = first_tells a now acted.pending refused step.refused (confirmed_with procedure.pending confirmed) (reason_timed core now refused r) n.given rtn other;
@@ -157,7 +157,7 @@ step_gives {S = S} core now confirmed refused acted procedure step r n gives pac
     })
 
 -- where a packet is to be given, one is
-given_first_gives : (a : Answering) (now : ℕ) (ws : List Waiting) → is_waiting ws ≡ true → IsSome (given_first a now ws).given
+given_first_gives : (a : AnswererCore) (now : ℕ) (ws : List WaitingPacket) → is_waiting ws ≡ true → IsSome (given_first a now ws).given
 given_first_gives a now [] h = cc
 given_first_gives a now (w ∷ []) h = refl
 given_first_gives a now (w ∷ v ∷ ws) h = refl
@@ -166,10 +166,10 @@ both_first : (b c : Bool) → (b && c) ≡ true → b ≡ true
 both_first true c h = refl
 both_first false c h = cc
 
-pub given_gives : (core : Answering) (now : ℕ) → gives_now (timed core now) now ≡ true → IsSome (ticked core now).given
+pub given_gives : (core : AnswererCore) (now : ℕ) → gives_now (timed core now) now ≡ true → IsSome (ticked core now).given
 given_gives core now gives =
-    let a : Answering = timed core now in
-    subst (λ (t : Ticked). IsSome t.given) (sym (ticked_gives core now gives))
+    let a : AnswererCore = timed core now in
+    subst (λ (t : TickResult). IsSome t.given) (sym (ticked_gives core now gives))
     (given_first_gives a now a.waiting (both_first (is_waiting a.waiting) (pace_allows a.pace.last now) gives))
 
 -- the page that is given with the last packet of a reply

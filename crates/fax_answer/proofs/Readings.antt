@@ -13,8 +13,8 @@ use Rattle.fax_answer.specs.declared.state.State.TheVariants.{Idle, Identify, Li
 use Rattle.fax_answer.specs.Orders.{order_of}
 use Rattle.fax_answer.specs.History.{Entry, Decision, GivesMcf, GivesRtn, since_answer, last_image}
 use Rattle.fax_answer.specs.Table.{Reading, Question, judged, is_one_image, is_repeat, on_order, decision, order_asks, asked_of}
-use Rattle.fax_answer.specs.Replies.{Waiting, reply_to, is_waiting}
-use Rattle.fax_answer.specs.Calls.{Answering, decided, came, asked, or_else, first_asked, came_all, CallEvent, Comes, after_events}
+use Rattle.fax_answer.specs.Replies.{WaitingPacket, reply_to, is_waiting}
+use Rattle.fax_answer.specs.Calls.{AnswererCore, decided, came, asked, or_else, first_asked, came_all, CallEvent, Comes, after_events}
 use Rattle.fax_answer.specs.Confirmation.{IfAsked, AreRead, IsRead}
 use Rattle.fax_answer.specs.Readings.{CameSo, ReadingsJoin, comes_all, CallsAreRead, QuestionsAreKnown, CallsGoOn}
 
@@ -62,17 +62,17 @@ decision_same r s state waits before (pieces.Start k) h = refl
 decision_same r s state waits before (pieces.Octets os) h = refl
 decision_same r s state waits before pieces.Gap h = refl
 
-pub came_same : (r s : Reading) (a : Answering) (p : pieces.Piece) (now : ℕ) → asked a p ≡ None → came r a p now ≡ came s a p now
+pub came_same : (r s : Reading) (a : AnswererCore) (p : pieces.Piece) (now : ℕ) → asked a p ≡ None → came r a p now ≡ came s a p now
 came_same r s a p now h = ap (λ (d : Decision). decided a p d now) (decision_same r s a.state (is_waiting a.waiting) a.history p h)
 
 -- where it is asked, the reply waits, and while packets wait nothing is asked
-wait_more : (xs ys : List Waiting) → is_waiting xs ≡ true → is_waiting (xs ++ ys) ≡ true
+wait_more : (xs ys : List WaitingPacket) → is_waiting xs ≡ true → is_waiting (xs ++ ys) ≡ true
 wait_more [] ys h = cc
 wait_more (x ∷ xs) ys h = refl
 
-wait_behind : (xs ys : List Waiting) → is_waiting ys ≡ true → is_waiting (xs ++ ys) ≡ true
-wait_behind [] ys h = h
-wait_behind (x ∷ xs) ys h = refl
+wait_after : (xs ys : List WaitingPacket) → is_waiting ys ≡ true → is_waiting (xs ++ ys) ≡ true
+wait_after [] ys h = h
+wait_after (x ∷ xs) ys h = refl
 
 judged_waits : (r : Reading) (c : Command) → is_waiting (reply_to (judged c r)) ≡ true
 judged_waits None c = refl
@@ -115,17 +115,17 @@ waiting_asks state w before (pieces.Octets os) h = refl
 waiting_asks state w before pieces.Gap h = refl
 
 -- the pieces of a datagram
-pieces_read : (a : Answering) (ps : List pieces.Piece) (now : ℕ) (read : Reading) (events : List CallEvent) → AreRead a events →
+pieces_read : (a : AnswererCore) (ps : List pieces.Piece) (now : ℕ) (read : Reading) (events : List CallEvent) → AreRead a events →
     (is_waiting (after_events a events).waiting ≡ true) ⊎ IsRead (first_asked (after_events a events) ps now) read → AreRead a (comes_all ps now read events)
 pieces_read a [] now read events t h = t
 pieces_read a (p ∷ ps) now read events t (inl w) =
-    let c : Answering = after_events a events in
+    let c : AnswererCore = after_events a events in
     let n : asked c p ≡ None = waiting_asks c.state (is_waiting c.waiting) c.history p w in
     let here : IfAsked (asked c p) read = subst (λ (o : Option Question). IfAsked o read) (sym n) tt in
     pieces_read a ps now read (Comes p now read ∷ events) (here, t) (inl (wait_more c.waiting (reply_to (decision read c.state (is_waiting c.waiting) c.history p)) w))
 pieces_read a (p ∷ ps) now read events t (inr h) = by (asked c p) refl h (λ k w. pieces_read a ps now read (Comes p now read ∷ events) (k, t) w)
   where
-    c : Answering
+    c : AnswererCore
     c = after_events a events
 
     by : (o : Option Question) → asked c p ≡ o → IsRead (or_else o (first_asked (came None c p now) ps now)) read →
@@ -133,41 +133,41 @@ pieces_read a (p ∷ ps) now read events t (inr h) = by (asked c p) refl h (λ k
         AreRead a (comes_all ps now read (Comes p now read ∷ events))
     by None e h f =
         f (subst (λ (o : Option Question). IfAsked o read) (sym e) tt)
-        (inr (subst (λ (x : Answering). IsRead (first_asked x ps now) read) (came_same None read c p now e) h))
+        (inr (subst (λ (x : AnswererCore). IsRead (first_asked x ps now) read) (came_same None read c p now e) h))
     by (Some q) e h f =
         f (subst (λ (o : Option Question). IfAsked o read) (sym e) h)
-        (inl (wait_behind c.waiting (reply_to (decision read c.state (is_waiting c.waiting) c.history p)) (asked_waits read q c.state (is_waiting c.waiting) c.history p e)))
+        (inl (wait_after c.waiting (reply_to (decision read c.state (is_waiting c.waiting) c.history p)) (asked_waits read q c.state (is_waiting c.waiting) c.history p e)))
 
 -- one reading for the pieces of a datagram
-quiet_all : (a : Answering) (ps : List pieces.Piece) (now : ℕ) (z : Answering) (r : Reading) → is_waiting a.waiting ≡ true → CameSo a ps now z → came_all r a ps now ≡ z
+quiet_all : (a : AnswererCore) (ps : List pieces.Piece) (now : ℕ) (z : AnswererCore) (r : Reading) → is_waiting a.waiting ≡ true → CameSo a ps now z → came_all r a ps now ≡ z
 quiet_all a [] now z r w s = s
 quiet_all a (p ∷ ps) now z r w s =
     let n : asked a p ≡ None = waiting_asks a.state (is_waiting a.waiting) a.history p w in
     let more : is_waiting (came s.0 a p now).waiting ≡ true = wait_more a.waiting (reply_to (decision s.0 a.state (is_waiting a.waiting) a.history p)) w in
-    ap (λ (x : Answering). came_all r x ps now) (came_same r s.0 a p now n) ∙ quiet_all (came s.0 a p now) ps now z r more s.2
+    ap (λ (x : AnswererCore). came_all r x ps now) (came_same r s.0 a p now n) ∙ quiet_all (came s.0 a p now) ps now z r more s.2
 
 pub readings_join : ReadingsJoin
 readings_join a [] now z s = (None, refl, s)
 readings_join a (p ∷ ps) now z s = by (asked a p) refl s.1 (readings_join (came s.0 a p now) ps now z s.2)
   where
-    c : Answering
+    c : AnswererCore
     c = came s.0 a p now
 
     by : (o : Option Question) → asked a p ≡ o → IfAsked o s.0 → ((read : Reading) × IsRead (first_asked c ps now) read × (came_all read c ps now ≡ z)) →
         (read : Reading) × IsRead (or_else o (first_asked (came None a p now) ps now)) read × (came_all read (came read a p now) ps now ≡ z)
     by None e k j = (
       j.0,
-      subst (λ (x : Answering). IsRead (first_asked x ps now) j.0) (came_same s.0 None a p now e) j.1,
-      ap (λ (x : Answering). came_all j.0 x ps now) (came_same j.0 s.0 a p now e) ∙ j.2,
+      subst (λ (x : AnswererCore). IsRead (first_asked x ps now) j.0) (came_same s.0 None a p now e) j.1,
+      ap (λ (x : AnswererCore). came_all j.0 x ps now) (came_same j.0 s.0 a p now e) ∙ j.2,
     )
     by (Some q) e k j = (
       s.0,
       k,
-      quiet_all c ps now z s.0 (wait_behind a.waiting (reply_to (decision s.0 a.state (is_waiting a.waiting) a.history p)) (asked_waits s.0 q a.state (is_waiting a.waiting) a.history p e)) s.2,
+      quiet_all c ps now z s.0 (wait_after a.waiting (reply_to (decision s.0 a.state (is_waiting a.waiting) a.history p)) (asked_waits s.0 q a.state (is_waiting a.waiting) a.history p e)) s.2,
     )
 
 -- the leg's core after a datagram
-pub comes_came : (a : Answering) (ps : List pieces.Piece) (now : ℕ) (read : Reading) (events : List CallEvent) →
+pub comes_came : (a : AnswererCore) (ps : List pieces.Piece) (now : ℕ) (read : Reading) (events : List CallEvent) →
     after_events a (comes_all ps now read events) ≡ came_all read (after_events a events) ps now
 comes_came a [] now read events = refl
 comes_came a (p ∷ ps) now read events = comes_came a ps now read (Comes p now read ∷ events)

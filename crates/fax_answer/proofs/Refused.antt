@@ -7,7 +7,7 @@ use Rattle.fax_frames.specs.Capabilities.{our_dis}
 use Rattle.fax_frames.specs.Rates.{bits_a_second}
 use Rattle.fax_frames.specs.Written.{written_dis, written_plain}
 use Rattle.fax_ifp.specs.Pieces.{Piece, End}
-use Rattle.fax_ifp.specs.WrittenPackets.{written_behind}
+use Rattle.fax_ifp.specs.WrittenPackets.{written_after}
 use Rattle.fax_timers.specs.Moments.{is_due}
 use Rattle.fax_answer.specs.declared.pending.Pending.{Pending}
 use Rattle.fax_answer.specs.declared.pending.Pending.TheVariants.{Nothing, Tone, Preamble, Frame}
@@ -17,8 +17,8 @@ use Rattle.fax_answer.specs.declared.state.State.{State}
 use Rattle.fax_answer.specs.declared.state.State.TheVariants.{Idle, Identify, Listen, Train, Page, Again, Closing}
 use Rattle.fax_answer.specs.History.{Entry, Decision, PassesOver, Trains, HangsUp, GivesCfr, GivesFtt, GivesMcf, GivesRtn, octets_since, missing_in_training}
 use Rattle.fax_answer.specs.Table.{has_zero_run, decision}
-use Rattle.fax_answer.specs.Replies.{ConfirmedPage, Waiting, called_tone, confirmed_if, frame_packet, frame_reply, plain_reply, preamble, is_waiting}
-use Rattle.fax_answer.specs.Calls.{Answering, dis_reply, rung, decided, says_goodbye, identifies_again, identifies_anew, timed_in, timed, state_when_given, Ticked, given_first}
+use Rattle.fax_answer.specs.Replies.{ConfirmedPage, WaitingPacket, called_tone, confirmed_if, frame_packet, frame_reply, plain_reply, preamble, is_waiting}
+use Rattle.fax_answer.specs.Calls.{AnswererCore, dis_reply, rung, decided, says_goodbye, identifies_again, identifies_anew, timed_in, timed, state_when_given, TickResult, given_first}
 use Rattle.fax_answer.specs.Pending.{packet_text}
 use Rattle.fax_answer.specs.EachRtn.{rtn_packet}
 use Rattle.fax_answer.specs.Following.{CanDecide}
@@ -36,32 +36,32 @@ replies_none frame c a b (inr (inl is)) = other (frame_packet frame) b is
 replies_none frame c a b (inr (inr h)) = h
 
 no_dis : AwaitsRtn dis_reply → ⊥
-unfolding written_behind
+unfolding written_after
 no_dis h = replies_none (written_dis our_dis) None refl refl h
 
 no_dcn : AwaitsRtn (plain_reply Dcn None) → ⊥
-unfolding written_behind
+unfolding written_after
 no_dcn h = replies_none (written_plain Dcn false) None refl refl h
 
 no_cfr : AwaitsRtn (plain_reply Cfr None) → ⊥
-unfolding written_behind
+unfolding written_after
 no_cfr h = replies_none (written_plain Cfr false) None refl refl h
 
 no_ftt : AwaitsRtn (plain_reply Ftt None) → ⊥
-unfolding written_behind
+unfolding written_after
 no_ftt h = replies_none (written_plain Ftt false) None refl refl h
 
 no_mcf : (c : Option ConfirmedPage) → AwaitsRtn (plain_reply Mcf c) → ⊥
-unfolding written_behind
+unfolding written_after
 no_mcf c h = replies_none (written_plain Mcf false) c refl refl h
 
-rung_awaits_none : (a : Answering) (now : ℕ) → AwaitsRtn (rung a now).waiting → ⊥
-unfolding written_behind
+rung_awaits_none : (a : AnswererCore) (now : ℕ) → AwaitsRtn (rung a now).waiting → ⊥
+unfolding written_after
 rung_awaits_none a now (inl is) = other called_tone refl is
 rung_awaits_none a now (inr h) = no_dis h
 
 pub rtn_pending : (p : Pending) → packet_text p ≡ rtn_packet → p ≡ Frame (Plain Rtn)
-unfolding written_behind
+unfolding written_after
 rtn_pending Nothing is = absurd (other _ refl is)
 rtn_pending Tone is = absurd (other _ refl is)
 rtn_pending (Preamble reply) is = absurd (other _ refl is)
@@ -76,25 +76,25 @@ rtn_pending (Frame (Plain Rtn)) is = refl
 rtn_pending (Frame (Plain Dcn)) is = absurd (other _ refl is)
 
 -- A CALL that begins, and none
-pub reason_none : (a : Answering) (told : Option Refusal) → a.waiting ≡ [] → HasReason a told
+pub reason_none : (a : AnswererCore) (told : Option Refusal) → a.waiting ≡ [] → HasReason a told
 reason_none a told empty h = absurd (subst AwaitsRtn empty h)
 
-pub reason_rung : (a : Answering) (now : ℕ) (told : Option Refusal) → HasReason (rung a now) told
+pub reason_rung : (a : AnswererCore) (now : ℕ) (told : Option Refusal) → HasReason (rung a now) told
 reason_rung a now told h = absurd (rung_awaits_none a now h)
 
 -- A PIECE that is passed over
-pub reason_over : (a : Answering) (piece : Piece) (now : ℕ) (told : Option Refusal) → HasReason a told → HasReason (decided a piece PassesOver now) told
+pub reason_over : (a : AnswererCore) (piece : Piece) (now : ℕ) (told : Option Refusal) → HasReason a told → HasReason (decided a piece PassesOver now) told
 reason_over a piece now told r h = r (subst AwaitsRtn (append-nil a.waiting) h)
 
 -- and one at which something is decided
-none_left : (ws : List Waiting) → ws ++ [] ≡ [] → AwaitsRtn (ws ++ []) → ⊥
+none_left : (ws : List WaitingPacket) → ws ++ [] ≡ [] → AwaitsRtn (ws ++ []) → ⊥
 none_left ws empty h = subst AwaitsRtn empty h
 
-no_reply : (ws reply : List Waiting) → (AwaitsRtn reply → ⊥) → (ws ≡ []) ⊎ (reply ≡ []) → (reply ≡ [] → ⊥) → AwaitsRtn (ws ++ reply) → ⊥
-no_reply ws reply none (inl empty) some h = none (subst (λ (x : List Waiting). AwaitsRtn (x ++ reply)) empty h)
+no_reply : (ws reply : List WaitingPacket) → (AwaitsRtn reply → ⊥) → (ws ≡ []) ⊎ (reply ≡ []) → (reply ≡ [] → ⊥) → AwaitsRtn (ws ++ reply) → ⊥
+no_reply ws reply none (inl empty) some h = none (subst (λ (x : List WaitingPacket). AwaitsRtn (x ++ reply)) empty h)
 no_reply ws reply none (inr empty) some h = some empty
 
-pub reason_after : (a : Answering) (piece : Piece) (d : Decision) (now : ℕ) (told : Option Refusal) → CanDecide a d → AtRtn d (IsWhy a.state a.history told) → HasReason a told → HasReason (decided a piece d now) told
+pub reason_after : (a : AnswererCore) (piece : Piece) (d : Decision) (now : ℕ) (told : Option Refusal) → CanDecide a d → AtRtn d (IsWhy a.state a.history told) → HasReason a told → HasReason (decided a piece d now) told
 reason_after a piece PassesOver now told can why r h = reason_over a piece now told r h
 reason_after a piece (Trains dcs) now told can why r h = absurd (none_left a.waiting can.rests h)
 reason_after a piece HangsUp now told can why r h = absurd (none_left a.waiting can.rests h)
@@ -128,20 +128,20 @@ at_rtn (GivesMcf command page) P Q f h = tt
 at_rtn GivesRtn P Q f h = f h
 
 -- TIMERS
-either : (b : Bool) (x y : Answering) (told : Option Refusal) → HasReason x told → HasReason y told → HasReason (if b then x else y) told
+either : (b : Bool) (x y : AnswererCore) (told : Option Refusal) → HasReason x told → HasReason y told → HasReason (if b then x else y) told
 either true x y told p q = p
 either false x y told p q = q
 
-reason_goodbye : (a : Answering) (told : Option Refusal) → HasReason (says_goodbye a) told
+reason_goodbye : (a : AnswererCore) (told : Option Refusal) → HasReason (says_goodbye a) told
 reason_goodbye a told h = absurd (no_dcn h)
 
-reason_again : (a : Answering) (told : Option Refusal) → HasReason (identifies_again a) told
+reason_again : (a : AnswererCore) (told : Option Refusal) → HasReason (identifies_again a) told
 reason_again a told h = absurd (no_dis h)
 
-reason_anew : (a : Answering) (now : ℕ) (told : Option Refusal) → HasReason (identifies_anew a now) told
+reason_anew : (a : AnswererCore) (now : ℕ) (told : Option Refusal) → HasReason (identifies_anew a now) told
 reason_anew a now told h = absurd (no_dis h)
 
-reason_timed_in : (state : State) (a : Answering) (now : ℕ) (told : Option Refusal) → HasReason a told → HasReason (timed_in state a now) told
+reason_timed_in : (state : State) (a : AnswererCore) (now : ℕ) (told : Option Refusal) → HasReason a told → HasReason (timed_in state a now) told
 reason_timed_in Idle a now told r = r
 reason_timed_in Closing a now told r = r
 reason_timed_in Identify a now told r =
@@ -152,16 +152,16 @@ reason_timed_in (Train d) a now told r = either (is_due a.timers.t2 now) (says_g
 reason_timed_in (Page d) a now told r = either (is_due a.timers.t2 now) (says_goodbye a) a told (reason_goodbye a told) r
 reason_timed_in Again a now told r = either (is_due a.timers.t2 now) (identifies_anew a now) a told (reason_anew a now told) r
 
-pub reason_timed : (a : Answering) (now : ℕ) (told : Option Refusal) → HasReason a told → HasReason (timed a now) told
+pub reason_timed : (a : AnswererCore) (now : ℕ) (told : Option Refusal) → HasReason a told → HasReason (timed a now) told
 reason_timed a now told r = either (is_waiting a.waiting) a (timed_in a.state a now) told r (reason_timed_in a.state a now told r)
 
 -- PACKETS that are given
-first_left : (a : Answering) (now : ℕ) (ws : List Waiting) (told : Option Refusal) → (AwaitsRtn ws → SaysWhy a.state a.history told) → HasReason a told → HasReason (given_first a now ws).core told
+first_left : (a : AnswererCore) (now : ℕ) (ws : List WaitingPacket) (told : Option Refusal) → (AwaitsRtn ws → SaysWhy a.state a.history told) → HasReason a told → HasReason (given_first a now ws).core told
 first_left a now [] told f r = r
 first_left a now (w ∷ []) told f r = λ h. absurd h
 first_left a now (w ∷ v ∷ ws) told f r = λ h. f (inr h)
 
-pub reason_left : (a : Answering) (now : ℕ) (told : Option Refusal) → HasReason a told → HasReason (given_first a now a.waiting).core told
+pub reason_left : (a : AnswererCore) (now : ℕ) (told : Option Refusal) → HasReason a told → HasReason (given_first a now a.waiting).core told
 reason_left a now told r = first_left a now a.waiting told r r
 
 closing_says : (history : List Entry) (told : Option Refusal) → SaysWhy Closing history told → SaysWhy Idle history told
@@ -177,20 +177,20 @@ says_given (Page d) history told h = h
 says_given Again history told h = h
 says_given Closing history told h = closing_says history told h
 
-first_says : (a : Answering) (now : ℕ) (ws : List Waiting) (told : Option Refusal) → (AwaitsRtn ws → SaysWhy a.state a.history told)
+first_says : (a : AnswererCore) (now : ℕ) (ws : List WaitingPacket) (told : Option Refusal) → (AwaitsRtn ws → SaysWhy a.state a.history told)
     → IsRtn (given_first a now ws).given → SaysWhy (given_first a now ws).core.state (given_first a now ws).core.history told
 first_says a now [] told f h = absurd h
 first_says a now (w ∷ []) told f h = says_given a.state a.history told (f (inl h))
 first_says a now (w ∷ v ∷ ws) told f h = f (inl h)
 
 -- a packet is given, of what is next: why is told where it is that of the RTN frame
-pub first_tells : (a : Answering) (now : ℕ) (p : Pending) (kept told : Option Refusal) (c : Option ConfirmedPage) → HasReason a kept
+pub first_tells : (a : AnswererCore) (now : ℕ) (p : Pending) (kept told : Option Refusal) (c : Option ConfirmedPage) → HasReason a kept
     → (given_first a now a.waiting).given ≡ Some (record { packet = packet_text p; confirmed = c })
     → (p ≡ Frame (Plain Rtn) → told ≡ kept) → ((p ≡ Frame (Plain Rtn) → ⊥) → told ≡ None)
     → TellsWhy (given_first a now a.waiting) told
 first_tells a now p kept told c r given rtn none =
-    let w : Waiting = record { packet = packet_text p; confirmed = c } in
-    let t : Ticked = given_first a now a.waiting in
+    let w : WaitingPacket = record { packet = packet_text p; confirmed = c } in
+    let t : TickResult = given_first a now a.waiting in
     record {
       rtn = λ h.
           let is : p ≡ Frame (Plain Rtn) = rtn_pending p (subst IsRtn given h) in

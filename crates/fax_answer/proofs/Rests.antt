@@ -15,16 +15,16 @@ use Rattle.fax_answer.specs.declared.state.State.TheVariants.{Idle, Identify, Li
 use Rattle.fax_answer.specs.Orders.{order_of}
 use Rattle.fax_answer.specs.History.{Entry, Decision, PassesOver, GivesCfr, GivesFtt, GivesMcf, GivesRtn, is_answer, since_answer, octets_since, missing_in_training}
 use Rattle.fax_answer.specs.Table.{Reading, has_zero_run, judged, is_one_image, is_quiet, is_repeat, on_command_again, on_order, decision, state_after}
-use Rattle.fax_answer.specs.Replies.{Waiting, reply_to, is_waiting}
-use Rattle.fax_answer.specs.Calls.{Answering, asked, says_goodbye, identifies_again, identifies_anew, timed_in, timed, state_when_given, Ticked, given_first, ticked}
+use Rattle.fax_answer.specs.Replies.{WaitingPacket, reply_to, is_waiting}
+use Rattle.fax_answer.specs.Calls.{AnswererCore, asked, says_goodbye, identifies_again, identifies_anew, timed_in, timed, state_when_given, TickResult, given_first, ticked}
 use Rattle.fax_answer.specs.Following.{Rests}
 
 -- no answer is decided while a packet waits
-abbrev pub NoneIf : List Waiting → Decision → Type 0
+abbrev pub NoneIf : List WaitingPacket → Decision → Type 0
 NoneIf [] d = Unit {0}
 NoneIf (w ∷ ws) d = is_answer d ≡ false
 
-pub none_if : (read : Reading) (state : State) (ws : List Waiting) (before : List Entry) (piece : pieces.Piece) → Rests state ws → NoneIf ws (decision read state (is_waiting ws) before piece)
+pub none_if : (read : Reading) (state : State) (ws : List WaitingPacket) (before : List Entry) (piece : pieces.Piece) → Rests state ws → NoneIf ws (decision read state (is_waiting ws) before piece)
 none_if read state [] before piece r = tt
 none_if read state (w ∷ ws) before (pieces.Frame octets) r = refl
 none_if read Idle (w ∷ ws) before (pieces.End whole) r = refl
@@ -38,14 +38,14 @@ none_if read state (w ∷ ws) before (pieces.Start k) r = refl
 none_if read state (w ∷ ws) before (pieces.Octets o) r = refl
 none_if read state (w ∷ ws) before pieces.Gap r = refl
 
-abbrev RestsAfter : State → List Waiting → Decision → Type 0
+abbrev RestsAfter : State → List WaitingPacket → Decision → Type 0
 RestsAfter state ws d = Rests (state_after state d) (ws ++ reply_to d)
 
-passes_rests : (state : State) (ws : List Waiting) → Rests state ws → RestsAfter state ws PassesOver
-passes_rests Idle ws r = ap (λ (x : List Waiting). x ++ []) r
+passes_rests : (state : State) (ws : List WaitingPacket) → Rests state ws → RestsAfter state ws PassesOver
+passes_rests Idle ws r = ap (λ (x : List WaitingPacket). x ++ []) r
 passes_rests Identify ws r = tt
 passes_rests Listen ws r = tt
-passes_rests (Train dcs) ws r = ap (λ (x : List Waiting). x ++ []) r
+passes_rests (Train dcs) ws r = ap (λ (x : List WaitingPacket). x ++ []) r
 passes_rests (Page dcs) ws r = tt
 passes_rests Again ws r = tt
 passes_rests Closing ws r = tt
@@ -93,11 +93,11 @@ order_rests read Again before orders.Disconnect = refl
 order_rests read (Page dcs) before orders.Nothing = tt
 order_rests read Again before orders.Nothing = tt
 
-check_rests : (b : Bool) (dcs : Dcs) (ws : List Waiting) → RestsAfter (Train dcs) ws (if b then GivesCfr dcs else GivesFtt)
+check_rests : (b : Bool) (dcs : Dcs) (ws : List WaitingPacket) → RestsAfter (Train dcs) ws (if b then GivesCfr dcs else GivesFtt)
 check_rests true dcs ws = tt
 check_rests false dcs ws = tt
 
-pub rests_after : (read : Reading) (state : State) (ws : List Waiting) (before : List Entry) (piece : pieces.Piece) → Rests state ws → RestsAfter state ws (decision read state (is_waiting ws) before piece)
+pub rests_after : (read : Reading) (state : State) (ws : List WaitingPacket) (before : List Entry) (piece : pieces.Piece) → Rests state ws → RestsAfter state ws (decision read state (is_waiting ws) before piece)
 rests_after read state [] before (pieces.Frame octets) r = order_rests read state before (order_of octets)
 rests_after read state (w ∷ ws) before (pieces.Frame octets) r = passes_rests state (w ∷ ws) r
 rests_after read Idle ws before (pieces.End whole) r = passes_rests Idle ws r
@@ -112,11 +112,11 @@ rests_after read state ws before (pieces.Start k) r = passes_rests state ws r
 rests_after read state ws before (pieces.Octets o) r = passes_rests state ws r
 rests_after read state ws before pieces.Gap r = passes_rests state ws r
 
-rests_if : (b : Bool) (x y : Answering) → Rests x.state x.waiting → Rests y.state y.waiting → Rests (if◌then◌else◌ {A = Answering} b x y).state (if◌then◌else◌ {A = Answering} b x y).waiting
+rests_if : (b : Bool) (x y : AnswererCore) → Rests x.state x.waiting → Rests y.state y.waiting → Rests (if◌then◌else◌ {A = AnswererCore} b x y).state (if◌then◌else◌ {A = AnswererCore} b x y).waiting
 rests_if true x y p q = p
 rests_if false x y p q = q
 
-timed_in_rests : (state : State) (a : Answering) (now : ℕ) → a.state ≡ state → Rests a.state a.waiting → Rests (timed_in state a now).state (timed_in state a now).waiting
+timed_in_rests : (state : State) (a : AnswererCore) (now : ℕ) → a.state ≡ state → Rests a.state a.waiting → Rests (timed_in state a now).state (timed_in state a now).waiting
 timed_in_rests Idle a now e r = r
 timed_in_rests Closing a now e r = r
 timed_in_rests Identify a now e r =
@@ -136,7 +136,7 @@ given_rests (Page d) = tt
 given_rests Again = tt
 given_rests Closing = refl
 
-pub fewer_rests : (state : State) (w v : Waiting) (ws : List Waiting) → Rests state (w ∷ v ∷ ws) → Rests state (v ∷ ws)
+pub fewer_rests : (state : State) (w v : WaitingPacket) (ws : List WaitingPacket) → Rests state (w ∷ v ∷ ws) → Rests state (v ∷ ws)
 fewer_rests Idle w v ws r = cc
 fewer_rests Identify w v ws r = tt
 fewer_rests Listen w v ws r = tt
@@ -145,18 +145,18 @@ fewer_rests (Page d) w v ws r = tt
 fewer_rests Again w v ws r = tt
 fewer_rests Closing w v ws r = tt
 
-first_rests : (a : Answering) (now : ℕ) (ws : List Waiting) → Rests a.state a.waiting → Rests a.state ws → Rests (given_first a now ws).core.state (given_first a now ws).core.waiting
+first_rests : (a : AnswererCore) (now : ℕ) (ws : List WaitingPacket) → Rests a.state a.waiting → Rests a.state ws → Rests (given_first a now ws).core.state (given_first a now ws).core.waiting
 first_rests a now [] r s = r
 first_rests a now (w ∷ []) r s = given_rests a.state
 first_rests a now (w ∷ v ∷ ws) r s = fewer_rests a.state w v ws s
 
-paced_rests : (b : Bool) (a : Answering) (t : Ticked) → Rests a.state a.waiting → Rests t.core.state t.core.waiting →
-    Rests (if◌then◌else◌ {A = Ticked} b t (record { core = a; given = None; ended = false })).core.state (if◌then◌else◌ {A = Ticked} b t (record { core = a; given = None; ended = false })).core.waiting
+paced_rests : (b : Bool) (a : AnswererCore) (t : TickResult) → Rests a.state a.waiting → Rests t.core.state t.core.waiting →
+    Rests (if◌then◌else◌ {A = TickResult} b t (record { core = a; given = None; ended = false })).core.state (if◌then◌else◌ {A = TickResult} b t (record { core = a; given = None; ended = false })).core.waiting
 paced_rests true a t p q = q
 paced_rests false a t p q = p
 
-pub ticked_rests : (a : Answering) (now : ℕ) → Rests a.state a.waiting → Rests (ticked a now).core.state (ticked a now).core.waiting
+pub ticked_rests : (a : AnswererCore) (now : ℕ) → Rests a.state a.waiting → Rests (ticked a now).core.state (ticked a now).core.waiting
 ticked_rests a now r =
-    let b : Answering = timed a now in
+    let b : AnswererCore = timed a now in
     let n : Rests b.state b.waiting = rests_if (is_waiting a.waiting) a (timed_in a.state a now) r (timed_in_rests a.state a now refl r) in
     paced_rests (pace_allows b.pace.last now) b (given_first b now b.waiting) n (first_rests b now b.waiting n n)

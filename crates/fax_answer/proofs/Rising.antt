@@ -11,7 +11,7 @@ use Rattle.fax_answer.specs.declared.state.State.{State}
 use Rattle.fax_answer.specs.History.{Entry, Decision, PassesOver, Trains, HangsUp, GivesCfr, GivesFtt, GivesMcf, GivesRtn, is_answer, since_answer, images, last_image, last_whole, octets_since, whole_with, one_if_end}
 use Rattle.fax_answer.specs.Table.{Reading, asked_of, decision}
 use Rattle.fax_answer.specs.Replies.{is_last, is_waiting}
-use Rattle.fax_answer.specs.Calls.{Answering, CallEvent, Comes, Ticks, after_events, rung}
+use Rattle.fax_answer.specs.Calls.{AnswererCore, CallEvent, Comes, Ticks, after_events, rung}
 use Rattle.fax_answer.specs.Confirmation.{IsConfirmation, IfAsked, AreRead}
 use Rattle.fax_answer.specs.Sent.{pieces_heard, Rises, ConfirmsSignals}
 use Rattle.fax_answer.proofs.Confirmations.{KnowsDcs, at_frame, end_accepts_none, InCall, rung_in_call, events_keep, ticked_history}
@@ -33,10 +33,10 @@ decided_at read state waits before (Start n) r k = λ command page h. cc
 decided_at read state waits before (Octets o) r k = λ command page h. cc
 decided_at read state waits before Gap r k = λ command page h. cc
 
-all_decided : (a : Answering) (events : List CallEvent) → AreRead a events → InCall a → AreDecided a.history → AreDecided (after_events a events).history
+all_decided : (a : AnswererCore) (events : List CallEvent) → AreRead a events → InCall a → AreDecided a.history → AreDecided (after_events a events).history
 all_decided a [] r i h = h
 all_decided a (Comes piece now read ∷ before) r i h =
-    let b : Answering = after_events a before in
+    let b : AnswererCore = after_events a before in
     (decided_at read b.state (is_waiting b.waiting) b.history piece r.0 (events_keep a before r.1 i).knows, all_decided a before r.1 i h)
 all_decided a (Ticks now ∷ before) r i h = subst AreDecided (sym (ticked_history (after_events a before) now)) (all_decided a before r i h)
 
@@ -162,6 +162,6 @@ both packets (e ∷ h) =
 
 pub confirms_signals : ConfirmsSignals
 confirms_signals core start events packets next slots right heard sent =
-    let a : Answering = after_events (rung core start) events in
+    let a : AnswererCore = after_events (rung core start) events in
     (both packets a.history).0 next (all_decided (rung core start) events right (rung_in_call core start) tt)
     (subst (λ (q : List Piece). AreSignals packets q next) (sym heard) (images_are_signals packets next slots sent))

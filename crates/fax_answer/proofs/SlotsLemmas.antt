@@ -13,7 +13,7 @@ use Rattle.fax_ifp.specs.Shown.{piece_of, pieces_shown}
 use Rattle.fax_udptl.specs.Reading.{texts}
 use Rattle.fax_ifp.specs.Elements.{Slot}
 use Rattle.fax_ifp.specs.Pieces.{Piece, Octets, Gap, pieces}
-use Rattle.fax_ifp.specs.Tracked.{Tracked, IsTracked, TracksRun, GivesRun, Tracks, Gives, lost_slots, with_octets}
+use Rattle.fax_ifp.specs.Tracked.{TrackState, IsTracked, TracksRun, GivesRun, Tracks, Gives, lost_slots, with_octets}
 use Rattle.fax_answer.specs.declared.procedure.Procedure.{Procedure}
 use Rattle.fax_answer.specs.declared.timers.Timers.{Timers}
 use Rattle.fax_timers.specs.Moments.{moment_after}
@@ -25,12 +25,12 @@ use Rattle.fax_answer.specs.declared.state.State.{State}
 use Rattle.fax_answer.specs.History.{Entry, PassesOver, since_answer, images, octets_since, last_image, last_whole, repeated}
 use Rattle.fax_answer.specs.Table.{is_one_image}
 use Rattle.fax_answer.specs.Replies.{ConfirmedPage, is_waiting}
-use Rattle.fax_answer.specs.Calls.{Answering, decided, came, timers_after}
+use Rattle.fax_answer.specs.Calls.{AnswererCore, decided, came, timers_after}
 use Rattle.fax_answer.specs.Readings.{CameSo}
-use Rattle.fax_answer.specs.Kept.{seen}
+use Rattle.fax_answer.specs.Rep.{seen}
 use Rattle.fax_answer.specs.Images.{ImageValue, HasOpen, HasEnded, MeansAt, Confirms}
 use Rattle.fax_answer.specs.Following.{Rests, Follows, readers_wanted}
-use Rattle.fax_answer.specs.Reached.{Kept, Holds, HoldsPage, Stands, IsReached, Takes, TakesAll, Hears, HearsSo}
+use Rattle.fax_answer.specs.Reached.{Rep, Holds, HoldsPage, Stands, IsReached, Takes, TakesAll, Hears, HearsSo}
 use Rattle.fax_answer.specs.declared.refusal.Refusal.{Refusal}
 use Rattle.fax_answer.specs.Refusals.{HasReason}
 use Rattle.fax_answer.proofs.Held.{holds_gap}
@@ -39,36 +39,36 @@ use Rattle.fax_answer.proofs.ReachedLemmas.{settled_follows}
 use Rattle.fax_answer.proofs.Readings.{readings_join}
 
 -- PIECES, one after another
-pub came_append : (a b c : Answering) (xs ys : List Piece) (now : ℕ) → CameSo a xs now b → CameSo b ys now c → CameSo a (xs ++ ys) now c
-came_append a b c [] ys now x y = subst (λ (k : Answering). CameSo k ys now c) (sym x) y
+pub came_append : (a b c : AnswererCore) (xs ys : List Piece) (now : ℕ) → CameSo a xs now b → CameSo b ys now c → CameSo a (xs ++ ys) now c
+came_append a b c [] ys now x y = subst (λ (k : AnswererCore). CameSo k ys now c) (sym x) y
 came_append a b c (p ∷ xs) ys now x y = (x.0, x.1, came_append (came x.0 a p now) b c xs ys now x.2 y)
 
-pub takes_none : (core : Answering) (now : ℕ) (old : Kept) → Stands core old → TakesAll [] now core old
-takes_none core now old s = record { behind = core; came = refl; stands = s }
+pub takes_none : (core : AnswererCore) (now : ℕ) (old : Rep) → Stands core old → TakesAll [] now core old
+takes_none core now old s = record { after = core; came = refl; stands = s }
 
-pub takes_more : (core : Answering) (now : ℕ) (ps : List Piece) (p : Piece) (mid new : Kept) → TakesAll ps now core mid → ((a : Answering) → Stands a mid → Takes p now a new) → TakesAll (ps ++ p ∷ []) now core new
+pub takes_more : (core : AnswererCore) (now : ℕ) (ps : List Piece) (p : Piece) (mid new : Rep) → TakesAll ps now core mid → ((a : AnswererCore) → Stands a mid → Takes p now a new) → TakesAll (ps ++ p ∷ []) now core new
 takes_more core now ps p mid new t f =
-    let n : Takes p now t.behind new = f t.behind t.stands in
-    let after : Answering = came n.read t.behind p now in
-    record { behind = after; came = came_append core t.behind after ps (p ∷ []) now t.came (n.read, n.right, refl); stands = n.stands }
+    let n : Takes p now t.after new = f t.after t.stands in
+    let after : AnswererCore = came n.read t.after p now in
+    record { after = after; came = came_append core t.after after ps (p ∷ []) now t.came (n.read, n.right, refl); stands = n.stands }
 
 -- LOST SLOTS
-gapped : Answering → ℕ → Answering
+gapped : AnswererCore → ℕ → AnswererCore
 gapped core now = decided core Gap PassesOver now
 
-abbrev gaps : ℕ → Answering → ℕ → Answering
+abbrev gaps : ℕ → AnswererCore → ℕ → AnswererCore
 gaps zero core now = core
 gaps (suc n) core now = gaps n (decided core Gap PassesOver now) now
 
-came_gaps : (n : ℕ) (core : Answering) (now : ℕ) → CameSo core (replicate n Gap) now (gaps n core now)
+came_gaps : (n : ℕ) (core : AnswererCore) (now : ℕ) → CameSo core (replicate n Gap) now (gaps n core now)
 came_gaps zero core now = refl
 came_gaps (suc n) core now = (None, tt, came_gaps n (decided core Gap PassesOver now) now)
 
-holds_gaps : (n : ℕ) (core : Answering) (now : ℕ) (i : ImageValue) → Holds core.state core.history i → Holds (gaps n core now).state (gaps n core now).history i
+holds_gaps : (n : ℕ) (core : AnswererCore) (now : ℕ) (i : ImageValue) → Holds core.state core.history i → Holds (gaps n core now).state (gaps n core now).history i
 holds_gaps zero core now i h = h
 holds_gaps (suc n) core now i h = holds_gaps n (decided core Gap PassesOver now) now i (holds_gap core.state core.history i h)
 
-reason_gaps : (n : ℕ) (core : Answering) (now : ℕ) (told : Option Refusal) → HasReason core told → HasReason (gaps n core now) told
+reason_gaps : (n : ℕ) (core : AnswererCore) (now : ℕ) (told : Option Refusal) → HasReason core told → HasReason (gaps n core now) told
 reason_gaps zero core now told r = r
 reason_gaps (suc n) core now told r = reason_gaps n (decided core Gap PassesOver now) now told (reason_over core Gap now told r)
 
@@ -76,7 +76,7 @@ and_false : (b : Bool) → (b && false) ≡ false
 and_false true = refl
 and_false false = refl
 
-no_timers_moved : (a : Answering) (now : ℕ) → timers_after a Gap PassesOver now ≡ a.timers
+no_timers_moved : (a : AnswererCore) (now : ℕ) → timers_after a Gap PassesOver now ≡ a.timers
 no_timers_moved a now =
     let moved : Timers = record { t1 = a.timers.t1; t2 = Some (moment_after now spans.t2); t4 = a.timers.t4 } in
     ap (λ (b : Bool). if◌then◌else◌ {A = Timers} b moved a.timers) (and_false (not (is_waiting a.waiting)))
@@ -84,9 +84,9 @@ no_timers_moved a now =
 seen_again : (n : ℕ) → seen (0 + (0 + n)) ≡ seen (0 + n)
 seen_again n = let e : 0 + (0 + n) ≡ 0 + n = omega arith in ap seen e
 
-gap_again : (core : Answering) (now : ℕ) (c : Option ConfirmedPage) (p : Procedure) → Follows (decided core Gap PassesOver now) c p → Follows (decided (decided core Gap PassesOver now) Gap PassesOver now) c p
+gap_again : (core : AnswererCore) (now : ℕ) (c : Option ConfirmedPage) (p : Procedure) → Follows (decided core Gap PassesOver now) c p → Follows (decided (decided core Gap PassesOver now) Gap PassesOver now) c p
 gap_again core now c p f =
-    let once : Answering = decided core Gap PassesOver now in
+    let once : AnswererCore = decided core Gap PassesOver now in
     let same : once.waiting ++ [] ≡ once.waiting = append-nil once.waiting in
     record {
       state = f.state;
@@ -98,7 +98,7 @@ gap_again core now c p f =
       rests = subst (Rests once.state) (sym same) f.rests;
     }
 
-gaps_follow : (n : ℕ) (core : Answering) (now : ℕ) (c : Option ConfirmedPage) (p : Procedure) → Follows (decided core Gap PassesOver now) c p → Follows (gaps n (decided core Gap PassesOver now) now) c p
+gaps_follow : (n : ℕ) (core : AnswererCore) (now : ℕ) (c : Option ConfirmedPage) (p : Procedure) → Follows (decided core Gap PassesOver now) c p → Follows (gaps n (decided core Gap PassesOver now) now) c p
 gaps_follow zero core now c p f = f
 gaps_follow (suc n) core now c p f = gaps_follow n (decided core Gap PassesOver now) now c p (gap_again core now c p f)
 
@@ -111,21 +111,21 @@ reversed_lost : (n : ℕ) → reverse (lost_slots n) ≡ lost_slots n
 reversed_lost zero = refl
 reversed_lost (suc n) = reverse-append (None ∷ []) (lost_slots n) ∙ ap (λ (s : List Slot). s ++ None ∷ []) (reversed_lost n) ∙ more_lost n
 
-abbrev pub LosesSo : ℕ → ℕ → Answering → Kept → Kept → Type 0
+abbrev pub LosesSo : ℕ → ℕ → AnswererCore → Rep → Rep → Type 0
 LosesSo count now core old new = (count ≡ 0 → new.procedure ≡ old.procedure) × (0 < count → Follows (decided core Gap PassesOver now) old.confirmed new.procedure)
 
-followed : (count : ℕ) (now : ℕ) (core : Answering) (old new : Kept) → Follows core old.confirmed old.procedure → LosesSo count now core old new → Follows (gaps count core now) old.confirmed new.procedure
+followed : (count : ℕ) (now : ℕ) (core : AnswererCore) (old new : Rep) → Follows core old.confirmed old.procedure → LosesSo count now core old new → Follows (gaps count core now) old.confirmed new.procedure
 followed zero now core old new f l = subst (λ (p : Procedure). Follows core old.confirmed p) (sym (l.0 refl)) f
 followed (suc n) now core old new f l = gaps_follow n core now old.confirmed new.procedure (l.1 (omega arith))
 
-pub loses : (count now : ℕ) (heard : List Slot) (core : Answering) (old new : Kept) → IsReached heard core old → TracksRun (lost_slots count) old.tracked new.tracked → GivesRun (lost_slots count) old.tracked (replicate count Gap)
+pub loses : (count now : ℕ) (heard : List Slot) (core : AnswererCore) (old new : Rep) → IsReached heard core old → TracksRun (lost_slots count) old.tracked new.tracked → GivesRun (lost_slots count) old.tracked (replicate count Gap)
     → new.image ≡ old.image → new.confirmed ≡ old.confirmed → new.refused ≡ old.refused → LosesSo count now core old new → HearsSo (lost_slots count) now heard core new
 loses count now heard core old new r tracks gives image confirmed refused l =
     let back : reverse (lost_slots count) ≡ lost_slots count = reversed_lost count in
     record {
       given = replicate count Gap;
       pieces = ap (λ (s : List Slot). pieces (s ++ heard)) back ∙ gives heard r.tracked;
-      behind = gaps count core now;
+      after = gaps count core now;
       came = came_gaps count core now;
       tracked = subst (λ (s : List Slot). IsTracked (s ++ heard) new.tracked) (sym back) (tracks heard r.tracked);
       stands = record {
@@ -139,29 +139,29 @@ loses count now heard core old new r tracks gives image confirmed refused l =
     }
 
 -- A PACKET in the next slot
-pub hears_more : (slots : List Slot) (packet : List ℕ) (now : ℕ) (heard : List Slot) (core : Answering) (mid new : Kept) (tracked : Tracked) (given : List Piece) → HearsSo slots now heard core mid
-    → Tracks (Some packet) mid.tracked tracked → Gives (Some packet) mid.tracked given → new.tracked ≡ tracked → ((a : Answering) → Stands a mid → TakesAll given now a new)
+pub hears_more : (slots : List Slot) (packet : List ℕ) (now : ℕ) (heard : List Slot) (core : AnswererCore) (mid new : Rep) (tracked : TrackState) (given : List Piece) → HearsSo slots now heard core mid
+    → Tracks (Some packet) mid.tracked tracked → Gives (Some packet) mid.tracked given → new.tracked ≡ tracked → ((a : AnswererCore) → Stands a mid → TakesAll given now a new)
     → HearsSo (slots ++ Some packet ∷ []) now heard core new
 hears_more slots packet now heard core mid new tracked given h tracks gives same takes =
     let back : reverse (slots ++ Some packet ∷ []) ++ heard ≡ Some packet ∷ (reverse slots ++ heard) = ap (λ (s : List Slot). s ++ heard) (reverse-append slots (Some packet ∷ [])) in
-    let t : TakesAll given now h.behind new = takes h.behind h.stands in
+    let t : TakesAll given now h.after new = takes h.after h.stands in
     record {
       given = h.given ++ given;
       pieces = ap pieces back ∙ gives (reverse slots ++ heard) h.tracked ∙ ap (λ (ps : List Piece). ps ++ given) h.pieces ∙ append_assoc (pieces heard) h.given given;
-      behind = t.behind;
-      came = came_append core h.behind t.behind h.given given now h.came t.came;
-      tracked = subst (λ (s : List Slot). IsTracked s new.tracked) (sym back) (subst (λ (k : Tracked). IsTracked (Some packet ∷ (reverse slots ++ heard)) k) (sym same) (tracks (reverse slots ++ heard) h.tracked));
+      after = t.after;
+      came = came_append core h.after t.after h.given given now h.came t.came;
+      tracked = subst (λ (s : List Slot). IsTracked s new.tracked) (sym back) (subst (λ (k : TrackState). IsTracked (Some packet ∷ (reverse slots ++ heard)) k) (sym same) (tracks (reverse slots ++ heard) h.tracked));
       stands = t.stands;
     }
 
 -- no slot yet
-hears_none : (now : ℕ) (heard : List Slot) (core : Answering) (old : Kept) → IsReached heard core old → HearsSo [] now heard core old
-hears_none now heard core old r = record { given = []; pieces = sym (append-nil (pieces heard)); behind = core; came = refl; tracked = r.tracked; stands = r.stands }
+hears_none : (now : ℕ) (heard : List Slot) (core : AnswererCore) (old : Rep) → IsReached heard core old → HearsSo [] now heard core old
+hears_none now heard core old r = record { given = []; pieces = sym (append-nil (pieces heard)); after = core; came = refl; tracked = r.tracked; stands = r.stands }
 
 -- the one slot of a packet that gives octets of the open image and nothing else
-pub hears_alone : (r : Result (Unit {0}) NoMemory) (slots : List Slot) (packet octets : List ℕ) (now : ℕ) (old new : Kept) → slots ≡ Some packet ∷ []
+pub hears_alone : (r : Result (Unit {0}) NoMemory) (slots : List Slot) (packet octets : List ℕ) (now : ℕ) (old new : Rep) → slots ≡ Some packet ∷ []
     → Tracks (Some packet) old.tracked (with_octets old.tracked) → Gives (Some packet) old.tracked (Octets octets ∷ []) → OnOk r (new.tracked ≡ with_octets old.tracked)
-    → OnOk r ((a : Answering) → Stands a old → TakesAll (Octets octets ∷ []) now a new) → OnOk r ((heard : List Slot) (core : Answering) → IsReached heard core old → HearsSo slots now heard core new)
+    → OnOk r ((a : AnswererCore) → Stands a old → TakesAll (Octets octets ∷ []) now a new) → OnOk r ((heard : List Slot) (core : AnswererCore) → IsReached heard core old → HearsSo slots now heard core new)
 hears_alone (Ok u) slots packet octets now old new one tracks gives same takes = λ heard core r.
     subst (λ (s : List Slot). HearsSo s now heard core new) (sym one)
     (hears_more [] packet now heard core old new (with_octets old.tracked) (Octets octets ∷ []) (hears_none now heard core old r) tracks gives same takes)
@@ -182,16 +182,16 @@ if_right (Ok x) P e p = p
 if_right (Err x) P e p = cc
 
 -- slots that were heard piece by piece were heard by one reading
-pub hears_joined : (slots : List Slot) (now : ℕ) (heard : List Slot) (core : Answering) (mid new : Kept) → HearsSo slots now heard core mid → new.tracked ≡ mid.tracked
-    → ((a : Answering) → Stands a mid → Stands a new) → new.image.accepted ≡ None → Hears slots now heard core new
+pub hears_joined : (slots : List Slot) (now : ℕ) (heard : List Slot) (core : AnswererCore) (mid new : Rep) → HearsSo slots now heard core mid → new.tracked ≡ mid.tracked
+    → ((a : AnswererCore) → Stands a mid → Stands a new) → new.image.accepted ≡ None → Hears slots now heard core new
 hears_joined slots now heard core mid new h tracked stands settled =
-    let j = readings_join core h.given now h.behind h.came in
-    let there : IsReached (reverse slots ++ heard) h.behind new = record {
-      tracked = subst (λ (t : Tracked). IsTracked (reverse slots ++ heard) t) (sym tracked) h.tracked;
-      stands = stands h.behind h.stands;
+    let j = readings_join core h.given now h.after h.came in
+    let there : IsReached (reverse slots ++ heard) h.after new = record {
+      tracked = subst (λ (t : TrackState). IsTracked (reverse slots ++ heard) t) (sym tracked) h.tracked;
+      stands = stands h.after h.stands;
       settled = settled;
     } in
-    record { given = h.given; pieces = h.pieces; read = j.0; right = j.1; reached = subst (λ (a : Answering). IsReached (reverse slots ++ heard) a new) (sym j.2) there }
+    record { given = h.given; pieces = h.pieces; read = j.0; right = j.1; reached = subst (λ (a : AnswererCore). IsReached (reverse slots ++ heard) a new) (sym j.2) there }
 
 -- what is left of readers where the one that is accepted is let go
 abbrev pub Left : Option Accepted → List ReaderValue → List ReaderValue → Type 0
@@ -251,7 +251,7 @@ holds_settled s h i j left count l c readers accepted run longest x =
           };
     }
 
--- the page that is kept then
+-- the page that is stored then
 keeps_shown : {S : Type 0} → (new old found : Option S) (view : Option S → Option ConfirmedPage) (p : ConfirmedPage) → view None ≡ None → new ≡ (if is_some found then found else old) → view found ≡ Some p → view new ≡ Some p
 keeps_shown new old None view p z e f = let n : None ≡ Some p = sym z ∙ f in cc
 keeps_shown new old (Some x) view p z e f = ap view e ∙ f

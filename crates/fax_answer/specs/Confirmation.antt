@@ -12,8 +12,8 @@ use Rattle.fax_answer.specs.declared.command.Order.TheVariants.{Judge}
 use Rattle.fax_answer.specs.Orders.{order_of}
 use Rattle.fax_answer.specs.History.{Entry, Decision, GivesMcf, since_answer, images, gap, last_image, last_whole, repeated, answered_dcs}
 use Rattle.fax_answer.specs.Table.{Reading, Question, is_quiet}
-use Rattle.fax_answer.specs.Replies.{ConfirmedPage, is_last, Waiting, mcf_packet}
-use Rattle.fax_answer.specs.Calls.{Answering, rung, asked, CallEvent, Comes, Ticks, after_events, ticked}
+use Rattle.fax_answer.specs.Replies.{ConfirmedPage, is_last, WaitingPacket, mcf_packet}
+use Rattle.fax_answer.specs.Calls.{AnswererCore, rung, asked, CallEvent, Comes, Ticks, after_events, ticked}
 
 -- A confirmation: the command, which is MPS, EOP or EOM, and before it, since the last CFR or MCF was decided, exactly one
 -- image. It is whole, nothing is missing and no signal began since its end, and its octets mean the page under the DCS that
@@ -66,7 +66,7 @@ IfAsked None read = Unit {0}
 IfAsked (Some q) read = IsRight q read
 
 -- in a call, each reading that was asked for is right
-abbrev pub AreRead : Answering → List CallEvent → Type 0
+abbrev pub AreRead : AnswererCore → List CallEvent → Type 0
 AreRead a [] = Unit {0}
 AreRead a (Comes piece now read ∷ before) = IfAsked (asked (after_events a before) piece) read × AreRead a before
 AreRead a (Ticks now ∷ before) = AreRead a before
@@ -79,13 +79,13 @@ IsRead (Some q) read = IsRight q read
 -- In every call, each tick that gives a confirmed page gives the MCF frame, at a confirmation.
 abbrev pub GivesConfirmations : Type 0
 GivesConfirmations =
-    (core : Answering) (start now : ℕ) (events : List CallEvent) (w : Waiting) (confirmed : ConfirmedPage) → AreRead (rung core start) events
+    (core : AnswererCore) (start now : ℕ) (events : List CallEvent) (w : WaitingPacket) (confirmed : ConfirmedPage) → AreRead (rung core start) events
     → (ticked (after_events (rung core start) events) now).given ≡ Some w → w.confirmed ≡ Some confirmed
     → (w.packet ≡ mcf_packet) × IsConfirmedIn (after_events (rung core start) events).history confirmed
 
 -- In every call, each tick that gives the MCF frame gives a confirmed page with it, or answers a repeated command.
 abbrev pub EachMcfAnswers : Type 0
 EachMcfAnswers =
-    (core : Answering) (start now : ℕ) (events : List CallEvent) (w : Waiting) → AreRead (rung core start) events
+    (core : AnswererCore) (start now : ℕ) (events : List CallEvent) (w : WaitingPacket) → AreRead (rung core start) events
     → (ticked (after_events (rung core start) events) now).given ≡ Some w → w.packet ≡ mcf_packet
     → ((confirmed : ConfirmedPage) × (w.confirmed ≡ Some confirmed)) ⊎ IsRepeatedIn (after_events (rung core start) events).history

@@ -7,7 +7,7 @@ use Rattle.fax_answer.specs.declared.state.State.{State}
 use Rattle.fax_answer.specs.declared.state.State.TheVariants.{Idle, Identify, Closing}
 use Rattle.fax_answer.specs.declared.timers.Timers.{Timers}
 use Rattle.fax_answer.specs.Replies.{is_waiting}
-use Rattle.fax_answer.specs.Calls.{Answering, Ticked, ticked}
+use Rattle.fax_answer.specs.Calls.{AnswererCore, TickResult, ticked}
 
 -- where no packet waits: Identify, T1 or T4, whichever comes first; Listen, Train, Page and Again, T2
 abbrev pub timer_of : State → Timers → Option ℕ
@@ -17,17 +17,17 @@ timer_of Identify t = earlier t.t1 t.t4
 timer_of state t = t.t2
 
 -- where packets wait, the moment from which on the pace lets one through
-abbrev pub due_at : Answering → Option ℕ
+abbrev pub due_at : AnswererCore → Option ℕ
 due_at a = if is_waiting a.waiting then on_clock (allowed_from a.pace.last) else timer_of a.state a.timers
 
 -- a tick that gives nothing and changes nothing
-abbrev pub untouched : Answering → Ticked
+abbrev pub untouched : AnswererCore → TickResult
 untouched a = record { core = a; given = None; ended = false }
 
 -- no tick before that moment does anything
 abbrev pub RestsBefore : Type 0
-RestsBefore = (a : Answering) (now : ℕ) → now < 2 ^ 64 → is_due (due_at a) now ≡ false → ticked a now ≡ untouched a
+RestsBefore = (a : AnswererCore) (now : ℕ) → now < 2 ^ 64 → is_due (due_at a) now ≡ false → ticked a now ≡ untouched a
 
 -- and from it on a tick does something: it gives a packet, or it leaves another core
 abbrev pub ActsFrom : Type 0
-ActsFrom = (a : Answering) (now : ℕ) → is_due (due_at a) now ≡ true → IsSome (ticked a now).given ⊎ ((ticked a now).core ≢ a)
+ActsFrom = (a : AnswererCore) (now : ℕ) → is_due (due_at a) now ≡ true → IsSome (ticked a now).given ⊎ ((ticked a now).core ≢ a)

@@ -7,8 +7,8 @@ use Rattle.fax_answer.specs.declared.command.Command.{Command}
 use Rattle.fax_answer.specs.declared.command.Order.TheVariants.{Judge}
 use Rattle.fax_answer.specs.Orders.{order_of}
 use Rattle.fax_answer.specs.History.{Entry, Decision, PassesOver, GivesRtn}
-use Rattle.fax_answer.specs.Replies.{Waiting, frame_packet}
-use Rattle.fax_answer.specs.Calls.{Answering, rung, CallEvent, after_events, ticked}
+use Rattle.fax_answer.specs.Replies.{WaitingPacket, frame_packet}
+use Rattle.fax_answer.specs.Calls.{AnswererCore, rung, CallEvent, after_events, ticked}
 use Rattle.fax_answer.specs.Confirmation.{AreRead}
 use Rattle.fax_answer.specs.EachCommand.{IsJudged}
 
@@ -25,7 +25,7 @@ abbrev pub ArePassed : List Entry → Type 0
 ArePassed [] = Unit {0}
 ArePassed (e ∷ before) = IsPassed e.piece e.decision × ArePassed before
 
--- in this history a command stands that was answered by RTN, and each frame behind it was passed over
+-- in this history a command stands that was answered by RTN, and each frame after it was passed over
 pub record IsRefusedIn (history : List Entry) : Type 0 where
   pub later : List Entry
   pub octets : List ℕ
@@ -36,10 +36,10 @@ pub record IsRefusedIn (history : List Entry) : Type 0 where
   pub last : ArePassed later
 
 -- In every call, each tick that gives the RTN frame refuses the last command, which was judged as each is: where one image had
--- nothing behind it, the image means no page.
+-- nothing after it, the image means no page.
 abbrev pub EachRtnRefuses : Type 0
 EachRtnRefuses =
-    (core : Answering) (start now : ℕ) (events : List CallEvent) (w : Waiting) → AreRead (rung core start) events
+    (core : AnswererCore) (start now : ℕ) (events : List CallEvent) (w : WaitingPacket) → AreRead (rung core start) events
     → (ticked (after_events (rung core start) events) now).given ≡ Some w → w.packet ≡ rtn_packet
     → (r : IsRefusedIn (after_events (rung core start) events).history)
     × IsJudged (after_events (rung core start) events).history r.before r.command GivesRtn

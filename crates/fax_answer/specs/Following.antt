@@ -10,19 +10,19 @@ use Rattle.fax_answer.specs.declared.pending.Pending.TheVariants.{Nothing}
 use Rattle.fax_answer.specs.declared.procedure.Procedure.{Procedure}
 use Rattle.fax_answer.specs.History.{Entry, Decision, GivesMcf}
 use Rattle.fax_answer.specs.Table.{is_one_image, state_after}
-use Rattle.fax_answer.specs.Replies.{ConfirmedPage, Waiting, confirmed_if, reply_to, is_waiting}
-use Rattle.fax_answer.specs.Calls.{Answering, given_first}
-use Rattle.fax_answer.specs.Kept.{counts_of}
+use Rattle.fax_answer.specs.Replies.{ConfirmedPage, WaitingPacket, confirmed_if, reply_to, is_waiting}
+use Rattle.fax_answer.specs.Calls.{AnswererCore, given_first}
+use Rattle.fax_answer.specs.Rep.{counts_of}
 use Rattle.fax_answer.specs.Pending.{packet_text, waiting_of}
 
 -- in Train and in Idle nothing waits
-abbrev pub Rests : State → List Waiting → Type 0
+abbrev pub Rests : State → List WaitingPacket → Type 0
 Rests (Train dcs) waiting = waiting ≡ []
 Rests Idle waiting = waiting ≡ []
 Rests state waiting = Unit {0}
 
 -- a procedure that stands for a core; the page that is confirmed is kept beside it
-pub record Follows (core : Answering) (confirmed : Option ConfirmedPage) (procedure : Procedure) : Type 0 where
+pub record Follows (core : AnswererCore) (confirmed : Option ConfirmedPage) (procedure : Procedure) : Type 0 where
   pub state : procedure.state ≡ core.state
   pub counts : procedure.counts ≡ counts_of core.history
   pub waiting : waiting_of procedure.pending confirmed ≡ core.waiting
@@ -50,7 +50,7 @@ begins_again Again timers now = is_due timers.t2 now
 begins_again state timers now = false
 
 -- whether a packet is given now: one waits, and the pace lets it through
-abbrev pub gives_now : Answering → ℕ → Bool
+abbrev pub gives_now : AnswererCore → ℕ → Bool
 gives_now core now = is_waiting core.waiting && pace_allows core.pace.last now
 
 -- how many readers are wanted on: that of the image under way, and that of the one before
@@ -64,16 +64,16 @@ readers_wanted Again since = 0
 readers_wanted Closing since = 0
 
 -- what can be decided: no reply while a packet waits
-pub record CanDecide (core : Answering) (d : Decision) : Type 0 where
+pub record CanDecide (core : AnswererCore) (d : Decision) : Type 0 where
   pub free : (core.waiting ≡ []) ⊎ (reply_to d ≡ [])
   pub rests : Rests (state_after core.state d) (core.waiting ++ reply_to d)
 
--- the page that is confirmed behind a decision
-abbrev pub confirmed_behind : Decision → Option ConfirmedPage → Option ConfirmedPage
-confirmed_behind (GivesMcf command page) before = confirmed_if command page
-confirmed_behind d before = before
+-- the page that is confirmed after a decision
+abbrev pub confirmed_after : Decision → Option ConfirmedPage → Option ConfirmedPage
+confirmed_after (GivesMcf command page) before = confirmed_if command page
+confirmed_after d before = before
 
--- the page that a packet confirms, and the one that is left, by what waits behind it: the last packet of a reply confirms
+-- the page that a packet confirms, and the one that is left, by what waits after it: the last packet of a reply confirms
 abbrev pub confirmed_with : Pending → Option ConfirmedPage → Option ConfirmedPage
 confirmed_with Nothing confirmed = confirmed
 confirmed_with pending confirmed = None
@@ -83,7 +83,7 @@ confirmed_left Nothing confirmed = None
 confirmed_left pending confirmed = confirmed
 
 -- the next packet is given
-pub record GivesNext (core : Answering) (confirmed : Option ConfirmedPage) (now : ℕ) (old new : Procedure) (ended : Bool) : Type 0 where
+pub record GivesNext (core : AnswererCore) (confirmed : Option ConfirmedPage) (now : ℕ) (old new : Procedure) (ended : Bool) : Type 0 where
   pub follows : Follows (given_first core now core.waiting).core (confirmed_left new.pending confirmed) new
   pub given : (given_first core now core.waiting).given ≡ Some (record { packet = packet_text old.pending; confirmed = confirmed_with new.pending confirmed })
   pub ends : ended ≡ (given_first core now core.waiting).ended

@@ -8,7 +8,7 @@ use Rattle.fax_answer.specs.declared.command.Order.{Order}
 use Rattle.fax_answer.specs.declared.command.Order.TheVariants as orders
 use Rattle.fax_answer.specs.Orders.{order_of}
 
--- what the answering side decides at a piece: by the names of the frames that it answers with (ITU-T T.30, 5.3.6.1)
+-- what the answerer decides at a piece: by the names of the frames that it answers with (ITU-T T.30, 5.3.6.1)
 pub data Decision : Type 0 where
   PassesOver : Decision
   Trains : (dcs : Dcs) → Decision
@@ -54,7 +54,7 @@ abbrev pub gap : List Entry → Bool
 gap [] = false
 gap (e ∷ before) = gap_with e.piece (gap before)
 
--- the octets of the image that is open: those since the last signal began, none behind its end
+-- the octets of the image that is open: those since the last signal began, none after its end
 abbrev pub octets_with : pieces.Piece → List ℕ → List ℕ
 octets_with (pieces.Octets octets) before = before ++ octets
 octets_with (pieces.Start kind) before = []

@@ -39,7 +39,7 @@ HasEnded dcs octets [] = ⊥
 HasEnded dcs octets (here ∷ []) = ⊥
 HasEnded dcs octets (here ∷ ended ∷ before) = IsReaderOf dcs octets ended
 
--- A SIGNAL begins, or ends: what comes behind is an image of its own. In Page it is read under the DCS that CFR answered.
+-- A SIGNAL begins, or ends: what comes after is an image of its own. In Page it is read under the DCS that CFR answered.
 abbrev pub begun : State → List ReaderValue → List ReaderValue
 begun (Page dcs) readers = new_reader (format_of dcs) (coding_of dcs) ∷ readers
 begun Idle readers = readers
@@ -49,7 +49,7 @@ begun (Train dcs) readers = readers
 begun Again readers = readers
 begun Closing readers = readers
 
--- a reader behind another one of the same page, with more rows
+-- a reader after another one of the same page, with more rows
 pub record Extends (old new : ReaderValue) : Type 0 where
   pub format : new.format ≡ old.format
   pub coding : new.coding ≡ old.coding
@@ -84,20 +84,20 @@ abbrev pub run_with : ℕ → ℕ → ℕ
 run_with run zero = min (run + 1) most_counted
 run_with run (suc octet) = 0
 
-abbrev pub run_behind : ℕ → List ℕ → ℕ
-run_behind run [] = run
-run_behind run (octet ∷ octets) = run_behind (run_with run octet) octets
+abbrev pub run_after : ℕ → List ℕ → ℕ
+run_after run [] = run
+run_after run (octet ∷ octets) = run_after (run_with run octet) octets
 
 -- the most zero octets in a row, where so many stood in a row before
-abbrev pub longest_behind : ℕ → ℕ → List ℕ → ℕ
-longest_behind run longest [] = longest
-longest_behind run longest (octet ∷ octets) = longest_behind (run_with run octet) (max longest (run_with run octet)) octets
+abbrev pub longest_after : ℕ → ℕ → List ℕ → ℕ
+longest_after run longest [] = longest
+longest_after run longest (octet ∷ octets) = longest_after (run_with run octet) (max longest (run_with run octet)) octets
 
 pub record TakesIn (state : State) (piece : List ℕ) (old new : ImageValue) : Type 0 where
   pub readers : FeedsIn state piece old.readers new.readers
   pub accepted : new.accepted ≡ old.accepted
-  pub run : new.run ≡ run_behind old.run piece
-  pub longest : new.longest ≡ longest_behind old.run old.longest piece
+  pub run : new.run ≡ run_after old.run piece
+  pub longest : new.longest ≡ longest_after old.run old.longest piece
 
 -- THE PAGE that the image at a place means, counted from the oldest. It is not the one under way.
 pub record MeansAt (readers : List ReaderValue) (place : ℕ) (page : PageValue) : Type 0 where
@@ -117,7 +117,7 @@ Confirms None readers kept confirmed = confirmed ≡ kept
 Confirms (Some accepted) readers kept confirmed =
     (page : PageValue) × MeansAt readers accepted.place page × (confirmed ≡ Some (record { page = page; closes = accepted.closes }))
 
--- WANT OF MEMORY. Since a mark, readers came behind those before, and more octets to the one that was under way.
+-- WANT OF MEMORY. Since a mark, readers came after those before, and more octets to the one that was under way.
 abbrev pub GoesOn : List ReaderValue → List ReaderValue → Type 0
 GoesOn [] new = Unit {0}
 GoesOn (here ∷ before) new = (later : List ReaderValue) × (now : ReaderValue) × (new ≡ later ++ now ∷ before) × Extends here now

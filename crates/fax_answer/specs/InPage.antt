@@ -3,7 +3,7 @@ use Rattle.std.specs.Prelude.{◌≡◌, ℕ, Bool, true, false, List, [], ◌�
 use Rattle.fax_frames.specs.declared.dcs.Dcs.{Dcs}
 use Rattle.fax_answer.specs.declared.state.State.TheVariants.{Page}
 use Rattle.fax_answer.specs.History.{Entry, Decision, GivesCfr, octets_since}
-use Rattle.fax_answer.specs.Calls.{Answering, rung, CallEvent, after_events}
+use Rattle.fax_answer.specs.Calls.{AnswererCore, rung, CallEvent, after_events}
 
 abbrev pub is_cfr : Decision → Bool
 is_cfr (GivesCfr dcs) = true
@@ -17,6 +17,6 @@ since_cfr (e ∷ before) = if is_cfr e.decision then [] else e ∷ since_cfr bef
 -- In every call, in Page, all octets of the image under way came since the last CFR.
 abbrev pub BeginsInPage : Type 0
 BeginsInPage =
-    (core : Answering) (start : ℕ) (events : List CallEvent) (dcs : Dcs) →
-    let a : Answering = after_events (rung core start) events in
+    (core : AnswererCore) (start : ℕ) (events : List CallEvent) (dcs : Dcs) →
+    let a : AnswererCore = after_events (rung core start) events in
     a.state ≡ Page dcs → octets_since a.history ≡ octets_since (since_cfr a.history)

@@ -7,29 +7,29 @@ use Rattle.fax_timers.specs.Spans as spans
 use Rattle.fax_ifp.specs.Pieces as pieces
 use Rattle.fax_answer.specs.declared.state.State.{State}
 use Rattle.fax_answer.specs.declared.state.State.TheVariants.{Idle, Identify, Listen, Train, Page, Closing}
-use Rattle.fax_answer.specs.Replies.{Waiting, is_waiting}
-use Rattle.fax_answer.specs.Calls.{Answering, rung, ticked, CallEvent, Comes, Ticks, after_events}
+use Rattle.fax_answer.specs.Replies.{WaitingPacket, is_waiting}
+use Rattle.fax_answer.specs.Calls.{AnswererCore, rung, ticked, CallEvent, Comes, Ticks, after_events}
 use Rattle.fax_answer.specs.Due.{due_at, untouched}
 
--- the moment from which on the called machine identifies itself: the ring, and behind EOM that of the tick that begins anew
+-- the moment from which on the called machine identifies itself: the ring, and after EOM that of the tick that begins anew
 abbrev pub since_by : (old new : State) → (now before : ℕ) → ℕ
 since_by Identify new now before = before
 since_by old Identify now before = now
 since_by old new now before = before
 
-abbrev pub identified_since : (begun : Answering) → (start : ℕ) → List CallEvent → ℕ
+abbrev pub identified_since : (begun : AnswererCore) → (start : ℕ) → List CallEvent → ℕ
 identified_since begun start [] = start
 identified_since begun start (Comes piece now read ∷ before) = identified_since begun start before
 identified_since begun start (Ticks now ∷ before) =
-    let a : Answering = after_events begun before in
+    let a : AnswererCore = after_events begun before in
     since_by a.state (ticked a now).core.state now (identified_since begun start before)
 
 -- the moment of the packet that was given last, that of the ring where none was
-abbrev pub given_by : Option Waiting → (now before : ℕ) → ℕ
+abbrev pub given_by : Option WaitingPacket → (now before : ℕ) → ℕ
 given_by (Some w) now before = now
 given_by None now before = before
 
-abbrev pub last_given : (begun : Answering) → (start : ℕ) → List CallEvent → ℕ
+abbrev pub last_given : (begun : AnswererCore) → (start : ℕ) → List CallEvent → ℕ
 last_given begun start [] = start
 last_given begun start (Comes piece now read ∷ before) = last_given begun start before
 last_given begun start (Ticks now ∷ before) = given_by (ticked (after_events begun before) now).given now (last_given begun start before)
@@ -41,7 +41,7 @@ sounds (pieces.End whole) = false
 sounds pieces.Gap = false
 sounds piece = true
 
-abbrev pub last_sound : (begun : Answering) → (start : ℕ) → List CallEvent → ℕ
+abbrev pub last_sound : (begun : AnswererCore) → (start : ℕ) → List CallEvent → ℕ
 last_sound begun start [] = start
 last_sound begun start (Comes piece now read ∷ before) =
     if not (is_waiting (after_events begun before).waiting) && sounds piece then now else last_sound begun start before
@@ -58,9 +58,9 @@ timer_since state identified given sound = Some (moment_after sound spans.t2)
 -- changes nothing: no timer acts before its time.
 abbrev pub NoTimerIsEarly : Type 0
 NoTimerIsEarly =
-    (core : Answering) (start : ℕ) (events : List CallEvent) →
-    let begun : Answering = rung core start in
-    let a : Answering = after_events begun events in
+    (core : AnswererCore) (start : ℕ) (events : List CallEvent) →
+    let begun : AnswererCore = rung core start in
+    let a : AnswererCore = after_events begun events in
     let timer : Option ℕ = timer_since a.state (identified_since begun start events) (last_given begun start events) (last_sound begun start events) in
     a.waiting ≡ [] → (due_at a ≡ timer) × ((now : ℕ) → now < 2 ^ 64 → is_due timer now ≡ false → ticked a now ≡ untouched a)
 
@@ -75,8 +75,8 @@ gives_up_at state identified sound = None
 -- In every call a tick gives the call up, with a DCN, exactly where that timer is due and no packet waits.
 abbrev pub GivesUpInTime : Type 0
 GivesUpInTime =
-    (core : Answering) (start now : ℕ) (events : List CallEvent) →
-    let begun : Answering = rung core start in
-    let a : Answering = after_events begun events in
+    (core : AnswererCore) (start now : ℕ) (events : List CallEvent) →
+    let begun : AnswererCore = rung core start in
+    let a : AnswererCore = after_events begun events in
     let timer : Option ℕ = gives_up_at a.state (identified_since begun start events) (last_sound begun start events) in
     (a.state ≡ Closing → ⊥) → ((ticked a now).core.state ≡ Closing) ↔ ((a.waiting ≡ []) × (is_due timer now ≡ true))

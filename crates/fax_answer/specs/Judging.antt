@@ -11,7 +11,7 @@ use Rattle.fax_answer.specs.declared.command.Order.TheVariants.{Judge}
 use Rattle.fax_answer.specs.Orders.{order_of}
 use Rattle.fax_answer.specs.History.{Entry, Decision, PassesOver, GivesMcf, GivesRtn, since_answer, images, last_image, repeated, answered_dcs}
 use Rattle.fax_answer.specs.Table.{is_one_image}
-use Rattle.fax_answer.specs.Calls.{Answering, rung, CallEvent, after_events}
+use Rattle.fax_answer.specs.Calls.{AnswererCore, rung, CallEvent, after_events}
 use Rattle.fax_answer.specs.Confirmation.{AreRead}
 
 -- the last image since the last CFR or MCF means this page, or none, under a DCS
@@ -22,7 +22,7 @@ abbrev pub MeansNone : List Entry → Dcs → Type 0
 MeansNone before dcs = (page : PageValue) → MeansThis before dcs page → ⊥
 
 -- A command that is answered, in Page or in Again: in the history of a call stands the command's frame, which was not passed
--- over, behind a CFR to this DCS.
+-- over, after a CFR to this DCS.
 pub record IsAnswered (history before : List Entry) (command : Command) (d : Decision) (dcs : Dcs) : Type 0 where
   pub later : List Entry
   pub octets : List ℕ
@@ -34,7 +34,7 @@ pub record IsAnswered (history before : List Entry) (command : Command) (d : Dec
 -- Where images came since the last CFR or MCF and the last of them means no page, the answer is RTN.
 abbrev pub RefusesNoPage : Type 0
 RefusesNoPage =
-    (core : Answering) (start : ℕ) (events : List CallEvent) (before : List Entry) (command : Command) (d : Decision) (dcs : Dcs)
+    (core : AnswererCore) (start : ℕ) (events : List CallEvent) (before : List Entry) (command : Command) (d : Decision) (dcs : Dcs)
     → AreRead (rung core start) events → IsAnswered (after_events (rung core start) events).history before command d dcs
     → 0 < images (since_answer before) → MeansNone before dcs → d ≡ GivesRtn
 
@@ -42,11 +42,11 @@ RefusesNoPage =
 abbrev pub IsInPage : List Entry → Type 0
 IsInPage before = repeated before ≡ Some Eom → ⊥
 
--- Where in Page exactly one image came, which is whole, and nothing was missing and no signal began behind it, the answer is
+-- Where in Page exactly one image came, which is whole, and nothing was missing and no signal began after it, the answer is
 -- RTN exactly where the image means no page, and else MCF for the page that it means.
 abbrev pub JudgesExactly : Type 0
 JudgesExactly =
-    (core : Answering) (start : ℕ) (events : List CallEvent) (before : List Entry) (command : Command) (d : Decision) (dcs : Dcs)
+    (core : AnswererCore) (start : ℕ) (events : List CallEvent) (before : List Entry) (command : Command) (d : Decision) (dcs : Dcs)
     → AreRead (rung core start) events → IsAnswered (after_events (rung core start) events).history before command d dcs
     → IsInPage before → is_one_image (since_answer before) ≡ true
     → ((d ≡ GivesRtn) × MeansNone before dcs) ⊎ ((page : PageValue) × (d ≡ GivesMcf command (Some page)) × MeansThis before dcs page)

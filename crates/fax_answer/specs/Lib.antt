@@ -11,7 +11,7 @@ pub mod Judging
 pub mod EachCommand
 pub mod EachRtn
 pub mod Refusals
-pub mod Kept
+pub mod Rep
 pub mod Reached
 pub mod Shown
 pub mod Readings

@@ -1,4 +1,4 @@
--- What a frame asks of the answering side (ITU-T T.30, 5.3.6.1). That every other frame asks nothing is this project's
+-- What a frame asks of the answerer (ITU-T T.30, 5.3.6.1). That every other frame asks nothing is this project's
 -- profile.
 use Rattle.std.specs.Prelude.{ℕ, List, Option, Some}
 use Rattle.fax_frames.specs.declared.frame.Frame.{Frame}

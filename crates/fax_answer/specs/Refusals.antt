@@ -11,12 +11,12 @@ use Rattle.fax_answer.specs.declared.state.State.{State}
 use Rattle.fax_answer.specs.declared.state.State.TheVariants.{Page, Again}
 use Rattle.fax_answer.specs.History.{Entry, Decision, GivesRtn, since_answer, images, gap, last_image, last_whole}
 use Rattle.fax_answer.specs.Table.{is_one_image}
-use Rattle.fax_answer.specs.Replies.{Waiting}
-use Rattle.fax_answer.specs.Calls.{Answering, Ticked}
+use Rattle.fax_answer.specs.Replies.{WaitingPacket}
+use Rattle.fax_answer.specs.Calls.{AnswererCore, TickResult}
 use Rattle.fax_answer.specs.EachRtn.{rtn_packet}
 
 -- PAGE, under this DCS: what each reason says of what came since the last CFR or MCF. A fault is that of the one image, whole
--- and with nothing behind it, which means no page.
+-- and with nothing after it, which means no page.
 abbrev pub IsReasonInPage : Dcs → List Entry → Refusal → Type 0
 IsReasonInPage dcs before (Fault fault) =
     (is_one_image (since_answer before) ≡ true) × FailsPage (elements_of (format_of dcs).width) (coding_of dcs) (last_image before) fault
@@ -33,7 +33,7 @@ IsReasonInAgain before NoImage = images (since_answer before) ≡ 0
 IsReasonInAgain before Untrained = 0 < images (since_answer before)
 IsReasonInAgain before refusal = ⊥
 
--- the reason for an RTN to a command in this state, behind this
+-- the reason for an RTN to a command in this state, after this
 abbrev pub IsReason : State → List Entry → Refusal → Type 0
 IsReason (Page dcs) before refusal = IsReasonInPage dcs before refusal
 IsReason Again before refusal = IsReasonInAgain before refusal
@@ -58,21 +58,21 @@ abbrev pub SaysWhy : State → List Entry → Option Refusal → Type 0
 SaysWhy state history told = IsWhy state (before_rtn history) told
 
 -- the RTN frame waits
-abbrev pub AwaitsRtn : List Waiting → Type 0
+abbrev pub AwaitsRtn : List WaitingPacket → Type 0
 AwaitsRtn [] = ⊥
 AwaitsRtn (w ∷ waiting) = (w.packet ≡ rtn_packet) ⊎ AwaitsRtn waiting
 
 -- the RTN frame is given
-abbrev pub IsRtn : Option Waiting → Type 0
+abbrev pub IsRtn : Option WaitingPacket → Type 0
 IsRtn None = ⊥
 IsRtn (Some w) = w.packet ≡ rtn_packet
 
 -- what is kept of a call says why, where the RTN frame waits
-abbrev pub HasReason : Answering → Option Refusal → Type 0
+abbrev pub HasReason : AnswererCore → Option Refusal → Type 0
 HasReason a told = AwaitsRtn a.waiting → SaysWhy a.state a.history told
 
 -- A TICK tells why a page is refused exactly where it gives the RTN frame.
-pub record TellsWhy (t : Ticked) (told : Option Refusal) : Type 0 where
+pub record TellsWhy (t : TickResult) (told : Option Refusal) : Type 0 where
   pub rtn : IsRtn t.given → SaysWhy t.core.state t.core.history told
   pub silent : (IsRtn t.given → ⊥) → told ≡ None
 

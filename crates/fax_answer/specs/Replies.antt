@@ -12,7 +12,7 @@ use Rattle.fax_answer.specs.declared.command.Command.{Command}
 use Rattle.fax_answer.specs.declared.command.Command.TheVariants.{Eom, Mps, Eop}
 use Rattle.fax_answer.specs.History.{Decision, PassesOver, Trains, HangsUp, GivesCfr, GivesFtt, GivesMcf, GivesRtn}
 
--- no page follows behind EOP
+-- no page follows after EOP
 abbrev pub is_last : Command → Bool
 is_last Eom = false
 is_last Mps = false
@@ -24,11 +24,11 @@ pub record ConfirmedPage : Type 0 where
   pub closes : Bool
 
 -- a packet that waits. The data packet of an MCF to a new page carries what it confirms.
-pub record Waiting : Type 0 where
+pub record WaitingPacket : Type 0 where
   pub packet : List ℕ
   pub confirmed : Option ConfirmedPage
 
-abbrev pub silent : List ℕ → Waiting
+abbrev pub silent : List ℕ → WaitingPacket
 silent packet = record { packet = packet; confirmed = None }
 
 -- the tone of a called terminal, CED, and the preamble before a frame (T30_INDICATOR)
@@ -47,10 +47,10 @@ abbrev pub frame_packet : List ℕ → List ℕ
 frame_packet frame = written_message 0 (frame_fields frame)
 
 -- a frame as a reply: the preamble, and then its data packet
-abbrev pub frame_reply : List ℕ → Option ConfirmedPage → List Waiting
+abbrev pub frame_reply : List ℕ → Option ConfirmedPage → List WaitingPacket
 frame_reply frame confirmed = silent preamble ∷ record { packet = frame_packet frame; confirmed = confirmed } ∷ []
 
-abbrev pub plain_reply : Plain → Option ConfirmedPage → List Waiting
+abbrev pub plain_reply : Plain → Option ConfirmedPage → List WaitingPacket
 plain_reply plain confirmed = frame_reply (written_plain plain false) confirmed
 
 -- the packet of the MCF frame
@@ -62,7 +62,7 @@ confirmed_if command None = None
 confirmed_if command (Some page) = Some (record { page = page; closes = is_last command })
 
 -- what is answered at a decision
-abbrev pub reply_to : Decision → List Waiting
+abbrev pub reply_to : Decision → List WaitingPacket
 reply_to (GivesCfr dcs) = plain_reply Cfr None
 reply_to GivesFtt = plain_reply Ftt None
 reply_to (GivesMcf command page) = plain_reply Mcf (confirmed_if command page)
@@ -71,6 +71,6 @@ reply_to PassesOver = []
 reply_to (Trains dcs) = []
 reply_to HangsUp = []
 
-abbrev pub is_waiting : List Waiting → Bool
+abbrev pub is_waiting : List WaitingPacket → Bool
 is_waiting [] = false
 is_waiting (w ∷ waiting) = true

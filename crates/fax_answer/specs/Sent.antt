@@ -10,8 +10,8 @@ use Rattle.fax_ifp.specs.Elements.{Slot}
 use Rattle.fax_ifp.specs.Pieces.{Piece, pieces}
 use Rattle.fax_ifp.specs.Schedules.{signal_at}
 use Rattle.fax_answer.specs.History.{Entry, Decision, GivesMcf, last_image, answered_dcs}
-use Rattle.fax_answer.specs.Replies.{ConfirmedPage, Waiting}
-use Rattle.fax_answer.specs.Calls.{Answering, rung, ticked, CallEvent, Comes, Ticks, after_events}
+use Rattle.fax_answer.specs.Replies.{ConfirmedPage, WaitingPacket}
+use Rattle.fax_answer.specs.Calls.{AnswererCore, rung, ticked, CallEvent, Comes, Ticks, after_events}
 use Rattle.fax_answer.specs.Confirmation.{AreRead}
 
 -- the pieces that a history heard
@@ -46,7 +46,7 @@ Rises packets (e ∷ before) bound = RisesBy packets before (page_accepted e.dec
 -- So it is in every call that hears slots which are a part of the list.
 abbrev pub ConfirmsSignals : Type 0
 ConfirmsSignals =
-    (core : Answering) (start : ℕ) (events : List CallEvent) (packets : List (List ℕ)) (next : ℕ) (slots : List Slot)
+    (core : AnswererCore) (start : ℕ) (events : List CallEvent) (packets : List (List ℕ)) (next : ℕ) (slots : List Slot)
     → AreRead (rung core start) events → pieces_heard (after_events (rung core start) events).history ≡ reverse (pieces slots)
     → AreSlotsBefore packets next slots → Rises packets (after_events (rung core start) events).history next
 
@@ -56,11 +56,11 @@ abbrev pub confirmed_with : Option ConfirmedPage → List PageValue → List Pag
 confirmed_with None pages = pages
 confirmed_with (Some confirmed) pages = confirmed.page ∷ pages
 
-abbrev pub confirmed_in_tick : Option Waiting → List PageValue → List PageValue
+abbrev pub confirmed_in_tick : Option WaitingPacket → List PageValue → List PageValue
 confirmed_in_tick None pages = pages
 confirmed_in_tick (Some w) pages = confirmed_with w.confirmed pages
 
-abbrev pub pages_confirmed : Answering → List CallEvent → List PageValue
+abbrev pub pages_confirmed : AnswererCore → List CallEvent → List PageValue
 pages_confirmed a [] = []
 pages_confirmed a (Comes piece now read ∷ before) = pages_confirmed a before
 pages_confirmed a (Ticks now ∷ before) = confirmed_in_tick (ticked (after_events a before) now).given (pages_confirmed a before)
@@ -73,7 +73,7 @@ abbrev pub pages_accepted : List Entry → List PageValue
 pages_accepted [] = []
 pages_accepted (e ∷ before) = page_with (page_accepted e.decision) (pages_accepted before)
 
-abbrev pub pages_waiting : List Waiting → List PageValue
+abbrev pub pages_waiting : List WaitingPacket → List PageValue
 pages_waiting [] = []
 pages_waiting (w ∷ waiting) = pages_waiting waiting ++ confirmed_with w.confirmed []
 
@@ -81,6 +81,6 @@ pages_waiting (w ∷ waiting) = pages_waiting waiting ++ confirmed_with w.confir
 -- at most one. So what is told of the former is told of each confirmation.
 abbrev pub ConfirmsWhatItAccepted : Type 0
 ConfirmsWhatItAccepted =
-    (core : Answering) (start : ℕ) (events : List CallEvent) →
-    let a : Answering = after_events (rung core start) events in
+    (core : AnswererCore) (start : ℕ) (events : List CallEvent) →
+    let a : AnswererCore = after_events (rung core start) events in
     (pages_accepted a.history ≡ pages_waiting a.waiting ++ pages_confirmed (rung core start) events) × (length (pages_waiting a.waiting) < 2)

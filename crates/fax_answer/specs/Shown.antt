@@ -2,8 +2,8 @@
 use Rattle.std.specs.Prelude.{◌≡◌, List, ℕ, Option, Some, None}
 use Rattle.fax_answer.specs.declared.step.Confirmed.{Confirmed}
 use Rattle.fax_answer.specs.declared.step.Step.{Step}
-use Rattle.fax_answer.specs.Replies.{ConfirmedPage, Waiting}
-use Rattle.fax_answer.specs.Calls.{Ticked}
+use Rattle.fax_answer.specs.Replies.{ConfirmedPage, WaitingPacket}
+use Rattle.fax_answer.specs.Calls.{TickResult}
 use Rattle.fax_answer.specs.Refusals.{TellsWhy}
 
 abbrev pub page_shown : {S : Type 0} → Confirmed S → ConfirmedPage
@@ -14,16 +14,16 @@ confirmed_shown None = None
 confirmed_shown (Some c) = Some (page_shown c)
 
 -- the packet of a waiting one, and the page that it confirms
-abbrev pub packet_in : Option Waiting → Option (List ℕ)
+abbrev pub packet_in : Option WaitingPacket → Option (List ℕ)
 packet_in None = None
 packet_in (Some w) = Some w.packet
 
-abbrev pub confirmed_in : Option Waiting → Option ConfirmedPage
+abbrev pub confirmed_in : Option WaitingPacket → Option ConfirmedPage
 confirmed_in None = None
 confirmed_in (Some w) = w.confirmed
 
 -- a step says what a tick gives
-pub record IsStep {S : Type 0} (t : Ticked) (step : Step S) : Type 0 where
+pub record IsStep {S : Type 0} (t : TickResult) (step : Step S) : Type 0 where
   pub packet : step.packet ≡ packet_in t.given
   pub confirmed : confirmed_shown step.confirmed ≡ confirmed_in t.given
   pub refused : TellsWhy t step.refused

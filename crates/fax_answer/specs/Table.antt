@@ -44,8 +44,8 @@ on_check dcs whole before =
     if whole && (not (missing_in_training before) && has_zero_run (bits_a_second dcs.rate / 8) (octets_since before))
     then GivesCfr dcs else GivesFtt
 
--- PAGE, a command comes behind one image since the last CFR or MCF, which is whole, with neither a missing slot nor a
--- signal behind it: MCF where it means a page, else RTN.
+-- PAGE, a command comes after one image since the last CFR or MCF, which is whole, with neither a missing slot nor a
+-- signal after it: MCF where it means a page, else RTN.
 abbrev pub judged : Command → Reading → Decision
 judged command (Some page) = GivesMcf command (Some page)
 judged command None = GivesRtn
@@ -107,11 +107,11 @@ abbrev pub asked_of : State → (waits : Bool) → List Entry → pieces.Piece �
 asked_of state waits before (pieces.Frame octets) = if waits then None else order_asks state before (order_of octets)
 asked_of state waits before piece = None
 
--- the state behind a decision: Again behind the MCF to an EOM
-abbrev pub state_behind_mcf : Command → State → State
-state_behind_mcf Eom state = Again
-state_behind_mcf Mps state = state
-state_behind_mcf Eop state = state
+-- the state after a decision: Again after the MCF to an EOM
+abbrev pub state_after_mcf : Command → State → State
+state_after_mcf Eom state = Again
+state_after_mcf Mps state = state
+state_after_mcf Eop state = state
 
 abbrev pub state_after : State → Decision → State
 state_after state (Trains dcs) = Train dcs
@@ -119,5 +119,5 @@ state_after state HangsUp = Idle
 state_after state (GivesCfr dcs) = Page dcs
 state_after state GivesFtt = Listen
 state_after state PassesOver = state
-state_after state (GivesMcf command page) = state_behind_mcf command state
+state_after state (GivesMcf command page) = state_after_mcf command state
 state_after state GivesRtn = state

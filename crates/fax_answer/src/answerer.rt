@@ -1,7 +1,7 @@
-//! The answering side of a call.
+//! The answerer.
 ghost use Rattle.std.specs.Prelude.{◌≡◌, ◌≤◌, List, [], None, IsSome, IfSome, IfOk, OnOk, OnErr, length, if◌then◌else◌};
 ghost use Rattle.fax_ifp.specs.Elements.{Slot as SlotShown};
-ghost use Rattle.fax_answer.specs.Calls.{Answering, new_answering, rung, ticked};
+ghost use Rattle.fax_answer.specs.Calls.{AnswererCore, new_answering, rung, ticked};
 ghost use Rattle.fax_answer.specs.Due.{due_at};
 ghost use Rattle.fax_answer.specs.Reached.{IsReached};
 ghost use Rattle.fax_answer.specs.Shown.{IsStep};
@@ -20,7 +20,7 @@ use fax_pagestore::RowStore;
 use std::alloc::Global;
 use std::marker::Model;
 
-/// The answering side of the calls of a leg, one after another (ITU-T T.30, phases B to D of a called terminal). Seen as
+/// The answerer of the calls of a leg, one after another (ITU-T T.30, phases B to D of a called terminal). Seen as
 /// what a call has led to: its contracts are told over every history of slots, pieces and ticks.
 #[derive(Drop)]
 pub struct Answerer<S: RowStore> {
@@ -37,16 +37,16 @@ pub struct Answerer<S: RowStore> {
 }
 
 impl<S: RowStore> Model for Answerer<S> {
-    ghost use Rattle.fax_answer.specs.Reached.{Kept};
+    ghost use Rattle.fax_answer.specs.Reached.{Rep};
     ghost use Rattle.fax_answer.specs.Shown.{confirmed_shown};
 
-    ghost Value = { Kept };
+    ghost Value = { Rep };
 
     ghost view = { λ a. record { tracked = a.signals; procedure = a.procedure; image = a.image; confirmed = confirmed_shown a.confirmed; refused = a.refused; spare = a.room } };
 }
 
 impl<S: RowStore> Answerer<S> {
-    /// An answering side on whose leg no call was. The packet behind a preamble is given so many milliseconds later, at most
+    /// An answerer on whose leg no call was. The packet after a preamble is given so many milliseconds later, at most
     /// 2,000. It takes no memory.
     pub fn new(alloc: Global, preamble_ms: u16) -> Self
         ensures { IsReached [] (new_answering preamble_ms) result }
@@ -65,7 +65,7 @@ impl<S: RowStore> Answerer<S> {
     /// A ring, where no call is on: CED and our DIS wait, and T1 is set. It takes no memory.
     pub fn ring(&mut self, now: u64)
         requires { self.old.procedure.state ≡ State.Idle }
-        ensures rung { (heard : List SlotShown) (core : Answering) → IsReached heard core self.old
+        ensures rung { (heard : List SlotShown) (core : AnswererCore) → IsReached heard core self.old
             → IsReached [] (rung core now) self.new }
         ensures spare { self.new.spare ≡ self.old.spare }
     {
@@ -86,7 +86,7 @@ impl<S: RowStore> Answerer<S> {
     /// The first moment at which a tick may give something or change the call: an earlier tick does nothing. `None`: none
     /// does until something comes.
     pub fn next_due(&self) -> Option<u64>
-        ensures { (heard : List SlotShown) (core : Answering) → IsReached heard core self.now → result ≡ due_at core }
+        ensures { (heard : List SlotShown) (core : AnswererCore) → IsReached heard core self.now → result ≡ due_at core }
     {
         self.procedure.next_due()
     }
@@ -94,7 +94,7 @@ impl<S: RowStore> Answerer<S> {
     /// Reserves memory, where none is reserved: after an `Ok` the next tick takes none. An `Err` changes nothing.
     pub fn reserve(&mut self) -> Result<(), NoMemory>
         ensures room { OnOk result (1 ≤ self.new.spare) }
-        ensures reached { (heard : List SlotShown) (core : Answering) → IsReached heard core self.old
+        ensures reached { (heard : List SlotShown) (core : AnswererCore) → IsReached heard core self.old
             → IsReached heard core self.new }
         ensures same { self.new ≡ record self.old { spare = self.new.spare } }
         ensures err { OnErr result (self.new ≡ self.old) }
@@ -107,10 +107,10 @@ impl<S: RowStore> Answerer<S> {
     /// that one is given. It takes memory for the packet where none is reserved, and none where no packet is given. A packet
     /// has at most 12 octets. An `Err` changes nothing.
     pub fn tick(&mut self, now: u64) -> Result<Step<S>, NoMemory>
-        ensures ticked { IfOk result (λ step. (heard : List SlotShown) (core : Answering) → IsReached heard core self.old
+        ensures ticked { IfOk result (λ step. (heard : List SlotShown) (core : AnswererCore) → IsReached heard core self.old
             → IsReached heard (ticked core now).core self.new × IsStep (ticked core now) step) }
         ensures err { OnErr result (self.new ≡ self.old) }
-        ensures memory { OnErr result ((heard : List SlotShown) (core : Answering) → IsReached heard core self.old
+        ensures memory { OnErr result ((heard : List SlotShown) (core : AnswererCore) → IsReached heard core self.old
             → IsSome (ticked core now).given) }
         ensures spared { OnErr result (self.old.spare ≡ 0) }
         ensures short { IfOk result (λ step. IfSome step.packet (λ packet. length packet ≤ 12)) }

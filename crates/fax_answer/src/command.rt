@@ -1,9 +1,9 @@
-//! What a frame asks of the answering side.
+//! What a frame asks of the answerer.
 ghost use Rattle.std.specs.Prelude.{◌≡◌};
 
 use fax_frames::{Dcs, Frame};
 
-/// The command behind a page (ITU-T T.30, 5.3.6.1.5).
+/// The command after a page (ITU-T T.30, 5.3.6.1.5).
 #[derive(Clone, Copy, PartialEq, Eq, Debug)]
 pub enum Command {
     /// End of message: a page of another format follows.
@@ -14,12 +14,12 @@ pub enum Command {
     Eop,
 }
 
-/// What a frame asks of the answering side.
+/// What a frame asks of the answerer.
 #[derive(Clone, Copy, PartialEq, Eq, Debug)]
 pub enum Order {
     /// A digital command signal: train with it.
     Train(Dcs),
-    /// A command behind a page: judge the page.
+    /// A command after a page: judge the page.
     Judge(Command),
     /// A disconnect.
     Disconnect,

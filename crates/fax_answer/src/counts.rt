@@ -3,7 +3,7 @@ ghost use Rattle.std.specs.Prelude.{◌≡◌, [], ◌∷◌, List, false};
 ghost use Rattle.fax_ifp.specs.Shown.{piece_of};
 ghost use Rattle.fax_answer.specs.History.{Entry, since_answer};
 ghost use Rattle.fax_answer.specs.Table.{is_one_image, is_quiet, is_repeat};
-ghost use Rattle.fax_answer.specs.Kept.{counts_of, verdict_of};
+ghost use Rattle.fax_answer.specs.Rep.{counts_of, verdict_of};
 ghost use Rattle.fax_answer.specs.Refusals.{IsReasonInAgain, IsReasonInPage};
 ghost use Rattle.fax_frames.specs.declared.dcs.Dcs.{Dcs};
 
@@ -86,9 +86,9 @@ impl Counts {
         }
     }
 
-    /// Notes a piece behind the last CFR or MCF.
+    /// Notes a piece after the last CFR or MCF.
     fn note_piece(&mut self, piece: &Piece<'_>)
-        ensures { self.new ≡ Rattle.fax_answer.specs.Kept.counted self.old (piece_of piece.now) }
+        ensures { self.new ≡ Rattle.fax_answer.specs.Rep.counted self.old (piece_of piece.now) }
     {
         match piece {
             Piece::Gap | Piece::Start(_) => self.gap = true,
@@ -104,7 +104,7 @@ impl Counts {
         }
     }
 
-    /// Whether one image came since the last CFR or MCF, which is whole, with neither a missing slot nor a signal behind
+    /// Whether one image came since the last CFR or MCF, which is whole, with neither a missing slot nor a signal after
     /// it.
     pub fn is_one_image(&self) -> bool
         ensures { (history : List Entry) → self.now ≡ counts_of history → result ≡ is_one_image (since_answer history) }
@@ -126,7 +126,7 @@ impl Counts {
         self.is_quiet() && is_same(self.repeat, command)
     }
 
-    /// Why a command is refused in Page, where not one image stands before it, whole and with nothing behind it.
+    /// Why a command is refused in Page, where not one image stands before it, whole and with nothing after it.
     pub fn refusal(&self) -> Refusal
         ensures { (history : List Entry) (dcs : Dcs) → self.now ≡ counts_of history → is_one_image (since_answer history) ≡ false
             → IsReasonInPage dcs history result }

@@ -6,7 +6,7 @@ ghost use Rattle.fax_pagestore.specs.Pages.{PageValue};
 ghost use Rattle.fax_pagestore.specs.PageTexts.{MeansPage};
 ghost use Rattle.fax_pagestore.specs.PageFaults.{FailsPage};
 ghost use Rattle.fax_pagestore.specs.Readers.{new_reader};
-ghost use Rattle.fax_answer.specs.Images.{ImageValue, HasEnded, MeansAt, Feeds, GoesOn, IsMarkOf, longest_behind, run_behind, run_with};
+ghost use Rattle.fax_answer.specs.Images.{ImageValue, HasEnded, MeansAt, Feeds, GoesOn, IsMarkOf, longest_after, run_after, run_with};
 ghost use Rattle.fax_answer.specs.Shown.{confirmed_shown};
 
 use crate::step::Confirmed;
@@ -16,7 +16,7 @@ use fax_pagestore::{Mark as ReaderMark, PageFault, PageReader, RowStore};
 use std::alloc::Global;
 use std::marker::Model;
 
-/// How many readers are kept behind a datagram at most.
+/// How many readers are kept after a datagram at most.
 const MOST_KEPT: usize = 2;
 
 /// The images of a call. In Page each octet goes to a reader; else the runs of zero octets alone are counted.
@@ -112,7 +112,7 @@ impl<S: RowStore> Image<S> {
 
     /// Counts the zero octets of more octets of the image under way.
     pub fn count(&mut self, octets: &[u8])
-        ensures { self.new ≡ record self.old { run = run_behind self.old.run octets.now; longest = longest_behind self.old.run self.old.longest octets.now } }
+        ensures { self.new ≡ record self.old { run = run_after self.old.run octets.now; longest = longest_after self.old.run self.old.longest octets.now } }
     {
         self.zeros.count(octets);
     }
@@ -232,7 +232,7 @@ const BLOCK: usize = 8;
 impl Zeros {
     /// Counts the zero octets of more octets, of those that stand in whole blocks block by block.
     fn count(&mut self, octets: &[u8])
-        ensures { self.new ≡ record self.old { run = run_behind self.old.run octets.now; longest = longest_behind self.old.run self.old.longest octets.now } }
+        ensures { self.new ≡ record self.old { run = run_after self.old.run octets.now; longest = longest_after self.old.run self.old.longest octets.now } }
     {
         let mut place = 0;
         while octets.len() - place >= BLOCK {
@@ -247,7 +247,7 @@ impl Zeros {
     fn count_block(&mut self, octets: &[u8], first: usize)
         requires { first + 8 ≤ length octets.now }
         ensures { let block = take 8 (drop first octets.now) in
-            self.new ≡ record self.old { run = run_behind self.old.run block; longest = longest_behind self.old.run self.old.longest block } }
+            self.new ≡ record self.old { run = run_after self.old.run block; longest = longest_after self.old.run self.old.longest block } }
     {
         if has_no_zero(octets, first) {
             self.run = 0;
@@ -261,7 +261,7 @@ impl Zeros {
 
     /// Counts the zero octets of more octets, octet by octet.
     fn count_each(&mut self, octets: &[u8])
-        ensures { self.new ≡ record self.old { run = run_behind self.old.run octets.now; longest = longest_behind self.old.run self.old.longest octets.now } }
+        ensures { self.new ≡ record self.old { run = run_after self.old.run octets.now; longest = longest_after self.old.run self.old.longest octets.now } }
     {
         for octet in octets {
             self.run = run_with(self.run, *octet);

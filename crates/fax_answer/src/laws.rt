@@ -1,4 +1,4 @@
-//! Laws of the answering side: functions that do nothing, each of whose contracts is a theorem. Each is told of every
+//! Laws of the answerer: functions that do nothing, each of whose contracts is a theorem. Each is told of every
 //! call: from any core that is rung, through any pieces and ticks, where each image that is asked about was read rightly.
 ghost use Rattle.fax_answer.specs.Confirmation.{GivesConfirmations, EachMcfAnswers};
 ghost use Rattle.fax_answer.specs.Due.{ActsFrom, RestsBefore};
@@ -13,7 +13,7 @@ ghost use Rattle.fax_answer.specs.Sent.{ConfirmsSignals, ConfirmsWhatItAccepted}
 ghost use Rattle.fax_answer.specs.Silence.{LittleIsGiven, NoCallHangs};
 
 /// Each tick that gives a confirmed page gives the MCF frame as its packet, at the last command that was answered: a
-/// command behind exactly one image since the last CFR or MCF, which is whole, with neither a missing slot nor a
+/// command after exactly one image since the last CFR or MCF, which is whole, with neither a missing slot nor a
 /// signal since its end, and which means the page under the DCS that the last CFR answered.
 pub fn gives_confirmations()
     ensures { GivesConfirmations }
@@ -30,19 +30,19 @@ pub fn refuses_what_means_no_page()
     ensures { RefusesNoPage }
 {}
 
-/// One image with nothing behind it is answered by RTN exactly where it means no page, and else by MCF for the page that
+/// One image with nothing after it is answered by RTN exactly where it means no page, and else by MCF for the page that
 /// it means.
 pub fn judges_exactly()
     ensures { JudgesExactly }
 {}
 
 /// Each command that is answered has the DCS that a CFR answered, and is judged by what the image before it means under that
-/// DCS: by RTN where it means no page, and one image with nothing behind it by RTN exactly there, and else by MCF.
+/// DCS: by RTN where it means no page, and one image with nothing after it by RTN exactly there, and else by MCF.
 pub fn judges_each_command()
     ensures { JudgesEachCommand }
 {}
 
-/// Each tick that gives the RTN frame refuses the last command, which was judged as each is: where one image had nothing behind
+/// Each tick that gives the RTN frame refuses the last command, which was judged as each is: where one image had nothing after
 /// it, the image means no page.
 pub fn each_rtn_refuses()
     ensures { EachRtnRefuses }
@@ -113,7 +113,7 @@ pub fn gives_up_in_time()
     ensures { GivesUpInTime }
 {}
 
-/// No line hangs for ever: a call in which nothing more is heard is over in time, whatever was heard before: behind all that
+/// No line hangs for ever: a call in which nothing more is heard is over in time, whatever was heard before: after all that
 /// waits, the timers of its state, 9 seconds, and the time of five ticks.
 pub fn no_call_hangs()
     ensures { NoCallHangs }

@@ -1,4 +1,4 @@
-//! The answering side of a call (ITU-T T.30, phases B to D of a called terminal), without sockets or a clock:
+//! The answerer (ITU-T T.30, phases B to D of a called terminal), without sockets or a clock:
 //! slots of packets and moments go in, packets and confirmed pages come out.
 //!
 //! Moments are milliseconds. Each definition that a contract here speaks of stands in `specs/`: the answering

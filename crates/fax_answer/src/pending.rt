@@ -7,10 +7,10 @@ use fax_bits::Octets;
 use fax_frames::{FrameBytes, OUR_DIS, Plain, write_dis, write_plain};
 use fax_ifp::{Indicator, put_frame, put_indicator};
 
-/// How many octets the longest packet of this side has: that of our DIS.
+/// How many octets the longest packet of the answerer has: that of our DIS.
 pub(crate) const LONGEST: usize = 12;
 
-/// A frame that the answering side gives.
+/// A frame that the answerer gives.
 #[derive(Clone, Copy, PartialEq, Eq)]
 pub(crate) enum Reply {
     /// Our own DIS.
@@ -33,7 +33,7 @@ impl Reply {
     }
 }
 
-/// The packet that is given next. A frame stands behind its preamble, and the DIS that answers a ring behind the tone
+/// The packet that is given next. A frame stands after its preamble, and the DIS that answers a ring after the tone
 /// of a called terminal.
 #[derive(Clone, Copy, PartialEq, Eq)]
 pub(crate) enum Pending {

@@ -6,11 +6,11 @@ ghost use Rattle.fax_ifp.specs.Shown.{piece_of};
 ghost use Rattle.fax_answer.specs.History.{Decision as Decided, since_answer};
 ghost use Rattle.fax_answer.specs.Table.{state_after};
 ghost use Rattle.fax_answer.specs.Replies.{ConfirmedPage, reply_to};
-ghost use Rattle.fax_answer.specs.Calls.{Answering, new_answering, rung, decided, timers_after, is_heard, timed, says_goodbye, identifies_anew, state_when_given, timers_when_given, is_closing};
+ghost use Rattle.fax_answer.specs.Calls.{AnswererCore, new_answering, rung, decided, timers_after, is_heard, timed, says_goodbye, identifies_anew, state_when_given, timers_when_given, is_closing};
 ghost use Rattle.fax_answer.specs.Due.{due_at, timer_of};
-ghost use Rattle.fax_answer.specs.Kept.{pending_reply, verdict_of};
+ghost use Rattle.fax_answer.specs.Rep.{pending_reply, verdict_of};
 ghost use Rattle.fax_answer.specs.Pending.{waiting_of};
-ghost use Rattle.fax_answer.specs.Following.{readers_wanted, Follows, CanDecide, confirmed_behind, GivesNext, gives_now, gives_up, repeats_dis, begins_again};
+ghost use Rattle.fax_answer.specs.Following.{readers_wanted, Follows, CanDecide, confirmed_after, GivesNext, gives_now, gives_up, repeats_dis, begins_again};
 
 use crate::counts::Counts;
 use crate::decision::Decision;
@@ -32,7 +32,7 @@ pub(crate) struct Procedure {
 }
 
 impl Procedure {
-    /// No call is on, and none was. The packet behind a preamble waits so many milliseconds, at most 2,000.
+    /// No call is on, and none was. The packet after a preamble waits so many milliseconds, at most 2,000.
     pub fn new(preamble_ms: u16) -> Self
         ensures { Follows (new_answering preamble_ms) None result }
     {
@@ -47,7 +47,7 @@ impl Procedure {
 
     /// A ring: CED and our DIS wait, and T1 is set.
     pub fn ring(&mut self, now: u64)
-        ensures { (core : Answering) (confirmed : Option ConfirmedPage) → Follows core confirmed self.old
+        ensures { (core : AnswererCore) (confirmed : Option ConfirmedPage) → Follows core confirmed self.old
             → Follows (rung core now) None self.new }
     {
         let mut timers = Timers::clear();
@@ -73,22 +73,22 @@ impl Procedure {
     pub fn note(&mut self, piece: &Piece<'_>, decision: Decision, now: u64)
         ensures waits { self.old.pending ≢ Pending.Nothing → self.new.pending ≡ self.old.pending }
         ensures free { self.old.pending ≡ Pending.Nothing → self.new.pending ≡ pending_reply decision }
-        ensures noted { (core : Answering) (confirmed : Option ConfirmedPage) (p : PieceShown) (d : Decided)
+        ensures noted { (core : AnswererCore) (confirmed : Option ConfirmedPage) (p : PieceShown) (d : Decided)
             → Follows core confirmed self.old → piece_of piece.now ≡ p → verdict_of d ≡ decision → CanDecide core d
-            → Follows (decided core p d now) (confirmed_behind d confirmed) self.new }
+            → Follows (decided core p d now) (confirmed_after d confirmed) self.new }
     {
-        self.timers = self.timers_behind(piece, decision, now);
+        self.timers = self.timers_then(piece, decision, now);
         self.counts.note(piece, decision);
-        self.state = state_behind(self.state, decision);
+        self.state = state_then(self.state, decision);
         if self.pending == Pending::Nothing {
-            self.pending = pending_behind(decision);
+            self.pending = pending_after(decision);
         }
     }
 
-    /// The timers behind a decision: a DCS that trains clears T1 and T4 and sets T2; T2 and T4 are clear while packets
+    /// The timers after a decision: a DCS that trains clears T1 and T4 and sets T2; T2 and T4 are clear while packets
     /// wait; what is heard sets T2 anew.
-    fn timers_behind(&self, piece: &Piece<'_>, decision: Decision, now: u64) -> Timers
-        ensures { (core : Answering) (confirmed : Option ConfirmedPage) (p : PieceShown) (d : Decided)
+    fn timers_then(&self, piece: &Piece<'_>, decision: Decision, now: u64) -> Timers
+        ensures { (core : AnswererCore) (confirmed : Option ConfirmedPage) (p : PieceShown) (d : Decided)
             → Follows core confirmed self.now → piece_of piece.now ≡ p → verdict_of d ≡ decision
             → result ≡ timers_after core p d now }
     {
@@ -116,7 +116,7 @@ impl Procedure {
     /// Again where T2 is.
     pub fn act(&mut self, now: u64)
         ensures quiet { self.new.pending ≡ Pending.Nothing → self.old.pending ≡ Pending.Nothing }
-        ensures acted { (core : Answering) (confirmed : Option ConfirmedPage) → Follows core confirmed self.old
+        ensures acted { (core : AnswererCore) (confirmed : Option ConfirmedPage) → Follows core confirmed self.old
             → Follows (timed core now) confirmed self.new }
     {
         if self.is_waiting() {
@@ -161,7 +161,7 @@ impl Procedure {
     /// Our DIS waits, in Identify, and T1 is set.
     fn identify_anew(&mut self, now: u64)
         requires { self.old.pending ≡ Pending.Nothing }
-        ensures { (core : Answering) (confirmed : Option ConfirmedPage) → Follows core confirmed self.old
+        ensures { (core : AnswererCore) (confirmed : Option ConfirmedPage) → Follows core confirmed self.old
             → Follows (identifies_anew core now) confirmed self.new }
     {
         self.state = State::Identify;
@@ -173,7 +173,7 @@ impl Procedure {
     /// DCN waits, and the call closes with it.
     fn say_goodbye(&mut self)
         requires { self.old.pending ≡ Pending.Nothing }
-        ensures { (core : Answering) (confirmed : Option ConfirmedPage) → Follows core confirmed self.old
+        ensures { (core : AnswererCore) (confirmed : Option ConfirmedPage) → Follows core confirmed self.old
             → Follows (says_goodbye core) confirmed self.new }
     {
         self.state = State::Closing;
@@ -183,7 +183,7 @@ impl Procedure {
 
     /// Whether a packet is given now: one waits, and the pace lets it through.
     pub fn gives(&self, now: u64) -> bool
-        ensures gives { (core : Answering) (confirmed : Option ConfirmedPage) → Follows core confirmed self.now
+        ensures gives { (core : AnswererCore) (confirmed : Option ConfirmedPage) → Follows core confirmed self.now
             → result ≡ gives_now core now }
         ensures waits { IsTrue result → self.now.pending ≢ Pending.Nothing }
     {
@@ -193,7 +193,7 @@ impl Procedure {
     /// The first moment at which a tick may do something: where packets wait, that from which on the pace lets one through;
     /// else that of the timer that acts first.
     pub fn next_due(&self) -> Option<u64>
-        ensures { (core : Answering) (confirmed : Option ConfirmedPage) → Follows core confirmed self.now → result ≡ due_at core }
+        ensures { (core : AnswererCore) (confirmed : Option ConfirmedPage) → Follows core confirmed self.now → result ≡ due_at core }
     {
         if self.is_waiting() {
             self.pace.allowed_from()
@@ -219,7 +219,7 @@ impl Procedure {
     /// The next packet is given. It answers whether the call has ended with it.
     pub fn give(&mut self, now: u64) -> bool
         requires { self.old.pending ≢ Pending.Nothing }
-        ensures { (core : Answering) (confirmed : Option ConfirmedPage) → Follows core confirmed self.old
+        ensures { (core : AnswererCore) (confirmed : Option ConfirmedPage) → Follows core confirmed self.old
             → GivesNext core confirmed now self.old self.new result }
     {
         self.pace.given(self.pending.is_preamble(), now);
@@ -237,7 +237,7 @@ impl Procedure {
     /// How many readers of images are wanted on: in Page that of the image under way, and that of the one before where a
     /// command may ask what it means.
     pub fn readers_wanted(&self) -> usize
-        ensures { (core : Answering) (confirmed : Option ConfirmedPage) → Follows core confirmed self.now
+        ensures { (core : AnswererCore) (confirmed : Option ConfirmedPage) → Follows core confirmed self.now
             → result ≡ readers_wanted core.state (since_answer core.history) }
     {
         match self.state {
@@ -292,8 +292,8 @@ fn is_heard(state: State, piece: &Piece<'_>) -> bool
         )
 }
 
-/// The state behind a decision: Again behind the MCF to an EOM.
-fn state_behind(state: State, decision: Decision) -> State
+/// The state after a decision: Again after the MCF to an EOM.
+fn state_then(state: State, decision: Decision) -> State
     ensures { (d : Decided) → verdict_of d ≡ decision → result ≡ state_after state d }
 {
     match decision {
@@ -306,9 +306,9 @@ fn state_behind(state: State, decision: Decision) -> State
     }
 }
 
-/// What waits behind a decision, where nothing waited.
-fn pending_behind(decision: Decision) -> Pending
-    ensures reply { (d : Decided) → verdict_of d ≡ decision → waiting_of result (confirmed_behind d None) ≡ reply_to d }
+/// What waits after a decision, where nothing waited.
+fn pending_after(decision: Decision) -> Pending
+    ensures reply { (d : Decided) → verdict_of d ≡ decision → waiting_of result (confirmed_after d None) ≡ reply_to d }
     ensures pending { result ≡ pending_reply decision }
 {
     let plain = match decision {

@@ -7,7 +7,7 @@ use fax_pagestore::{Page, RowStore};
 #[derive(Drop)]
 pub struct Confirmed<S: RowStore> {
     pub page: Page<S>,
-    /// Whether the command was EOP, behind which no page follows.
+    /// Whether the command was EOP, after which no page follows.
     pub closes: bool,
 }
 

@@ -4,8 +4,8 @@ ghost use Rattle.std.specs.Prelude.{ℕ, ◌≡◌, List, None, ◌&&◌, not, n
 ghost use Rattle.fax_ifp.specs.Pieces.{End as EndShown};
 ghost use Rattle.fax_answer.specs.Table.{decision};
 ghost use Rattle.fax_answer.specs.Replies.{is_last, is_waiting};
-ghost use Rattle.fax_answer.specs.Calls.{Answering};
-ghost use Rattle.fax_answer.specs.Kept.{decided_outside, verdict_of};
+ghost use Rattle.fax_answer.specs.Calls.{AnswererCore};
+ghost use Rattle.fax_answer.specs.Rep.{decided_outside, verdict_of};
 ghost use Rattle.fax_answer.specs.Images.{HasEnded};
 ghost use Rattle.fax_answer.specs.Reached.{Stands, Answers, AnswersAgain, AnswersCommand, AnswersImage};
 
@@ -21,7 +21,7 @@ use fax_pagestore::RowStore;
 impl<S: RowStore> Answerer<S> {
     /// What is decided at a frame, in each state, where no packet waits.
     pub(crate) fn answer(&self, octets: &[u8]) -> Answer
-        ensures { (core : Answering) → Stands core self.now
+        ensures { (core : AnswererCore) → Stands core self.now
             → Answers octets.now core self.now.image.readers result }
     {
         let order = Order::read(octets);
@@ -41,7 +41,7 @@ impl<S: RowStore> Answerer<S> {
 
     /// What is decided where an image ends: in Train, whether the training check is good.
     pub(crate) fn judge_training(&self, whole: bool) -> Decision
-        ensures { (core : Answering) → Stands core self.now
+        ensures { (core : AnswererCore) → Stands core self.now
             → verdict_of (decision None core.state (is_waiting core.waiting) core.history (EndShown whole)) ≡ result }
     {
         let State::Train(dcs) = self.procedure.state else {
@@ -58,7 +58,7 @@ impl<S: RowStore> Answerer<S> {
 
     /// What is decided at a command in Page.
     fn judge(&self, command: Command) -> Answer
-        ensures { (core : Answering) (dcs : Dcs) → Stands core self.now → core.state ≡ State.Page dcs
+        ensures { (core : AnswererCore) (dcs : Dcs) → Stands core self.now → core.state ≡ State.Page dcs
             → AnswersCommand dcs command core.history self.now.image.readers result }
     {
         if self.procedure.counts.is_one_image() {
@@ -84,9 +84,9 @@ impl<S: RowStore> Answerer<S> {
         }
     }
 
-    /// What is decided at a command in Again: MCF to an EOM behind which nothing came, else RTN.
+    /// What is decided at a command in Again: MCF to an EOM after which nothing came, else RTN.
     fn judge_again(&self, command: Command) -> Answer
-        ensures { (core : Answering) → Stands core self.now → AnswersAgain command core.history self.now.image.readers result }
+        ensures { (core : AnswererCore) → Stands core self.now → AnswersAgain command core.history self.now.image.readers result }
     {
         match command {
             Command::Eom if self.procedure.counts.is_quiet() => Answer::plain(Decision::Mcf(
@@ -115,7 +115,7 @@ fn is_check(whole: bool, is_missing: bool, longest: u16, wanted: u16) -> bool
     whole && !is_missing && longest >= wanted
 }
 
-/// Whether no page follows behind a command.
+/// Whether no page follows after a command.
 fn is_last(command: Command) -> bool
     ensures { result ≡ is_last command }
 {

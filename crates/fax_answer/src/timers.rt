@@ -1,7 +1,7 @@
 //! The timers of a call.
 use fax_timers::Timer;
 
-/// T1, T2 and T4 of the answering side (ITU-T T.30, 5.4.3).
+/// T1, T2 and T4 of the answerer (ITU-T T.30, 5.4.3).
 #[derive(Clone, Copy)]
 pub(crate) struct Timers {
     pub t1: Timer,

@@ -43,7 +43,7 @@ word_bits-mod (suc k) m n h =
     let below : k < m = omega arith in
     rw (bit-mod n m k below, word_bits-mod k m n (omega arith)) refl
 
--- n bits behind the first r, of a word of r + n + k bits
+-- n bits after the first r, of a word of r + n + k bits
 pub word_bits_inside : (r n k x : ℕ) → take n (drop r (word_bits (r + (n + k)) x)) ≡ word_bits n (x / 2 ^ k)
 word_bits_inside r n k x =
     let high : List Bool = word_bits r (x / 2 ^ (n + k)) in
@@ -137,7 +137,7 @@ word_of_four a b c d hb hc hd =
     first ∙ ap (λ x. word_bits 24 x ++ word_bits 8 n) e1 ∙ ap (λ x. x ++ word_bits 8 n) (second ∙ ap (λ x. word_bits 16 x ++ word_bits 8 n1) e2 ∙ ap (λ x. x ++ word_bits 8 n1) (third ∙ ap (λ x. word_bits 8 x ++ word_bits 8 n2) e3))
     ∙ rw (w0, w1, w2) (simp append_assoc)
 
--- n bits behind the first r of 32, as shifts give them
+-- n bits after the first r of 32, as shifts give them
 pub shifted_inside : (x r n k : ℕ) → r + (n + k) ≡ 32 → word_bits n (x * 2 ^ r % 4294967296 / 2 ^ (32 - n)) ≡ take n (drop r (word_bits 32 x))
 shifted_inside x r n k e =
     let low : 32 - n ≡ r + k = omega arith in
@@ -207,7 +207,7 @@ low_bits_mask n x lt =
     let one : 1 * 2 ^ n % 2 ^ 32 ≡ 2 ^ n = one_shl n 32 lt in
     ap (λ m. word_bits n (bit_and x (m - 1))) one ∙ ap (word_bits n) (and_mask x n) ∙ word_bits-mod n n x (omega arith)
 
--- bits put behind others
+-- bits put after others
 pub word_bits-joined : (k n a b : ℕ) → n ≤ 24 → a < 2 ^ 7 → b < 2 ^ n → word_bits (k + n) (bit_or (a * 2 ^ n % 4294967296) b) ≡ word_bits k a ++ word_bits n b
 word_bits-joined k n a b le la lb =
     let small : a * 2 ^ n < 2 ^ (7 + n) = shl_below a 7 n la in
@@ -219,7 +219,7 @@ word_bits-joined k n a b le la lb =
     ap (word_bits (k + n)) sum ∙ word_bits-add k n (a * 2 ^ n + b) ∙ ap (λ m. word_bits k m ++ word_bits n (a * 2 ^ n + b)) high
     ∙ ap (λ bs. word_bits k a ++ bs) (sym (word_bits-mod n n (a * 2 ^ n + b) (omega arith)) ∙ ap (word_bits n) low)
 
--- the whole octets of a word moved to the top of 32 bits, and the bits behind them
+-- the whole octets of a word moved to the top of 32 bits, and the bits after them
 pub word_bits-octets : (total x : ℕ) → total ≤ 32 → take (8 * (total / 8)) (word_bits 32 (x * 2 ^ (32 - total) % 4294967296)) ++ word_bits (total % 8) x ≡ word_bits total x
 word_bits-octets total x le =
     let m : ℕ = 8 * (total / 8) in
@@ -248,7 +248,7 @@ bits_of-be x lt =
     rw (bits_of-cons a (b ∷ c ∷ d ∷ []), bits_of-cons b (c ∷ d ∷ []), bits_of-cons c (d ∷ []), bits_of-cons d [], bits_of-nil, append-nil) refl in
     bits ∙ sym four ∙ ap (word_bits 32) sum
 
--- octets and a rest of fewer than 8 bits, with the bits of a word of at most 32 behind them
+-- octets and a rest of fewer than 8 bits, with the bits of a word of at most 32 after them
 pub bits_of-put : (items octets : List ℕ) (total all low : ℕ) → total ≤ 32 → octets ≡ to_be_bytes w32 (all * 2 ^ (32 - total) % 4294967296) → word_bits (total % 8) low ≡ word_bits (total % 8) all
     → bits_of (items ++ take (total / 8) octets) ++ word_bits (total % 8) low ≡ bits_of items ++ word_bits total all
 bits_of-put items octets total all low le e same =

@@ -1,4 +1,4 @@
--- Bits that are cut off, and zeros that are put behind others.
+-- Bits that are cut off, and zeros that are put after others.
 use Rattle.std.proofs.Common.{◌≡◌, ℕ, zero, suc, ◌+◌, ◌-◌, ◌*◌, ◌/◌, ◌%◌, ◌^◌, ◌<◌, ◌≤◌, Bool, false, List, [], ◌∷◌, ◌++◌, length, take, drop, get_or, replicate, sym, ◌∙◌, ap, ap₂, arith, append_assoc, append-nil, length-append}
 use Rattle.std.proofs.lemmas.Nat.{shr_below}
 use Rattle.std.proofs.lemmas.List.{take_at, take-append-drop, length-take-le, replicate-append-replicate}
@@ -15,7 +15,7 @@ word_bits-front k n x le =
     let split : word_bits (k + (n - k)) x ≡ word_bits k (x / 2 ^ (n - k)) ++ word_bits (n - k) x = word_bits-add k (n - k) x in
     rw whole at split
 
--- a front that ends inside a word behind other bits
+-- a front that ends inside a word after other bits
 pub take_inside : (before after : List Bool) (n count k x : ℕ) → k ≤ count → length before + k ≡ n
     → take n (before ++ (word_bits count x ++ after)) ≡ before ++ word_bits k (x / 2 ^ (count - k))
 take_inside before after n count k x le size =
@@ -67,7 +67,7 @@ bits_of-zeros (suc n) =
     bits_of-cons 0 (replicate n 0) ∙ ap₂ (λ (a b : List Bool). a ++ b) (word_bits-zero 8) (bits_of-zeros n)
     ∙ replicate-append-replicate 8 (8 * n) false ∙ ap (λ m. replicate m false) size
 
--- zeros behind a rest of fewer than 32 bits: those that fill it up, whole octets, and the rest
+-- zeros after a rest of fewer than 32 bits: those that fill it up, whole octets, and the rest
 pub bits_of-filled : (items octets : List ℕ) (count pending n whole : ℕ) → count < 32 → pending < 2 ^ count → 32 < n → whole ≡ (count + n - 32) / 8
     → octets ≡ to_be_bytes w32 (pending * 2 ^ (32 - count) % 18446744073709551616)
     → bits_of ((items ++ octets) ++ replicate whole 0) ++ word_bits ((count + n - 32) % 8) 0 ≡ (bits_of items ++ word_bits count pending) ++ replicate n false

@@ -46,7 +46,7 @@ drop_nil zero bits e = e
 drop_nil (suc r) [] e = refl
 drop_nil (suc r) (b ∷ bits) e = absurd (let none : length (b ∷ bits) ≡ 0 = ap length e in omega arith)
 
--- n bits behind the first r
+-- n bits after the first r
 pub drop-padded : (r n k : ℕ) (bits : List Bool) → take n (drop r (padded (r + (n + k)) bits)) ≡ padded n (drop r bits)
 drop-padded zero n k bits = rw zero-add (take-padded n k bits)
 drop-padded (suc r) n k [] = rw (suc-add, padded-suc-nil (r + (n + k))) (drop-padded r n k [] ∙ ap (padded n) (drop_nil r [] refl))
@@ -110,7 +110,7 @@ eight_octets os fits =
     + 16777216 * get_or os 4 0 + 65536 * get_or os 5 0 + 256 * get_or os 6 0 + get_or os 7 0 ≡ number 8 0 os = omega arith in
     ap (word_bits 64) same ∙ number_bits 8 0 os fits
 
--- n bits behind the first r of 64, as shifts give them
+-- n bits after the first r of 64, as shifts give them
 pub shifted_inside_64 : (x r n k : ℕ) → r + (n + k) ≡ 64 → word_bits n (x * 2 ^ r % 18446744073709551616 / 2 ^ (64 - n)) ≡ take n (drop r (word_bits 64 x))
 shifted_inside_64 x r n k e =
     let low : 64 - n ≡ r + k = omega arith in
@@ -122,7 +122,7 @@ shifted_inside_64 x r n k e =
     let inside : take n (drop r (word_bits (r + (n + k)) x)) ≡ word_bits n (x / 2 ^ k) = word_bits_inside r n k x in
     ap (word_bits n) field64 ∙ word_bits-mod n n (x * 2 ^ r / 2 ^ (64 - n)) (omega arith) ∙ ap (word_bits n) same ∙ sym (rw e at inside)
 
--- the window behind the first few bits of a number of 64
+-- the window after the first few bits of a number of 64
 pub window_bits : (x r : ℕ) (bits : List Bool) → r < 8 → word_bits 64 x ≡ padded 64 bits
     → word_bits 56 (x * 2 ^ r % 18446744073709551616 / 2 ^ 8) ≡ padded 56 (drop r bits)
 window_bits x r bits lt e =
@@ -139,7 +139,7 @@ word_of_window m n w bits le e =
     let front : take n (padded (n + (m - n)) bits) ≡ padded n bits = take-padded n (m - n) bits in
     sym (take_at (word_bits n (w / 2 ^ (m - n))) (word_bits (m - n) w) n (length-word_bits n (w / 2 ^ (m - n)))) ∙ ap (take n) (sym split_m ∙ e) ∙ (rw size at front)
 
--- what is known of the next m bits, and zeros behind it
+-- what is known of the next m bits, and zeros after it
 pub padded-known : (m known : ℕ) (bits : List Bool) → known ≡ min m (length bits) → padded m bits ≡ take known bits ++ replicate (m - known) false
 padded-known m known bits e = elim (cases_lt (length bits) m) [
   | inl short ↦

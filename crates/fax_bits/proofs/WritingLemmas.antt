@@ -1,4 +1,4 @@
--- Bits that are put behind others.
+-- Bits that are put after others.
 use Rattle.std.proofs.Common.{◌≡◌, ℕ, ◌+◌, ◌-◌, ◌*◌, ◌/◌, ◌%◌, ◌^◌, ◌<◌, ◌≤◌, Bool, false, List, ◌++◌, length, take, replicate, sym, ◌∙◌, ap, ap₂, arith, append_assoc, length-append, bit_and, bit_or}
 use Rattle.std.proofs.lemmas.Nat.{mod-pow-add, shl-shr, pow_pos, one_shl, and_mask, shl_below, or_shifted, shr_high, mod_low, pow_below, mod_below, shr_below}
 use Rattle.std.proofs.Math.Nat.{mod-eq_of_lt, mul-mod_left}
@@ -25,7 +25,7 @@ joined_sum n a b le la lb =
     let whole : a * 2 ^ n % 18446744073709551616 ≡ a * 2 ^ n = mod-eq_of_lt (omega arith) in
     ap (λ m. bit_or m b) whole ∙ or_shifted a n b lb
 
--- bits put behind others
+-- bits put after others
 pub word_bits_sum : (k n a b : ℕ) → b < 2 ^ n → word_bits (k + n) (a * 2 ^ n + b) ≡ word_bits k a ++ word_bits n b
 word_bits_sum k n a b lb =
     let high : (a * 2 ^ n + b) / 2 ^ n ≡ a = shr_high a n b lb in
@@ -33,7 +33,7 @@ word_bits_sum k n a b lb =
     word_bits-add k n (a * 2 ^ n + b) ∙ ap (λ m. word_bits k m ++ word_bits n (a * 2 ^ n + b)) high
     ∙ ap (λ bs. word_bits k a ++ bs) (sym (word_bits-mod n n (a * 2 ^ n + b) (omega arith)) ∙ ap (word_bits n) low)
 
--- four octets of 32 and more bits, and the rest behind them
+-- four octets of 32 and more bits, and the rest after them
 pub bits_of-four : (items octets : List ℕ) (rest all low : ℕ) → all < 2 ^ (32 + rest) → octets ≡ to_be_bytes w32 (all / 2 ^ rest) → word_bits rest low ≡ word_bits rest all
     → bits_of (items ++ octets) ++ word_bits rest low ≡ bits_of items ++ word_bits (32 + rest) all
 bits_of-four items octets rest all low lt e same =
@@ -43,7 +43,7 @@ bits_of-four items octets rest all low lt e same =
     ∙ append_assoc (bits_of items) (word_bits 32 (all / 2 ^ rest)) (word_bits rest all)
     ∙ ap (λ b. bits_of items ++ b) (sym (word_bits-add 32 rest all))
 
--- bits put behind others, whatever stands above those
+-- bits put after others, whatever stands above those
 pub joined_bits : (k n a b : ℕ) → k ≤ 32 → n ≤ 32 → b < 2 ^ n → word_bits (k + n) (bit_or (a * 2 ^ n % 18446744073709551616) b) ≡ word_bits k a ++ word_bits n b
 joined_bits k n a b few le lb =
     let q : ℕ = a % 2 ^ (64 - n) in

@@ -126,7 +126,7 @@ zeros_begin w n bits (inr one) e =
     rw same (ap (take (count_leading_zeros 64 w - 8)) one.bits_are
     ∙ take_at (replicate (count_leading_zeros 64 w - 8) false) (true ∷ one.rest) (count_leading_zeros 64 w - 8) (length-replicate (count_leading_zeros 64 w - 8) false))
 
--- no zero stands behind them
+-- no zero stands after them
 pub zeros_stop : (w n : ℕ) (bits : List Bool) → NoneAhead bits w ⊎ OneAhead bits w → n ≡ min (count_leading_zeros 64 w - 8) (min 56 (length bits)) → n < 56
     → (rest : List Bool) → drop n bits ≡ false ∷ rest → ⊥
 zeros_stop w n bits (inl none) e lt rest h =
@@ -144,7 +144,7 @@ pub high_zeros : (w : ℕ) (bits : List Bool) → NoneAhead bits w ⊎ OneAhead 
 high_zeros w bits (inl none) = omega (arith, none.all)
 high_zeros w bits (inr one) = one.high
 
--- more zeros passed behind zeros
+-- more zeros passed after zeros
 pub Passes-zeros : (a b c : Place) (text : List Bool) (n : ℕ) → Passes a b (replicate (b.passed - a.passed) false) → Passes b c text → text ≡ replicate n false
     → Passes a c (replicate (c.passed - a.passed) false)
 Passes-zeros a b c text n p q e =

@@ -12,6 +12,6 @@ BitsStandInOrder = (octets : List ℕ) (i : ℕ) → i < 8 * length octets
 abbrev pub AreOctets : List ℕ → Type 0
 AreOctets octets = All (λ o. o < 256) octets
 
--- octets that hold the same bits, with fewer than eight zeros behind them, are the same
+-- octets that hold the same bits, with fewer than eight zeros after them, are the same
 abbrev pub PaddingIsUnique : Type 0
 PaddingIsUnique = (bits : List Bool) (a b : List ℕ) → AreOctets a → AreOctets b → IsPadded a bits → IsPadded b bits → a ≡ b

@@ -7,7 +7,7 @@ use Rattle.std.specs.Prelude.{◌≡◌, ℕ, zero, suc, ◌⊎◌, List, [], �
 abbrev pub IsPacketAt : List (List ℕ) → ℕ → Option (List ℕ) → Type 0
 IsPacketAt packets place slot = (slot ≡ None) ⊎ (slot ≡ slice_get packets place)
 
--- these slots are those of the places just before `next`, one behind the other
+-- these slots are those of the places just before `next`, one after the other
 abbrev pub AreSlotsBefore : List (List ℕ) → ℕ → List (Option (List ℕ)) → Type 0
 AreSlotsBefore packets next [] = Unit {0}
 AreSlotsBefore packets zero (slot ∷ before) = ⊥

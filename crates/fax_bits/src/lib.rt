@@ -13,5 +13,5 @@ mod writer;
 pub use memory::NoMemory;
 pub use octets::Octets;
 pub use reader::BitReader;
-pub use window::behind;
+pub use window::after;
 pub use writer::{BitWriter, RoomyWriter};

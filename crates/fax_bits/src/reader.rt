@@ -170,7 +170,7 @@ fn four_at(octets: &[u8], index: usize) -> u32
     }
 }
 
-/// n bits of a word of 32, behind the first few.
+/// n bits of a word of 32, after the first few.
 #[inline]
 fn bits_inside(word: u32, before: u32, n: u32) -> u32
     requires within { before + n ≤ 32 }
@@ -196,7 +196,7 @@ fn eight_at(octets: &[u8], index: usize) -> u64
     }
 }
 
-/// Fewer than eight octets as the front of eight, with zeros behind them.
+/// Fewer than eight octets as the front of eight, with zeros after them.
 #[cold]
 #[inline(never)]
 fn last_octets(rest: &[u8]) -> u64

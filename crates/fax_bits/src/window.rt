@@ -2,9 +2,9 @@
 ghost use Rattle.std.specs.Prelude.{◌≡◌, ◌++◌, ◌<◌, ◌≤◌, ◌^◌, drop, false, replicate};
 ghost use Rattle.fax_bits.specs.Bits.{word_bits};
 
-/// The bits of a window behind the first n, with n zeros behind them.
+/// The bits of a window after the first n, with n zeros after them.
 #[inline]
-pub fn behind(window: u64, n: u32) -> u64
+pub fn after(window: u64, n: u32) -> u64
     requires window { window < 2 ^ 56 }
     requires few { n ≤ 56 }
     ensures bits { word_bits 56 result ≡ drop n (word_bits 56 window) ++ replicate n false }

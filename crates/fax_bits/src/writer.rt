@@ -121,7 +121,7 @@ impl BitWriter {
         }
     }
 
-    /// The octets, with fewer than eight zeros behind the bits. It takes no memory.
+    /// The octets, with fewer than eight zeros after the bits. It takes no memory.
     pub fn finish(self) -> Octets
         ensures { IsPadded result self }
     {
@@ -196,9 +196,9 @@ impl RoomyWriter {
         if total < 32 {
             self.count = total;
         } else {
-            let behind = total - 32;
-            push_word(&mut self.octets, ((all >> behind) % (1 << 32)) as u32);
-            self.count = behind;
+            let after = total - 32;
+            push_word(&mut self.octets, ((all >> after) % (1 << 32)) as u32);
+            self.count = after;
         }
     }
 

@@ -1,4 +1,4 @@
--- Runs that stand in front of others, and what is left behind them.
+-- Runs that stand in front of others, and what is left after them.
 use Rattle.std.proofs.Common.{◌≡◌, ℕ, ◌-◌, ◌<◌, List, length, take, drop, sum, All, refl, sym, ◌∙◌, arith, length-drop}
 use Rattle.std.proofs.lemmas.List.{take_all}
 use Rattle.fax_runcodes.specs.declared.Colour.TheVariants.{White}
@@ -7,7 +7,7 @@ use Rattle.fax_runcodes.specs.Rows.{Elements, AreRuns, stretches}
 use Rattle.fax_runcodes.specs.Widths.{elements_of}
 use Rattle.fax_runcodes.proofs.PaintingLemmas.{sum_of_runs}
 
--- what is left of a slice behind a place
+-- what is left of a slice after a place
 pub rest_is : (runs : List ℕ) (n : ℕ) → take (length runs - n) (drop n runs) ≡ drop n runs
 rest_is runs n = take_all (length runs - n) (drop n runs) (omega (arith, length-drop n runs))
 

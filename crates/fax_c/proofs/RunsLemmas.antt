@@ -19,7 +19,7 @@ use Rattle.fax_c.specs.declared.outcome.Refusal.TheVariants.{Page}
 use Rattle.fax_runcodes.specs.Pixels.{pixel}
 use Rattle.fax_c.specs.Calls.{AreRunsOf, RefusesText, pixels_of}
 
--- one more row's runs behind those of rows
+-- one more row's runs after those of rows
 pub AreRunsOf-push : (runs : List ℕ) (rows : List Elements) (first : List ℕ) (row : Elements) → AreRunsOf runs rows → AreRuns first row → AreRunsOf (runs ++ first) (rows ++ row ∷ [])
 AreRunsOf-push runs [] first row h k = (first, [], ap (λ (rs : List ℕ). rs ++ first) h ∙ sym (append-nil first), k, refl)
 AreRunsOf-push runs (r ∷ rows) first row h k =
@@ -113,7 +113,7 @@ runs_fit (r ∷ rows) (suc i) row width all front mine some each whole before fo
     let fit : length rest' + length mine ≤ length rest = runs_fit rows i row width rest rest' mine some (All-tail (λ (x : Elements). length x ≡ width) r rows each) others others' found are in
     omega arith
 
--- a row's runs have room behind those of the rows before it, where those of all rows have room
+-- a row's runs have room after those of the rows before it, where those of all rows have room
 pub row_fits : (rows : List Elements) (i : ℕ) (row : Elements) (width : ℕ) (all mine runs : List ℕ) (filled : ℕ) → 0 < width → All (λ (r : Elements). length r ≡ width) rows
     → AreRunsOf all rows → AreRunsOf (take filled runs) (take i rows) → slice_get rows i ≡ Some row → AreRuns mine row
     → filled ≤ length runs → length all ≤ length runs → filled + length mine ≤ length runs

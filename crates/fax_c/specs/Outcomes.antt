@@ -3,7 +3,7 @@ use Rattle.std.specs.Prelude.{ℕ, Result, Ok, Err}
 use Rattle.fax_pagestore.specs.declared.fault.PageFault.{PageFault}
 use Rattle.fax_pagestore.specs.declared.fault.PageFault.TheVariants as page
 use Rattle.fax_pagestore.specs.FaultNumbers.{page_fault_number}
-use Rattle.fax_c.specs.declared.outcome.Filled.{Filled}
+use Rattle.fax_c.specs.declared.outcome.FillCounts.{FillCounts}
 use Rattle.fax_c.specs.declared.outcome.Refusal.{Refusal}
 use Rattle.fax_c.specs.declared.outcome.Refusal.TheVariants.{Page, Room, Width, Runs, LeastBits}
 use Rattle.fax_c.specs.declared.outcome.Outcome.{Outcome}
@@ -15,7 +15,7 @@ row_at_fault fault = 0
 
 -- status 0, how many rows, and how much of the slice was filled; or the number of what was wrong, and
 -- the row at which it was, or how much room is wanted
-abbrev pub told : Result Filled Refusal → Outcome
+abbrev pub told : Result FillCounts Refusal → Outcome
 told (Ok filled) = record { status = 0; rows = filled.rows; filled = filled.items; wanted = 0 }
 told (Err (Page fault)) = record { status = page_fault_number fault; rows = row_at_fault fault; filled = 0; wanted = 0 }
 told (Err (Room n)) = record { status = 7; rows = 0; filled = 0; wanted = n }

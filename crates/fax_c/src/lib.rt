@@ -10,7 +10,7 @@ ghost use Rattle.std.specs.Prelude.{◌≡◌, ◌≢◌, ◌≤◌, ◌<◌, []
 ghost use Rattle.fax_runcodes.specs.Rows.{IsWidth};
 ghost use Rattle.fax_pagestore.specs.declared.fault.PageFault.TheVariants as page_faults;
 ghost use Rattle.fax_pagestore.specs.PageFaults.{HasNoEol};
-ghost use Rattle.fax_c.specs.declared.outcome.Filled.{Filled};
+ghost use Rattle.fax_c.specs.declared.outcome.FillCounts.{FillCounts};
 ghost use Rattle.fax_c.specs.declared.outcome.Refusal.{Refusal};
 ghost use Rattle.fax_c.specs.Outcomes.{told};
 ghost use Rattle.fax_c.specs.Calls.{ReadsRuns, ReadsPixels, WritesRuns, coding_by, most_least_bits};
@@ -20,7 +20,7 @@ mod page;
 mod reading;
 mod writing;
 
-pub use outcome::{Filled, Outcome, Refusal};
+pub use outcome::{FillCounts, Outcome, Refusal};
 use std::alloc::Global;
 
 /// Reads the page that octets mean, in rows of `width` elements (1728, 2048 or 2432), each coded in one
@@ -34,9 +34,9 @@ pub extern "C" fn fax_read_runs(
     two_dimensional: bool,
     runs: &mut [u16],
 ) -> Outcome
-    ensures page { (answer : Result Filled Refusal) × ReadsRuns width (coding_by two_dimensional) octets.now runs.old runs.new answer × (result ≡ told answer) }
+    ensures page { (answer : Result FillCounts Refusal) × ReadsRuns width (coding_by two_dimensional) octets.now runs.old runs.new answer × (result ≡ told answer) }
     ensures within { result.filled ≤ length runs.old }
-    ensures behind { drop result.filled runs.new ≡ drop result.filled runs.old }
+    ensures after { drop result.filled runs.new ≡ drop result.filled runs.old }
     ensures untouched { result.status ≢ 0 → runs.new ≡ runs.old }
     ensures width_first { (IsWidth width → ⊥) → result ≡ told (Err Refusal.Width) }
     ensures no_eol_next { IsWidth width → HasNoEol (coding_by two_dimensional) octets.now → result ≡ told (Err (Refusal.Page page_faults.NoEol)) }
@@ -54,9 +54,9 @@ pub extern "C" fn fax_read_pixels(
     two_dimensional: bool,
     pixels: &mut [u8],
 ) -> Outcome
-    ensures page { (answer : Result Filled Refusal) × ReadsPixels width (coding_by two_dimensional) octets.now pixels.old pixels.new answer × (result ≡ told answer) }
+    ensures page { (answer : Result FillCounts Refusal) × ReadsPixels width (coding_by two_dimensional) octets.now pixels.old pixels.new answer × (result ≡ told answer) }
     ensures within { result.filled ≤ length pixels.old }
-    ensures behind { drop result.filled pixels.new ≡ drop result.filled pixels.old }
+    ensures after { drop result.filled pixels.new ≡ drop result.filled pixels.old }
     ensures untouched { result.status ≢ 0 → pixels.new ≡ pixels.old }
     ensures width_first { (IsWidth width → ⊥) → result ≡ told (Err Refusal.Width) }
     ensures no_eol_next { IsWidth width → HasNoEol (coding_by two_dimensional) octets.now → result ≡ told (Err (Refusal.Page page_faults.NoEol)) }
@@ -76,9 +76,9 @@ pub extern "C" fn fax_write_runs(
     least_bits: u32,
     octets: &mut [u8],
 ) -> Outcome
-    ensures page { (answer : Result Filled Refusal) × WritesRuns width (coding_by two_dimensional) fine least_bits runs.now octets.old octets.new answer × (result ≡ told answer) }
+    ensures page { (answer : Result FillCounts Refusal) × WritesRuns width (coding_by two_dimensional) fine least_bits runs.now octets.old octets.new answer × (result ≡ told answer) }
     ensures within { result.filled ≤ length octets.old }
-    ensures behind { drop result.filled octets.new ≡ drop result.filled octets.old }
+    ensures after { drop result.filled octets.new ≡ drop result.filled octets.old }
     ensures untouched { result.status ≢ 0 → octets.new ≡ octets.old }
     ensures width_first { (IsWidth width → ⊥) → result ≡ told (Err Refusal.Width) }
     ensures least_bits_next { IsWidth width → most_least_bits < least_bits → result ≡ told (Err Refusal.LeastBits) }

@@ -23,7 +23,7 @@ pub struct Outcome {
 
 /// What was filled.
 #[derive(Clone, Copy, PartialEq, Eq, Debug)]
-pub struct Filled {
+pub struct FillCounts {
     pub rows: u32,
     pub items: usize,
 }
@@ -36,7 +36,7 @@ pub enum Refusal {
     Room(usize),
     /// Rows are 1728, 2048 or 2432 elements wide.
     Width,
-    /// Behind so many rows come no run lengths of a row.
+    /// After so many rows come no run lengths of a row.
     Runs(u32),
     /// The least bits of a line are more than 65,535.
     LeastBits,
@@ -67,11 +67,11 @@ impl From<NoMemory> for Refusal {
 
 impl Outcome {
     /// What is told of a result.
-    pub fn of(answer: Result<Filled, Refusal>) -> Self
+    pub fn of(answer: Result<FillCounts, Refusal>) -> Self
         ensures { result ≡ told answer }
     {
         match answer {
-            Ok(Filled { rows, items }) => Outcome {
+            Ok(FillCounts { rows, items }) => Outcome {
                 status: 0,
                 rows,
                 filled: items,

@@ -6,7 +6,7 @@ ghost use Rattle.fax_pagestore.specs.PageFaults.{HasNoEol};
 ghost use Rattle.fax_c.specs.Calls.{ReadsRuns, ReadsPixels, RefusesText, AreRunsOf, FillsRuns, FillsPixels, coding_by};
 
 use crate::page::{coding_of, width_of};
-use crate::{Filled, Refusal};
+use crate::{FillCounts, Refusal};
 use fax_pagestore::{Format, PackedRows, Page, PageFault, RowStore, read_page};
 use fax_runcodes::RowRef;
 use std::alloc::Global;
@@ -18,10 +18,10 @@ pub fn read_runs(
     width: u16,
     two_dimensional: bool,
     runs: &mut [u16],
-) -> Result<Filled, Refusal>
+) -> Result<FillCounts, Refusal>
     ensures page { ReadsRuns width (coding_by two_dimensional) octets.now runs.old runs.new result }
     ensures within { IfOk result (λ filled. filled.items ≤ length runs.old) }
-    ensures behind { IfOk result (λ filled. drop filled.items runs.new ≡ drop filled.items runs.old) }
+    ensures after { IfOk result (λ filled. drop filled.items runs.new ≡ drop filled.items runs.old) }
     ensures untouched { OnErr result (runs.new ≡ runs.old) }
     ensures width_first { (IsWidth width → ⊥) → result ≡ Err Refusal.Width }
     ensures no_eol_next { IsWidth width → HasNoEol (coding_by two_dimensional) octets.now → result ≡ Err (Refusal.Page PageFault.NoEol) }
@@ -37,10 +37,10 @@ pub fn read_pixels(
     width: u16,
     two_dimensional: bool,
     pixels: &mut [u8],
-) -> Result<Filled, Refusal>
+) -> Result<FillCounts, Refusal>
     ensures page { ReadsPixels width (coding_by two_dimensional) octets.now pixels.old pixels.new result }
     ensures within { IfOk result (λ filled. filled.items ≤ length pixels.old) }
-    ensures behind { IfOk result (λ filled. drop filled.items pixels.new ≡ drop filled.items pixels.old) }
+    ensures after { IfOk result (λ filled. drop filled.items pixels.new ≡ drop filled.items pixels.old) }
     ensures untouched { OnErr result (pixels.new ≡ pixels.old) }
     ensures width_first { (IsWidth width → ⊥) → result ≡ Err Refusal.Width }
     ensures no_eol_next { IsWidth width → HasNoEol (coding_by two_dimensional) octets.now → result ≡ Err (Refusal.Page PageFault.NoEol) }
@@ -70,10 +70,10 @@ fn read_text(
 }
 
 /// Puts the runs of a page into a slice.
-fn fill_runs<S: RowStore>(page: &Page<S>, runs: &mut [u16]) -> Result<Filled, Refusal>
+fn fill_runs<S: RowStore>(page: &Page<S>, runs: &mut [u16]) -> Result<FillCounts, Refusal>
     ensures puts { FillsRuns page.now.rows runs.old runs.new result }
     ensures within { IfOk result (λ filled. filled.items ≤ length runs.old) }
-    ensures behind { IfOk result (λ filled. drop filled.items runs.new ≡ drop filled.items runs.old) }
+    ensures after { IfOk result (λ filled. drop filled.items runs.new ≡ drop filled.items runs.old) }
     ensures untouched { OnErr result (runs.new ≡ runs.old) }
 {
     let wanted = count_all_runs(page);
@@ -86,7 +86,7 @@ fn fill_runs<S: RowStore>(page: &Page<S>, runs: &mut [u16]) -> Result<Filled, Re
         let row = rows.lend(i);
         filled = put_row(&row, count_runs(&row), runs, filled);
     }
-    Ok(Filled {
+    Ok(FillCounts {
         rows: rows.len(),
         items: filled,
     })
@@ -112,7 +112,7 @@ fn count_runs(row: &RowRef<'_>) -> usize
     row.changes().len() + 1
 }
 
-/// Puts the runs of a row, which are so many, into a slice, from a place on, and answers the place behind
+/// Puts the runs of a row, which are so many, into a slice, from a place on, and answers the place after
 /// them.
 fn put_row(row: &RowRef<'_>, count: usize, runs: &mut [u16], from: usize) -> usize
     requires some { 0 < length row.now }
@@ -121,7 +121,7 @@ fn put_row(row: &RowRef<'_>, count: usize, runs: &mut [u16], from: usize) -> usi
     ensures end { result ≡ from + count }
     ensures within { result ≤ length runs.new }
     ensures runs { (list : List ℕ) × AreRuns list row.now × (take result runs.new ≡ take from runs.old ++ list) }
-    ensures behind { drop result runs.new ≡ drop result runs.old }
+    ensures after { drop result runs.new ≡ drop result runs.old }
     ensures same_room { length runs.new ≡ length runs.old }
 {
     let end = from + count;
@@ -130,10 +130,10 @@ fn put_row(row: &RowRef<'_>, count: usize, runs: &mut [u16], from: usize) -> usi
 }
 
 /// Puts the picture elements of a page into a slice.
-fn fill_pixels<S: RowStore>(page: &Page<S>, pixels: &mut [u8]) -> Result<Filled, Refusal>
+fn fill_pixels<S: RowStore>(page: &Page<S>, pixels: &mut [u8]) -> Result<FillCounts, Refusal>
     ensures puts { FillsPixels page.now.rows pixels.old pixels.new result }
     ensures within { IfOk result (λ filled. filled.items ≤ length pixels.old) }
-    ensures behind { IfOk result (λ filled. drop filled.items pixels.new ≡ drop filled.items pixels.old) }
+    ensures after { IfOk result (λ filled. drop filled.items pixels.new ≡ drop filled.items pixels.old) }
     ensures untouched { OnErr result (pixels.new ≡ pixels.old) }
 {
     let rows = page.rows();
@@ -157,7 +157,7 @@ fn fill_pixels<S: RowStore>(page: &Page<S>, pixels: &mut [u8]) -> Result<Filled,
         white = filled;
     }
     clear(pixels, white, filled);
-    Ok(Filled {
+    Ok(FillCounts {
         rows: rows.len(),
         items: filled,
     })
@@ -168,19 +168,19 @@ fn clear(octets: &mut [u8], from: usize, end: usize)
     requires order { from ≤ end }
     requires within { end ≤ length octets.old }
     ensures zeros { take end octets.new ≡ take from octets.old ++ replicate (end - from) 0 }
-    ensures behind { drop end octets.new ≡ drop end octets.old }
+    ensures after { drop end octets.new ≡ drop end octets.old }
     ensures same_room { length octets.new ≡ length octets.old }
 {
     octets[from..end].fill(0);
 }
 
-/// Puts items into a slice, from a place on, and answers the place behind them, or `None` where they have
+/// Puts items into a slice, from a place on, and answers the place after them, or `None` where they have
 /// no room.
 pub fn put<T: Copy>(slice: &mut [T], from: usize, items: &[T]) -> Option<usize>
     ensures some { IfSome result (λ end. (end ≡ from + length items.now) × (take end slice.new ≡ take from slice.old ++ items.now)) }
     ensures within { IfSome result (λ end. end ≤ length slice.old) }
     ensures same_room { length slice.new ≡ length slice.old }
-    ensures behind { IfSome result (λ end. drop end slice.new ≡ drop end slice.old) }
+    ensures after { IfSome result (λ end. drop end slice.new ≡ drop end slice.old) }
     ensures untouched { IsNone result → slice.new ≡ slice.old }
     ensures none { IfNone result (length slice.old < from + length items.now) }
 {

@@ -7,7 +7,7 @@ ghost use Rattle.fax_c.specs.Calls.{WritesRuns, RefusesRuns, AreRunsOf, AreRunsO
 
 use crate::page::{coding_of, width_of};
 use crate::reading::put;
-use crate::{Filled, Refusal};
+use crate::{FillCounts, Refusal};
 use fax_pagestore::{Format, MOST_ROWS, PackedRows, Page, PageFault, RowStore, write_page};
 use fax_runcodes::{RowBuilder, Width};
 use std::alloc::Global;
@@ -24,10 +24,10 @@ pub fn write_runs(
     fine: bool,
     least_bits: u32,
     octets: &mut [u8],
-) -> Result<Filled, Refusal>
+) -> Result<FillCounts, Refusal>
     ensures page { WritesRuns width (coding_by two_dimensional) fine least_bits runs.now octets.old octets.new result }
     ensures within { IfOk result (λ filled. filled.items ≤ length octets.old) }
-    ensures behind { IfOk result (λ filled. drop filled.items octets.new ≡ drop filled.items octets.old) }
+    ensures after { IfOk result (λ filled. drop filled.items octets.new ≡ drop filled.items octets.old) }
     ensures untouched { OnErr result (octets.new ≡ octets.old) }
     ensures width_first { (IsWidth width → ⊥) → result ≡ Err Refusal.Width }
     ensures least_bits_next { IsWidth width → most_least_bits < least_bits → result ≡ Err Refusal.LeastBits }
@@ -44,7 +44,7 @@ pub fn write_runs(
     let Some(filled) = put(octets, 0, text.as_slice()) else {
         return Err(Refusal::Room(text.as_slice().len()));
     };
-    Ok(Filled {
+    Ok(FillCounts {
         rows: count,
         items: filled,
     })
@@ -64,7 +64,7 @@ fn checked_rows<S: RowStore>(alloc: Global, runs: &[u16], width: Width) -> Resul
     rows
 }
 
-/// The rows of the page whose runs these are. Where memory is refused, the runs behind are not looked at.
+/// The rows of the page whose runs these are. Where memory is refused, the runs after are not looked at.
 fn rows_of_runs<S: RowStore>(alloc: Global, runs: &[u16], width: Width) -> Result<S, Refusal>
     ensures rows { IfOk result (λ rows. AreRows (elements_of width) (S.rows rows)) }
     ensures runs { IfOk result (λ rows. AreRunsOf runs.now (S.rows rows)) }

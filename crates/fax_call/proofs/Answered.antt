@@ -1,4 +1,4 @@
--- The calling side counts the images that are answered with MCF or RTP.
+-- The caller counts the images that are answered with MCF or RTP.
 use Rattle.std.proofs.Common.{nat_eq, ◌≡◌, ℕ, ◌+◌, ◌-◌, ◌^◌, ◌<◌, ◌≤◌, min, Bool, true, false, List, [], ◌∷◌, Option, Some, None, Result, Ok, Err, ◌⊎◌, inl, inr, refl, sym, ◌∙◌, ap, subst, nat_lt, nat_le, arith, length, drop, take, length-drop, length-take, if◌then◌else◌}
 use Rattle.fax_runcodes.specs.declared.format.Format.{Format}
 use Rattle.fax_frames.specs.declared.dis.Dis.{Dis}
@@ -14,7 +14,7 @@ use Rattle.fax_frames.specs.Frames.{frame_of}
 use Rattle.fax_frames.specs.Written.{written_plain, written_dcs}
 use Rattle.fax_timers.specs.Moments.{moment_after, is_due}
 use Rattle.fax_timers.specs.declared.pace.LastPacket.{LastPacket}
-use Rattle.fax_timers.specs.Paces.{pace_allows, pace_behind, packet_at}
+use Rattle.fax_timers.specs.Paces.{pace_after, pace_allows, packet_at}
 use Rattle.fax_timers.specs.Spans.{pace, longest_pause}
 use Rattle.fax_timers.specs.Spans as spans
 use Rattle.fax_ifp.specs.Elements as elements
@@ -24,9 +24,9 @@ use Rattle.fax_jobs.specs.declared.outcome.Outcome.TheVariants as outcomes
 use Rattle.fax_jobs.specs.Jobs.{JobValue}
 use Rattle.fax_call.specs.declared.state.State.{State}
 use Rattle.fax_call.specs.declared.state.State.TheVariants.{Idle, AwaitDis, AwaitCfr, AwaitMcf, Closing}
-use Rattle.fax_call.specs.Replies.{Packet, Signals, Tells, Part, Due, One, Text, waits, signals_preamble, part_length, training_check, training, is_last_page, command, image, goodbye, turn_behind, command_by, command_behind}
+use Rattle.fax_call.specs.Replies.{Packet, Signals, Tells, Part, Due, One, Text, waits, signals_preamble, part_length, training_check, training, is_last_page, command, image, goodbye, turn_after, command_by, command_after}
 use Rattle.fax_call.specs.Table.{Counts, Move, Stays, Trains, Sends, AsksAgain, Closes, HangsUp, outcome_of, first_try, next_try, next_step, next_page, one_delivered, one_refused, by_choice, tries_again, asks_again, on_frame, on_timers, Turns, turns_or, gives_up_dis}
-use Rattle.fax_call.specs.Calls.{Calling, started, moved, heard, came, timed, text_at, Taken, taken_text, taken, state_when_given, outcome_when_given, t4_when_given, after_giving, given_first, paced, ticked, Ticked}
+use Rattle.fax_call.specs.Calls.{CallerCore, started, moved, heard, came, timed, text_at, TakenPart, taken_text, taken, state_when_given, outcome_when_given, t4_when_given, after_giving, given_first, paced, ticked, TickResult}
 use Rattle.fax_call.specs.Emission.{Emission, emitted_at, ended_frame, Mark, Gave, Acknowledged, Refused, Begins, gave_all, elements_given, acknowledged_by, marks_heard, marks_given, frame_at, is_command, is_preamble, Reply, Unasked, Asked, Answered, closed, reply_given, reply_or, reply_heard, replied}
 use Rattle.fax_call.specs.Delivery.{good_one, answered_if, answered_before, answered_images, is_over}
 use Rattle.fax_call.proofs.PacketsBack.{elements_in, signal_back, frame_back, part_back, read_dcs, dcs_back}
@@ -70,7 +70,7 @@ quiet_before (e ∷ es) marks q =
     plus_zero : (k : ℕ) → 0 + k ≡ k
     plus_zero k = omega arith
 
--- What waits: a command that will be asked, or what asks nothing up to a text, behind which a command stands.
+-- What waits: a command that will be asked, or what asks nothing up to a text, after which a command stands.
 abbrev pub WillAsk : List Due → List elements.Element → Type 0
 WillAsk [] before = ⊥
 WillAsk (One p ∷ []) before = (r : Reply) → reply_after before (elements_in p) r ≡ Asked
@@ -107,10 +107,10 @@ Running L (AwaitCfr dis dcs) due n marks = (no_text due ≡ true) × Settled due
 Running L (AwaitMcf dis dcs) due n marks = InMcf L due n marks
 Running L (Closing x) due n marks = OverWith L x due n marks
 
-abbrev pub IsRunning : Type 0 → Calling → List Mark → Type 0
+abbrev pub IsRunning : Type 0 → CallerCore → List Mark → Type 0
 IsRunning L a marks = Running L a.state a.waiting a.counts.delivered marks
 
--- and behind it
+-- and after it
 abbrev pub Ended : Type 0 → Outcome → ℕ → List Mark → Type 0
 Ended L x n marks = (n ≡ answered_images marks) ⊎ (((x ≡ outcomes.NoReply) × L) × (n ≡ answered_before marks))
 
@@ -121,7 +121,7 @@ StateOf L (AwaitCfr dis dcs) due n marks o = Running L (AwaitCfr dis dcs) due n 
 StateOf L (AwaitMcf dis dcs) due n marks o = Running L (AwaitMcf dis dcs) due n marks
 StateOf L (Closing x) due n marks o = Running L (Closing x) due n marks
 
-abbrev pub Counted : Type 0 → Calling → List Mark → Type 0
+abbrev pub Counted : Type 0 → CallerCore → List Mark → Type 0
 Counted L a marks = StateOf L a.state a.waiting a.counts.delivered marks a.outcome
 
 runs_in : (L : Type 0) (state : State) (due : List Due) (n : ℕ) (marks : List Mark) (o : Option Outcome) → Running L state due n marks → StateOf L state due n marks o
@@ -131,11 +131,11 @@ runs_in L (AwaitCfr dis dcs) due n marks o s = s
 runs_in L (AwaitMcf dis dcs) due n marks o s = s
 runs_in L (Closing x) due n marks o s = s
 
-runs : (L : Type 0) (a : Calling) (marks : List Mark) → IsRunning L a marks → Counted L a marks
+runs : (L : Type 0) (a : CallerCore) (marks : List Mark) → IsRunning L a marks → Counted L a marks
 runs L a marks s = runs_in L a.state a.waiting a.counts.delivered marks a.outcome s
 
 -- a call that is on
-pub is_on : (L : Type 0) (a : Calling) (marks : List Mark) → is_over a.state ≡ false → Counted L a marks → IsRunning L a marks
+pub is_on : (L : Type 0) (a : CallerCore) (marks : List Mark) → is_over a.state ≡ false → Counted L a marks → IsRunning L a marks
 is_on L a marks h s = by a.state h s
   where
     by : (state : State) → is_over state ≡ false → StateOf L state a.waiting a.counts.delivered marks a.outcome → Running L state a.waiting a.counts.delivered marks
@@ -164,7 +164,7 @@ ended_too : (L M : Type 0) (f : L → M) (x : Outcome) (n : ℕ) (marks : List M
 ended_too L M f x n marks (inl c) = inl c
 ended_too L M f x n marks (inr g) = inr ((g.0.0, f g.0.1), g.1)
 
-pub counted_too : (L M : Type 0) (f : L → M) (a : Calling) (marks : List Mark) → Counted L a marks → Counted M a marks
+pub counted_too : (L M : Type 0) (f : L → M) (a : CallerCore) (marks : List Mark) → Counted L a marks → Counted M a marks
 counted_too L M f a marks s = by a.state s
   where
     by : (state : State) → StateOf L state a.waiting a.counts.delivered marks a.outcome → StateOf M state a.waiting a.counts.delivered marks a.outcome
@@ -235,31 +235,31 @@ image_plan end turn page dcs before =
     signal_plan (training_of dcs.rate false) (Text page dcs 0 ∷ command (command_by end turn)) before (code_fits dcs.rate false) (λ after. command_asks end turn after)
 
 -- moves
-trains : (L : Type 0) (a : Calling) (marks : List Mark) (dis : Dis) (dcs : Dcs) (c : Counts) → IsSettled c.delivered marks → IsRunning L (moved a (Trains dis dcs c)) marks
+trains : (L : Type 0) (a : CallerCore) (marks : List Mark) (dis : Dis) (dcs : Dcs) (c : Counts) → IsSettled c.delivered marks → IsRunning L (moved a (Trains dis dcs c)) marks
 trains L a marks dis dcs c s = (parts_plain dcs.rate (training_check dcs) (check_parts dcs), record { is = s; plan = training_plan dcs (elements_given marks) })
 
-sends : (L : Type 0) (a : Calling) (marks : List Mark) (dis : Dis) (dcs : Dcs) (c : Counts) → IsSettled c.delivered marks → IsRunning L (moved a (Sends dis dcs c)) marks
-sends L a marks dis dcs c s = inl (refl, record { is = s; plan = image_plan (is_last_page a.pages c.page) (turn_behind a.formats c.page) c.page dcs (elements_given marks) })
+sends : (L : Type 0) (a : CallerCore) (marks : List Mark) (dis : Dis) (dcs : Dcs) (c : Counts) → IsSettled c.delivered marks → IsRunning L (moved a (Sends dis dcs c)) marks
+sends L a marks dis dcs c s = inl (refl, record { is = s; plan = image_plan (is_last_page a.pages c.page) (turn_after a.formats c.page) c.page dcs (elements_given marks) })
 
-turns : (L : Type 0) (a : Calling) (marks : List Mark) (now : ℕ) (c : Counts) (m : Move) (t : Option Format) → IsSettled (c.delivered + 1) marks → IsRunning L (moved a m) marks → IsRunning L (moved a (turns_or now t c m)) marks
+turns : (L : Type 0) (a : CallerCore) (marks : List Mark) (now : ℕ) (c : Counts) (m : Move) (t : Option Format) → IsSettled (c.delivered + 1) marks → IsRunning L (moved a m) marks → IsRunning L (moved a (turns_or now t c m)) marks
 turns L a marks now c m (Some format) s r = (refl, record { is = s; plan = tt })
 turns L a marks now c m None s r = r
 
-closes : (L : Type 0) (a : Calling) (marks : List Mark) (x : Outcome) (c : Counts) → IsSettled c.delivered marks → IsRunning L (moved a (Closes x c)) marks
+closes : (L : Type 0) (a : CallerCore) (marks : List Mark) (x : Outcome) (c : Counts) → IsSettled c.delivered marks → IsRunning L (moved a (Closes x c)) marks
 closes L a marks x c s = (refl, goodbye_plan (elements_given marks), inl s)
 
-hangs : (L : Type 0) (a : Calling) (marks : List Mark) → a.counts.delivered ≡ answered_images marks → Counted L (moved a HangsUp) marks
+hangs : (L : Type 0) (a : CallerCore) (marks : List Mark) → a.counts.delivered ≡ answered_images marks → Counted L (moved a HangsUp) marks
 hangs L a marks c = (outcomes.HungUp, refl, inl c, refl)
 
-if_running : (L : Type 0) (a : Calling) (marks : List Mark) (t : Bool) (m n : Move) → IsRunning L (moved a m) marks → IsRunning L (moved a n) marks → IsRunning L (moved a (if t then m else n)) marks
+if_running : (L : Type 0) (a : CallerCore) (marks : List Mark) (t : Bool) (m n : Move) → IsRunning L (moved a m) marks → IsRunning L (moved a n) marks → IsRunning L (moved a (if t then m else n)) marks
 if_running L a marks true m n x y = x
 if_running L a marks false m n x y = y
 
-chooses : (L : Type 0) (a : Calling) (marks : List Mark) (dis : Dis) (c : Counts) (r : Result Dcs Refusal) → IsSettled c.delivered marks → IsRunning L (moved a (by_choice dis c r)) marks
+chooses : (L : Type 0) (a : CallerCore) (marks : List Mark) (dis : Dis) (c : Counts) (r : Result Dcs Refusal) → IsSettled c.delivered marks → IsRunning L (moved a (by_choice dis c r)) marks
 chooses L a marks dis c (Ok dcs) s = trains L a marks dis dcs c s
 chooses L a marks dis c (Err e) s = closes L a marks (outcome_of e) c s
 
-tries : (L : Type 0) (a : Calling) (marks : List Mark) (dis : Dis) (dcs : Dcs) (c : Counts) → IsSettled c.delivered marks → IsRunning L (moved a (tries_again dis dcs c)) marks
+tries : (L : Type 0) (a : CallerCore) (marks : List Mark) (dis : Dis) (dcs : Dcs) (c : Counts) → IsSettled c.delivered marks → IsRunning L (moved a (tries_again dis dcs c)) marks
 tries L a marks dis dcs c s =
     if_running L a marks (nat_lt c.tries 3) (Trains dis dcs (next_try c)) (Closes outcomes.NoReply c) (trains L a marks dis dcs (next_try c) s) (closes L a marks outcomes.NoReply c s)
 
@@ -345,22 +345,22 @@ open_count n marks o = by (replied marks) (answered_before marks) o.asked o.coun
     by : (r : Reply) (k : ℕ) → r ≡ Asked → n ≡ k → n ≡ good_one r + k
     by r k e c = let g : good_one r ≡ 0 = ap good_one e in omega arith
 
-stays_so : (L : Type 0) (a : Calling) (marks : List Mark) (state : State) → a.state ≡ state → a.waiting ≡ [] → Running L state [] a.counts.delivered marks → Counted L a marks
+stays_so : (L : Type 0) (a : CallerCore) (marks : List Mark) (state : State) → a.state ≡ state → a.waiting ≡ [] → Running L state [] a.counts.delivered marks → Counted L a marks
 stays_so L a marks state e w s =
     runs L a marks
     (subst (λ (p : State). Running L p a.waiting a.counts.delivered marks) (sym e)
     (subst (λ (due : List Due). Running L state due a.counts.delivered marks) (sym w) s))
 
 -- MCF or RTP
-well_counted : (L : Type 0) (a : Calling) (marks : List Mark) (m : Move) → IsRunning L (moved a (Closes outcomes.Delivered (one_delivered a.counts))) marks → IsRunning L (moved a m) marks →
+well_counted : (L : Type 0) (a : CallerCore) (marks : List Mark) (m : Move) → IsRunning L (moved a (Closes outcomes.Delivered (one_delivered a.counts))) marks → IsRunning L (moved a m) marks →
     Counted L (moved a (if is_last_page a.pages a.counts.page then Closes outcomes.Delivered (one_delivered a.counts) else m)) marks
 well_counted L a marks m x y =
     let last : Bool = is_last_page a.pages a.counts.page in
     let close : Move = Closes outcomes.Delivered (one_delivered a.counts) in
     runs L (moved a (if last then close else m)) marks (if_running L a marks last close m x y)
 
-frame_counted : (L : Type 0) (a : Calling) (now : ℕ) (marks : List Mark) (state : State) (frame : Option Frame) → a.state ≡ state → a.waiting ≡ [] → Running L state [] a.counts.delivered marks →
-    Counted L (moved a (on_frame now a.format (turn_behind a.formats a.counts.page) a.pages state a.counts frame)) (acknowledged_by frame marks)
+frame_counted : (L : Type 0) (a : CallerCore) (now : ℕ) (marks : List Mark) (state : State) (frame : Option Frame) → a.state ≡ state → a.waiting ≡ [] → Running L state [] a.counts.delivered marks →
+    Counted L (moved a (on_frame now a.format (turn_after a.formats a.counts.page) a.pages state a.counts frame)) (acknowledged_by frame marks)
 frame_counted L a now marks Idle frame e w s = absurd s
 frame_counted L a now marks AwaitDis (Some (frames.Dis dis)) e w s =
     let m : Move = by_choice dis (first_try a.counts) (choice dis a.format a.counts.step) in
@@ -375,13 +375,13 @@ frame_counted L a now marks (AwaitCfr dis dcs) (Some frames.Dcn) e w s = hangs L
 frame_counted L a now marks (AwaitMcf dis dcs) (Some frames.Mcf) e w s =
     let o : Open a.counts.delivered marks = is_open L a.counts.delivered marks s in
     let k : IsSettled (a.counts.delivered + 1) (Acknowledged ∷ marks) = answered_well a.counts.delivered marks o.count o.asked in
-    let t : Option Format = turn_behind a.formats a.counts.page in
+    let t : Option Format = turn_after a.formats a.counts.page in
     well_counted L a (Acknowledged ∷ marks) (turns_or now t a.counts (Sends dis dcs (next_page a.counts)))
     (closes L a (Acknowledged ∷ marks) outcomes.Delivered (one_delivered a.counts) k) (turns L a (Acknowledged ∷ marks) now a.counts (Sends dis dcs (next_page a.counts)) t k (sends L a (Acknowledged ∷ marks) dis dcs (next_page a.counts) k))
 frame_counted L a now marks (AwaitMcf dis dcs) (Some frames.Rtp) e w s =
     let o : Open a.counts.delivered marks = is_open L a.counts.delivered marks s in
     let k : IsSettled (a.counts.delivered + 1) (Acknowledged ∷ marks) = answered_well a.counts.delivered marks o.count o.asked in
-    let t : Option Format = turn_behind a.formats a.counts.page in
+    let t : Option Format = turn_after a.formats a.counts.page in
     well_counted L a (Acknowledged ∷ marks) (turns_or now t a.counts (Trains dis dcs (next_page a.counts)))
     (closes L a (Acknowledged ∷ marks) outcomes.Delivered (one_delivered a.counts) k) (turns L a (Acknowledged ∷ marks) now a.counts (Trains dis dcs (next_page a.counts)) t k (trains L a (Acknowledged ∷ marks) dis dcs (next_page a.counts) k))
 frame_counted L a now marks (AwaitMcf dis dcs) (Some frames.Rtn) e w s =
@@ -397,10 +397,10 @@ frame_counted L a now marks (AwaitCfr dis dcs) frame e w s = stays_so L a (ackno
 frame_counted L a now marks (AwaitMcf dis dcs) frame e w s = stays_so L a marks (AwaitMcf dis dcs) e w s
 frame_counted L a now marks (Closing x) frame e w s = stays_so L a (acknowledged_by frame marks) (Closing x) e w (over_heard L x [] a.counts.delivered frame marks s)
 
-pub comes_counted : (L : Type 0) (a : Calling) (piece : pieces.Piece) (now : ℕ) (marks : List Mark) → IsRunning L a marks → Counted L (came a piece now) (marks_heard piece marks)
+pub comes_counted : (L : Type 0) (a : CallerCore) (piece : pieces.Piece) (now : ℕ) (marks : List Mark) → IsRunning L a marks → Counted L (came a piece now) (marks_heard piece marks)
 comes_counted L a (pieces.Frame octets) now marks s = by a.waiting refl
   where
-    by : (w : List Due) → a.waiting ≡ w → Counted L (moved a (if waits w then Stays else on_frame now a.format (turn_behind a.formats a.counts.page) a.pages a.state a.counts (frame_of octets))) (acknowledged_by (frame_of octets) marks)
+    by : (w : List Due) → a.waiting ≡ w → Counted L (moved a (if waits w then Stays else on_frame now a.format (turn_after a.formats a.counts.page) a.pages a.state a.counts (frame_of octets))) (acknowledged_by (frame_of octets) marks)
     by [] e = frame_counted L a now marks a.state (frame_of octets) refl e (subst (λ (w : List Due). Running L a.state w a.counts.delivered marks) e s)
     by (d ∷ due) e =
         runs L a (acknowledged_by (frame_of octets) marks)
@@ -411,12 +411,12 @@ comes_counted L a (pieces.Octets os) now marks s = runs L a marks s
 comes_counted L a (pieces.End w) now marks s = runs L a marks s
 comes_counted L a pieces.Gap now marks s = runs L a marks s
 
--- a tick: T4 was set when the last packet was given, behind which the next one waits for no longer than the longest pause
+-- a tick: T4 was set when the last packet was given, after which the next one waits for no longer than the longest pause
 abbrev pub TimedOf : List Due → State → Option ℕ → Option LastPacket → Type 0
 TimedOf [] (AwaitMcf dis dcs) t4 last = (given : LastPacket) × (t4 ≡ Some (moment_after given.at spans.t4)) × (last ≡ Some given) × (given.span ≤ longest_pause)
 TimedOf due state t4 last = Unit {0}
 
-abbrev pub Timed : Calling → Type 0
+abbrev pub Timed : CallerCore → Type 0
 Timed a = TimedOf a.waiting a.state a.t4 a.pace.last
 
 -- the preamble closes the question
@@ -427,23 +427,23 @@ preamble_given marks e =
     (ap closed e, omega arith)
 
 -- T4 is due for a command, and the pace lets the preamble go at once
-pub record Expires (L : Type 0) (a : Calling) (now : ℕ) (marks : List Mark) : Type 0 where
+pub record Expires (L : Type 0) (a : CallerCore) (now : ℕ) (marks : List Mark) : Type 0 where
   pub frame : List ℕ
   pub paced : pace_allows a.pace.last now ≡ true
   pub first : a.waiting ≡ One (Signals 3) ∷ One (Tells frame) ∷ []
-  pub leaves : IsRunning L (record a { waiting = One (Tells frame) ∷ []; pace = pace_behind true a.pace now }) (gave_all (elements_in (Signals 3)) marks)
+  pub leaves : IsRunning L (record a { waiting = One (Tells frame) ∷ []; pace = pace_after true a.pace now }) (gave_all (elements_in (Signals 3)) marks)
 
-abbrev pub IsTimed : Type 0 → Calling → ℕ → List Mark → Type 0
+abbrev pub IsTimed : Type 0 → CallerCore → ℕ → List Mark → Type 0
 IsTimed L a now marks = IsRunning L a marks ⊎ Expires L a now marks
 
-asks_expired : (L : Type 0) (a : Calling) (now : ℕ) (marks : List Mark) (dis : Dis) (dcs : Dcs) (c : Counts) → a.state ≡ AwaitMcf dis dcs → pace_allows a.pace.last now ≡ true → Open c.delivered marks →
+asks_expired : (L : Type 0) (a : CallerCore) (now : ℕ) (marks : List Mark) (dis : Dis) (dcs : Dcs) (c : Counts) → a.state ≡ AwaitMcf dis dcs → pace_allows a.pace.last now ≡ true → Open c.delivered marks →
     Expires L (moved a (AsksAgain c)) now marks
 asks_expired L a now marks dis dcs c e p o =
     let new : List Mark = gave_all (elements_in (Signals 3)) marks in
     let g = preamble_given marks o.asked in
-    let f : List ℕ = written_plain (command_behind a.formats a.pages c.page) true in
+    let f : List ℕ = written_plain (command_after a.formats a.pages c.page) true in
     let asks : WillAsk (One (Tells f) ∷ []) (elements_given new) =
-    subst (WillAsk (One (Tells f) ∷ [])) (sym (pushed_given (elements_in (Signals 3)) marks)) (command_asks (is_last_page a.pages c.page) (turn_behind a.formats c.page) (elements_given marks)).1 in
+    subst (WillAsk (One (Tells f) ∷ [])) (sym (pushed_given (elements_in (Signals 3)) marks)) (command_asks (is_last_page a.pages c.page) (turn_after a.formats c.page) (elements_given marks)).1 in
     record {
       frame = f;
       paced = p;
@@ -451,7 +451,7 @@ asks_expired L a now marks dis dcs c e p o =
       leaves = subst (λ (s : State). Running L s (One (Tells f) ∷ []) c.delivered new) (sym e) (inr (refl, (o.count ∙ sym g.1, asks, inr g.0)));
     }
 
-closes_expired : (L : Type 0) (a : Calling) (now : ℕ) (marks : List Mark) (c : Counts) → pace_allows a.pace.last now ≡ true → Open c.delivered marks → Expires L (moved a (Closes outcomes.NoReply c)) now marks
+closes_expired : (L : Type 0) (a : CallerCore) (now : ℕ) (marks : List Mark) (c : Counts) → pace_allows a.pace.last now ≡ true → Open c.delivered marks → Expires L (moved a (Closes outcomes.NoReply c)) now marks
 closes_expired L a now marks c p o =
     let new : List Mark = gave_all (elements_in (Signals 3)) marks in
     let g = preamble_given marks o.asked in
@@ -477,7 +477,7 @@ late given now short d p =
     let held : now < given.at + given.span = gt_if (given.at + given.span) now p in
     grind (arith)
 
-timer_counted : (L : Type 0) (a : Calling) (now : ℕ) (marks : List Mark) (state : State) → (2 ^ 64 ≤ now + longest_pause → L) → a.state ≡ state → IsRunning L a marks →
+timer_counted : (L : Type 0) (a : CallerCore) (now : ℕ) (marks : List Mark) (state : State) → (2 ^ 64 ≤ now + longest_pause → L) → a.state ≡ state → IsRunning L a marks →
     Running L state [] a.counts.delivered marks → TimedOf [] state a.t4 a.pace.last → IsTimed L (moved a (on_timers (is_due a.t1 now) (is_due a.t4 now) state a.counts)) now marks
 timer_counted L a now marks Idle f e t s h = absurd s
 timer_counted L a now marks (Closing x) f e t s h = inl t
@@ -494,8 +494,8 @@ timer_counted L a now marks (AwaitMcf dis dcs) f e t s h = by (is_due a.t4 now) 
     again true p d = inr (asks_expired L a now marks dis dcs (next_try a.counts) e p (record { count = o.count; asked = o.asked }))
     again false p d =
         let l : L = f (late h.0 now h.3 (ap (λ (x : Option ℕ). is_due x now) (sym h.1) ∙ d) (ap (λ (x : Option LastPacket). pace_allows x now) (sym h.2) ∙ p)) in
-        inl (subst (λ (x : State). Running L x (command (command_behind a.formats a.pages a.counts.page)) a.counts.delivered marks) (sym e)
-        (inr (refl, (o.count, command_asks (is_last_page a.pages a.counts.page) (turn_behind a.formats a.counts.page) (elements_given marks), inl l))))
+        inl (subst (λ (x : State). Running L x (command (command_after a.formats a.pages a.counts.page)) a.counts.delivered marks) (sym e)
+        (inr (refl, (o.count, command_asks (is_last_page a.pages a.counts.page) (turn_after a.formats a.counts.page) (elements_given marks), inl l))))
 
     ends : (w : Bool) → pace_allows a.pace.last now ≡ w → is_due a.t4 now ≡ true → IsTimed L (moved a (Closes outcomes.NoReply a.counts)) now marks
     ends true p d = inr (closes_expired L a now marks a.counts p o)
@@ -511,7 +511,7 @@ timer_counted L a now marks (AwaitMcf dis dcs) f e t s h = by (is_due a.t4 now) 
     by true d = tried (nat_lt a.counts.tries 3) d
     by false d = inl t
 
-pub timed_counted : (L : Type 0) (a : Calling) (now : ℕ) (marks : List Mark) → (2 ^ 64 ≤ now + longest_pause → L) → Timed a → IsRunning L a marks → IsTimed L (timed a now) now marks
+pub timed_counted : (L : Type 0) (a : CallerCore) (now : ℕ) (marks : List Mark) → (2 ^ 64 ≤ now + longest_pause → L) → Timed a → IsRunning L a marks → IsTimed L (timed a now) now marks
 timed_counted L a now marks f h s = by a.waiting refl
   where
     by : (w : List Due) → a.waiting ≡ w → IsTimed L (moved a (if waits w then Stays else on_timers (is_due a.t1 now) (is_due a.t4 now) a.state a.counts)) now marks
@@ -587,8 +587,8 @@ text_given : (L : Type 0) (texts : Texts) (job : JobValue) (page : ℕ) (dcs : D
 text_given L texts job page dcs from due n marks t s a = by (nat_le (length (drop from (text_at texts.writes job page dcs))) (part_length dcs)) refl
   where
     by : (w : Bool) → nat_le (length (drop from (text_at texts.writes job page dcs))) (part_length dcs) ≡ w →
-        InMcf L (if◌then◌else◌ {A = Taken} w (record { packet = Part (kind_of dcs.rate) true (drop from (text_at texts.writes job page dcs)); rest = due }) (record { packet = Part (kind_of dcs.rate) false (take (part_length dcs) (drop from (text_at texts.writes job page dcs))); rest = Text page dcs (from + part_length dcs) ∷ due })).rest n
-        (gave_all (elements_in (if◌then◌else◌ {A = Taken} w (record { packet = Part (kind_of dcs.rate) true (drop from (text_at texts.writes job page dcs)); rest = due }) (record { packet = Part (kind_of dcs.rate) false (take (part_length dcs) (drop from (text_at texts.writes job page dcs))); rest = Text page dcs (from + part_length dcs) ∷ due })).packet) marks)
+        InMcf L (if◌then◌else◌ {A = TakenPart} w (record { packet = Part (kind_of dcs.rate) true (drop from (text_at texts.writes job page dcs)); rest = due }) (record { packet = Part (kind_of dcs.rate) false (take (part_length dcs) (drop from (text_at texts.writes job page dcs))); rest = Text page dcs (from + part_length dcs) ∷ due })).rest n
+        (gave_all (elements_in (if◌then◌else◌ {A = TakenPart} w (record { packet = Part (kind_of dcs.rate) true (drop from (text_at texts.writes job page dcs)); rest = due }) (record { packet = Part (kind_of dcs.rate) false (take (part_length dcs) (drop from (text_at texts.writes job page dcs))); rest = Text page dcs (from + part_length dcs) ∷ due })).packet) marks)
     by true h = text_ends L texts job page dcs from due n marks t (le_if (length (drop from (text_at texts.writes job page dcs))) (part_length dcs) h) s a
     by false h = text_goes_on L texts job page dcs from due n marks (gt_if (length (drop from (text_at texts.writes job page dcs))) (part_length dcs) h) s a
 
@@ -638,24 +638,24 @@ counted_when_given L (AwaitCfr dis dcs) n marks o s = s
 counted_when_given L (AwaitMcf dis dcs) n marks o s = s
 counted_when_given L (Closing x) n marks o s = (x, refl, when_over L x n marks s, refl)
 
-after_counted : (L : Type 0) (a : Calling) (now : ℕ) (packet : Packet) (rest : List Due) (marks : List Mark) → Running L a.state rest a.counts.delivered marks → Counted L (after_giving a now packet rest) marks
+after_counted : (L : Type 0) (a : CallerCore) (now : ℕ) (packet : Packet) (rest : List Due) (marks : List Mark) → Running L a.state rest a.counts.delivered marks → Counted L (after_giving a now packet rest) marks
 after_counted L a now packet [] marks s = counted_when_given L a.state a.counts.delivered marks a.outcome s
 after_counted L a now packet (d ∷ due) marks s = runs_in L a.state (d ∷ due) a.counts.delivered marks a.outcome s
 
-first_counted : (L : Type 0) (texts : Texts) (job : JobValue) (a : Calling) (now : ℕ) (marks : List Mark) (due : List Due) → a.waiting ≡ due → Good texts job a marks → IsRunning L a marks →
+first_counted : (L : Type 0) (texts : Texts) (job : JobValue) (a : CallerCore) (now : ℕ) (marks : List Mark) (due : List Due) → a.waiting ≡ due → Good texts job a marks → IsRunning L a marks →
     Counted L (given_first texts.writes job a now due).core (marks_given (given_first texts.writes job a now due).given marks)
 first_counted L texts job a now marks [] h g s = runs L a marks s
 first_counted L texts job a now marks (d ∷ due) h g s =
-    let k : Taken = taken texts.writes job d due in
+    let k : TakenPart = taken texts.writes job d due in
     after_counted L a now k.packet k.rest (gave_all (elements_in k.packet) marks)
     (state_given L texts job a.counts.page a.state d due a.counts.delivered marks (subst (λ (w : List Due). SafeTo texts job a.counts.page (PostOf a.state) w (elements_given marks)) h g.kept.safe)
     (subst (λ (w : List Due). Running L a.state w a.counts.delivered marks) h s))
 
 -- what a tick leaves, where the pace allows it and where not
-abbrev pub paced_by : Texts → JobValue → Calling → ℕ → List Due → Bool → Ticked
-paced_by texts job a now due allowed = if◌then◌else◌ {A = Ticked} allowed (given_first texts.writes job a now due) (record { core = a; given = None })
+abbrev pub paced_by : Texts → JobValue → CallerCore → ℕ → List Due → Bool → TickResult
+paced_by texts job a now due allowed = if◌then◌else◌ {A = TickResult} allowed (given_first texts.writes job a now due) (record { core = a; given = None })
 
-paced_counted : (L : Type 0) (texts : Texts) (job : JobValue) (a : Calling) (now : ℕ) (marks : List Mark) → Good texts job a marks → IsTimed L a now marks →
+paced_counted : (L : Type 0) (texts : Texts) (job : JobValue) (a : CallerCore) (now : ℕ) (marks : List Mark) → Good texts job a marks → IsTimed L a now marks →
     Counted L (paced texts.writes job a now).core (marks_given (paced texts.writes job a now).given marks)
 paced_counted L texts job a now marks g (inl s) = by (pace_allows a.pace.last now)
   where
@@ -665,18 +665,18 @@ paced_counted L texts job a now marks g (inl s) = by (pace_allows a.pace.last no
 paced_counted L texts job a now marks g (inr e) =
     subst (λ (w : Bool). Counted L (paced_by texts job a now a.waiting w).core (marks_given (paced_by texts job a now a.waiting w).given marks)) (sym e.paced)
     (subst (λ (due : List Due). Counted L (given_first texts.writes job a now due).core (marks_given (given_first texts.writes job a now due).given marks)) (sym e.first)
-    (runs L (record a { waiting = One (Tells e.frame) ∷ []; pace = pace_behind true a.pace now }) (gave_all (elements_in (Signals 3)) marks) e.leaves))
+    (runs L (record a { waiting = One (Tells e.frame) ∷ []; pace = pace_after true a.pace now }) (gave_all (elements_in (Signals 3)) marks) e.leaves))
 
-pub ticked_counted : (L : Type 0) (texts : Texts) (job : JobValue) (a : Calling) (now : ℕ) (marks : List Mark) → (2 ^ 64 ≤ now + longest_pause → L) → Good texts job a marks → Timed a → IsRunning L a marks →
+pub ticked_counted : (L : Type 0) (texts : Texts) (job : JobValue) (a : CallerCore) (now : ℕ) (marks : List Mark) → (2 ^ 64 ≤ now + longest_pause → L) → Good texts job a marks → Timed a → IsRunning L a marks →
     Counted L (ticked texts.writes job a now).core (marks_given (ticked texts.writes job a now).given marks)
 ticked_counted L texts job a now marks f g h s = paced_counted L texts job (timed a now) now marks (timed_good texts job a now marks g) (timed_counted L a now marks f h s)
 
-pub start_counted : (L : Type 0) (job : JobValue) (old : List Mark) (core : Calling) (now : ℕ) → Counted L (started core job now) (Begins ∷ old)
+pub start_counted : (L : Type 0) (job : JobValue) (old : List Mark) (core : CallerCore) (now : ℕ) → Counted L (started core job now) (Begins ∷ old)
 start_counted L job old core now =
     (refl, record { is = record { count = refl; still = λ q. cc }; plan = signal_plan 1 [] (elements_given old) (omega arith) tt })
 
 -- T4, and the moment of the last packet
-moved_timed : (a : Calling) (m : Move) → Timed a → Timed (moved a m)
+moved_timed : (a : CallerCore) (m : Move) → Timed a → Timed (moved a m)
 moved_timed a Stays h = h
 moved_timed a (Trains dis dcs c) h = tt
 moved_timed a (Sends dis dcs c) h = tt
@@ -685,14 +685,14 @@ moved_timed a (Turns format t1 c) h = tt
 moved_timed a (Closes x c) h = tt
 moved_timed a HangsUp h = tt
 
-pub comes_timed : (a : Calling) (piece : pieces.Piece) (now : ℕ) → Timed a → Timed (came a piece now)
+pub comes_timed : (a : CallerCore) (piece : pieces.Piece) (now : ℕ) → Timed a → Timed (came a piece now)
 comes_timed a piece now h = moved_timed a (heard a piece now) h
 
 span_short : (is_preamble : Bool) (pause now : ℕ) → (packet_at is_preamble pause now).span ≤ longest_pause
 span_short true pause now = omega arith
 span_short false pause now = omega arith
 
-given_timed : (a : Calling) (now : ℕ) (packet : Packet) (rest : List Due) → Timed (after_giving a now packet rest)
+given_timed : (a : CallerCore) (now : ℕ) (packet : Packet) (rest : List Due) → Timed (after_giving a now packet rest)
 given_timed a now packet [] = by a.state
   where
     given : LastPacket
@@ -706,16 +706,16 @@ given_timed a now packet [] = by a.state
     by (Closing x) = tt
 given_timed a now packet (d ∷ rest) = tt
 
-pub ticked_timed : (texts : Texts) (job : JobValue) (a : Calling) (now : ℕ) → Timed a → Timed (ticked texts.writes job a now).core
+pub ticked_timed : (texts : Texts) (job : JobValue) (a : CallerCore) (now : ℕ) → Timed a → Timed (ticked texts.writes job a now).core
 ticked_timed texts job a now h = by (timed a now) (moved_timed a (if waits a.waiting then Stays else on_timers (is_due a.t1 now) (is_due a.t4 now) a.state a.counts) h)
   where
-    first : (c : Calling) (due : List Due) → Timed c → Timed (given_first texts.writes job c now due).core
+    first : (c : CallerCore) (due : List Due) → Timed c → Timed (given_first texts.writes job c now due).core
     first c [] k = k
     first c (d ∷ due) k = given_timed c now (taken texts.writes job d due).packet (taken texts.writes job d due).rest
 
-    paced_so : (c : Calling) (w : Bool) → Timed c → Timed (paced_by texts job c now c.waiting w).core
+    paced_so : (c : CallerCore) (w : Bool) → Timed c → Timed (paced_by texts job c now c.waiting w).core
     paced_so c true k = first c c.waiting k
     paced_so c false k = k
 
-    by : (c : Calling) → Timed c → Timed (paced texts.writes job c now).core
+    by : (c : CallerCore) → Timed c → Timed (paced texts.writes job c now).core
     by c k = paced_so c (pace_allows c.pace.last now) k

@@ -1,4 +1,4 @@
--- Each packet that the calling side gives can be read, and one of V.21 data ends at a boundary.
+-- Each packet that the caller gives can be read, and one of V.21 data ends at a boundary.
 use Rattle.std.proofs.Common.{◌≡◌, ℕ, ◌+◌, ◌<◌, ◌≤◌, Bool, true, false, nat_le, List, [], ◌∷◌, length, take, drop, ◌-◌, Option, Some, None, Ok, refl, sym, ◌∙◌, ap, subst, arith, if◌then◌else◌, length-drop, length-take}
 use Rattle.std.proofs.lemmas.List.Elements.{All-from_recursion}
 use Rattle.fax_runcodes.specs.declared.format.Format.{Format}
@@ -14,10 +14,10 @@ use Rattle.fax_ifp.specs.WrittenPackets.{IsWritableField, frame_fields, image_fi
 use Rattle.fax_ifp.specs.Schedules.{is_closed}
 use Rattle.fax_ifp.proofs.ReadBackLemmas.{indicators, messages_back}
 use Rattle.fax_jobs.specs.Jobs.{JobValue, IsJob}
-use Rattle.fax_call.specs.Replies.{Signals, Tells, Part, Due, One, Text, written, part_length, training_check, is_last_page, turn_behind, command_by, command}
+use Rattle.fax_call.specs.Replies.{Signals, Tells, Part, Due, One, Text, written, part_length, training_check, is_last_page, turn_after, command_by, command}
 use Rattle.fax_call.specs.Replies as replies
 use Rattle.fax_call.specs.Table.{Move, Stays, Trains, Sends, AsksAgain, Turns, Closes, HangsUp}
-use Rattle.fax_call.specs.Calls.{Calling, started, moved, heard, timed, text_at, Taken, taken_text, taken, after_giving, given_first, Ticked, CallEvent, Comes, Ticks, after_events, ticked}
+use Rattle.fax_call.specs.Calls.{CallerCore, started, moved, heard, timed, text_at, TakenPart, taken_text, taken, after_giving, given_first, TickResult, CallEvent, Comes, Ticks, after_events, ticked}
 use Rattle.fax_call.specs.Emission.{Mark, Begins, elements_given, marks_after}
 use Rattle.fax_call.specs.Given.{GivesClosedPackets}
 use Rattle.fax_call.proofs.PacketsBack.{known_kind}
@@ -86,18 +86,18 @@ command_closed true turn = (signal_closed 3 (omega arith), (frame_closed (writte
 command_closed false (Some format) = (signal_closed 3 (omega arith), (frame_closed (written_plain plain.Eom true) (omega arith) (omega arith), tt))
 command_closed false None = (signal_closed 3 (omega arith), (frame_closed (written_plain plain.Mps true) (omega arith) (omega arith), tt))
 
-moved_closed : (a : Calling) (m : Move) → AllClosed a.waiting → AllClosed (moved a m).waiting
+moved_closed : (a : CallerCore) (m : Move) → AllClosed a.waiting → AllClosed (moved a m).waiting
 moved_closed a Stays h = h
 moved_closed a (Trains dis dcs c) h =
     (signal_closed 3 (omega arith), (frame_closed (written_dcs dcs) (omega arith) (omega arith), (signal_closed (training_of dcs.rate true) (code_fits dcs.rate true), parts_closed dcs.rate (training_check dcs) (check_parts dcs))))
-moved_closed a (Sends dis dcs c) h = (signal_closed (training_of dcs.rate false) (code_fits dcs.rate false), (tt, command_closed (is_last_page a.pages c.page) (turn_behind a.formats c.page)))
-moved_closed a (AsksAgain c) h = command_closed (is_last_page a.pages c.page) (turn_behind a.formats c.page)
+moved_closed a (Sends dis dcs c) h = (signal_closed (training_of dcs.rate false) (code_fits dcs.rate false), (tt, command_closed (is_last_page a.pages c.page) (turn_after a.formats c.page)))
+moved_closed a (AsksAgain c) h = command_closed (is_last_page a.pages c.page) (turn_after a.formats c.page)
 moved_closed a (Turns format t1 c) h = tt
 moved_closed a (Closes outcome c) h = (signal_closed 3 (omega arith), (frame_closed (written_plain plain.Dcn true) (omega arith) (omega arith), tt))
 moved_closed a HangsUp h = tt
 
 -- what is taken of a text
-record ClosedTaken (t : Taken) : Type 0 where
+record ClosedTaken (t : TakenPart) : Type 0 where
   packet : Closed t.packet
   rest : AllClosed t.rest
 
@@ -117,7 +117,7 @@ text_closed page dcs from text due left h = by (nat_le (length (drop from text))
     some = let l : length (drop from text) ≡ length text - from = length-drop from text in omega arith
 
     by : (t : Bool) → nat_le (length (drop from text)) (part_length dcs) ≡ t
-        → ClosedTaken (if◌then◌else◌ {A = Taken} t (record { packet = Part (kind_of dcs.rate) true (drop from text); rest = due }) (record { packet = Part (kind_of dcs.rate) false (take (part_length dcs) (drop from text)); rest = Text page dcs (from + part_length dcs) ∷ due }))
+        → ClosedTaken (if◌then◌else◌ {A = TakenPart} t (record { packet = Part (kind_of dcs.rate) true (drop from text); rest = due }) (record { packet = Part (kind_of dcs.rate) false (take (part_length dcs) (drop from text)); rest = Text page dcs (from + part_length dcs) ∷ due }))
     by true e =
         let l : length (drop from text) ≤ part_length dcs = le_so (length (drop from text)) (part_length dcs) e in
         let k : part_length dcs ≤ 65535 = (part_some dcs.rate).1 in
@@ -136,7 +136,7 @@ taken_closed texts job page Post (Text n dcs from) due before s h =
     text_closed n dcs from (text_at texts.writes job n dcs) due
     (subst (λ (m : ℕ). from < length (text_at texts.writes job m dcs)) (sym s.0) s.1.left) h.1
 
-after_closed : (a : Calling) (now : ℕ) (packet : replies.Packet) (due : List Due) → AllClosed due → AllClosed (after_giving a now packet due).waiting
+after_closed : (a : CallerCore) (now : ℕ) (packet : replies.Packet) (due : List Due) → AllClosed due → AllClosed (after_giving a now packet due).waiting
 after_closed a now packet [] h = tt
 after_closed a now packet (d ∷ due) h = h
 
@@ -144,33 +144,33 @@ abbrev ClosedIf : Option replies.Packet → Type 0
 ClosedIf None = Unit {0}
 ClosedIf (Some p) = Closed p
 
-record ClosedTick (t : Ticked) : Type 0 where
+record ClosedTick (t : TickResult) : Type 0 where
   core : AllClosed t.core.waiting
   given : ClosedIf t.given
 
-first_closed : (texts : Texts) (job : JobValue) (a : Calling) (now page : ℕ) (Post : List Element → Type 0) (due : List Due) (before : List Element)
+first_closed : (texts : Texts) (job : JobValue) (a : CallerCore) (now page : ℕ) (Post : List Element → Type 0) (due : List Due) (before : List Element)
     → SafeTo texts job page Post due before → AllClosed a.waiting → AllClosed due → ClosedTick (given_first texts.writes job a now due)
 first_closed texts job a now page Post [] before s g h = record { core = g; given = tt }
 first_closed texts job a now page Post (d ∷ due) before s g h =
     let t : ClosedTaken (taken texts.writes job d due) = taken_closed texts job page Post d due before s h in
     record { core = after_closed a now (taken texts.writes job d due).packet (taken texts.writes job d due).rest t.rest; given = t.packet }
 
-paced_closed : (b : Bool) (a : Calling) (t : Ticked) → AllClosed a.waiting → ClosedTick t → ClosedTick (if◌then◌else◌ {A = Ticked} b t (record { core = a; given = None }))
+paced_closed : (b : Bool) (a : CallerCore) (t : TickResult) → AllClosed a.waiting → ClosedTick t → ClosedTick (if◌then◌else◌ {A = TickResult} b t (record { core = a; given = None }))
 paced_closed true a t g h = h
 paced_closed false a t g h = record { core = g; given = tt }
 
-tick_closed : (texts : Texts) (job : JobValue) (a : Calling) (now : ℕ) (marks : List Mark) → Good texts job a marks → AllClosed a.waiting → ClosedTick (ticked texts.writes job a now)
+tick_closed : (texts : Texts) (job : JobValue) (a : CallerCore) (now : ℕ) (marks : List Mark) → Good texts job a marks → AllClosed a.waiting → ClosedTick (ticked texts.writes job a now)
 tick_closed texts job a now marks g h =
-    let b : Calling = timed a now in
+    let b : CallerCore = timed a now in
     let good : Good texts job b marks = timed_good texts job a now marks g in
     let closed : AllClosed b.waiting = moved_closed a _ h in
     paced_closed (pace_allows b.pace.last now) b (given_first texts.writes job b now b.waiting) closed
     (first_closed texts job b now b.counts.page _ b.waiting (elements_given marks) good.kept.safe closed closed)
 
-events_closed : (texts : Texts) (job : JobValue) (a : Calling) (events : List CallEvent) → IsJob job → Good texts job a (Begins ∷ []) → AllClosed a.waiting → AllClosed (after_events texts.writes job a events).waiting
+events_closed : (texts : Texts) (job : JobValue) (a : CallerCore) (events : List CallEvent) → IsJob job → Good texts job a (Begins ∷ []) → AllClosed a.waiting → AllClosed (after_events texts.writes job a events).waiting
 events_closed texts job a [] is g h = h
 events_closed texts job a (Comes piece now ∷ before) is g h =
-    let c : Calling = after_events texts.writes job a before in
+    let c : CallerCore = after_events texts.writes job a before in
     moved_closed c (heard c piece now) (events_closed texts job a before is g h)
 events_closed texts job a (Ticks now ∷ before) is g h =
     (tick_closed texts job (after_events texts.writes job a before) now (marks_after texts.writes job [] a before) (events_good texts job [] a before is g) (events_closed texts job a before is g h)).core
@@ -182,7 +182,7 @@ if_some (Some p) packet e h = let same : p ≡ packet = cc in subst Closed same 
 pub gives_closed_packets : GivesClosedPackets
 gives_closed_packets writes job core start now events packet w is given =
     let texts : Texts = record { writes = writes; are = w } in
-    let a : Calling = started core job start in
+    let a : CallerCore = started core job start in
     let g : Good texts job a (Begins ∷ []) = start_good texts job [] core start is in
     if_some (ticked writes job (after_events writes job a events) now).given packet given
     (tick_closed texts job (after_events writes job a events) now (marks_after writes job [] a events) (events_good texts job [] a events is g)

@@ -1,4 +1,4 @@
--- The images that the calling side emits are pages of its job, in order.
+-- The images that the caller emits are pages of its job, in order.
 use Rattle.std.proofs.Common.{◌≡◌, ℕ, suc, ◌+◌, ◌-◌, ◌<◌, ◌≤◌, Bool, true, false, not, ◌&&◌, nat_eq, nat_lt, nat_le, List, [], ◌∷◌, ◌++◌, length, take, drop, Option, Some, None, Result, Ok, Err, refl, sym, ◌∙◌, ap, subst, arith, if◌then◌else◌, slice_get}
 use Rattle.std.proofs.Common.{length-drop, length-take}
 use Rattle.fax_runcodes.specs.declared.format.Format.{Format}
@@ -25,10 +25,10 @@ use Rattle.fax_jobs.specs.declared.outcome.Outcome.TheVariants as outcomes
 use Rattle.fax_jobs.specs.Jobs.{JobValue, IsJob}
 use Rattle.fax_call.specs.declared.state.State.{State}
 use Rattle.fax_call.specs.declared.state.State.TheVariants.{Idle, AwaitDis, AwaitCfr, AwaitMcf, Closing}
-use Rattle.fax_call.specs.Replies.{Packet, Part, Due, One, Text, part_length, is_last_page, turn_behind, command_behind, command, goodbye, waits}
+use Rattle.fax_call.specs.Replies.{Packet, Part, Due, One, Text, part_length, is_last_page, turn_after, command_after, command, goodbye, waits}
 use Rattle.fax_call.specs.Table.{Counts, Move, Stays, Trains, Sends, AsksAgain, Turns, Closes, HangsUp, first_try, next_try, next_step, next_page, one_delivered, one_refused, by_choice, tries_again, asks_again, after_refusal, turns_or, gives_up_dis, on_frame, on_timers}
 use Rattle.fax_call.proofs.Due.{DueAt, MoveDue, IsDue, moved_due, next_due, frame_due, timers_due, after_due, start_due}
-use Rattle.fax_call.specs.Calls.{Calling, formats_of, started, moved, came, timed, text_at, Taken, taken_text, taken, state_when_given, after_giving, given_first, paced, Ticked, CallEvent, Comes, Ticks, after_events}
+use Rattle.fax_call.specs.Calls.{CallerCore, formats_of, started, moved, came, timed, text_at, TakenPart, taken_text, taken, state_when_given, after_giving, given_first, paced, TickResult, CallEvent, Comes, Ticks, after_events}
 use Rattle.fax_call.specs.Emission.{Emission, SinceDcs, since_dcs, emitted_with, emitted_at, Mark, Gave, Begins, gave_all, elements_given, acknowledged_by, marks_heard, marks_given, marks_after, is_command, Reply, Asked, Unasked, Answered, reply_heard, replied, IsAnswered, EmitsBy, Emits, EmitsThePages}
 use Rattle.fax_call.proofs.PacketsBack.{elements_in, part_back, read_dcs}
 use Rattle.fax_call.proofs.Waiting.{Texts, Quiet, pushed_given, quiet_emits, quiet_answered, quiet_replied, TextReady, AfterText, SafeTo, PostOf, signal_safe, frame_safe, high_speed, told_part, part_some, training_safe, Keeps, signal_keeps, training_keeps, command_safe, no_text, Asks, command_asks, image_asks, image_safe, text_goes_on, emits_text, means_page, IsFormatOf}
@@ -57,7 +57,7 @@ InTurn last r page (AwaitMcf dis dcs) due before = McfTurn last r page due befor
 InTurn last r page state due before = no_text due ≡ true
 
 -- what a frame that is heard leaves as it is
-pub record Kept (texts : Texts) (job : JobValue) (a : Calling) (marks : List Mark) (last : Option ℕ) : Type 0 where
+pub record Rep (texts : Texts) (job : JobValue) (a : CallerCore) (marks : List Mark) (last : Option ℕ) : Type 0 where
   pub is_job : IsJob job
   pub emits : Emits job marks last
   pub safe : SafeTo texts job a.counts.page (PostOf a.state) a.waiting (elements_given marks)
@@ -67,13 +67,13 @@ pub record Kept (texts : Texts) (job : JobValue) (a : Calling) (marks : List Mar
   pub due : IsDue (formats_of job) a
   pub same_pages : a.pages ≡ length job.pages
 
-pub record Good (texts : Texts) (job : JobValue) (a : Calling) (marks : List Mark) : Type 0 where
+pub record Good (texts : Texts) (job : JobValue) (a : CallerCore) (marks : List Mark) : Type 0 where
   pub last : Option ℕ
-  pub kept : Kept texts job a marks last
+  pub kept : Rep texts job a marks last
   pub turn : InTurn last (replied marks) a.counts.page a.state a.waiting (elements_given marks)
 
 -- what giving the first packet that waits leaves
-pub record Gives (texts : Texts) (job : JobValue) (page : ℕ) (state : State) (marks : List Mark) (t : Taken) : Type 0 where
+pub record Gives (texts : Texts) (job : JobValue) (page : ℕ) (state : State) (marks : List Mark) (t : TakenPart) : Type 0 where
   pub last : Option ℕ
   pub emits : Emits job (gave_all (elements_in t.packet) marks) last
   pub safe : SafeTo texts job page (PostOf state) t.rest (elements_given (gave_all (elements_in t.packet) marks))
@@ -235,7 +235,7 @@ gives_text : (texts : Texts) (job : JobValue) (page : ℕ) (state : State) (mark
 gives_text texts job page state marks dcs from due last is within e s n = by (nat_le (length (drop from (text_at texts.writes job page dcs))) (part_length dcs)) refl
   where
     by : (t : Bool) → nat_le (length (drop from (text_at texts.writes job page dcs))) (part_length dcs) ≡ t →
-        Gives texts job page state marks (if◌then◌else◌ {A = Taken} t (record { packet = Part (kind_of dcs.rate) true (drop from (text_at texts.writes job page dcs)); rest = due }) (record { packet = Part (kind_of dcs.rate) false (take (part_length dcs) (drop from (text_at texts.writes job page dcs))); rest = Text page dcs (from + part_length dcs) ∷ due }))
+        Gives texts job page state marks (if◌then◌else◌ {A = TakenPart} t (record { packet = Part (kind_of dcs.rate) true (drop from (text_at texts.writes job page dcs)); rest = due }) (record { packet = Part (kind_of dcs.rate) false (take (part_length dcs) (drop from (text_at texts.writes job page dcs))); rest = Text page dcs (from + part_length dcs) ∷ due }))
     by true h = gives_end texts job page state marks dcs from due last is within e s n (le_if (length (drop from (text_at texts.writes job page dcs))) (part_length dcs) h)
     by false h = gives_part texts job page state marks dcs from due last e s n (gt_if (length (drop from (text_at texts.writes job page dcs))) (part_length dcs) h)
 
@@ -270,7 +270,7 @@ sent_when_given last page (AwaitCfr dis dcs) p = tt
 sent_when_given last page (AwaitMcf dis dcs) p = p
 sent_when_given last page (Closing o) p = tt
 
-after_good : (texts : Texts) (job : JobValue) (a : Calling) (now : ℕ) (marks : List Mark) (p : Packet) (rest : List Due) → IsJob job → a.counts.page < length job.pages → HasFormat job a.counts.page a.state → IsDue (formats_of job) a → a.pages ≡ length job.pages →
+after_good : (texts : Texts) (job : JobValue) (a : CallerCore) (now : ℕ) (marks : List Mark) (p : Packet) (rest : List Due) → IsJob job → a.counts.page < length job.pages → HasFormat job a.counts.page a.state → IsDue (formats_of job) a → a.pages ≡ length job.pages →
     Gives texts job a.counts.page a.state marks (record { packet = p; rest = rest }) → Good texts job (after_giving a now p rest) (gave_all (elements_in p) marks)
 after_good texts job a now marks p [] is w f s q g =
     record {
@@ -285,23 +285,23 @@ after_good texts job a now marks p (d ∷ rest) is w f s q g =
       turn = g.turn;
     }
 
-first_good : (texts : Texts) (job : JobValue) (a : Calling) (now : ℕ) (marks : List Mark) (due : List Due) → IsJob job → a.waiting ≡ due → Good texts job a marks →
+first_good : (texts : Texts) (job : JobValue) (a : CallerCore) (now : ℕ) (marks : List Mark) (due : List Due) → IsJob job → a.waiting ≡ due → Good texts job a marks →
     Good texts job (given_first texts.writes job a now due).core (marks_given (given_first texts.writes job a now due).given marks)
 first_good texts job a now marks [] is h g = g
 first_good texts job a now marks (d ∷ due) is h g =
-    let t : Taken = taken texts.writes job d due in
-    let k : Kept texts job a marks g.last = g.kept in
+    let t : TakenPart = taken texts.writes job d due in
+    let k : Rep texts job a marks g.last = g.kept in
     after_good texts job a now marks t.packet t.rest is k.within k.format k.due k.same_pages
     (gives_first texts job a.counts.page a.state marks d due g.last is k.within k.emits
     (subst (λ (w : List Due). SafeTo texts job a.counts.page (PostOf a.state) w (elements_given marks)) h k.safe)
     (subst (λ (w : List Due). InTurn g.last (replied marks) a.counts.page a.state w (elements_given marks)) h g.turn)
     (subst (λ (w : List Due). IsSent g.last a.counts.page a.state w) h k.sent))
 
-pub paced_good : (texts : Texts) (job : JobValue) (a : Calling) (now : ℕ) (marks : List Mark) → IsJob job → Good texts job a marks →
+pub paced_good : (texts : Texts) (job : JobValue) (a : CallerCore) (now : ℕ) (marks : List Mark) → IsJob job → Good texts job a marks →
     Good texts job (paced texts.writes job a now).core (marks_given (paced texts.writes job a now).given marks)
 paced_good texts job a now marks is g = by (pace_allows a.pace.last now)
   where
-    by : (t : Bool) → Good texts job (if◌then◌else◌ {A = Ticked} t (given_first texts.writes job a now a.waiting) (record { core = a; given = None })).core (marks_given (if◌then◌else◌ {A = Ticked} t (given_first texts.writes job a now a.waiting) (record { core = a; given = None })).given marks)
+    by : (t : Bool) → Good texts job (if◌then◌else◌ {A = TickResult} t (given_first texts.writes job a now a.waiting) (record { core = a; given = None })).core (marks_given (if◌then◌else◌ {A = TickResult} t (given_first texts.writes job a now a.waiting) (record { core = a; given = None })).given marks)
     by true = first_good texts job a now marks a.waiting is refl g
     by false = g
 
@@ -326,9 +326,9 @@ MoveOk texts job last r page before state HangsUp = Unit {0}
 goodbye_safe : (texts : Texts) (job : JobValue) (page : ℕ) (before : List elements.Element) → SafeTo texts job page (λ e. Unit {0}) goodbye before
 goodbye_safe texts job page before = frame_safe texts job page (λ e. Unit {0}) (written_plain plain.Dcn true) [] before (omega arith) (omega arith) tt
 
-asks_good : (texts : Texts) (job : JobValue) (a : Calling) (marks : List Mark) (state : State) (c : Counts) (last : Option ℕ) → a.state ≡ state → Kept texts job a marks last →
+asks_good : (texts : Texts) (job : JobValue) (a : CallerCore) (marks : List Mark) (state : State) (c : Counts) (last : Option ℕ) → a.state ≡ state → Rep texts job a marks last →
     AskOk last a.counts.page (elements_given marks) state c → DueAt (formats_of job) c.page a.format →
-    Good texts job (record { state = state; format = a.format; formats = a.formats; pages = a.pages; counts = c; waiting = command (command_behind a.formats a.pages c.page); t1 = None; t4 = None; pace = a.pace; outcome = a.outcome }) marks
+    Good texts job (record { state = state; format = a.format; formats = a.formats; pages = a.pages; counts = c; waiting = command (command_after a.formats a.pages c.page); t1 = None; t4 = None; pace = a.pace; outcome = a.outcome }) marks
 asks_good texts job a marks Idle c last h g k d = absurd k
 asks_good texts job a marks AwaitDis c last h g k d = absurd k
 asks_good texts job a marks (AwaitCfr dis dcs) c last h g k d = absurd k
@@ -339,17 +339,17 @@ asks_good texts job a marks (AwaitMcf dis dcs) c last h g k d =
       kept = record {
         is_job = g.is_job;
         emits = g.emits;
-        safe = command_safe texts job c.page (is_last_page a.pages c.page) (turn_behind a.formats c.page) dcs (elements_given marks) k.1;
+        safe = command_safe texts job c.page (is_last_page a.pages c.page) (turn_after a.formats c.page) dcs (elements_given marks) k.1;
         within = subst (λ (n : ℕ). n < length job.pages) (sym k.0) g.within;
         format = subst (λ (n : ℕ). IsFormatOf job n dcs) (sym k.0) (subst (HasFormat job a.counts.page) h g.format);
         sent = λ e. k.2 ∙ ap (λ (n : ℕ). Some n) (sym k.0);
         due = record { formats = g.due.formats; due = d };
         same_pages = g.same_pages;
       };
-      turn = (command_asks (is_last_page a.pages c.page) (turn_behind a.formats c.page) (elements_given marks), λ e. cc);
+      turn = (command_asks (is_last_page a.pages c.page) (turn_after a.formats c.page) (elements_given marks), λ e. cc);
     }
 
-moved_good : (texts : Texts) (job : JobValue) (a : Calling) (marks : List Mark) (m : Move) (last : Option ℕ) → Kept texts job a marks last → a.waiting ≡ [] →
+moved_good : (texts : Texts) (job : JobValue) (a : CallerCore) (marks : List Mark) (m : Move) (last : Option ℕ) → Rep texts job a marks last → a.waiting ≡ [] →
     MoveOk texts job last (replied marks) a.counts.page (elements_given marks) a.state m → MoveDue (formats_of job) a.format m → Good texts job (moved a m) marks
 moved_good texts job a marks Stays last g h k d =
     record { last = last; kept = g; turn = subst (λ (w : List Due). InTurn last (replied marks) a.counts.page a.state w (elements_given marks)) (sym h) k }
@@ -362,8 +362,8 @@ moved_good texts job a marks (Trains dis dcs c) last g h k d =
 moved_good texts job a marks (Sends dis dcs c) last g h k d =
     record {
       last = last;
-      kept = record { is_job = g.is_job; emits = g.emits; safe = image_safe texts job c.page (is_last_page a.pages c.page) (turn_behind a.formats c.page) dcs (elements_given marks) g.is_job k.2 k.1.within k.0; within = k.1.within; format = k.0; sent = λ e. cc; due = moved_due (formats_of job) a (Sends dis dcs c) g.due d; same_pages = g.same_pages };
-      turn = (image_asks (is_last_page a.pages c.page) (turn_behind a.formats c.page) c.page dcs (elements_given marks), λ e. k.1.answered);
+      kept = record { is_job = g.is_job; emits = g.emits; safe = image_safe texts job c.page (is_last_page a.pages c.page) (turn_after a.formats c.page) dcs (elements_given marks) g.is_job k.2 k.1.within k.0; within = k.1.within; format = k.0; sent = λ e. cc; due = moved_due (formats_of job) a (Sends dis dcs c) g.due d; same_pages = g.same_pages };
+      turn = (image_asks (is_last_page a.pages c.page) (turn_after a.formats c.page) c.page dcs (elements_given marks), λ e. k.1.answered);
     }
 moved_good texts job a marks (AsksAgain c) last g h k d = asks_good texts job a marks a.state c last refl g k d
 moved_good texts job a marks (Turns format t1 c) last g h k d =
@@ -493,16 +493,16 @@ chosen_ok : (texts : Texts) (job : JobValue) (last : Option ℕ) (r : Reply) (pa
 chosen_ok texts job last r page before state format dis step c f k =
     by_choice_ok texts job last r page before state dis c (choice dis format step) (λ dcs e. subst (DueAt (formats_of job) c.page) (sym (choice_format dis format step dcs e)) f) k
 
--- behind EOM the next exchange begins
+-- after EOM the next exchange begins
 turns_ok : (texts : Texts) (job : JobValue) (last : Option ℕ) (r : Reply) (page : ℕ) (before : List elements.Element) (state : State) (now : ℕ) (c : Counts) (m : Move) (t : Option Format) →
-    turn_behind (formats_of job) c.page ≡ t → PageOk job last r (next_page c) → (turn_behind (formats_of job) c.page ≡ None → MoveOk texts job last r page before state m) → MoveOk texts job last r page before state (turns_or now t c m)
+    turn_after (formats_of job) c.page ≡ t → PageOk job last r (next_page c) → (turn_after (formats_of job) c.page ≡ None → MoveOk texts job last r page before state m) → MoveOk texts job last r page before state (turns_or now t c m)
 turns_ok texts job last r page before state now c m (Some format) e k f = record { within = k.within; answered = k.answered }
 turns_ok texts job last r page before state now c m None e k f = f e
 
 -- in AwaitMcf the reply is Asked, so that MCF, RTP and RTN answer
 frame_ok : (texts : Texts) (job : JobValue) (now : ℕ) (pages : ℕ) (format : Format) (last : Option ℕ) (r : Reply) (before : List elements.Element) (state : State) (c : Counts) (frame : Option Frame) →
     pages ≡ length job.pages → DueAt (formats_of job) c.page format → Resting texts job last before state c → InTurn last r c.page state [] before →
-    MoveOk texts job last (reply_by frame r) c.page before state (on_frame now format (turn_behind (formats_of job) c.page) pages state c frame)
+    MoveOk texts job last (reply_by frame r) c.page before state (on_frame now format (turn_after (formats_of job) c.page) pages state c frame)
 frame_ok texts job now pages format last r before AwaitDis c (Some (frames.Dis dis)) h f s t =
     chosen_ok texts job last r c.page before AwaitDis format dis c.step (first_try c) f (record { within = s.within; answered = t.0 })
 frame_ok texts job now pages format last r before AwaitDis c (Some frames.Dcn) h f s t = tt
@@ -515,11 +515,11 @@ frame_ok texts job now pages format last r before (AwaitCfr dis dcs) c (Some (fr
 frame_ok texts job now pages format last r before (AwaitCfr dis dcs) c (Some frames.Dcn) h f s t = tt
 frame_ok texts job now pages format last r before (AwaitCfr dis dcs) c frame h f s t = (by_answered frame last r c.page t.0, tt)
 frame_ok texts job now pages format last r before (AwaitMcf dis dcs) c (Some frames.Mcf) h f s t =
-    after_ack texts job pages last (reply_heard true r) c.page before (AwaitMcf dis dcs) c (turns_or now (turn_behind (formats_of job) c.page) c (Sends dis dcs (next_page c))) h s.within (s.sent refl) (ap (reply_heard true) t)
-    (λ k. turns_ok texts job last (reply_heard true r) c.page before (AwaitMcf dis dcs) now c (Sends dis dcs (next_page c)) (turn_behind (formats_of job) c.page) refl k (λ e. (next_due (formats_of job) (format_of dcs) c.page s.format e, k, s.post)))
+    after_ack texts job pages last (reply_heard true r) c.page before (AwaitMcf dis dcs) c (turns_or now (turn_after (formats_of job) c.page) c (Sends dis dcs (next_page c))) h s.within (s.sent refl) (ap (reply_heard true) t)
+    (λ k. turns_ok texts job last (reply_heard true r) c.page before (AwaitMcf dis dcs) now c (Sends dis dcs (next_page c)) (turn_after (formats_of job) c.page) refl k (λ e. (next_due (formats_of job) (format_of dcs) c.page s.format e, k, s.post)))
 frame_ok texts job now pages format last r before (AwaitMcf dis dcs) c (Some frames.Rtp) h f s t =
-    after_ack texts job pages last (reply_heard true r) c.page before (AwaitMcf dis dcs) c (turns_or now (turn_behind (formats_of job) c.page) c (Trains dis dcs (next_page c))) h s.within (s.sent refl) (ap (reply_heard true) t)
-    (λ k. turns_ok texts job last (reply_heard true r) c.page before (AwaitMcf dis dcs) now c (Trains dis dcs (next_page c)) (turn_behind (formats_of job) c.page) refl k (λ e. (next_due (formats_of job) (format_of dcs) c.page s.format e, k)))
+    after_ack texts job pages last (reply_heard true r) c.page before (AwaitMcf dis dcs) c (turns_or now (turn_after (formats_of job) c.page) c (Trains dis dcs (next_page c))) h s.within (s.sent refl) (ap (reply_heard true) t)
+    (λ k. turns_ok texts job last (reply_heard true r) c.page before (AwaitMcf dis dcs) now c (Trains dis dcs (next_page c)) (turn_after (formats_of job) c.page) refl k (λ e. (next_due (formats_of job) (format_of dcs) c.page s.format e, k)))
 frame_ok texts job now pages format last r before (AwaitMcf dis dcs) c (Some frames.Rtn) h f s t =
     refusal_ok texts job last (reply_heard false r) c.page before (AwaitMcf dis dcs) dis dcs c s.format
     (record {
@@ -544,7 +544,7 @@ timer_ok texts job t1_due t4_due last r before (AwaitMcf dis dcs) c s t =
     (if_ok texts job last r c.page before (AwaitMcf dis dcs) (nat_lt c.tries 3) (AsksAgain (next_try c)) (Closes outcomes.NoReply c)
     (refl, s.post, s.sent refl) s.within) t
 
-resting : (texts : Texts) (job : JobValue) (a : Calling) (marks : List Mark) (last : Option ℕ) → a.waiting ≡ [] → Kept texts job a marks last → Resting texts job last (elements_given marks) a.state a.counts
+resting : (texts : Texts) (job : JobValue) (a : CallerCore) (marks : List Mark) (last : Option ℕ) → a.waiting ≡ [] → Rep texts job a marks last → Resting texts job last (elements_given marks) a.state a.counts
 resting texts job a marks last h g =
     record {
       post = subst (λ (w : List Due). SafeTo texts job a.counts.page (PostOf a.state) w (elements_given marks)) h g.safe;
@@ -553,7 +553,7 @@ resting texts job a marks last h g =
       within = g.within;
     }
 
-pub timed_good : (texts : Texts) (job : JobValue) (a : Calling) (now : ℕ) (marks : List Mark) → Good texts job a marks → Good texts job (timed a now) marks
+pub timed_good : (texts : Texts) (job : JobValue) (a : CallerCore) (now : ℕ) (marks : List Mark) → Good texts job a marks → Good texts job (timed a now) marks
 timed_good texts job a now marks g = by a.waiting refl
   where
     by : (w : List Due) → a.waiting ≡ w → Good texts job (moved a (if waits w then Stays else on_timers (is_due a.t1 now) (is_due a.t4 now) a.state a.counts)) marks
@@ -583,10 +583,10 @@ elements_ack (Some frames.Rtp) marks = refl
 elements_ack (Some frames.Rtn) marks = refl
 elements_ack frame marks = refl
 
-frame_good : (texts : Texts) (job : JobValue) (a : Calling) (now : ℕ) (frame : Option Frame) (marks : List Mark) → Good texts job a marks →
-    Good texts job (moved a (if waits a.waiting then Stays else on_frame now a.format (turn_behind a.formats a.counts.page) a.pages a.state a.counts frame)) (acknowledged_by frame marks)
+frame_good : (texts : Texts) (job : JobValue) (a : CallerCore) (now : ℕ) (frame : Option Frame) (marks : List Mark) → Good texts job a marks →
+    Good texts job (moved a (if waits a.waiting then Stays else on_frame now a.format (turn_after a.formats a.counts.page) a.pages a.state a.counts frame)) (acknowledged_by frame marks)
 frame_good texts job a now frame marks g =
-    let k : Kept texts job a marks g.last = g.kept in
+    let k : Rep texts job a marks g.last = g.kept in
     by (acknowledged_by frame marks) (elements_ack frame marks) (replied_by frame marks)
     (record {
       is_job = k.is_job;
@@ -599,16 +599,16 @@ frame_good texts job a now frame marks g =
       same_pages = k.same_pages;
     }) a.waiting refl
   where
-    by : (new : List Mark) → elements_given new ≡ elements_given marks → replied new ≡ reply_by frame (replied marks) → Kept texts job a new g.last → (w : List Due) → a.waiting ≡ w →
-        Good texts job (moved a (if waits w then Stays else on_frame now a.format (turn_behind a.formats a.counts.page) a.pages a.state a.counts frame)) new
+    by : (new : List Mark) → elements_given new ≡ elements_given marks → replied new ≡ reply_by frame (replied marks) → Rep texts job a new g.last → (w : List Due) → a.waiting ≡ w →
+        Good texts job (moved a (if waits w then Stays else on_frame now a.format (turn_after a.formats a.counts.page) a.pages a.state a.counts frame)) new
     by new es rs k [] h =
-        moved_good texts job a new (on_frame now a.format (turn_behind a.formats a.counts.page) a.pages a.state a.counts frame) g.last k h
-        (subst (λ (x : Reply). MoveOk texts job g.last x a.counts.page (elements_given new) a.state (on_frame now a.format (turn_behind a.formats a.counts.page) a.pages a.state a.counts frame)) (sym rs)
-        (subst (λ (fs : List Format). MoveOk texts job g.last (reply_by frame (replied marks)) a.counts.page (elements_given new) a.state (on_frame now a.format (turn_behind fs a.counts.page) a.pages a.state a.counts frame)) (sym k.due.formats)
+        moved_good texts job a new (on_frame now a.format (turn_after a.formats a.counts.page) a.pages a.state a.counts frame) g.last k h
+        (subst (λ (x : Reply). MoveOk texts job g.last x a.counts.page (elements_given new) a.state (on_frame now a.format (turn_after a.formats a.counts.page) a.pages a.state a.counts frame)) (sym rs)
+        (subst (λ (fs : List Format). MoveOk texts job g.last (reply_by frame (replied marks)) a.counts.page (elements_given new) a.state (on_frame now a.format (turn_after fs a.counts.page) a.pages a.state a.counts frame)) (sym k.due.formats)
         (frame_ok texts job now a.pages a.format g.last (replied marks) (elements_given new) a.state a.counts frame k.same_pages k.due.due (resting texts job a new g.last h k)
         (subst (λ (before : List elements.Element). InTurn g.last (replied marks) a.counts.page a.state [] before) (sym es)
         (subst (λ (w : List Due). InTurn g.last (replied marks) a.counts.page a.state w (elements_given marks)) h g.turn)))))
-        (subst (λ (fs : List Format). MoveDue (formats_of job) a.format (on_frame now a.format (turn_behind fs a.counts.page) a.pages a.state a.counts frame)) (sym k.due.formats)
+        (subst (λ (fs : List Format). MoveDue (formats_of job) a.format (on_frame now a.format (turn_after fs a.counts.page) a.pages a.state a.counts frame)) (sym k.due.formats)
         (frame_due (formats_of job) now a.format a.pages a.state a.counts frame k.due.due))
     by new es rs k (d ∷ due) h =
         record {
@@ -621,14 +621,14 @@ frame_good texts job a now frame marks g =
               (subst (λ (w : List Due). InTurn g.last (replied marks) a.counts.page a.state w (elements_given marks)) h g.turn))));
         }
 
-pub comes_good : (texts : Texts) (job : JobValue) (a : Calling) (piece : pieces.Piece) (now : ℕ) (marks : List Mark) → Good texts job a marks → Good texts job (came a piece now) (marks_heard piece marks)
+pub comes_good : (texts : Texts) (job : JobValue) (a : CallerCore) (piece : pieces.Piece) (now : ℕ) (marks : List Mark) → Good texts job a marks → Good texts job (came a piece now) (marks_heard piece marks)
 comes_good texts job a (pieces.Frame octets) now marks g = frame_good texts job a now (frame_of octets) marks g
 comes_good texts job a (pieces.Start k) now marks g = g
 comes_good texts job a (pieces.Octets os) now marks g = g
 comes_good texts job a (pieces.End w) now marks g = g
 comes_good texts job a pieces.Gap now marks g = g
 
-pub start_good : (texts : Texts) (job : JobValue) (old : List Mark) (core : Calling) (start : ℕ) → IsJob job → Good texts job (started core job start) (Begins ∷ old)
+pub start_good : (texts : Texts) (job : JobValue) (old : List Mark) (core : CallerCore) (start : ℕ) → IsJob job → Good texts job (started core job start) (Begins ∷ old)
 start_good texts job old core start is =
     record {
       last = None;
@@ -645,16 +645,16 @@ start_good texts job old core start is =
       turn = (refl, signal_keeps 1 [] (elements_given old) (omega arith) tt);
     }
 
-pub events_good : (texts : Texts) (job : JobValue) (old : List Mark) (a : Calling) (events : List CallEvent) → IsJob job → Good texts job a (Begins ∷ old) → Good texts job (after_events texts.writes job a events) (marks_after texts.writes job old a events)
+pub events_good : (texts : Texts) (job : JobValue) (old : List Mark) (a : CallerCore) (events : List CallEvent) → IsJob job → Good texts job a (Begins ∷ old) → Good texts job (after_events texts.writes job a events) (marks_after texts.writes job old a events)
 events_good texts job old a [] is g = g
 events_good texts job old a (Comes piece now ∷ before) is g = comes_good texts job (after_events texts.writes job a before) piece now (marks_after texts.writes job old a before) (events_good texts job old a before is g)
 events_good texts job old a (Ticks now ∷ before) is g =
-    let core : Calling = after_events texts.writes job a before in
+    let core : CallerCore = after_events texts.writes job a before in
     paced_good texts job (timed core now) now (marks_after texts.writes job old a before) is (timed_good texts job core now (marks_after texts.writes job old a before) (events_good texts job old a before is g))
 
 pub emits_the_pages : EmitsThePages
 emits_the_pages writes job old core start events w is =
     let texts : Texts = record { writes = writes; are = w } in
-    let a : Calling = started core job start in
+    let a : CallerCore = started core job start in
     let g : Good texts job (after_events writes job a events) (marks_after writes job old a events) = events_good texts job old a events is (start_good texts job old core start is) in
     (g.last, g.kept.emits)

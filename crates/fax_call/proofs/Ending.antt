@@ -23,15 +23,15 @@ use Rattle.fax_jobs.specs.Jobs.{JobValue, IsJob}
 use Rattle.fax_call.specs.declared.state.State.{State}
 use Rattle.fax_call.specs.declared.state.State.TheVariants.{Idle, AwaitDis, AwaitCfr, AwaitMcf, Closing}
 use Rattle.fax_call.specs.Writings.{Writing, IsWriting}
-use Rattle.fax_call.specs.Replies.{Packet, Signals, Due, Text, waits, signals_preamble, training, command, command_behind, image, goodbye, is_last_page, turn_behind}
+use Rattle.fax_call.specs.Replies.{Packet, Signals, Due, Text, waits, signals_preamble, training, command, command_after, image, goodbye, is_last_page, turn_after}
 use Rattle.fax_call.specs.Table.{Counts, Move, Stays, Trains, Sends, AsksAgain, Turns, Closes, HangsUp, first_try, next_try, next_step, next_page, next_exchange, one_delivered, one_refused, most_tries, by_choice, tries_again, asks_again, after_refusal, turns_or, on_frame, gives_up_dis, on_timers}
-use Rattle.fax_call.specs.Calls.{Calling, started, replied_with, moved, came, taken, after_giving, Ticked, given_first, paced, ticked, CallEvent, Comes, Ticks, after_events}
+use Rattle.fax_call.specs.Calls.{CallerCore, started, replied_with, moved, came, taken, after_giving, TickResult, given_first, paced, ticked, CallEvent, Comes, Ticks, after_events}
 use Rattle.fax_call.specs.Refusals.{dis_taken}
 use Rattle.fax_call.specs.Silence.{packet_time, due_time, time_of, last_tick}
 use Rattle.fax_call.specs.Steps.{failures}
 use Rattle.fax_call.specs.Ending.{AreSteady, NoTextIsLonger, exchange_time, longest_call, EveryCallEnds}
 use Rattle.fax_call.proofs.Emitted.{start_good, events_good}
-use Rattle.fax_call.proofs.KeptLemmas.{step_few}
+use Rattle.fax_call.proofs.RepLemmas.{step_few}
 use Rattle.fax_call.proofs.Silence.{gt_if, lt_if, TimelyState, IsTimely, later, came_timely, ticked_timely, until_timely, span_most, span_long, put, taken_time, training_time, goodbye_time, trained_time, left_of, left_falls, idle_stays, over_has}
 use Rattle.fax_call.proofs.Steps as steps
 use Rattle.fax_call.proofs.Waiting.{Texts}
@@ -79,54 +79,54 @@ record Terms : Type 0 where
 abbrev later_time : Terms → (pages : ℕ) → State → Counts → ℕ
 later_time k pages s c = time_for (exchanges pages s c) (exchange_time k.gap k.longest) + time_for (pages - 1 - c.page) (spans.t1 + k.gap) + goodbye_time k.gap
 
-abbrev behind : Terms → (pages : ℕ) → State → Counts → List Due → Option ℕ → Option ℕ → (m : ℕ) → ℕ
-behind k pages Idle c due t1 t4 m = 0
-behind k pages (Closing x) c due t1 t4 m = 0
-behind k pages AwaitDis c due t1 t4 m = left_of t1 m + later_time k pages AwaitDis c
-behind k pages (AwaitCfr dis dcs) c [] t1 t4 m = left_of t4 m + later_time k pages (AwaitCfr dis dcs) c
-behind k pages (AwaitCfr dis dcs) c (d ∷ due) t1 t4 m = spans.t4 + later_time k pages (AwaitCfr dis dcs) c
-behind k pages (AwaitMcf dis dcs) c [] t1 t4 m = left_of t4 m + later_time k pages (AwaitMcf dis dcs) c
-behind k pages (AwaitMcf dis dcs) c (d ∷ due) t1 t4 m = spans.t4 + later_time k pages (AwaitMcf dis dcs) c
+abbrev after : Terms → (pages : ℕ) → State → Counts → List Due → Option ℕ → Option ℕ → (m : ℕ) → ℕ
+after k pages Idle c due t1 t4 m = 0
+after k pages (Closing x) c due t1 t4 m = 0
+after k pages AwaitDis c due t1 t4 m = left_of t1 m + later_time k pages AwaitDis c
+after k pages (AwaitCfr dis dcs) c [] t1 t4 m = left_of t4 m + later_time k pages (AwaitCfr dis dcs) c
+after k pages (AwaitCfr dis dcs) c (d ∷ due) t1 t4 m = spans.t4 + later_time k pages (AwaitCfr dis dcs) c
+after k pages (AwaitMcf dis dcs) c [] t1 t4 m = left_of t4 m + later_time k pages (AwaitMcf dis dcs) c
+after k pages (AwaitMcf dis dcs) c (d ∷ due) t1 t4 m = spans.t4 + later_time k pages (AwaitMcf dis dcs) c
 
-abbrev needed : Terms → Calling → (m : ℕ) → ℕ
-needed k a m = allowed_from a.pace.last - m + time_of k.writes k.job k.gap a.waiting + behind k a.pages a.state a.counts a.waiting a.t1 a.t4 m
+abbrev needed : Terms → CallerCore → (m : ℕ) → ℕ
+needed k a m = allowed_from a.pace.last - m + time_of k.writes k.job k.gap a.waiting + after k a.pages a.state a.counts a.waiting a.t1 a.t4 m
 
 -- over, or within a moment
-abbrev Goes : Terms → (x : ℕ) → Calling → (now : ℕ) → Type 0
+abbrev Goes : Terms → (x : ℕ) → CallerCore → (now : ℕ) → Type 0
 Goes k x b now = (b.state ≡ Idle) ⊎ (needed k b now + now ≤ x)
 
-goes_most : (k : Terms) (x y : ℕ) (b : Calling) (now : ℕ) → x ≤ y → Goes k x b now → Goes k y b now
+goes_most : (k : Terms) (x y : ℕ) (b : CallerCore) (now : ℕ) → x ≤ y → Goes k x b now → Goes k y b now
 goes_most k x y b now h (inl e) = inl e
 goes_most k x y b now h (inr n) = inr (omega arith)
 
-stays_goes : (k : Terms) (b : Calling) (m : ℕ) → Goes k (needed k b m + m) b m
+stays_goes : (k : Terms) (b : CallerCore) (m : ℕ) → Goes k (needed k b m + m) b m
 stays_goes k b m = inr (omega arith)
 
-behind_falls : (k : Terms) (pages : ℕ) (s : State) (c : Counts) (d r : Due) (due rest : List Due) (t1 t4 : Option ℕ) (m now : ℕ) → m ≤ now
-    → behind k pages s c (r ∷ rest) t1 t4 now ≤ behind k pages s c (d ∷ due) t1 t4 m
-behind_falls k pages Idle c d r due rest t1 t4 m now h = omega arith
-behind_falls k pages (Closing x) c d r due rest t1 t4 m now h = omega arith
-behind_falls k pages AwaitDis c d r due rest t1 t4 m now h = falls (left_of t1 now) (left_of t1 m) (later_time k pages AwaitDis c) (left_falls t1 m now h)
+after_falls : (k : Terms) (pages : ℕ) (s : State) (c : Counts) (d r : Due) (due rest : List Due) (t1 t4 : Option ℕ) (m now : ℕ) → m ≤ now
+    → after k pages s c (r ∷ rest) t1 t4 now ≤ after k pages s c (d ∷ due) t1 t4 m
+after_falls k pages Idle c d r due rest t1 t4 m now h = omega arith
+after_falls k pages (Closing x) c d r due rest t1 t4 m now h = omega arith
+after_falls k pages AwaitDis c d r due rest t1 t4 m now h = falls (left_of t1 now) (left_of t1 m) (later_time k pages AwaitDis c) (left_falls t1 m now h)
   where
     falls : (x y z : ℕ) → x ≤ y → x + z ≤ y + z
     falls x y z h = omega arith
-behind_falls k pages (AwaitCfr dis dcs) c d r due rest t1 t4 m now h = same (spans.t4 + later_time k pages (AwaitCfr dis dcs) c)
+after_falls k pages (AwaitCfr dis dcs) c d r due rest t1 t4 m now h = same (spans.t4 + later_time k pages (AwaitCfr dis dcs) c)
   where
     same : (x : ℕ) → x ≤ x
     same x = omega arith
-behind_falls k pages (AwaitMcf dis dcs) c d r due rest t1 t4 m now h = same (spans.t4 + later_time k pages (AwaitMcf dis dcs) c)
+after_falls k pages (AwaitMcf dis dcs) c d r due rest t1 t4 m now h = same (spans.t4 + later_time k pages (AwaitMcf dis dcs) c)
   where
     same : (x : ℕ) → x ≤ x
     same x = omega arith
 
 -- A PACKET IS GIVEN
--- x: the time of what waits, w: the span behind the packet, r: the time of the rest, y, z: what is behind
+-- x: the time of what waits, w: the span after the packet, r: the time of the rest, y, z: what is after
 packet_fits : (gap now m s w r x y z : ℕ) → m ≤ now → now ≤ m + gap → s ≤ w → r + (gap + w) ≤ x → z ≤ y → now + s - now + r + z + now ≤ x + y + m
 packet_fits gap now m s w r x y z h k f t l = omega arith
 
-given_goes : (k : Terms) (x m now : ℕ) (a : Calling) (s : State) (d : Due) (due rest : List Due) (t1 t4 : Option ℕ) (packet : Packet) → m ≤ now → now ≤ m + k.gap
+given_goes : (k : Terms) (x m now : ℕ) (a : CallerCore) (s : State) (d : Due) (due rest : List Due) (t1 t4 : Option ℕ) (packet : Packet) → m ≤ now → now ≤ m + k.gap
     → time_of k.writes k.job k.gap rest + packet_time k.gap packet ≤ x
-    → Goes k (x + behind k a.pages s a.counts (d ∷ due) t1 t4 m + m) (after_giving (put a s (d ∷ due) t1 t4) now packet rest) now
+    → Goes k (x + after k a.pages s a.counts (d ∷ due) t1 t4 m + m) (after_giving (put a s (d ∷ due) t1 t4) now packet rest) now
 given_goes k x m now a s d due rest t1 t4 packet h g t = by s rest t
   where
     span : ℕ
@@ -145,24 +145,24 @@ given_goes k x m now a s d due rest t1 t4 packet h g t = by s rest t
     t4_most = omega arith
 
     by : (s : State) (rest : List Due) → time_of k.writes k.job k.gap rest + packet_time k.gap packet ≤ x
-        → Goes k (x + behind k a.pages s a.counts (d ∷ due) t1 t4 m + m) (after_giving (put a s (d ∷ due) t1 t4) now packet rest) now
+        → Goes k (x + after k a.pages s a.counts (d ∷ due) t1 t4 m + m) (after_giving (put a s (d ∷ due) t1 t4) now packet rest) now
     by s (r ∷ rest) t =
-        inr (packet_fits k.gap now m span most (time_of k.writes k.job k.gap (r ∷ rest)) x (behind k a.pages s a.counts (d ∷ due) t1 t4 m) (behind k a.pages s a.counts (r ∷ rest) t1 t4 now) h g short t
-        (behind_falls k a.pages s a.counts d r due rest t1 t4 m now h))
+        inr (packet_fits k.gap now m span most (time_of k.writes k.job k.gap (r ∷ rest)) x (after k a.pages s a.counts (d ∷ due) t1 t4 m) (after k a.pages s a.counts (r ∷ rest) t1 t4 now) h g short t
+        (after_falls k a.pages s a.counts d r due rest t1 t4 m now h))
     by Idle [] t = inl refl
     by (Closing o) [] t = inl refl
     by AwaitDis [] t =
-        inr (packet_fits k.gap now m span most 0 x (behind k a.pages AwaitDis a.counts (d ∷ due) t1 t4 m) (behind k a.pages AwaitDis a.counts [] t1 t4 now) h g short t
+        inr (packet_fits k.gap now m span most 0 x (after k a.pages AwaitDis a.counts (d ∷ due) t1 t4 m) (after k a.pages AwaitDis a.counts [] t1 t4 now) h g short t
         (keeps (left_of t1 now) (left_of t1 m) (later_time k a.pages AwaitDis a.counts) (left_falls t1 m now h)))
     by (AwaitCfr dis dcs) [] t =
-        inr (packet_fits k.gap now m span most 0 x (behind k a.pages (AwaitCfr dis dcs) a.counts (d ∷ due) t1 t4 m) (behind k a.pages (AwaitCfr dis dcs) a.counts [] t1 (Some (moment_after now spans.t4)) now) h g short t
+        inr (packet_fits k.gap now m span most 0 x (after k a.pages (AwaitCfr dis dcs) a.counts (d ∷ due) t1 t4 m) (after k a.pages (AwaitCfr dis dcs) a.counts [] t1 (Some (moment_after now spans.t4)) now) h g short t
         (keeps (left_of (Some (moment_after now spans.t4)) now) spans.t4 (later_time k a.pages (AwaitCfr dis dcs) a.counts) t4_most))
     by (AwaitMcf dis dcs) [] t =
-        inr (packet_fits k.gap now m span most 0 x (behind k a.pages (AwaitMcf dis dcs) a.counts (d ∷ due) t1 t4 m) (behind k a.pages (AwaitMcf dis dcs) a.counts [] t1 (Some (moment_after now spans.t4)) now) h g short t
+        inr (packet_fits k.gap now m span most 0 x (after k a.pages (AwaitMcf dis dcs) a.counts (d ∷ due) t1 t4 m) (after k a.pages (AwaitMcf dis dcs) a.counts [] t1 (Some (moment_after now spans.t4)) now) h g short t
         (keeps (left_of (Some (moment_after now spans.t4)) now) spans.t4 (later_time k a.pages (AwaitMcf dis dcs) a.counts) t4_most))
 
 -- WHILE PACKETS WAIT
-paced_goes : (k : Terms) (m now : ℕ) (a : Calling) (s : State) (d : Due) (due : List Due) (t1 t4 : Option ℕ) → m ≤ now → now ≤ m + k.gap
+paced_goes : (k : Terms) (m now : ℕ) (a : CallerCore) (s : State) (d : Due) (due : List Due) (t1 t4 : Option ℕ) → m ≤ now → now ≤ m + k.gap
     → Goes k (needed k (put a s (d ∷ due) t1 t4) m + m) (paced k.writes k.job (put a s (d ∷ due) t1 t4) now).core now
 paced_goes k m now a s d due t1 t4 h g = by (pace_allows a.pace.last now) (sym (allows_is a.pace.last now))
   where
@@ -177,20 +177,20 @@ paced_goes k m now a s d due t1 t4 h g = by (pace_allows a.pace.last now) (sym (
 
     by : (t : Bool) → nat_le (allowed_from a.pace.last) now ≡ t
         → Goes k (needed k (put a s (d ∷ due) t1 t4) m + m)
-        (if◌then◌else◌ {A = Ticked} t (given_first k.writes k.job (put a s (d ∷ due) t1 t4) now (d ∷ due)) (record { core = put a s (d ∷ due) t1 t4; given = None })).core now
+        (if◌then◌else◌ {A = TickResult} t (given_first k.writes k.job (put a s (d ∷ due) t1 t4) now (d ∷ due)) (record { core = put a s (d ∷ due) t1 t4; given = None })).core now
     by true e =
-        goes_most k (x + behind k a.pages s a.counts (d ∷ due) t1 t4 m + m) (needed k (put a s (d ∷ due) t1 t4) m + m)
-        (after_giving (put a s (d ∷ due) t1 t4) now (taken k.writes k.job d due).packet (taken k.writes k.job d due).rest) now (more (allowed_from a.pace.last) x (behind k a.pages s a.counts (d ∷ due) t1 t4 m) m)
+        goes_most k (x + after k a.pages s a.counts (d ∷ due) t1 t4 m + m) (needed k (put a s (d ∷ due) t1 t4) m + m)
+        (after_giving (put a s (d ∷ due) t1 t4) now (taken k.writes k.job d due).packet (taken k.writes k.job d due).rest) now (more (allowed_from a.pace.last) x (after k a.pages s a.counts (d ∷ due) t1 t4 m) m)
         (given_goes k x m now a s d due (taken k.writes k.job d due).rest t1 t4 (taken k.writes k.job d due).packet h g (taken_time k.writes k.job k.gap d due))
     by false e =
-        inr (rests (allowed_from a.pace.last) x (behind k a.pages s a.counts (d ∷ due) t1 t4 m) (behind k a.pages s a.counts (d ∷ due) t1 t4 now) m now h (gt_if (allowed_from a.pace.last) now e)
-        (behind_falls k a.pages s a.counts d d due due t1 t4 m now h))
+        inr (rests (allowed_from a.pace.last) x (after k a.pages s a.counts (d ∷ due) t1 t4 m) (after k a.pages s a.counts (d ∷ due) t1 t4 now) m now h (gt_if (allowed_from a.pace.last) now e)
+        (after_falls k a.pages s a.counts d d due due t1 t4 m now h))
 
 -- WHERE NO PACKET WAITS, and no timer is due
-rests_goes : (k : Terms) (x now : ℕ) (a : Calling) (s : State) (t1 t4 : Option ℕ) → needed k (put a s [] t1 t4) now + now ≤ x → Goes k x (paced k.writes k.job (put a s [] t1 t4) now).core now
+rests_goes : (k : Terms) (x now : ℕ) (a : CallerCore) (s : State) (t1 t4 : Option ℕ) → needed k (put a s [] t1 t4) now + now ≤ x → Goes k x (paced k.writes k.job (put a s [] t1 t4) now).core now
 rests_goes k x now a s t1 t4 h = by (pace_allows a.pace.last now)
   where
-    by : (t : Bool) → Goes k x (if◌then◌else◌ {A = Ticked} t (given_first k.writes k.job (put a s [] t1 t4) now []) (record { core = put a s [] t1 t4; given = None })).core now
+    by : (t : Bool) → Goes k x (if◌then◌else◌ {A = TickResult} t (given_first k.writes k.job (put a s [] t1 t4) now []) (record { core = put a s [] t1 t4; given = None })).core now
     by true = inr h
     by false = inr h
 
@@ -198,7 +198,7 @@ timer_rests : (p t z m now : ℕ) → m ≤ now → now < t → p - now + 0 + (t
 timer_rests p t z m now h l = omega arith
 
 -- and where one is
-acts_goes : (k : Terms) (x m now : ℕ) (a : Calling) (s : State) (c : Counts) (due : List Due) → waits due ≡ true → m ≤ now → now ≤ m + k.gap
+acts_goes : (k : Terms) (x m now : ℕ) (a : CallerCore) (s : State) (c : Counts) (due : List Due) → waits due ≡ true → m ≤ now → now ≤ m + k.gap
     → needed k (replied_with a s c due) m + m ≤ x
     → Goes k x (paced k.writes k.job (replied_with a s c due) now).core now
 acts_goes k x m now a s c [] some h g l = cc
@@ -207,7 +207,7 @@ acts_goes k x m now a s c (d ∷ due) some h g l =
 
 -- ---- A MOVE, where no packet waits
 
--- t: the time of what is given, with T4; e, x: the exchanges behind it and before; p, q: the pages
+-- t: the time of what is given, with T4; e, x: the exchanges after it and before; p, q: the pages
 moves_less : (k : Terms) (w m t e x p q : ℕ) → t + spans.t4 ≤ exchange_time k.gap k.longest → e + 1 ≤ x → p ≤ q
     → w + t + (spans.t4 + (time_for e (exchange_time k.gap k.longest) + time_for p (spans.t1 + k.gap) + goodbye_time k.gap)) + m
     ≤ w + (time_for x (exchange_time k.gap k.longest) + time_for q (spans.t1 + k.gap) + goodbye_time k.gap) + m
@@ -232,34 +232,34 @@ image_fits k plain page dcs h = add (due_time k.writes k.job k.gap (Text page dc
     add t s h l = omega arith
 
 -- what is needed where nothing waits, and no timer is set any more
-abbrev at_rest : Terms → Calling → State → (m : ℕ) → ℕ
+abbrev at_rest : Terms → CallerCore → State → (m : ℕ) → ℕ
 at_rest k a s m = allowed_from a.pace.last - m + later_time k a.pages s a.counts + m
 
-trains_needs : (k : Terms) (m : ℕ) (a : Calling) (s : State) (dis : Dis) (dcs : Dcs) (c : Counts) → exchanges a.pages (AwaitCfr dis dcs) c + 1 ≤ exchanges a.pages s a.counts → a.pages - 1 - c.page ≤ a.pages - 1 - a.counts.page
+trains_needs : (k : Terms) (m : ℕ) (a : CallerCore) (s : State) (dis : Dis) (dcs : Dcs) (c : Counts) → exchanges a.pages (AwaitCfr dis dcs) c + 1 ≤ exchanges a.pages s a.counts → a.pages - 1 - c.page ≤ a.pages - 1 - a.counts.page
     → needed k (moved a (Trains dis dcs c)) m + m ≤ at_rest k a s m
 trains_needs k m a s dis dcs c h p =
     moves_less k (allowed_from a.pace.last - m) m (time_of k.writes k.job k.gap (training dcs)) (exchanges a.pages (AwaitCfr dis dcs) c) (exchanges a.pages s a.counts) (a.pages - 1 - c.page) (a.pages - 1 - a.counts.page) (trained_fits k dcs) h p
 
-sends_needs : (k : Terms) (m : ℕ) (a : Calling) (s : State) (dis : Dis) (dcs : Dcs) (c : Counts) → due_time k.writes k.job k.gap (Text c.page dcs 0) ≤ k.longest
+sends_needs : (k : Terms) (m : ℕ) (a : CallerCore) (s : State) (dis : Dis) (dcs : Dcs) (c : Counts) → due_time k.writes k.job k.gap (Text c.page dcs 0) ≤ k.longest
     → exchanges a.pages (AwaitMcf dis dcs) c + 1 ≤ exchanges a.pages s a.counts → a.pages - 1 - c.page ≤ a.pages - 1 - a.counts.page
     → needed k (moved a (Sends dis dcs c)) m + m ≤ at_rest k a s m
 sends_needs k m a s dis dcs c t h p =
-    moves_less k (allowed_from a.pace.last - m) m (time_of k.writes k.job k.gap (image (command_behind a.formats a.pages c.page) c.page dcs)) (exchanges a.pages (AwaitMcf dis dcs) c) (exchanges a.pages s a.counts) (a.pages - 1 - c.page) (a.pages - 1 - a.counts.page)
-    (image_fits k (command_behind a.formats a.pages c.page) c.page dcs t) h p
+    moves_less k (allowed_from a.pace.last - m) m (time_of k.writes k.job k.gap (image (command_after a.formats a.pages c.page) c.page dcs)) (exchanges a.pages (AwaitMcf dis dcs) c) (exchanges a.pages s a.counts) (a.pages - 1 - c.page) (a.pages - 1 - a.counts.page)
+    (image_fits k (command_after a.formats a.pages c.page) c.page dcs t) h p
 
-asks_needs : (k : Terms) (m : ℕ) (a : Calling) (dis : Dis) (dcs : Dcs) (c : Counts) → exchanges a.pages (AwaitMcf dis dcs) c + 1 ≤ exchanges a.pages (AwaitMcf dis dcs) a.counts → a.pages - 1 - c.page ≤ a.pages - 1 - a.counts.page
-    → needed k (replied_with a (AwaitMcf dis dcs) c (command (command_behind a.formats a.pages c.page))) m + m ≤ at_rest k a (AwaitMcf dis dcs) m
+asks_needs : (k : Terms) (m : ℕ) (a : CallerCore) (dis : Dis) (dcs : Dcs) (c : Counts) → exchanges a.pages (AwaitMcf dis dcs) c + 1 ≤ exchanges a.pages (AwaitMcf dis dcs) a.counts → a.pages - 1 - c.page ≤ a.pages - 1 - a.counts.page
+    → needed k (replied_with a (AwaitMcf dis dcs) c (command (command_after a.formats a.pages c.page))) m + m ≤ at_rest k a (AwaitMcf dis dcs) m
 asks_needs k m a dis dcs c h p =
-    moves_less k (allowed_from a.pace.last - m) m (time_of k.writes k.job k.gap (command (command_behind a.formats a.pages c.page))) (exchanges a.pages (AwaitMcf dis dcs) c) (exchanges a.pages (AwaitMcf dis dcs) a.counts) (a.pages - 1 - c.page) (a.pages - 1 - a.counts.page)
-    (command_fits k (command_behind a.formats a.pages c.page)) h p
+    moves_less k (allowed_from a.pace.last - m) m (time_of k.writes k.job k.gap (command (command_after a.formats a.pages c.page))) (exchanges a.pages (AwaitMcf dis dcs) c) (exchanges a.pages (AwaitMcf dis dcs) a.counts) (a.pages - 1 - c.page) (a.pages - 1 - a.counts.page)
+    (command_fits k (command_after a.formats a.pages c.page)) h p
 
-closes_needs : (k : Terms) (m : ℕ) (a : Calling) (s : State) (outcome : Outcome) (c : Counts) → needed k (moved a (Closes outcome c)) m + m ≤ at_rest k a s m
+closes_needs : (k : Terms) (m : ℕ) (a : CallerCore) (s : State) (outcome : Outcome) (c : Counts) → needed k (moved a (Closes outcome c)) m + m ≤ at_rest k a s m
 closes_needs k m a s outcome c = add (allowed_from a.pace.last - m) (time_for (exchanges a.pages s a.counts) (exchange_time k.gap k.longest)) (time_for (a.pages - 1 - a.counts.page) (spans.t1 + k.gap)) m
   where
     add : (w x q m : ℕ) → w + (k.gap + spans.longest_pause + (k.gap + spans.pace + 0)) + 0 + m ≤ w + (x + q + goodbye_time k.gap) + m
     add w x q m = omega arith
 
-turns_needs : (k : Terms) (m now : ℕ) (a : Calling) (s : State) (format : Format) (c : Counts) → now ≤ m + k.gap
+turns_needs : (k : Terms) (m now : ℕ) (a : CallerCore) (s : State) (format : Format) (c : Counts) → now ≤ m + k.gap
     → exchanges a.pages AwaitDis c ≤ exchanges a.pages s a.counts → a.pages - 1 - c.page + 1 ≤ a.pages - 1 - a.counts.page
     → needed k (moved a (Turns format (moment_after now spans.t1) c)) m + m ≤ at_rest k a s m
 turns_needs k m now a s format c n h p =
@@ -275,7 +275,7 @@ turns_needs k m now a s format c n h p =
 
 -- ---- THE TRIES
 
-trains_again : (k : Terms) (m : ℕ) (a : Calling) (dis : Dis) (dcs : Dcs) → nat_lt a.counts.tries most_tries ≡ true → needed k (moved a (Trains dis dcs (next_try a.counts))) m + m ≤ at_rest k a (AwaitCfr dis dcs) m
+trains_again : (k : Terms) (m : ℕ) (a : CallerCore) (dis : Dis) (dcs : Dcs) → nat_lt a.counts.tries most_tries ≡ true → needed k (moved a (Trains dis dcs (next_try a.counts))) m + m ≤ at_rest k a (AwaitCfr dis dcs) m
 trains_again k m a dis dcs e =
     let some : a.counts.tries < 3 = lt_if a.counts.tries most_tries e in
     trains_needs k m a (AwaitCfr dis dcs) dis dcs (next_try a.counts) (less (base a.pages a.counts) a.counts.tries some) (omega arith)
@@ -284,7 +284,7 @@ trains_again k m a dis dcs e =
     less b t h = omega arith
 
 -- T4 is due
-trains_goes : (k : Terms) (x m now : ℕ) (a : Calling) (dis : Dis) (dcs : Dcs) → m ≤ now → now ≤ m + k.gap → at_rest k a (AwaitCfr dis dcs) m ≤ x
+trains_goes : (k : Terms) (x m now : ℕ) (a : CallerCore) (dis : Dis) (dcs : Dcs) → m ≤ now → now ≤ m + k.gap → at_rest k a (AwaitCfr dis dcs) m ≤ x
     → Goes k x (paced k.writes k.job (moved a (tries_again dis dcs a.counts)) now).core now
 trains_goes k x m now a dis dcs h g l = by (nat_lt a.counts.tries most_tries) refl
   where
@@ -299,7 +299,7 @@ trains_goes k x m now a dis dcs h g l = by (nat_lt a.counts.tries most_tries) re
         acts_goes k x m now a (Closing outcomes.NoReply) a.counts goodbye refl h g
         (trans (needed k (moved a (Closes outcomes.NoReply a.counts)) m + m) (at_rest k a (AwaitCfr dis dcs) m) x (closes_needs k m a (AwaitCfr dis dcs) outcomes.NoReply a.counts) l)
 
-asks_goes : (k : Terms) (x m now : ℕ) (a : Calling) (dis : Dis) (dcs : Dcs) (t1 t4 : Option ℕ) → m ≤ now → now ≤ m + k.gap → at_rest k a (AwaitMcf dis dcs) m ≤ x
+asks_goes : (k : Terms) (x m now : ℕ) (a : CallerCore) (dis : Dis) (dcs : Dcs) (t1 t4 : Option ℕ) → m ≤ now → now ≤ m + k.gap → at_rest k a (AwaitMcf dis dcs) m ≤ x
     → Goes k x (paced k.writes k.job (moved (put a (AwaitMcf dis dcs) [] t1 t4) (asks_again a.counts)) now).core now
 asks_goes k x m now a dis dcs t1 t4 h g l = by (nat_lt a.counts.tries most_tries) refl
   where
@@ -312,8 +312,8 @@ asks_goes k x m now a dis dcs t1 t4 h g l = by (nat_lt a.counts.tries most_tries
     by : (t : Bool) → nat_lt a.counts.tries most_tries ≡ t
         → Goes k x (paced k.writes k.job (moved (put a (AwaitMcf dis dcs) [] t1 t4) (if t then AsksAgain (next_try a.counts) else Closes outcomes.NoReply a.counts)) now).core now
     by true e =
-        acts_goes k x m now a (AwaitMcf dis dcs) (next_try a.counts) (command (command_behind a.formats a.pages a.counts.page)) refl h g
-        (trans (needed k (replied_with a (AwaitMcf dis dcs) (next_try a.counts) (command (command_behind a.formats a.pages a.counts.page))) m + m) (at_rest k a (AwaitMcf dis dcs) m) x
+        acts_goes k x m now a (AwaitMcf dis dcs) (next_try a.counts) (command (command_after a.formats a.pages a.counts.page)) refl h g
+        (trans (needed k (replied_with a (AwaitMcf dis dcs) (next_try a.counts) (command (command_after a.formats a.pages a.counts.page))) m + m) (at_rest k a (AwaitMcf dis dcs) m) x
         (asks_needs k m a dis dcs (next_try a.counts) (less (base a.pages a.counts) a.counts.tries (lt_if a.counts.tries most_tries e)) (omega arith)) l)
     by false e =
         acts_goes k x m now a (Closing outcomes.NoReply) a.counts goodbye refl h g
@@ -323,12 +323,12 @@ asks_goes k x m now a dis dcs t1 t4 h g l = by (nat_lt a.counts.tries most_tries
 more_left : (w l z m : ℕ) → w + z + m ≤ w + 0 + (l + z) + m
 more_left w l z m = omega arith
 
-tick_goes : (k : Terms) (m now b : ℕ) (a : Calling) (s : State) (due : List Due) (t1 t4 : Option ℕ) → m ≤ now → now ≤ m + k.gap
+tick_goes : (k : Terms) (m now b : ℕ) (a : CallerCore) (s : State) (due : List Due) (t1 t4 : Option ℕ) → m ≤ now → now ≤ m + k.gap
     → TimelyState b s due t1 t4 a.outcome → Goes k (needed k (put a s due t1 t4) m + m) (ticked k.writes k.job (put a s due t1 t4) now).core now
 tick_goes k m now b a s (d ∷ due) t1 t4 h g f = paced_goes k m now a s d due t1 t4 h g
 tick_goes k m now b a Idle [] t1 t4 h g f = by (pace_allows a.pace.last now)
   where
-    by : (t : Bool) → Goes k (needed k (put a Idle [] t1 t4) m + m) (if◌then◌else◌ {A = Ticked} t (given_first k.writes k.job (put a Idle [] t1 t4) now []) (record { core = put a Idle [] t1 t4; given = None })).core now
+    by : (t : Bool) → Goes k (needed k (put a Idle [] t1 t4) m + m) (if◌then◌else◌ {A = TickResult} t (given_first k.writes k.job (put a Idle [] t1 t4) now []) (record { core = put a Idle [] t1 t4; given = None })).core now
     by true = inl refl
     by false = inl refl
 tick_goes k m now b a (Closing x) [] t1 t4 h g f = absurd f
@@ -381,16 +381,16 @@ FitsAt pages format (AwaitMcf dis dcs) c = (choice dis format c.step ≡ Ok dcs)
 FitsAt pages format s c = Unit {0}
 
 -- a timer that is set is left aside
-from_rest : (k : Terms) (m : ℕ) (a : Calling) (s : State) (l : ℕ) (b : Calling) → Goes k (at_rest k a s m) b m → Goes k (allowed_from a.pace.last - m + 0 + (l + later_time k a.pages s a.counts) + m) b m
+from_rest : (k : Terms) (m : ℕ) (a : CallerCore) (s : State) (l : ℕ) (b : CallerCore) → Goes k (at_rest k a s m) b m → Goes k (allowed_from a.pace.last - m + 0 + (l + later_time k a.pages s a.counts) + m) b m
 from_rest k m a s l b h =
     goes_most k (at_rest k a s m) (allowed_from a.pace.last - m + 0 + (l + later_time k a.pages s a.counts) + m) b m (more_left (allowed_from a.pace.last - m) l (later_time k a.pages s a.counts) m) h
 
-if_goes : (k : Terms) (x m : ℕ) (a : Calling) (t : Bool) (y z : Move) → (t ≡ true → Goes k x (moved a y) m) → (t ≡ false → Goes k x (moved a z) m) → Goes k x (moved a (if t then y else z)) m
+if_goes : (k : Terms) (x m : ℕ) (a : CallerCore) (t : Bool) (y z : Move) → (t ≡ true → Goes k x (moved a y) m) → (t ≡ false → Goes k x (moved a z) m) → Goes k x (moved a (if t then y else z)) m
 if_goes k x m a true y z h g = h refl
 if_goes k x m a false y z h g = g refl
 
 -- AWAIT DIS
-dis_goes : (k : Terms) (m : ℕ) (a : Calling) (t1 t4 : Option ℕ) (dis : Dis) (r : Result Dcs Refusal) → Goes k (at_rest k a AwaitDis m) (moved (put a AwaitDis [] t1 t4) (by_choice dis (first_try a.counts) r)) m
+dis_goes : (k : Terms) (m : ℕ) (a : CallerCore) (t1 t4 : Option ℕ) (dis : Dis) (r : Result Dcs Refusal) → Goes k (at_rest k a AwaitDis m) (moved (put a AwaitDis [] t1 t4) (by_choice dis (first_try a.counts) r)) m
 dis_goes k m a t1 t4 dis (Ok dcs) = inr (trains_needs k m a AwaitDis dis dcs (first_try a.counts) (less (base a.pages a.counts)) (omega arith))
   where
     less : (b : ℕ) → b + 3 + (3 - 1) + 1 ≤ b + 6
@@ -398,14 +398,14 @@ dis_goes k m a t1 t4 dis (Ok dcs) = inr (trains_needs k m a AwaitDis dis dcs (fi
 dis_goes k m a t1 t4 dis (Err e) = inr (closes_needs k m a AwaitDis (Rattle.fax_call.specs.Table.outcome_of e) (first_try a.counts))
 
 -- AWAIT CFR
-cfr_goes : (k : Terms) (m : ℕ) (a : Calling) (t1 t4 : Option ℕ) (dis : Dis) (dcs : Dcs) → due_time k.writes k.job k.gap (Text a.counts.page dcs 0) ≤ k.longest
+cfr_goes : (k : Terms) (m : ℕ) (a : CallerCore) (t1 t4 : Option ℕ) (dis : Dis) (dcs : Dcs) → due_time k.writes k.job k.gap (Text a.counts.page dcs 0) ≤ k.longest
     → Goes k (at_rest k a (AwaitCfr dis dcs) m) (moved (put a (AwaitCfr dis dcs) [] t1 t4) (Sends dis dcs (first_try a.counts))) m
 cfr_goes k m a t1 t4 dis dcs t = inr (sends_needs k m a (AwaitCfr dis dcs) dis dcs (first_try a.counts) t (less (base a.pages a.counts) (3 - a.counts.tries)) (omega arith))
   where
     less : (b t : ℕ) → b + (3 - 1) + 1 ≤ b + 3 + t
     less b t = omega arith
 
-ftt_goes : (k : Terms) (m : ℕ) (a : Calling) (t1 t4 : Option ℕ) (dis : Dis) (dcs : Dcs) (r : Result Dcs Refusal) → choice dis a.format (a.counts.step + 1) ≡ r
+ftt_goes : (k : Terms) (m : ℕ) (a : CallerCore) (t1 t4 : Option ℕ) (dis : Dis) (dcs : Dcs) (r : Result Dcs Refusal) → choice dis a.format (a.counts.step + 1) ≡ r
     → Goes k (at_rest k a (AwaitCfr dis dcs) m) (moved (put a (AwaitCfr dis dcs) [] t1 t4) (by_choice dis (next_step a.counts) r)) m
 ftt_goes k m a t1 t4 dis dcs (Ok new) e =
     inr (trains_needs k m a (AwaitCfr dis dcs) dis new (next_step a.counts) (less (36 * (a.pages - 1 - a.counts.page) + 6 * (2 - a.counts.refused)) a.counts.step (3 - a.counts.tries) (step_few dis a.format (a.counts.step + 1) new e)) (omega arith))
@@ -414,7 +414,7 @@ ftt_goes k m a t1 t4 dis dcs (Ok new) e =
     less b p t h = omega arith
 ftt_goes k m a t1 t4 dis dcs (Err x) e = inr (closes_needs k m a (AwaitCfr dis dcs) (Rattle.fax_call.specs.Table.outcome_of x) (next_step a.counts))
 
-again_goes : (k : Terms) (m : ℕ) (a : Calling) (t1 t4 : Option ℕ) (dis : Dis) (dcs : Dcs) → Goes k (at_rest k a (AwaitCfr dis dcs) m) (moved (put a (AwaitCfr dis dcs) [] t1 t4) (tries_again dis dcs a.counts)) m
+again_goes : (k : Terms) (m : ℕ) (a : CallerCore) (t1 t4 : Option ℕ) (dis : Dis) (dcs : Dcs) → Goes k (at_rest k a (AwaitCfr dis dcs) m) (moved (put a (AwaitCfr dis dcs) [] t1 t4) (tries_again dis dcs a.counts)) m
 again_goes k m a t1 t4 dis dcs =
     if_goes k (at_rest k a (AwaitCfr dis dcs) m) m (put a (AwaitCfr dis dcs) [] t1 t4) (nat_lt a.counts.tries most_tries) (Trains dis dcs (next_try a.counts)) (Closes outcomes.NoReply a.counts)
     (λ e. inr (trains_again k m a dis dcs e)) (λ e. inr (closes_needs k m a (AwaitCfr dis dcs) outcomes.NoReply a.counts))
@@ -435,7 +435,7 @@ next_exchanges pages page refused step t h = grown (pages - 1 - page) (pages - 1
     grown : (p q r s : ℕ) → q + 1 ≤ p → 36 * q + 6 * (2 - 0) + s + 24 ≤ 36 * p + r + s + t
     grown p q r s e = omega arith
 
-next_sends : (k : Terms) (m : ℕ) (a : Calling) (t1 t4 : Option ℕ) (dis : Dis) (dcs : Dcs) → NextPage a.pages a.counts → due_time k.writes k.job k.gap (Text (a.counts.page + 1) dcs 0) ≤ k.longest
+next_sends : (k : Terms) (m : ℕ) (a : CallerCore) (t1 t4 : Option ℕ) (dis : Dis) (dcs : Dcs) → NextPage a.pages a.counts → due_time k.writes k.job k.gap (Text (a.counts.page + 1) dcs 0) ≤ k.longest
     → Goes k (at_rest k a (AwaitMcf dis dcs) m) (moved (put a (AwaitMcf dis dcs) [] t1 t4) (Sends dis dcs (next_page a.counts))) m
 next_sends k m a t1 t4 dis dcs n t =
     inr (sends_needs k m a (AwaitMcf dis dcs) dis dcs (next_page a.counts) t
@@ -444,7 +444,7 @@ next_sends k m a t1 t4 dis dcs n t =
     few : (b x : ℕ) → b + 24 ≤ x → b + (3 - 1) + 1 ≤ x
     few b x h = omega arith
 
-next_trains : (k : Terms) (m : ℕ) (a : Calling) (t1 t4 : Option ℕ) (dis : Dis) (dcs : Dcs) → NextPage a.pages a.counts
+next_trains : (k : Terms) (m : ℕ) (a : CallerCore) (t1 t4 : Option ℕ) (dis : Dis) (dcs : Dcs) → NextPage a.pages a.counts
     → Goes k (at_rest k a (AwaitMcf dis dcs) m) (moved (put a (AwaitMcf dis dcs) [] t1 t4) (Trains dis dcs (next_page a.counts))) m
 next_trains k m a t1 t4 dis dcs n =
     inr (trains_needs k m a (AwaitMcf dis dcs) dis dcs (next_page a.counts)
@@ -453,7 +453,7 @@ next_trains k m a t1 t4 dis dcs n =
     few : (b x : ℕ) → b + 24 ≤ x → b + 3 + (3 - 1) + 1 ≤ x
     few b x h = omega arith
 
-next_turns : (k : Terms) (m now : ℕ) (a : Calling) (t1 t4 : Option ℕ) (dis : Dis) (dcs : Dcs) (turn : Option Format) (move : Move) → now ≤ m + k.gap → NextPage a.pages a.counts
+next_turns : (k : Terms) (m now : ℕ) (a : CallerCore) (t1 t4 : Option ℕ) (dis : Dis) (dcs : Dcs) (turn : Option Format) (move : Move) → now ≤ m + k.gap → NextPage a.pages a.counts
     → Goes k (at_rest k a (AwaitMcf dis dcs) m) (moved (put a (AwaitMcf dis dcs) [] t1 t4) move) m
     → Goes k (at_rest k a (AwaitMcf dis dcs) m) (moved (put a (AwaitMcf dis dcs) [] t1 t4) (turns_or now turn a.counts move)) m
 next_turns k m now a t1 t4 dis dcs None move h n g = g
@@ -464,7 +464,7 @@ next_turns k m now a t1 t4 dis dcs (Some format) move h n g =
     few : (p q r s t : ℕ) → q + 1 ≤ p → 36 * q + 6 * (2 - 0) + 3 * (6 - 0) + 6 ≤ 36 * p + r + s + t
     few p q r s t e = omega arith
 
-rtn_goes : (k : Terms) (m : ℕ) (a : Calling) (t1 t4 : Option ℕ) (dis : Dis) (dcs : Dcs) → Goes k (at_rest k a (AwaitMcf dis dcs) m) (moved (put a (AwaitMcf dis dcs) [] t1 t4) (after_refusal dis dcs a.counts)) m
+rtn_goes : (k : Terms) (m : ℕ) (a : CallerCore) (t1 t4 : Option ℕ) (dis : Dis) (dcs : Dcs) → Goes k (at_rest k a (AwaitMcf dis dcs) m) (moved (put a (AwaitMcf dis dcs) [] t1 t4) (after_refusal dis dcs a.counts)) m
 rtn_goes k m a t1 t4 dis dcs =
     if_goes k (at_rest k a (AwaitMcf dis dcs) m) m (put a (AwaitMcf dis dcs) [] t1 t4) (nat_lt a.counts.refused 2) (Trains dis dcs (one_refused a.counts)) (Closes outcomes.PageRefused a.counts)
     (λ e. inr (trains_needs k m a (AwaitMcf dis dcs) dis dcs (one_refused a.counts) (less (36 * (a.pages - 1 - a.counts.page)) a.counts.refused (3 * (6 - a.counts.step)) (3 - a.counts.tries) (lt_if a.counts.refused 2 e)) (omega arith)))
@@ -473,7 +473,7 @@ rtn_goes k m a t1 t4 dis dcs =
     less : (b r s t : ℕ) → r < 2 → b + 6 * (2 - (r + 1)) + s + 3 + (3 - 1) + 1 ≤ b + 6 * (2 - r) + s + t
     less b r s t h = omega arith
 
-frame_goes : (k : Terms) (m now : ℕ) (a : Calling) (turn : Option Format) (s : State) (t1 t4 : Option ℕ) (frame : Option Frame) → now ≤ m + k.gap → NoTextIsLonger k.writes k.job k.gap k.longest → FitsAt a.pages a.format s a.counts
+frame_goes : (k : Terms) (m now : ℕ) (a : CallerCore) (turn : Option Format) (s : State) (t1 t4 : Option ℕ) (frame : Option Frame) → now ≤ m + k.gap → NoTextIsLonger k.writes k.job k.gap k.longest → FitsAt a.pages a.format s a.counts
     → Goes k (needed k (put a s [] t1 t4) m + m) (moved (put a s [] t1 t4) (on_frame now a.format turn a.pages s a.counts frame)) m
 frame_goes k m now a turn AwaitDis t1 t4 (Some (frames.Dis dis)) h l f =
     from_rest k m a AwaitDis (left_of t1 m) (moved (put a AwaitDis [] t1 t4) (by_choice dis (first_try a.counts) (choice dis a.format a.counts.step))) (dis_goes k m a t1 t4 dis (choice dis a.format a.counts.step))
@@ -505,11 +505,11 @@ frame_goes k m now a turn (AwaitMcf dis dcs) t1 t4 (Some frames.Rtn) h l f =
 frame_goes k m now a turn (AwaitMcf dis dcs) t1 t4 (Some frames.Dcn) h l f = inl refl
 frame_goes k m now a turn s t1 t4 frame h l f = stays_goes k (put a s [] t1 t4) m
 
-came_goes : (k : Terms) (m now : ℕ) (a : Calling) (piece : pieces.Piece) → now ≤ m + k.gap → NoTextIsLonger k.writes k.job k.gap k.longest → FitsAt a.pages a.format a.state a.counts → Goes k (needed k a m + m) (came a piece now) m
+came_goes : (k : Terms) (m now : ℕ) (a : CallerCore) (piece : pieces.Piece) → now ≤ m + k.gap → NoTextIsLonger k.writes k.job k.gap k.longest → FitsAt a.pages a.format a.state a.counts → Goes k (needed k a m + m) (came a piece now) m
 came_goes k m now a (pieces.Frame octets) h l f = by a.waiting
   where
     turn : Option Format
-    turn = turn_behind a.formats a.counts.page
+    turn = turn_after a.formats a.counts.page
 
     by : (due : List Due) → Goes k (needed k (put a a.state due a.t1 a.t4) m + m) (moved (put a a.state due a.t1 a.t4) (if waits due then Stays else on_frame now a.format turn a.pages a.state a.counts (frame_of octets))) m
     by [] = frame_goes k m now a turn a.state a.t1 a.t4 (frame_of octets) h l f
@@ -520,11 +520,11 @@ came_goes k m now a (pieces.End n) h l f = stays_goes k a m
 came_goes k m now a pieces.Gap h l f = stays_goes k a m
 
 -- a call that is over stays so
-idle_came : (a : Calling) (piece : pieces.Piece) (now : ℕ) → a.state ≡ Idle → (came a piece now).state ≡ Idle
+idle_came : (a : CallerCore) (piece : pieces.Piece) (now : ℕ) → a.state ≡ Idle → (came a piece now).state ≡ Idle
 idle_came a (pieces.Frame octets) now e = by (waits a.waiting)
   where
     turn : Option Format
-    turn = turn_behind a.formats a.counts.page
+    turn = turn_after a.formats a.counts.page
 
     none : on_frame now a.format turn a.pages a.state a.counts (frame_of octets) ≡ Stays
     none = ap (λ (s : State). on_frame now a.format turn a.pages s a.counts (frame_of octets)) e
@@ -546,29 +546,29 @@ fits_at pages page format (AwaitCfr dis dcs) c n t k h = (k.chosen, h)
 fits_at pages page format (AwaitMcf dis dcs) c n t k h = (k.chosen, h)
 fits_at pages page format (Closing x) c n t k h = tt
 
-fits_in_call : (writes : Writing) (job : JobValue) (core : Calling) (start : ℕ) (events : List CallEvent) → IsWriting writes → IsJob job →
-    let a : Calling = after_events writes job (started core job start) events in
+fits_in_call : (writes : Writing) (job : JobValue) (core : CallerCore) (start : ℕ) (events : List CallEvent) → IsWriting writes → IsJob job →
+    let a : CallerCore = after_events writes job (started core job start) events in
     FitsAt a.pages a.format a.state a.counts
 fits_in_call writes job core start events w is =
     let texts : Texts = record { writes = writes; are = w } in
-    let begun : Calling = started core job start in
-    let a : Calling = after_events writes job begun events in
+    let begun : CallerCore = started core job start in
+    let a : CallerCore = after_events writes job begun events in
     let g = events_good texts job [] begun events is (start_good texts job [] core start is) in
     let within : a.counts.page < a.pages = subst (λ (n : ℕ). a.counts.page < n) (sym g.kept.same_pages) g.kept.within in
     fits_at a.pages a.counts.page a.format a.state a.counts (failures writes job begun events) (dis_taken writes job begun events) (steps.call_knows writes job core start events) within
 
-record IsSteady (k : Terms) (x m : ℕ) (a : Calling) : Type 0 where
+record IsSteady (k : Terms) (x m : ℕ) (a : CallerCore) : Type 0 where
   timely : IsTimely (m + k.gap) a
   goes : Goes k x a m
 
-came_steady : (k : Terms) (x m now : ℕ) (a : Calling) (piece : pieces.Piece) → now ≤ m + k.gap → NoTextIsLonger k.writes k.job k.gap k.longest → FitsAt a.pages a.format a.state a.counts → IsSteady k x m a → IsSteady k x m (came a piece now)
+came_steady : (k : Terms) (x m now : ℕ) (a : CallerCore) (piece : pieces.Piece) → now ≤ m + k.gap → NoTextIsLonger k.writes k.job k.gap k.longest → FitsAt a.pages a.format a.state a.counts → IsSteady k x m a → IsSteady k x m (came a piece now)
 came_steady k x m now a piece h l f w = record { timely = came_timely (m + k.gap) a piece now h w.timely; goes = by w.goes }
   where
     by : Goes k x a m → Goes k x (came a piece now) m
     by (inl e) = inl (idle_came a piece now e)
     by (inr n) = goes_most k (needed k a m + m) x (came a piece now) m n (came_goes k m now a piece h l f)
 
-ticked_steady : (k : Terms) (x m now : ℕ) (a : Calling) → m ≤ now → now ≤ m + k.gap → IsSteady k x m a → IsSteady k x now (ticked k.writes k.job a now).core
+ticked_steady : (k : Terms) (x m now : ℕ) (a : CallerCore) → m ≤ now → now ≤ m + k.gap → IsSteady k x m a → IsSteady k x now (ticked k.writes k.job a now).core
 ticked_steady k x m now a h g w =
     record { timely = ticked_timely (now + k.gap) now k.writes k.job a (omega arith) (later (m + k.gap) (now + k.gap) a (omega arith) w.timely); goes = by w.goes }
   where
@@ -576,8 +576,8 @@ ticked_steady k x m now a h g w =
     by (inl e) = inl (idle_stays k.writes k.job now (m + k.gap) a w.timely e)
     by (inr n) = goes_most k (needed k a m + m) x (ticked k.writes k.job a now).core now n (tick_goes k m now (m + k.gap) a a.state a.waiting a.t1 a.t4 h g w.timely.state)
 
-call_steady : (k : Terms) (x : ℕ) (core : Calling) (start : ℕ) (events : List CallEvent) →
-    let begun : Calling = started core k.job start in
+call_steady : (k : Terms) (x : ℕ) (core : CallerCore) (start : ℕ) (events : List CallEvent) →
+    let begun : CallerCore = started core k.job start in
     IsWriting k.writes → IsJob k.job → NoTextIsLonger k.writes k.job k.gap k.longest → AreSteady k.gap start events → IsSteady k x start begun
     → IsSteady k x (last_tick start events) (after_events k.writes k.job begun events)
 call_steady k x core start [] writing is l s w = w
@@ -588,7 +588,7 @@ call_steady k x core start (Ticks now ∷ before) writing is l s w =
     ticked_steady k x (last_tick start before) now (after_events k.writes k.job (started core k.job start) before) s.0 s.1 (call_steady k x core start before writing is l s.2 w)
 
 -- what a call that begins needs
-start_needs : (k : Terms) (core : Calling) (start : ℕ) → 1 ≤ length k.job.pages → allowed_from core.pace.last ≤ start + spans.longest_pause
+start_needs : (k : Terms) (core : CallerCore) (start : ℕ) → 1 ≤ length k.job.pages → allowed_from core.pace.last ≤ start + spans.longest_pause
     → needed k (started core k.job start) start ≤ longest_call (length k.job.pages) k.gap k.longest
 start_needs k core start some p =
     add (allowed_from core.pace.last - start) (moment_after start spans.t1 - start) (time_for (base pages Rattle.fax_call.specs.Table.no_counts + 6) u) (time_for (36 * pages) u) (time_for (pages - 1 - 0) e) (time_for (pages - 1) e) (pages * (36 * u + e))
@@ -612,10 +612,10 @@ every_call_ends writes job core start gap longest events writing is p l s long =
     k : Terms
     k = record { writes = writes; job = job; gap = gap; longest = longest }
 
-    begun : Calling
+    begun : CallerCore
     begun = started core job start
 
-    z : Calling
+    z : CallerCore
     z = after_events writes job begun events
 
     x : ℕ

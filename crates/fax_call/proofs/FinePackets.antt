@@ -8,10 +8,10 @@ use Rattle.fax_frames.specs.Rates.{kind_of}
 use Rattle.fax_ifp.specs.Elements.{Element}
 use Rattle.fax_jobs.specs.Jobs.{JobValue, IsJob}
 use Rattle.fax_call.specs.Writings.{Writing, IsWriting}
-use Rattle.fax_call.specs.Replies.{Signals, Tells, Part, Due, One, Text, written, part_length, training_check, is_last_page, turn_behind, command_by, command}
+use Rattle.fax_call.specs.Replies.{Signals, Tells, Part, Due, One, Text, written, part_length, training_check, is_last_page, turn_after, command_by, command}
 use Rattle.fax_call.specs.Replies as replies
 use Rattle.fax_call.specs.Table.{Move, Stays, Trains, Sends, AsksAgain, Turns, Closes, HangsUp}
-use Rattle.fax_call.specs.Calls.{Calling, started, moved, heard, timed, text_at, Taken, taken_text, taken, after_giving, given_first, Ticked, CallEvent, Comes, Ticks, after_events, ticked}
+use Rattle.fax_call.specs.Calls.{CallerCore, started, moved, heard, timed, text_at, TakenPart, taken_text, taken, after_giving, given_first, TickResult, CallEvent, Comes, Ticks, after_events, ticked}
 use Rattle.fax_call.specs.Emission.{Mark, Begins, elements_given, marks_after}
 use Rattle.fax_call.specs.Given.{packets_with, packets_given, dcs_in, EachDcs, IsOfKind, tells_eom, is_eom_frame, TellsOneKind}
 use Rattle.std.specs.Prelude.{IfSome}
@@ -48,18 +48,18 @@ command_fine true turn = (omega arith, ((omega arith, omega arith), tt))
 command_fine false (Some format) = (omega arith, ((omega arith, omega arith), tt))
 command_fine false None = (omega arith, ((omega arith, omega arith), tt))
 
-moved_fine : (a : Calling) (m : Move) → AllFine a.waiting → AllFine (moved a m).waiting
+moved_fine : (a : CallerCore) (m : Move) → AllFine a.waiting → AllFine (moved a m).waiting
 moved_fine a Stays h = h
 moved_fine a (Trains dis dcs c) h =
     (omega arith, ((omega arith, omega arith), (code_fits dcs.rate true, parts_fine dcs.rate (training_check dcs) (check_parts dcs))))
-moved_fine a (Sends dis dcs c) h = (code_fits dcs.rate false, (tt, command_fine (is_last_page a.pages c.page) (turn_behind a.formats c.page)))
-moved_fine a (AsksAgain c) h = command_fine (is_last_page a.pages c.page) (turn_behind a.formats c.page)
+moved_fine a (Sends dis dcs c) h = (code_fits dcs.rate false, (tt, command_fine (is_last_page a.pages c.page) (turn_after a.formats c.page)))
+moved_fine a (AsksAgain c) h = command_fine (is_last_page a.pages c.page) (turn_after a.formats c.page)
 moved_fine a (Turns format t1 c) h = tt
 moved_fine a (Closes outcome c) h = (omega arith, ((omega arith, omega arith), tt))
 moved_fine a HangsUp h = tt
 
 -- what is taken of a text
-record FineTaken (t : Taken) : Type 0 where
+record FineTaken (t : TakenPart) : Type 0 where
   packet : IsFine t.packet
   rest : AllFine t.rest
 
@@ -79,7 +79,7 @@ text_fine page dcs from text due left h = by (nat_le (length (drop from text)) (
     some = let l : length (drop from text) ≡ length text - from = length-drop from text in omega arith
 
     by : (t : Bool) → nat_le (length (drop from text)) (part_length dcs) ≡ t
-        → FineTaken (if◌then◌else◌ {A = Taken} t (record { packet = Part (kind_of dcs.rate) true (drop from text); rest = due }) (record { packet = Part (kind_of dcs.rate) false (take (part_length dcs) (drop from text)); rest = Text page dcs (from + part_length dcs) ∷ due }))
+        → FineTaken (if◌then◌else◌ {A = TakenPart} t (record { packet = Part (kind_of dcs.rate) true (drop from text); rest = due }) (record { packet = Part (kind_of dcs.rate) false (take (part_length dcs) (drop from text)); rest = Text page dcs (from + part_length dcs) ∷ due }))
     by true e =
         let l : length (drop from text) ≤ part_length dcs = le_so (length (drop from text)) (part_length dcs) e in
         let k : part_length dcs ≤ 65535 = (part_some dcs.rate).1 in
@@ -98,7 +98,7 @@ taken_fine texts job page Post (Text n dcs from) due before s h =
     text_fine n dcs from (text_at texts.writes job n dcs) due
     (subst (λ (m : ℕ). from < length (text_at texts.writes job m dcs)) (sym s.0) s.1.left) h.1
 
-after_fine : (a : Calling) (now : ℕ) (packet : replies.Packet) (due : List Due) → AllFine due → AllFine (after_giving a now packet due).waiting
+after_fine : (a : CallerCore) (now : ℕ) (packet : replies.Packet) (due : List Due) → AllFine due → AllFine (after_giving a now packet due).waiting
 after_fine a now packet [] h = tt
 after_fine a now packet (d ∷ due) h = h
 
@@ -106,33 +106,33 @@ abbrev FineIf : Option replies.Packet → Type 0
 FineIf None = Unit {0}
 FineIf (Some p) = IsFine p
 
-record FineTick (t : Ticked) : Type 0 where
+record FineTick (t : TickResult) : Type 0 where
   core : AllFine t.core.waiting
   given : FineIf t.given
 
-first_fine : (texts : Texts) (job : JobValue) (a : Calling) (now page : ℕ) (Post : List Element → Type 0) (due : List Due) (before : List Element)
+first_fine : (texts : Texts) (job : JobValue) (a : CallerCore) (now page : ℕ) (Post : List Element → Type 0) (due : List Due) (before : List Element)
     → SafeTo texts job page Post due before → AllFine a.waiting → AllFine due → FineTick (given_first texts.writes job a now due)
 first_fine texts job a now page Post [] before s g h = record { core = g; given = tt }
 first_fine texts job a now page Post (d ∷ due) before s g h =
     let t : FineTaken (taken texts.writes job d due) = taken_fine texts job page Post d due before s h in
     record { core = after_fine a now (taken texts.writes job d due).packet (taken texts.writes job d due).rest t.rest; given = t.packet }
 
-paced_fine : (b : Bool) (a : Calling) (t : Ticked) → AllFine a.waiting → FineTick t → FineTick (if◌then◌else◌ {A = Ticked} b t (record { core = a; given = None }))
+paced_fine : (b : Bool) (a : CallerCore) (t : TickResult) → AllFine a.waiting → FineTick t → FineTick (if◌then◌else◌ {A = TickResult} b t (record { core = a; given = None }))
 paced_fine true a t g h = h
 paced_fine false a t g h = record { core = g; given = tt }
 
-tick_fine : (texts : Texts) (job : JobValue) (a : Calling) (now : ℕ) (marks : List Mark) → Good texts job a marks → AllFine a.waiting → FineTick (ticked texts.writes job a now)
+tick_fine : (texts : Texts) (job : JobValue) (a : CallerCore) (now : ℕ) (marks : List Mark) → Good texts job a marks → AllFine a.waiting → FineTick (ticked texts.writes job a now)
 tick_fine texts job a now marks g h =
-    let b : Calling = timed a now in
+    let b : CallerCore = timed a now in
     let good : Good texts job b marks = timed_good texts job a now marks g in
     let closed : AllFine b.waiting = moved_fine a _ h in
     paced_fine (pace_allows b.pace.last now) b (given_first texts.writes job b now b.waiting) closed
     (first_fine texts job b now b.counts.page _ b.waiting (elements_given marks) good.kept.safe closed closed)
 
-events_fine : (texts : Texts) (job : JobValue) (a : Calling) (events : List CallEvent) → IsJob job → Good texts job a (Begins ∷ []) → AllFine a.waiting → AllFine (after_events texts.writes job a events).waiting
+events_fine : (texts : Texts) (job : JobValue) (a : CallerCore) (events : List CallEvent) → IsJob job → Good texts job a (Begins ∷ []) → AllFine a.waiting → AllFine (after_events texts.writes job a events).waiting
 events_fine texts job a [] is g h = h
 events_fine texts job a (Comes piece now ∷ before) is g h =
-    let c : Calling = after_events texts.writes job a before in
+    let c : CallerCore = after_events texts.writes job a before in
     moved_fine c (heard c piece now) (events_fine texts job a before is g h)
 events_fine texts job a (Ticks now ∷ before) is g h =
     (tick_fine texts job (after_events texts.writes job a before) now (marks_after texts.writes job [] a before) (events_good texts job [] a before is g) (events_fine texts job a before is g h)).core
@@ -141,7 +141,7 @@ if_some : (o : Option replies.Packet) (packet : replies.Packet) → o ≡ Some p
 if_some None packet e h = cc
 if_some (Some p) packet e h = let same : p ≡ packet = cc in subst IsFine same h
 
-pub given_fine : (texts : Texts) (job : JobValue) (a : Calling) (events : List CallEvent) → IsJob job → Good texts job a (Begins ∷ []) → AllFine a.waiting → AreFine (packets_given texts.writes job a events)
+pub given_fine : (texts : Texts) (job : JobValue) (a : CallerCore) (events : List CallEvent) → IsJob job → Good texts job a (Begins ∷ []) → AllFine a.waiting → AreFine (packets_given texts.writes job a events)
 given_fine texts job a [] is g h = tt
 given_fine texts job a (Comes piece now ∷ before) is g h = given_fine texts job a before is g h
 given_fine texts job a (Ticks now ∷ before) is g h =
@@ -167,7 +167,7 @@ each_told format coding (Signals code ∷ packets) k = each_told format coding p
 each_told format coding (Part kind last octets ∷ packets) k = each_told format coding packets k.1
 
 -- of all packets of a call, and of what is heard of them
-pub record OneKind (writes : Writing) (job : JobValue) (core : Calling) (start : ℕ) (events : List CallEvent) : Type 0 where
+pub record OneKind (writes : Writing) (job : JobValue) (core : CallerCore) (start : ℕ) (events : List CallEvent) : Type 0 where
   pub coding : Coding
   pub given : EachDcs (IsOfKind job.format coding) (packets_given writes job (started core job start) events)
   pub heard : (octets : List ℕ) (dcs : Dcs) → Contains (pieces.pieces (map Some (map written (packets_given writes job (started core job start) events)))) (pieces.Frame octets)
@@ -180,11 +180,11 @@ no_eom packets f h = by (list_any tells_eom packets) refl
     by false e = refl
     by true e = let heard : HearsEom packets = eom_heard packets f e in let x : true ≡ false = sym heard ∙ h in cc
 
-pub one_kind : (writes : Writing) (job : JobValue) (core : Calling) (start : ℕ) (events : List CallEvent) → IsWriting writes → IsJob job
+pub one_kind : (writes : Writing) (job : JobValue) (core : CallerCore) (start : ℕ) (events : List CallEvent) → IsWriting writes → IsJob job
     → list_any is_eom_frame (pieces.pieces (map Some (map written (packets_given writes job (started core job start) events)))) ≡ false → OneKind writes job core start events
 one_kind writes job core start events w is none =
     let texts : Texts = record { writes = writes; are = w } in
-    let a : Calling = started core job start in
+    let a : CallerCore = started core job start in
     let packets : List replies.Packet = packets_given writes job a events in
     let fine : AreFine packets = given_fine texts job a events is (start_good texts job [] core start is) (omega arith, tt) in
     let one = gives_one_kind writes job core start events (no_eom packets fine none) in

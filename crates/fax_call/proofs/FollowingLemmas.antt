@@ -18,10 +18,10 @@ use Rattle.fax_call.specs.declared.procedure.Procedure.{Procedure}
 use Rattle.fax_call.specs.declared.state.State.{State}
 use Rattle.fax_call.specs.declared.state.State.TheVariants.{Idle, AwaitDis, AwaitCfr, AwaitMcf, Closing}
 use Rattle.fax_call.specs.Writings.{Writing}
-use Rattle.fax_call.specs.Replies.{Due, waits, parts_of, check_length, turn_behind, command_behind}
+use Rattle.fax_call.specs.Replies.{Due, waits, parts_of, check_length, turn_after, command_after}
 use Rattle.fax_call.specs.Table.{Counts, Move, Stays, on_frame, on_timers}
-use Rattle.fax_call.specs.Calls.{Calling, moved, came, timed}
-use Rattle.fax_call.specs.Kept.{counts_shown, waiting_of, FitsPending}
+use Rattle.fax_call.specs.Calls.{CallerCore, moved, came, timed}
+use Rattle.fax_call.specs.Rep.{counts_shown, waiting_of, FitsPending}
 use Rattle.fax_call.specs.Following.{IsFit, Follows, KeepsTurn, gives_now}
 
 waits_if : (b : Bool) (d e : Due) (due : List Due) → waits (if b then d ∷ [] else e ∷ due) ≡ true
@@ -44,31 +44,31 @@ pending_waits (Check dcs given) asks page from fits some = let left : 0 < check_
 pending_waits (Image dcs) asks page from fits some = refl
 pending_waits (Text dcs plain) asks page from fits some = refl
 
-pub core_waits : (writes : Writing) (job : JobValue) (core : Calling) (writer : WriterValue) (p : Procedure) → IsFit p → Follows writes job core writer p
+pub core_waits : (writes : Writing) (job : JobValue) (core : CallerCore) (writer : WriterValue) (p : Procedure) → IsFit p → Follows writes job core writer p
     → (p.pending ≡ Nothing → ⊥) → waits core.waiting ≡ true
 core_waits writes job core writer p fit f some =
-    sym (ap waits f.waiting) ∙ pending_waits p.pending (command_behind core.formats core.pages p.counts.page) p.counts.page f.from fit.pending some
+    sym (ap waits f.waiting) ∙ pending_waits p.pending (command_after core.formats core.pages p.counts.page) p.counts.page f.from fit.pending some
 
-pub core_rests : (writes : Writing) (job : JobValue) (core : Calling) (writer : WriterValue) (p : Procedure) → Follows writes job core writer p
+pub core_rests : (writes : Writing) (job : JobValue) (core : CallerCore) (writer : WriterValue) (p : Procedure) → Follows writes job core writer p
     → p.pending ≡ Nothing → waits core.waiting ≡ false
 core_rests writes job core writer p f none =
-    sym (ap waits f.waiting) ∙ ap (λ (q : Pending). waits (waiting_of q (command_behind core.formats core.pages p.counts.page) p.counts.page f.from)) none
+    sym (ap waits f.waiting) ∙ ap (λ (q : Pending). waits (waiting_of q (command_after core.formats core.pages p.counts.page) p.counts.page f.from)) none
 
-pub gives_is : (writes : Writing) (job : JobValue) (core : Calling) (writer : WriterValue) (p : Procedure) (now : ℕ) → IsFit p → Follows writes job core writer p
+pub gives_is : (writes : Writing) (job : JobValue) (core : CallerCore) (writer : WriterValue) (p : Procedure) (now : ℕ) → IsFit p → Follows writes job core writer p
     → (p.pending ≡ Nothing → ⊥) → pace_allows p.pace.last now ≡ gives_now core now
 gives_is writes job core writer p now fit f some =
     ap (λ (v : PaceValue). pace_allows v.last now) f.pace
     ∙ sym (ap (λ (b : Bool). b && pace_allows core.pace.last now) (core_waits writes job core writer p fit f some))
 
-stays_if : (core : Calling) (b : Bool) (m : Move) → b ≡ true → moved core (if b then Stays else m) ≡ core
+stays_if : (core : CallerCore) (b : Bool) (m : Move) → b ≡ true → moved core (if b then Stays else m) ≡ core
 stays_if core true m e = refl
 stays_if core false m e = cc
 
 -- frames are passed over while packets wait, and timers do not act
-pub passed_over : (core : Calling) (octets : List ℕ) (now : ℕ) → waits core.waiting ≡ true → came core (pieces.Frame octets) now ≡ core
+pub passed_over : (core : CallerCore) (octets : List ℕ) (now : ℕ) → waits core.waiting ≡ true → came core (pieces.Frame octets) now ≡ core
 passed_over core octets now w = stays_if core (waits core.waiting) _ w
 
-pub not_timed : (core : Calling) (now : ℕ) → waits core.waiting ≡ true → timed core now ≡ core
+pub not_timed : (core : CallerCore) (now : ℕ) → waits core.waiting ≡ true → timed core now ≡ core
 not_timed core now w = stays_if core (waits core.waiting) _ w
 
 no_frame : (now : ℕ) (format : Format) (turn : Option Format) (pages : ℕ) (state : State) (c : Counts) → on_frame now format turn pages state c None ≡ Stays
@@ -78,30 +78,30 @@ no_frame now format turn pages (AwaitCfr dis dcs) c = refl
 no_frame now format turn pages (AwaitMcf dis dcs) c = refl
 no_frame now format turn pages (Closing outcome) c = refl
 
-acts_if : (core : Calling) (b : Bool) (m : Move) → b ≡ false → moved core (if b then Stays else m) ≡ moved core m
+acts_if : (core : CallerCore) (b : Bool) (m : Move) → b ≡ false → moved core (if b then Stays else m) ≡ moved core m
 acts_if core true m e = cc
 acts_if core false m e = refl
 
 -- octets that are no frame bring nothing about
-pub nothing_heard : (core : Calling) (octets : List ℕ) (now : ℕ) → waits core.waiting ≡ false → frame_of octets ≡ None → came core (pieces.Frame octets) now ≡ core
+pub nothing_heard : (core : CallerCore) (octets : List ℕ) (now : ℕ) → waits core.waiting ≡ false → frame_of octets ≡ None → came core (pieces.Frame octets) now ≡ core
 nothing_heard core octets now w none =
     acts_if core (waits core.waiting) _ w
-    ∙ ap (λ (f : Option Frame). moved core (on_frame now core.format (turn_behind core.formats core.counts.page) core.pages core.state core.counts f)) none
-    ∙ ap (moved core) (no_frame now core.format (turn_behind core.formats core.counts.page) core.pages core.state core.counts)
+    ∙ ap (λ (f : Option Frame). moved core (on_frame now core.format (turn_after core.formats core.counts.page) core.pages core.state core.counts f)) none
+    ∙ ap (moved core) (no_frame now core.format (turn_after core.formats core.counts.page) core.pages core.state core.counts)
 
--- behind an image and its command the next page's format is kept, and elsewhere the table does not look at it
+-- after an image and its command the next page's format is kept, and elsewhere the table does not look at it
 turn_known : (now : ℕ) (format : Format) (pages : ℕ) (state : State) (c : Counts) (o : Option Frame) (formats : List Format) (page : ℕ) (turn : Option Format) → KeepsTurn state Nothing formats page turn
-    → on_frame now format turn pages state c o ≡ on_frame now format (turn_behind formats page) pages state c o
+    → on_frame now format turn pages state c o ≡ on_frame now format (turn_after formats page) pages state c o
 turn_known now format pages Idle c o formats page turn k = refl
 turn_known now format pages AwaitDis c o formats page turn k = by o
   where
-    by : (o : Option Frame) → on_frame now format turn pages AwaitDis c o ≡ on_frame now format (turn_behind formats page) pages AwaitDis c o
+    by : (o : Option Frame) → on_frame now format turn pages AwaitDis c o ≡ on_frame now format (turn_after formats page) pages AwaitDis c o
     by (Some (frames.Dis d)) = refl
     by (Some frames.Dcn) = refl
     by o = refl
 turn_known now format pages (AwaitCfr dis dcs) c o formats page turn k = by o
   where
-    by : (o : Option Frame) → on_frame now format turn pages (AwaitCfr dis dcs) c o ≡ on_frame now format (turn_behind formats page) pages (AwaitCfr dis dcs) c o
+    by : (o : Option Frame) → on_frame now format turn pages (AwaitCfr dis dcs) c o ≡ on_frame now format (turn_after formats page) pages (AwaitCfr dis dcs) c o
     by (Some frames.Cfr) = refl
     by (Some frames.Ftt) = refl
     by (Some (frames.Dis d)) = refl
@@ -111,13 +111,13 @@ turn_known now format pages (AwaitMcf dis dcs) c o formats page turn k = ap (λ 
 turn_known now format pages (Closing x) c o formats page turn k = refl
 
 -- what a frame brings about, told of what is kept
-pub frame_heard : (writes : Writing) (job : JobValue) (core : Calling) (writer : WriterValue) (p : Procedure) (octets : List ℕ) (frame : Frame) (now : ℕ) (m : Move)
+pub frame_heard : (writes : Writing) (job : JobValue) (core : CallerCore) (writer : WriterValue) (p : Procedure) (octets : List ℕ) (frame : Frame) (now : ℕ) (m : Move)
     → Follows writes job core writer p → p.pending ≡ Nothing → frame_of octets ≡ Some frame
     → m ≡ on_frame now p.format p.turn p.pages p.state (counts_shown p.counts) (Some frame)
     → came core (pieces.Frame octets) now ≡ moved core m
 frame_heard writes job core writer p octets frame now m f none read decided =
     acts_if core (waits core.waiting) _ (core_rests writes job core writer p f none)
-    ∙ ap (λ (o : Option Frame). moved core (on_frame now core.format (turn_behind core.formats core.counts.page) core.pages core.state core.counts o)) read
+    ∙ ap (λ (o : Option Frame). moved core (on_frame now core.format (turn_after core.formats core.counts.page) core.pages core.state core.counts o)) read
     ∙ ap (moved core) (sym (decided ∙ same))
   where
     kept : KeepsTurn p.state Nothing core.formats p.counts.page p.turn
@@ -126,16 +126,16 @@ frame_heard writes job core writer p octets frame now m f none read decided =
     page : p.counts.page ≡ core.counts.page
     page = ap (λ (c : Counts). c.page) f.counts
 
-    same : on_frame now p.format p.turn p.pages p.state (counts_shown p.counts) (Some frame) ≡ on_frame now core.format (turn_behind core.formats core.counts.page) core.pages core.state core.counts (Some frame)
+    same : on_frame now p.format p.turn p.pages p.state (counts_shown p.counts) (Some frame) ≡ on_frame now core.format (turn_after core.formats core.counts.page) core.pages core.state core.counts (Some frame)
     same =
         turn_known now p.format p.pages p.state (counts_shown p.counts) (Some frame) core.formats p.counts.page p.turn kept
-        ∙ ap (λ (n : ℕ). on_frame now p.format (turn_behind core.formats n) p.pages p.state (counts_shown p.counts) (Some frame)) page
-        ∙ ap (λ (x : Format). on_frame now x (turn_behind core.formats core.counts.page) p.pages p.state (counts_shown p.counts) (Some frame)) f.format
-        ∙ ap (λ (x : ℕ). on_frame now core.format (turn_behind core.formats core.counts.page) x p.state (counts_shown p.counts) (Some frame)) f.pages
-        ∙ ap (λ (x : State). on_frame now core.format (turn_behind core.formats core.counts.page) core.pages x (counts_shown p.counts) (Some frame)) f.state
-        ∙ ap (λ (x : Counts). on_frame now core.format (turn_behind core.formats core.counts.page) core.pages core.state x (Some frame)) f.counts
+        ∙ ap (λ (n : ℕ). on_frame now p.format (turn_after core.formats n) p.pages p.state (counts_shown p.counts) (Some frame)) page
+        ∙ ap (λ (x : Format). on_frame now x (turn_after core.formats core.counts.page) p.pages p.state (counts_shown p.counts) (Some frame)) f.format
+        ∙ ap (λ (x : ℕ). on_frame now core.format (turn_after core.formats core.counts.page) x p.state (counts_shown p.counts) (Some frame)) f.pages
+        ∙ ap (λ (x : State). on_frame now core.format (turn_after core.formats core.counts.page) core.pages x (counts_shown p.counts) (Some frame)) f.state
+        ∙ ap (λ (x : Counts). on_frame now core.format (turn_after core.formats core.counts.page) core.pages core.state x (Some frame)) f.counts
 
-pub timers_acted : (writes : Writing) (job : JobValue) (core : Calling) (writer : WriterValue) (p : Procedure) (now : ℕ) (m : Move)
+pub timers_acted : (writes : Writing) (job : JobValue) (core : CallerCore) (writer : WriterValue) (p : Procedure) (now : ℕ) (m : Move)
     → Follows writes job core writer p → p.pending ≡ Nothing
     → m ≡ on_timers (is_due p.t1 now) (is_due p.t4 now) p.state (counts_shown p.counts)
     → timed core now ≡ moved core m

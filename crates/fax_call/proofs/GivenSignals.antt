@@ -25,9 +25,9 @@ use Rattle.fax_timers.specs.Paces.{pace_allows}
 use Rattle.fax_call.specs.declared.state.State.{State}
 use Rattle.fax_call.specs.declared.state.State.TheVariants.{Idle, AwaitDis, AwaitCfr, AwaitMcf, Closing}
 use Rattle.fax_call.specs.Writings.{Writing, IsWriting}
-use Rattle.fax_call.specs.Replies.{Packet, Signals, Tells, Part, written, Due, One, Text, part_length, parts_of, check_length, training_check, training, image, goodbye, is_last_page, turn_behind, command_by, command, waits}
+use Rattle.fax_call.specs.Replies.{Packet, Signals, Tells, Part, written, Due, One, Text, part_length, parts_of, check_length, training_check, training, image, goodbye, is_last_page, turn_after, command_by, command, waits}
 use Rattle.fax_call.specs.Table.{Counts, Move, Stays, Trains, Sends, AsksAgain, Turns, Closes, HangsUp, turns_or, gives_up_dis, next_try, next_page, one_delivered, one_refused, next_step, first_try, by_choice, tries_again, asks_again, on_frame, on_timers}
-use Rattle.fax_call.specs.Calls.{Calling, started, moved, came, timed, text_at, Taken, taken_text, state_when_given, after_giving, given_first, ticked, Ticked, CallEvent, Comes, Ticks, after_events}
+use Rattle.fax_call.specs.Calls.{CallerCore, started, moved, came, timed, text_at, TakenPart, taken_text, state_when_given, after_giving, given_first, ticked, TickResult, CallEvent, Comes, Ticks, after_events}
 use Rattle.fax_call.specs.Emission.{Mark, Begins, IsPageOf, Emits, elements_given, marks_given, marks_after, Reply, replied}
 use Rattle.fax_call.specs.Given.{packets_with, packets_given, dcs_in}
 use Rattle.fax_call.specs.GivenSignals.{dcs_or, last_dcs, ends_signal, IsCheck, IsImage, GivesChecksAndPages}
@@ -225,7 +225,7 @@ knows_timer given x y AwaitDis c = knows_if given x (gives_up_dis c) Stays tt tt
 knows_timer given x y (AwaitCfr dis dcs) c = knows_if given y (tries_again dis dcs c) Stays (knows_if given (nat_lt c.tries 3) (Trains dis dcs (next_try c)) (Closes outcomes.NoReply c) tt tt) tt
 knows_timer given x y (AwaitMcf dis dcs) c = knows_if given y (asks_again c) Stays (knows_if given (nat_lt c.tries 3) (AsksAgain (next_try c)) (Closes outcomes.NoReply c) tt tt) tt
 
-abbrev ToNow : Writing → JobValue → Calling → List Packet → Type 0
+abbrev ToNow : Writing → JobValue → CallerCore → List Packet → Type 0
 ToNow writes job a given = NeatTo writes job (PostState a.state) a.waiting given
 
 again_neat : (writes : Writing) (job : JobValue) (state : State) (end : Bool) (turn : Option Format) (given : List Packet) → open_octets given ≡ None → PostState state given → NeatTo writes job (PostState state) (command (command_by end turn)) given
@@ -235,16 +235,16 @@ again_neat writes job (Closing o) end turn given h p = plain_neat writes job (λ
 again_neat writes job (AwaitCfr dis dcs) end turn given h p = command_neat writes job dcs end turn given h p
 again_neat writes job (AwaitMcf dis dcs) end turn given h p = command_neat writes job dcs end turn given h p
 
-moved_neat : (writes : Writing) (job : JobValue) (a : Calling) (m : Move) (given : List Packet) → open_octets given ≡ None → PostState a.state given → Knows given m → ToNow writes job a given → ToNow writes job (moved a m) given
+moved_neat : (writes : Writing) (job : JobValue) (a : CallerCore) (m : Move) (given : List Packet) → open_octets given ≡ None → PostState a.state given → Knows given m → ToNow writes job a given → ToNow writes job (moved a m) given
 moved_neat writes job a Stays given h p k n = n
 moved_neat writes job a (Trains dis dcs c) given h p k n = training_neat writes job dis dcs given h
-moved_neat writes job a (Sends dis dcs c) given h p k n = image_neat writes job dis dcs (is_last_page a.pages c.page) (turn_behind a.formats c.page) c.page given h k
-moved_neat writes job a (AsksAgain c) given h p k n = again_neat writes job a.state (is_last_page a.pages c.page) (turn_behind a.formats c.page) given h p
+moved_neat writes job a (Sends dis dcs c) given h p k n = image_neat writes job dis dcs (is_last_page a.pages c.page) (turn_after a.formats c.page) c.page given h k
+moved_neat writes job a (AsksAgain c) given h p k n = again_neat writes job a.state (is_last_page a.pages c.page) (turn_after a.formats c.page) given h p
 moved_neat writes job a (Turns format t1 c) given h p k n = (h, tt)
 moved_neat writes job a (Closes o c) given h p k n = goodbye_neat writes job (λ after. Unit {0}) given h (λ after. tt)
 moved_neat writes job a HangsUp given h p k n = (h, tt)
 
-free_neat : (writes : Writing) (job : JobValue) (a : Calling) (m : Move) (given : List Packet) → (PostState a.state given → Knows given m) → ToNow writes job a given → ToNow writes job (moved a (if waits a.waiting then Stays else m)) given
+free_neat : (writes : Writing) (job : JobValue) (a : CallerCore) (m : Move) (given : List Packet) → (PostState a.state given → Knows given m) → ToNow writes job a given → ToNow writes job (moved a (if waits a.waiting then Stays else m)) given
 free_neat writes job a m given k n = by a.waiting refl
   where
     by : (w : List Due) → a.waiting ≡ w → ToNow writes job (moved a (if waits w then Stays else m)) given
@@ -253,16 +253,16 @@ free_neat writes job a m given k n = by a.waiting refl
         moved_neat writes job a m given free.0 free.1 (k free.1) n
     by (d ∷ due) e = n
 
-came_neat : (writes : Writing) (job : JobValue) (a : Calling) (piece : pieces.Piece) (now : ℕ) (given : List Packet) → ToNow writes job a given → ToNow writes job (came a piece now) given
+came_neat : (writes : Writing) (job : JobValue) (a : CallerCore) (piece : pieces.Piece) (now : ℕ) (given : List Packet) → ToNow writes job a given → ToNow writes job (came a piece now) given
 came_neat writes job a (pieces.Frame octets) now given n =
-    let turn : Option Format = turn_behind a.formats a.counts.page in
+    let turn : Option Format = turn_after a.formats a.counts.page in
     free_neat writes job a (on_frame now a.format turn a.pages a.state a.counts (frame_of octets)) given (λ p. knows_frame given now a.format turn a.pages a.state a.counts (frame_of octets) p) n
 came_neat writes job a (pieces.Start k) now given n = n
 came_neat writes job a (pieces.Octets os) now given n = n
 came_neat writes job a (pieces.End w) now given n = n
 came_neat writes job a pieces.Gap now given n = n
 
-timed_neat : (writes : Writing) (job : JobValue) (a : Calling) (now : ℕ) (given : List Packet) → ToNow writes job a given → ToNow writes job (timed a now) given
+timed_neat : (writes : Writing) (job : JobValue) (a : CallerCore) (now : ℕ) (given : List Packet) → ToNow writes job a given → ToNow writes job (timed a now) given
 timed_neat writes job a now given n =
     free_neat writes job a (on_timers (is_due a.t1 now) (is_due a.t4 now) a.state a.counts) given (λ p. knows_timer given (is_due a.t1 now) (is_due a.t4 now) a.state a.counts) n
 
@@ -272,7 +272,7 @@ put_neat P (Signals code) given z h n = (h, n)
 put_neat P (Tells frame) given z h n = (h, n)
 put_neat P (Part kind last os) given z h n = ((h.0, h.1, h.2, λ e. z given (h.0 ++ os) (h.3 e)), n)
 
-record Neat (writes : Writing) (job : JobValue) (P : List Packet → List ℕ → Type 0) (a : Calling) (given : List Packet) : Type 0 where
+record Neat (writes : Writing) (job : JobValue) (P : List Packet → List ℕ → Type 0) (a : CallerCore) (given : List Packet) : Type 0 where
   to : ToNow writes job a given
   neat : IsNeat P given
 
@@ -283,22 +283,22 @@ post_given (AwaitCfr dis dcs) given h = h
 post_given (AwaitMcf dis dcs) given h = h
 post_given (Closing o) given h = tt
 
-after_to : (writes : Writing) (job : JobValue) (b : Calling) (now : ℕ) (packet : Packet) (due : List Due) (given : List Packet) → NeatTo writes job (PostState b.state) due given → ToNow writes job (after_giving b now packet due) given
+after_to : (writes : Writing) (job : JobValue) (b : CallerCore) (now : ℕ) (packet : Packet) (due : List Due) (given : List Packet) → NeatTo writes job (PostState b.state) due given → ToNow writes job (after_giving b now packet due) given
 after_to writes job b now packet [] given h = (h.0, post_given b.state given h.1)
 after_to writes job b now packet (d ∷ due) given h = h
 
 -- where the last part of a text is given, its page is the one emitted last
-none_behind : (last : Option ℕ) (r : Reply) (page : ℕ) (state : State) (n : ℕ) (dcs : Dcs) (from : ℕ) (before : List elements.Element) → InTurn last r page state (Text n dcs from ∷ []) before → ⊥
-none_behind last r page Idle n dcs from before t = cc
-none_behind last r page (Closing o) n dcs from before t = cc
-none_behind last r page AwaitDis n dcs from before t = t.1
-none_behind last r page (AwaitCfr dis d) n dcs from before t = t.1
-none_behind last r page (AwaitMcf dis d) n dcs from before t = t.0.1 before
+none_after : (last : Option ℕ) (r : Reply) (page : ℕ) (state : State) (n : ℕ) (dcs : Dcs) (from : ℕ) (before : List elements.Element) → InTurn last r page state (Text n dcs from ∷ []) before → ⊥
+none_after last r page Idle n dcs from before t = cc
+none_after last r page (Closing o) n dcs from before t = cc
+none_after last r page AwaitDis n dcs from before t = t.1
+none_after last r page (AwaitCfr dis d) n dcs from before t = t.1
+none_after last r page (AwaitMcf dis d) n dcs from before t = t.0.1 before
 
-last_is : (b : Calling) (now : ℕ) (packet : Packet) (last new : Option ℕ) (r : Reply) (n : ℕ) (dcs : Dcs) (from : ℕ) (due : List Due) (before : List elements.Element)
+last_is : (b : CallerCore) (now : ℕ) (packet : Packet) (last new : Option ℕ) (r : Reply) (n : ℕ) (dcs : Dcs) (from : ℕ) (due : List Due) (before : List elements.Element)
     → InTurn last r b.counts.page b.state (Text n dcs from ∷ due) before
     → IsSent new (after_giving b now packet due).counts.page (after_giving b now packet due).state (after_giving b now packet due).waiting → new ≡ Some b.counts.page
-last_is b now packet last new r n dcs from [] before t s = absurd (none_behind last r b.counts.page b.state n dcs from before t)
+last_is b now packet last new r n dcs from [] before t s = absurd (none_after last r b.counts.page b.state n dcs from before t)
 last_is b now packet last new r n dcs from (x ∷ due) before t s = by b.state t s
   where
     by : (state : State) → InTurn last r b.counts.page state (Text n dcs from ∷ x ∷ due) before → IsSent new b.counts.page state (x ∷ due) → new ≡ Some b.counts.page
@@ -308,7 +308,7 @@ last_is b now packet last new r n dcs from (x ∷ due) before t s = by b.state t
     by (AwaitCfr dis d) t s = absurd t.1
     by (AwaitMcf dis d) t s = s t.0.0
 
-emits_then : (texts : Texts) (job : JobValue) (b : Calling) (now page : ℕ) (packet : Packet) (dcs : Dcs) (from : ℕ) (due : List Due) (marks new : List Mark) → b.waiting ≡ Text page dcs from ∷ due
+emits_then : (texts : Texts) (job : JobValue) (b : CallerCore) (now page : ℕ) (packet : Packet) (dcs : Dcs) (from : ℕ) (due : List Due) (marks new : List Mark) → b.waiting ≡ Text page dcs from ∷ due
     → Good texts job b marks → Good texts job (after_giving b now packet due) new → Emits job new (Some page)
 emits_then texts job b now page packet dcs from due marks new e g h =
     let s : SafeTo texts job b.counts.page (PostOf b.state) (Text page dcs from ∷ due) (elements_given marks) =
@@ -318,19 +318,19 @@ emits_then texts job b now page packet dcs from due marks new e g h =
     let l : h.last ≡ Some b.counts.page = last_is b now packet g.last h.last (replied marks) page dcs from due (elements_given marks) t h.kept.sent in
     subst (λ (x : Option ℕ). Emits job new x) (l ∙ ap (λ (k : ℕ). Some k) (sym s.0)) h.kept.emits
 
--- what is known of a tick: the core behind it, and that P holds of the image that it ends
-abbrev Ends : JobValue → (List Packet → List ℕ → Type 0) → List Packet → List Mark → Ticked → Type 0
+-- what is known of a tick: the core after it, and that P holds of the image that it ends
+abbrev Ends : JobValue → (List Packet → List ℕ → Type 0) → List Packet → List Mark → TickResult → Type 0
 Ends job P given marks t =
     (page : ℕ) (dcs : Dcs) (octets : List ℕ) → ends_signal t.given ≡ true → last_dcs given ≡ Some dcs → IsPageOf job page (record { octets = octets; dcs = dcs })
     → Emits job (marks_given t.given marks) (Some page) → P given octets
 
-abbrev After : Texts → JobValue → (List Packet → List ℕ → Type 0) → List Packet → List Mark → Ticked → Type 0
+abbrev After : Texts → JobValue → (List Packet → List ℕ → Type 0) → List Packet → List Mark → TickResult → Type 0
 After texts job P given marks t = Good texts job t.core (marks_given t.given marks) × Ends job P given marks t
 
-abbrev NeatTick : Writing → JobValue → (List Packet → List ℕ → Type 0) → List Packet → Ticked → Type 0
+abbrev NeatTick : Writing → JobValue → (List Packet → List ℕ → Type 0) → List Packet → TickResult → Type 0
 NeatTick writes job P given t = Neat writes job P t.core (packets_with t.given given)
 
-abbrev tick_of : Calling → ℕ → Taken → Ticked
+abbrev tick_of : CallerCore → ℕ → TakenPart → TickResult
 tick_of b now t = record { core = after_giving b now t.packet t.rest; given = Some t.packet }
 
 both : (n : ℕ) (xs : List ℕ) → take n xs ++ drop n xs ≡ xs
@@ -338,7 +338,7 @@ both zero xs = refl
 both (suc n) [] = refl
 both (suc n) (x ∷ xs) = ap (λ (ys : List ℕ). x ∷ ys) (both n xs)
 
-text_neat : (texts : Texts) (job : JobValue) (P : List Packet → List ℕ → Type 0) (b : Calling) (now page : ℕ) (dcs : Dcs) (from : ℕ) (due : List Due) (given : List Packet) (marks : List Mark)
+text_neat : (texts : Texts) (job : JobValue) (P : List Packet → List ℕ → Type 0) (b : CallerCore) (now page : ℕ) (dcs : Dcs) (from : ℕ) (due : List Due) (given : List Packet) (marks : List Mark)
     → IsJob job → b.waiting ≡ Text page dcs from ∷ due → Good texts job b marks → NeatTo texts.writes job (PostState b.state) (Text page dcs from ∷ due) given → IsNeat P given
     → After texts job P given marks (tick_of b now (taken_text page dcs from (text_at texts.writes job page dcs) due))
     → NeatTick texts.writes job P given (tick_of b now (taken_text page dcs from (text_at texts.writes job page dcs) due))
@@ -353,7 +353,7 @@ text_neat texts job P b now page dcs from due given marks is e g n neat = by (na
         (means_page texts job page dcs is (subst (λ (k : ℕ). k < length job.pages) (sym safe.0) g.kept.within) (subst (λ (k : ℕ). IsFormatOf job k dcs) (sym safe.0) safe.1.format_is))
 
     by : (t : Bool) →
-        let k : Taken = if◌then◌else◌ {A = Taken} t (record { packet = Part (kind_of dcs.rate) true (drop from (text_at texts.writes job page dcs)); rest = due }) (record { packet = Part (kind_of dcs.rate) false (take (part_length dcs) (drop from (text_at texts.writes job page dcs))); rest = Text page dcs (from + part_length dcs) ∷ due }) in
+        let k : TakenPart = if◌then◌else◌ {A = TakenPart} t (record { packet = Part (kind_of dcs.rate) true (drop from (text_at texts.writes job page dcs)); rest = due }) (record { packet = Part (kind_of dcs.rate) false (take (part_length dcs) (drop from (text_at texts.writes job page dcs))); rest = Text page dcs (from + part_length dcs) ∷ due }) in
         After texts job P given marks (tick_of b now k) → NeatTick texts.writes job P given (tick_of b now k)
     by true a =
         record {
@@ -379,7 +379,7 @@ text_neat texts job P b now page dcs from due given marks is e g n neat = by (na
           neat = ((take from (text_at texts.writes job page dcs), n.0.0, n.0.1, λ x. cc), neat);
         }
 
-first_neat : (texts : Texts) (job : JobValue) (P : List Packet → List ℕ → Type 0) (b : Calling) (now : ℕ) (w : List Due) (given : List Packet) (marks : List Mark)
+first_neat : (texts : Texts) (job : JobValue) (P : List Packet → List ℕ → Type 0) (b : CallerCore) (now : ℕ) (w : List Due) (given : List Packet) (marks : List Mark)
     → IsJob job → ((older : List Packet) (octets : List ℕ) → IsCheck octets → P older octets) → b.waiting ≡ w → Good texts job b marks → Neat texts.writes job P b given
     → After texts job P given marks (given_first texts.writes job b now w) → NeatTick texts.writes job P given (given_first texts.writes job b now w)
 first_neat texts job P b now [] given marks is z e g n a = n
@@ -390,30 +390,30 @@ first_neat texts job P b now (Text page dcs from ∷ due) given marks is z e g n
     let to : NeatTo texts.writes job (PostState b.state) (Text page dcs from ∷ due) given = subst (λ (w : List Due). NeatTo texts.writes job (PostState b.state) w given) e n.to in
     text_neat texts job P b now page dcs from due given marks is e g to n.neat a
 
-tick_neat : (texts : Texts) (job : JobValue) (P : List Packet → List ℕ → Type 0) (a : Calling) (now : ℕ) (given : List Packet) (marks : List Mark)
+tick_neat : (texts : Texts) (job : JobValue) (P : List Packet → List ℕ → Type 0) (a : CallerCore) (now : ℕ) (given : List Packet) (marks : List Mark)
     → IsJob job → ((older : List Packet) (octets : List ℕ) → IsCheck octets → P older octets) → Good texts job a marks → Neat texts.writes job P a given
     → After texts job P given marks (ticked texts.writes job a now) → NeatTick texts.writes job P given (ticked texts.writes job a now)
 tick_neat texts job P a now given marks is z g n =
-    let b : Calling = timed a now in
+    let b : CallerCore = timed a now in
     let good : Good texts job b marks = timed_good texts job a now marks g in
     let neat : Neat texts.writes job P b given = record { to = timed_neat texts.writes job a now given n.to; neat = n.neat } in
     by (pace_allows b.pace.last now) b good neat
   where
-    by : (t : Bool) (b : Calling) → Good texts job b marks → Neat texts.writes job P b given
-        → After texts job P given marks (if◌then◌else◌ {A = Ticked} t (given_first texts.writes job b now b.waiting) (record { core = b; given = None }))
-        → NeatTick texts.writes job P given (if◌then◌else◌ {A = Ticked} t (given_first texts.writes job b now b.waiting) (record { core = b; given = None }))
+    by : (t : Bool) (b : CallerCore) → Good texts job b marks → Neat texts.writes job P b given
+        → After texts job P given marks (if◌then◌else◌ {A = TickResult} t (given_first texts.writes job b now b.waiting) (record { core = b; given = None }))
+        → NeatTick texts.writes job P given (if◌then◌else◌ {A = TickResult} t (given_first texts.writes job b now b.waiting) (record { core = b; given = None }))
     by true b good neat f = first_neat texts job P b now b.waiting given marks is z refl good neat f
     by false b good neat f = neat
 
 -- THE CALL. An image, and the packets that were given before its last part
-pub record Behind (writes : Writing) (job : JobValue) (old : List Mark) (begun : Calling) (events : List CallEvent) (older : List Packet) (octets : List ℕ) : Type 0 where
+pub record ComesAfter (writes : Writing) (job : JobValue) (old : List Mark) (begun : CallerCore) (events : List CallEvent) (older : List Packet) (octets : List ℕ) : Type 0 where
   pub image : IsImage writes job old begun events octets
   pub older_is : packets_given writes job begun image.before ≡ older
 
-abbrev pub CheckOrImage : Writing → JobValue → List Mark → Calling → List CallEvent → List Packet → List ℕ → Type 0
-CheckOrImage writes job old begun events older octets = IsCheck octets ⊎ Behind writes job old begun events older octets
+abbrev pub CheckOrImage : Writing → JobValue → List Mark → CallerCore → List CallEvent → List Packet → List ℕ → Type 0
+CheckOrImage writes job old begun events older octets = IsCheck octets ⊎ ComesAfter writes job old begun events older octets
 
-events_neat : (texts : Texts) (job : JobValue) (old : List Mark) (begun : Calling) (all later events : List CallEvent) → IsJob job → Good texts job begun (Begins ∷ old) → ToNow texts.writes job begun []
+events_neat : (texts : Texts) (job : JobValue) (old : List Mark) (begun : CallerCore) (all later events : List CallEvent) → IsJob job → Good texts job begun (Begins ∷ old) → ToNow texts.writes job begun []
     → all ≡ later ++ events → Neat texts.writes job (CheckOrImage texts.writes job old begun all) (after_events texts.writes job begun events) (packets_given texts.writes job begun events)
 events_neat texts job old begun all later [] is g t e = record { to = t; neat = tt }
 events_neat texts job old begun all later (Comes piece now ∷ before) is g t e =
@@ -421,7 +421,7 @@ events_neat texts job old begun all later (Comes piece now ∷ before) is g t e 
     record { to = came_neat texts.writes job (after_events texts.writes job begun before) piece now (packets_given texts.writes job begun before) n.to; neat = n.neat }
 events_neat texts job old begun all later (Ticks now ∷ before) is g t e =
     let P : List Packet → List ℕ → Type 0 = CheckOrImage texts.writes job old begun all in
-    let a : Calling = after_events texts.writes job begun before in
+    let a : CallerCore = after_events texts.writes job begun before in
     let given : List Packet = packets_given texts.writes job begun before in
     let n : Neat texts.writes job P a given = events_neat texts job old begun all (later ++ Ticks now ∷ []) before is g t (e ∙ sym (append_assoc later (Ticks now ∷ []) before)) in
     tick_neat texts job P a now given (marks_after texts.writes job old begun before) is (λ older octets c. inl c) (events_good texts job old begun before is g) n (
@@ -433,13 +433,13 @@ events_neat texts job old begun all later (Ticks now ∷ before) is g t e =
     )
 
 -- each signal of the packets that were given
-pub signal_given : (writes : Writing) (job : JobValue) (old : List Mark) (core : Calling) (start : ℕ) (events : List CallEvent) (place : ℕ) (octets : List ℕ) →
-    let begun : Calling = started core job start in
+pub signal_given : (writes : Writing) (job : JobValue) (old : List Mark) (core : CallerCore) (start : ℕ) (events : List CallEvent) (place : ℕ) (octets : List ℕ) →
+    let begun : CallerCore = started core job start in
     IsWriting writes → IsJob job → signal_at (reverse (map written (packets_given writes job begun events))) place ≡ Some octets
     → IsEnded (CheckOrImage writes job old begun events) (packets_given writes job begun events) place octets
 signal_given writes job old core start events place octets w is h =
     let texts : Texts = record { writes = writes; are = w } in
-    let begun : Calling = started core job start in
+    let begun : CallerCore = started core job start in
     let n = events_neat texts job old begun events [] events is (start_good texts job old core start is) (refl, (refl, tt)) refl in
     at_place (CheckOrImage writes job old begun events) (packets_given writes job begun events) place octets
     (given_fine texts job begun events is (start_good texts job [] core start is) (omega arith, tt)) n.neat h

@@ -17,9 +17,9 @@ use Rattle.fax_jobs.specs.Jobs.{JobValue}
 use Rattle.fax_call.specs.declared.state.State.{State}
 use Rattle.fax_call.specs.declared.state.State.TheVariants.{Idle, AwaitDis, AwaitCfr, AwaitMcf, Closing}
 use Rattle.fax_call.specs.Writings.{Writing}
-use Rattle.fax_call.specs.Replies.{Packet, Due, waits, is_last_page, turn_behind}
+use Rattle.fax_call.specs.Replies.{Packet, Due, waits, is_last_page, turn_after}
 use Rattle.fax_call.specs.Table.{Counts, Move, Stays, Trains, Sends, AsksAgain, Turns, Closes, HangsUp, first_try, next_try, next_step, next_page, one_delivered, one_refused, most_tries, by_choice, turns_or, on_frame, gives_up_dis, on_timers}
-use Rattle.fax_call.specs.Calls.{Calling, started, moved, came, timed, taken, state_when_given, after_giving, Ticked, given_first, ticked, CallEvent, Comes, Ticks, after_events}
+use Rattle.fax_call.specs.Calls.{CallerCore, started, moved, came, timed, taken, state_when_given, after_giving, TickResult, given_first, ticked, CallEvent, Comes, Ticks, after_events}
 use Rattle.fax_call.specs.GivingUp.{leaves_choice, is_accepted, accepts, was_accepted, TellsWhyItGaveUp}
 
 -- what is known of a state, where so many pages were delivered, and where a DIS was accepted before or not
@@ -38,10 +38,10 @@ MoveTells state delivered accepted (Turns format t1 c) = nat_eq c.delivered 0 �
 MoveTells state delivered accepted (Closes outcome c) = Unit {0}
 MoveTells state delivered accepted HangsUp = Unit {0}
 
-abbrev CoreTells : Calling → Bool → Type 0
+abbrev CoreTells : CallerCore → Bool → Type 0
 CoreTells a accepted = Tells a.state a.counts.delivered accepted
 
-moved_tells : (a : Calling) (m : Move) (accepted : Bool) → MoveTells a.state a.counts.delivered accepted m → CoreTells (moved a m) accepted
+moved_tells : (a : CallerCore) (m : Move) (accepted : Bool) → MoveTells a.state a.counts.delivered accepted m → CoreTells (moved a m) accepted
 moved_tells a Stays accepted h = h
 moved_tells a (Trains dis dcs c) accepted h = h
 moved_tells a (Sends dis dcs c) accepted h = h
@@ -117,15 +117,15 @@ heard_tells now format turn pages s c frame accepted true h =
     subst (λ (t : Bool). Tells s c.delivered (t || accepted)) (sym (not_while_waiting s format c.step frame)) h
 heard_tells now format turn pages s c frame accepted false h = frame_tells now format turn pages s c frame accepted h
 
-came_tells : (a : Calling) (piece : pieces.Piece) (now : ℕ) (accepted : Bool) → CoreTells a accepted → CoreTells (came a piece now) (accepts a piece || accepted)
+came_tells : (a : CallerCore) (piece : pieces.Piece) (now : ℕ) (accepted : Bool) → CoreTells a accepted → CoreTells (came a piece now) (accepts a piece || accepted)
 came_tells a (pieces.Frame octets) now accepted h =
-    moved_tells a _ _ (heard_tells now a.format (turn_behind a.formats a.counts.page) a.pages a.state a.counts (frame_of octets) accepted (waits a.waiting) h)
+    moved_tells a _ _ (heard_tells now a.format (turn_after a.formats a.counts.page) a.pages a.state a.counts (frame_of octets) accepted (waits a.waiting) h)
 came_tells a (pieces.Start k) now accepted h = h
 came_tells a (pieces.Octets os) now accepted h = h
 came_tells a (pieces.End w) now accepted h = h
 came_tells a pieces.Gap now accepted h = h
 
-timed_tells : (a : Calling) (now : ℕ) (accepted : Bool) → CoreTells a accepted → CoreTells (timed a now) accepted
+timed_tells : (a : CallerCore) (now : ℕ) (accepted : Bool) → CoreTells a accepted → CoreTells (timed a now) accepted
 timed_tells a now accepted h =
     moved_tells a _ accepted (if_tells a.state a.counts.delivered accepted (waits a.waiting) Stays (on_timers (is_due a.t1 now) (is_due a.t4 now) a.state a.counts) h
     (timers_tell (is_due a.t1 now) (is_due a.t4 now) a.state a.counts accepted h))
@@ -137,24 +137,24 @@ given_tells (AwaitCfr dis dcs) d accepted h = h
 given_tells (AwaitMcf dis dcs) d accepted h = h
 given_tells (Closing outcome) d accepted h = tt
 
-after_tells : (a : Calling) (now : ℕ) (packet : Packet) (rest : List Due) (accepted : Bool) → CoreTells a accepted → CoreTells (after_giving a now packet rest) accepted
+after_tells : (a : CallerCore) (now : ℕ) (packet : Packet) (rest : List Due) (accepted : Bool) → CoreTells a accepted → CoreTells (after_giving a now packet rest) accepted
 after_tells a now packet [] accepted h = given_tells a.state a.counts.delivered accepted h
 after_tells a now packet (r ∷ rest) accepted h = h
 
-first_tells : (writes : Writing) (job : JobValue) (a : Calling) (now : ℕ) (due : List Due) (accepted : Bool) → CoreTells a accepted → CoreTells (given_first writes job a now due).core accepted
+first_tells : (writes : Writing) (job : JobValue) (a : CallerCore) (now : ℕ) (due : List Due) (accepted : Bool) → CoreTells a accepted → CoreTells (given_first writes job a now due).core accepted
 first_tells writes job a now [] accepted h = h
 first_tells writes job a now (r ∷ due) accepted h = after_tells a now (taken writes job r due).packet (taken writes job r due).rest accepted h
 
-ticked_tells : (writes : Writing) (job : JobValue) (a : Calling) (now : ℕ) (accepted : Bool) → CoreTells a accepted → CoreTells (ticked writes job a now).core accepted
+ticked_tells : (writes : Writing) (job : JobValue) (a : CallerCore) (now : ℕ) (accepted : Bool) → CoreTells a accepted → CoreTells (ticked writes job a now).core accepted
 ticked_tells writes job a now accepted h = by (timed a now) (timed_tells a now accepted h) (pace_allows (timed a now).pace.last now)
   where
-    by : (b : Calling) → CoreTells b accepted → (t : Bool) → CoreTells (if◌then◌else◌ {A = Ticked} t (given_first writes job b now b.waiting) (record { core = b; given = None })).core accepted
+    by : (b : CallerCore) → CoreTells b accepted → (t : Bool) → CoreTells (if◌then◌else◌ {A = TickResult} t (given_first writes job b now b.waiting) (record { core = b; given = None })).core accepted
     by b k true = first_tells writes job b now b.waiting accepted k
     by b k false = k
 
 -- ---- a call
 
-call_tells : (writes : Writing) (job : JobValue) (core : Calling) (start : ℕ) (events : List CallEvent)
+call_tells : (writes : Writing) (job : JobValue) (core : CallerCore) (start : ℕ) (events : List CallEvent)
     → CoreTells (after_events writes job (started core job start) events) (was_accepted writes job (started core job start) events)
 call_tells writes job core start [] = refl
 call_tells writes job core start (Comes piece now ∷ before) =
@@ -168,7 +168,7 @@ outcome_by : (delivered : ℕ) (accepted : Bool) → nat_eq delivered 0 ≡ not 
 outcome_by delivered true h = ap (λ (t : Bool). if◌then◌else◌ {A = Outcome} t outcomes.NoAnswer outcomes.NoReply) h
 outcome_by delivered false h = ap (λ (t : Bool). if◌then◌else◌ {A = Outcome} t outcomes.NoAnswer outcomes.NoReply) h
 
-closes_so : (writes : Writing) (job : JobValue) (a : Calling) (now : ℕ) → a.state ≡ AwaitDis → a.waiting ≡ [] → is_due a.t1 now ≡ true
+closes_so : (writes : Writing) (job : JobValue) (a : CallerCore) (now : ℕ) → a.state ≡ AwaitDis → a.waiting ≡ [] → is_due a.t1 now ≡ true
     → (ticked writes job a now).core.state ≡ Closing (if nat_eq a.counts.delivered 0 then outcomes.NoAnswer else outcomes.NoReply)
 closes_so writes job a now state none due =
     ap (λ (m : Move). given m) move ∙ by (pace_allows a.pace.last now)
@@ -182,16 +182,16 @@ closes_so writes job a now state none due =
         ∙ ap (λ (s : State). on_timers (is_due a.t1 now) (is_due a.t4 now) s a.counts) state
         ∙ ap (λ (t : Bool). on_timers t (is_due a.t4 now) AwaitDis a.counts) due
 
-    closed : Calling
+    closed : CallerCore
     closed = moved a (gives_up_dis a.counts)
 
-    by : (t : Bool) → (if◌then◌else◌ {A = Ticked} t (given_first writes job closed now closed.waiting) (record { core = closed; given = None })).core.state ≡ Closing (if nat_eq a.counts.delivered 0 then outcomes.NoAnswer else outcomes.NoReply)
+    by : (t : Bool) → (if◌then◌else◌ {A = TickResult} t (given_first writes job closed now closed.waiting) (record { core = closed; given = None })).core.state ≡ Closing (if nat_eq a.counts.delivered 0 then outcomes.NoAnswer else outcomes.NoReply)
     by true = refl
     by false = refl
 
 pub tells_why_it_gave_up : TellsWhyItGaveUp
 tells_why_it_gave_up writes job core start now events state none due =
-    let a : Calling = after_events writes job (started core job start) events in
+    let a : CallerCore = after_events writes job (started core job start) events in
     let accepted : Bool = was_accepted writes job (started core job start) events in
     let known : nat_eq a.counts.delivered 0 ≡ not accepted = subst (λ (s : State). Tells s a.counts.delivered accepted) state (call_tells writes job core start events) in
     closes_so writes job a now state none due ∙ ap (λ (o : Outcome). Closing o) (outcome_by a.counts.delivered accepted known)

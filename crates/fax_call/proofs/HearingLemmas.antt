@@ -7,24 +7,24 @@ use Rattle.fax_ifp.specs.declared.piece.Piece as code_pieces
 use Rattle.fax_ifp.specs.Elements.{Slot}
 use Rattle.fax_ifp.specs.Pieces.{Piece, Gap, pieces}
 use Rattle.fax_ifp.specs.Shown.{piece_of, pieces_shown}
-use Rattle.fax_ifp.specs.Tracked.{Tracked, IsTracked, TracksRun, GivesRun, Tracks, Gives, lost_slots}
+use Rattle.fax_ifp.specs.Tracked.{TrackState, IsTracked, TracksRun, GivesRun, Tracks, Gives, lost_slots}
 use Rattle.fax_udptl.specs.Reading.{texts}
 use Rattle.fax_jobs.specs.Jobs.{JobValue}
 use Rattle.fax_pagestore.specs.Writers.{WriterValue}
 use Rattle.fax_call.specs.declared.procedure.Procedure.{Procedure}
 use Rattle.fax_call.specs.Writings.{Writing}
-use Rattle.fax_call.specs.Calls.{Calling, came, came_all}
+use Rattle.fax_call.specs.Calls.{CallerCore, came, came_all}
 use Rattle.fax_call.specs.Following.{Follows}
-use Rattle.fax_call.specs.Reached.{Kept, IsReached, Hears}
+use Rattle.fax_call.specs.Reached.{Rep, IsReached, Hears}
 
-pub came_append : (core : Calling) (xs ys : List Piece) (now : ℕ) → came_all core (xs ++ ys) now ≡ came_all (came_all core xs now) ys now
+pub came_append : (core : CallerCore) (xs ys : List Piece) (now : ℕ) → came_all core (xs ++ ys) now ≡ came_all (came_all core xs now) ys now
 came_append core [] ys now = refl
 came_append core (x ∷ xs) ys now = came_append (came core x now) xs ys now
 
-pub came_more : (core : Calling) (xs : List Piece) (p : Piece) (now : ℕ) → came_all core (xs ++ p ∷ []) now ≡ came (came_all core xs now) p now
+pub came_more : (core : CallerCore) (xs : List Piece) (p : Piece) (now : ℕ) → came_all core (xs ++ p ∷ []) now ≡ came (came_all core xs now) p now
 came_more core xs p now = came_append core xs (p ∷ []) now
 
-came_gaps : (n : ℕ) (core : Calling) (now : ℕ) → came_all core (replicate n Gap) now ≡ core
+came_gaps : (n : ℕ) (core : CallerCore) (now : ℕ) → came_all core (replicate n Gap) now ≡ core
 came_gaps zero core now = refl
 came_gaps (suc n) core now = came_gaps n core now
 
@@ -51,7 +51,7 @@ reversed_lost zero = refl
 reversed_lost (suc n) = reverse-append (None ∷ []) (lost_slots n) ∙ ap (λ (s : List Slot). s ++ None ∷ []) (reversed_lost n) ∙ one_more_lost n
 
 -- LOST SLOTS bring nothing about
-pub loses : (writes : Writing) (job : JobValue) (count now : ℕ) (heard : List Slot) (core : Calling) (old new : Kept) → IsReached writes job heard core old
+pub loses : (writes : Writing) (job : JobValue) (count now : ℕ) (heard : List Slot) (core : CallerCore) (old new : Rep) → IsReached writes job heard core old
     → TracksRun (lost_slots count) old.tracked new.tracked → GivesRun (lost_slots count) old.tracked (replicate count Gap)
     → new.procedure ≡ old.procedure → new.writer ≡ old.writer → Hears writes job (lost_slots count) now heard core new
 loses writes job count now heard core old new r tracks gives procedure writer =
@@ -62,16 +62,16 @@ loses writes job count now heard core old new r tracks gives procedure writer =
       reached = record {
         tracked = subst (λ (s : List Slot). IsTracked (s ++ heard) new.tracked) (sym back) (tracks heard r.tracked);
         follows =
-            subst (λ (a : Calling). Follows writes job a new.writer new.procedure) (sym (came_gaps count core now))
+            subst (λ (a : CallerCore). Follows writes job a new.writer new.procedure) (sym (came_gaps count core now))
             (subst (λ (w : WriterValue). Follows writes job core w new.procedure) (sym writer)
             (subst (λ (p : Procedure). Follows writes job core old.writer p) (sym procedure) r.follows));
       };
     }
 
 -- A PACKET in the next slot
-pub hears_more : (writes : Writing) (job : JobValue) (slots : List Slot) (now : ℕ) (packet : List ℕ) (heard : List Slot) (core : Calling) (mid new : Kept) (tracked : Tracked) (given : List Piece)
+pub hears_more : (writes : Writing) (job : JobValue) (slots : List Slot) (now : ℕ) (packet : List ℕ) (heard : List Slot) (core : CallerCore) (mid new : Rep) (tracked : TrackState) (given : List Piece)
     → Hears writes job slots now heard core mid → Tracks (Some packet) mid.tracked tracked → Gives (Some packet) mid.tracked given → new.tracked ≡ tracked
-    → ((a : Calling) → Follows writes job a mid.writer mid.procedure → Follows writes job (came_all a given now) new.writer new.procedure)
+    → ((a : CallerCore) → Follows writes job a mid.writer mid.procedure → Follows writes job (came_all a given now) new.writer new.procedure)
     → Hears writes job (slots ++ Some packet ∷ []) now heard core new
 hears_more writes job slots now packet heard core mid new tracked given h tracks gives same takes =
     let back : reverse (slots ++ Some packet ∷ []) ++ heard ≡ Some packet ∷ (reverse slots ++ heard) = ap (λ (s : List Slot). s ++ heard) (reverse-append slots (Some packet ∷ [])) in
@@ -79,15 +79,15 @@ hears_more writes job slots now packet heard core mid new tracked given h tracks
       given = h.given ++ given;
       pieces = ap pieces back ∙ gives (reverse slots ++ heard) h.reached.tracked ∙ ap (λ (ps : List Piece). ps ++ given) h.pieces ∙ append_assoc (pieces heard) h.given given;
       reached = record {
-        tracked = subst (λ (s : List Slot). IsTracked s new.tracked) (sym back) (subst (λ (k : Tracked). IsTracked (Some packet ∷ (reverse slots ++ heard)) k) (sym same) (tracks (reverse slots ++ heard) h.reached.tracked));
-        follows = subst (λ (a : Calling). Follows writes job a new.writer new.procedure) (sym (came_append core h.given given now)) (takes (came_all core h.given now) h.reached.follows);
+        tracked = subst (λ (s : List Slot). IsTracked s new.tracked) (sym back) (subst (λ (k : TrackState). IsTracked (Some packet ∷ (reverse slots ++ heard)) k) (sym same) (tracks (reverse slots ++ heard) h.reached.tracked));
+        follows = subst (λ (a : CallerCore). Follows writes job a new.writer new.procedure) (sym (came_append core h.given given now)) (takes (came_all core h.given now) h.reached.follows);
       };
     }
 
 -- the slot of a packet alone
-pub hears_one : (writes : Writing) (job : JobValue) (now : ℕ) (packet : List ℕ) (heard : List Slot) (core : Calling) (old new : Kept) (tracked : Tracked) (given : List Piece)
+pub hears_one : (writes : Writing) (job : JobValue) (now : ℕ) (packet : List ℕ) (heard : List Slot) (core : CallerCore) (old new : Rep) (tracked : TrackState) (given : List Piece)
     → IsReached writes job heard core old → Tracks (Some packet) old.tracked tracked → Gives (Some packet) old.tracked given → new.tracked ≡ tracked
-    → ((a : Calling) → Follows writes job a old.writer old.procedure → Follows writes job (came_all a given now) new.writer new.procedure)
+    → ((a : CallerCore) → Follows writes job a old.writer old.procedure → Follows writes job (came_all a given now) new.writer new.procedure)
     → Hears writes job (Some packet ∷ []) now heard core new
 hears_one writes job now packet heard core old new tracked given r tracks gives same takes =
     let none : Hears writes job [] now heard core old = record { given = []; pieces = sym (append-nil (pieces heard)); reached = r } in

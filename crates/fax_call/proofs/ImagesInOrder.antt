@@ -9,12 +9,12 @@ use Rattle.fax_ifp.specs.Pieces as pieces
 use Rattle.fax_jobs.specs.Jobs.{JobValue}
 use Rattle.fax_call.specs.Writings.{Writing}
 use Rattle.fax_call.specs.Replies.{Packet, Signals, Tells, Part, written}
-use Rattle.fax_call.specs.Calls.{Calling, ticked, CallEvent, Comes, Ticks, after_events}
+use Rattle.fax_call.specs.Calls.{CallerCore, ticked, CallEvent, Comes, Ticks, after_events}
 use Rattle.fax_call.specs.Emission.{Mark, Gave, Acknowledged, Refused, gave_all, acknowledged_by, marks_heard, marks_given, marks_after, Emits}
 use Rattle.fax_call.specs.Given.{packets_with, packets_given}
 use Rattle.fax_call.specs.GivenSignals.{ends_signal, IsImage}
 use Rattle.fax_call.proofs.EmittedOrder.{HasNoBegin, IsFrom, emitted_in_order}
-use Rattle.fax_call.proofs.GivenSignals.{Behind}
+use Rattle.fax_call.proofs.GivenSignals.{ComesAfter}
 use Rattle.fax_call.proofs.SignalsGiven.{HasNoLast, IsEnded}
 
 -- MARKS: what is added in a call has no beginning
@@ -45,7 +45,7 @@ heard_on (pieces.Octets os) new base m = m
 heard_on (pieces.End w) new base m = m
 heard_on pieces.Gap new base m = m
 
-pub marks_on : (writes : Writing) (job : JobValue) (old : List Mark) (begun : Calling) (later before : List CallEvent) → MarksOn (marks_after writes job old begun (later ++ before)) (marks_after writes job old begun before)
+pub marks_on : (writes : Writing) (job : JobValue) (old : List Mark) (begun : CallerCore) (later before : List CallEvent) → MarksOn (marks_after writes job old begun (later ++ before)) (marks_after writes job old begun before)
 marks_on writes job old begun [] before = record { more = []; is = refl; none = tt }
 marks_on writes job old begun (Comes piece now ∷ later) before =
     heard_on piece (marks_after writes job old begun (later ++ before)) (marks_after writes job old begun before) (marks_on writes job old begun later before)
@@ -131,7 +131,7 @@ ends_length : (o : Option Packet) (packets : List Packet) → ends_signal o ≡ 
 ends_length None packets e = cc
 ends_length (Some p) packets e = omega arith
 
-more_given : (writes : Writing) (job : JobValue) (begun : Calling) (more before : List CallEvent) → length (packets_given writes job begun before) ≤ length (packets_given writes job begun (more ++ before))
+more_given : (writes : Writing) (job : JobValue) (begun : CallerCore) (more before : List CallEvent) → length (packets_given writes job begun before) ≤ length (packets_given writes job begun (more ++ before))
 more_given writes job begun [] before = omega arith
 more_given writes job begun (Comes piece now ∷ more) before = more_given writes job begun more before
 more_given writes job begun (Ticks now ∷ more) before =
@@ -140,7 +140,7 @@ more_given writes job begun (Ticks now ∷ more) before =
     with_length (ticked writes job (after_events writes job begun (more ++ before)) now).given (packets_given writes job begun (more ++ before)) in
     omega (arith, l, k)
 
-pub images_in_order : (writes : Writing) (job : JobValue) (old : List Mark) (begun : Calling) (events : List CallEvent) (octets others : List ℕ)
+pub images_in_order : (writes : Writing) (job : JobValue) (old : List Mark) (begun : CallerCore) (events : List CallEvent) (octets others : List ℕ)
     (x : IsImage writes job old begun events octets) (y : IsImage writes job old begun events others)
     → length (packets_given writes job begun x.before) ≤ length (packets_given writes job begun y.before) → x.page ≤ y.page
 images_in_order writes job old begun events octets others x y l =
@@ -166,9 +166,9 @@ images_in_order writes job old begun events octets others x y l =
         (subst (λ (ms : List Mark). Emits job ms (Some y.page)) is y.emitted))
 
 -- of two signals of the packets that a call gave
-pub later_page : (writes : Writing) (job : JobValue) (old : List Mark) (begun : Calling) (events : List CallEvent) (P : List Packet → List ℕ → Type 0) (place next : ℕ) (octets others : List ℕ)
+pub later_page : (writes : Writing) (job : JobValue) (old : List Mark) (begun : CallerCore) (events : List CallEvent) (P : List Packet → List ℕ → Type 0) (place next : ℕ) (octets others : List ℕ)
     (x : IsEnded P (packets_given writes job begun events) place octets) (y : IsEnded P (packets_given writes job begun events) next others)
-    (b : Behind writes job old begun events x.older octets) (c : Behind writes job old begun events y.older others) → place < next → b.image.page ≤ c.image.page
+    (b : ComesAfter writes job old begun events x.older octets) (c : ComesAfter writes job old begun events y.older others) → place < next → b.image.page ≤ c.image.page
 later_page writes job old begun events P place next octets others x y b c l =
     let k : length x.older ≤ length y.older = ended_first P (packets_given writes job begun events) place next octets others x y l in
     let m : length (packets_given writes job begun b.image.before) ≡ length x.older = ap (λ (ps : List Packet). length ps) b.older_is in

@@ -18,9 +18,9 @@ use Rattle.fax_jobs.specs.Jobs.{JobValue}
 use Rattle.fax_call.specs.declared.state.State.{State}
 use Rattle.fax_call.specs.declared.state.State.TheVariants.{Idle, AwaitDis, AwaitCfr, AwaitMcf, Closing}
 use Rattle.fax_call.specs.Writings.{Writing}
-use Rattle.fax_call.specs.Replies.{Packet, Due, waits, is_last_page, turn_behind, command, command_behind}
+use Rattle.fax_call.specs.Replies.{Packet, Due, waits, is_last_page, turn_after, command, command_after}
 use Rattle.fax_call.specs.Table.{Counts, Move, Stays, Trains, Sends, AsksAgain, Turns, Closes, HangsUp, first_try, next_try, next_step, next_page, one_delivered, one_refused, most_tries, by_choice, turns_or, on_frame, on_timers}
-use Rattle.fax_call.specs.Calls.{Calling, started, moved, came, timed, taken, after_giving, Ticked, given_first, ticked, CallEvent, Comes, Ticks, after_events}
+use Rattle.fax_call.specs.Calls.{CallerCore, started, moved, came, timed, taken, after_giving, TickResult, given_first, ticked, CallEvent, Comes, Ticks, after_events}
 use Rattle.fax_call.specs.Due.{timer_of, due_at}
 use Rattle.fax_call.specs.InTime.{since_by, awaited_since, last_by, last_given, timer_since, NoTimerIsEarly}
 use Rattle.fax_call.proofs.DueLemmas.{rests_before}
@@ -34,14 +34,14 @@ Knows (AwaitMcf dis dcs) [] t1 t4 w g = t4 ≡ option_map (λ (m : ℕ). moment_
 Knows (AwaitMcf dis dcs) (d ∷ due) t1 t4 w g = Unit {0}
 Knows state due t1 t4 w g = Unit {0}
 
-abbrev CoreKnows : Calling → ℕ → Option ℕ → Type 0
+abbrev CoreKnows : CallerCore → ℕ → Option ℕ → Type 0
 CoreKnows a w g = Knows a.state a.waiting a.t1 a.t4 w g
 
 abbrev InMcf : State → Type 0
 InMcf (AwaitMcf dis dcs) = Unit {0}
 InMcf s = ⊥
 
-asks_knows : (s : State) (a : Calling) (page w : ℕ) (g : Option ℕ) → InMcf s → Knows s (command (command_behind a.formats a.pages page)) None None w g
+asks_knows : (s : State) (a : CallerCore) (page w : ℕ) (g : Option ℕ) → InMcf s → Knows s (command (command_after a.formats a.pages page)) None None w g
 asks_knows (AwaitMcf dis dcs) a page w g h = tt
 asks_knows Idle a page w g h = absurd h
 asks_knows AwaitDis a page w g h = absurd h
@@ -69,7 +69,7 @@ new_since AwaitDis now w h = absurd h
 new_since (AwaitCfr dis dcs) now w h = absurd h
 new_since (Closing x) now w h = absurd h
 
-moved_knows : (a : Calling) (m : Move) (now w : ℕ) (g : Option ℕ) → CoreKnows a w g → FrameMove a.state now m → CoreKnows (moved a m) (since_by a.state (moved a m).state now w) g
+moved_knows : (a : CallerCore) (m : Move) (now w : ℕ) (g : Option ℕ) → CoreKnows a w g → FrameMove a.state now m → CoreKnows (moved a m) (since_by a.state (moved a m).state now w) g
 moved_knows a Stays now w g k h = subst (λ (v : ℕ). CoreKnows a v g) (sym (same_since a.state now w)) k
 moved_knows a (Trains dis dcs c) now w g k h = tt
 moved_knows a (Sends dis dcs c) now w g k h = tt
@@ -107,10 +107,10 @@ frame_move now format turn pages (AwaitMcf dis dcs) c (Some frames.Rtn) = if_fra
 frame_move now format turn pages (AwaitMcf dis dcs) c (Some frames.Dcn) = tt
 frame_move now format turn pages s c frame = tt
 
-came_knows : (a : Calling) (piece : pieces.Piece) (now w : ℕ) (g : Option ℕ) → CoreKnows a w g → CoreKnows (came a piece now) (since_by a.state (came a piece now).state now w) g
+came_knows : (a : CallerCore) (piece : pieces.Piece) (now w : ℕ) (g : Option ℕ) → CoreKnows a w g → CoreKnows (came a piece now) (since_by a.state (came a piece now).state now w) g
 came_knows a (pieces.Frame octets) now w g k =
-    moved_knows a _ now w g k (if_frame a.state now (waits a.waiting) Stays (on_frame now a.format (turn_behind a.formats a.counts.page) a.pages a.state a.counts (frame_of octets)) tt
-    (frame_move now a.format (turn_behind a.formats a.counts.page) a.pages a.state a.counts (frame_of octets)))
+    moved_knows a _ now w g k (if_frame a.state now (waits a.waiting) Stays (on_frame now a.format (turn_after a.formats a.counts.page) a.pages a.state a.counts (frame_of octets)) tt
+    (frame_move now a.format (turn_after a.formats a.counts.page) a.pages a.state a.counts (frame_of octets)))
 came_knows a (pieces.Start n) now w g k = moved_knows a Stays now w g k tt
 came_knows a (pieces.Octets os) now w g k = moved_knows a Stays now w g k tt
 came_knows a (pieces.End n) now w g k = moved_knows a Stays now w g k tt
@@ -123,7 +123,7 @@ TimerMove s (AsksAgain c) = InMcf s
 TimerMove s (Turns format t1 c) = ⊥
 TimerMove s m = Unit {0}
 
-timer_knows : (a : Calling) (m : Move) (w : ℕ) (g : Option ℕ) → CoreKnows a w g → TimerMove a.state m → CoreKnows (moved a m) w g
+timer_knows : (a : CallerCore) (m : Move) (w : ℕ) (g : Option ℕ) → CoreKnows a w g → TimerMove a.state m → CoreKnows (moved a m) w g
 timer_knows a Stays w g k h = k
 timer_knows a (Trains dis dcs c) w g k h = tt
 timer_knows a (Sends dis dcs c) w g k h = tt
@@ -146,12 +146,12 @@ timers_move x false (AwaitCfr dis dcs) c = tt
 timers_move x true (AwaitMcf dis dcs) c = if_timer (AwaitMcf dis dcs) (nat_lt c.tries most_tries) (AsksAgain (next_try c)) (Closes outcomes.NoReply c) tt tt
 timers_move x false (AwaitMcf dis dcs) c = tt
 
-timed_knows : (a : Calling) (now w : ℕ) (g : Option ℕ) → CoreKnows a w g → CoreKnows (timed a now) w g
+timed_knows : (a : CallerCore) (now w : ℕ) (g : Option ℕ) → CoreKnows a w g → CoreKnows (timed a now) w g
 timed_knows a now w g k =
     timer_knows a _ w g k (if_timer a.state (waits a.waiting) Stays (on_timers (is_due a.t1 now) (is_due a.t4 now) a.state a.counts) tt
     (timers_move (is_due a.t1 now) (is_due a.t4 now) a.state a.counts))
 
-after_knows : (a : Calling) (now w : ℕ) (g : Option ℕ) (packet : Packet) (rest : List Due) → CoreKnows a w g → CoreKnows (after_giving a now packet rest) w (Some now)
+after_knows : (a : CallerCore) (now w : ℕ) (g : Option ℕ) (packet : Packet) (rest : List Due) → CoreKnows a w g → CoreKnows (after_giving a now packet rest) w (Some now)
 after_knows a now w g packet rest k = by a.state a.waiting rest k
   where
     by : (s : State) (due rest : List Due) → Knows s due a.t1 a.t4 w g → CoreKnows (after_giving (record a { state = s }) now packet rest) w (Some now)
@@ -166,31 +166,31 @@ after_knows a now w g packet rest k = by a.state a.waiting rest k
     by (Closing x) due [] h = tt
     by (Closing x) due (r ∷ rest) h = tt
 
-first_knows : (writes : Writing) (job : JobValue) (a : Calling) (now w : ℕ) (g : Option ℕ) (due : List Due) → CoreKnows a w g
+first_knows : (writes : Writing) (job : JobValue) (a : CallerCore) (now w : ℕ) (g : Option ℕ) (due : List Due) → CoreKnows a w g
     → CoreKnows (given_first writes job a now due).core w (last_by (given_first writes job a now due).given now g)
 first_knows writes job a now w g [] k = k
 first_knows writes job a now w g (d ∷ due) k = after_knows a now w g (taken writes job d due).packet (taken writes job d due).rest k
 
-ticked_knows : (writes : Writing) (job : JobValue) (a : Calling) (now w : ℕ) (g : Option ℕ) → CoreKnows a w g → CoreKnows (ticked writes job a now).core w (last_by (ticked writes job a now).given now g)
+ticked_knows : (writes : Writing) (job : JobValue) (a : CallerCore) (now w : ℕ) (g : Option ℕ) → CoreKnows a w g → CoreKnows (ticked writes job a now).core w (last_by (ticked writes job a now).given now g)
 ticked_knows writes job a now w g h = by (timed a now) (timed_knows a now w g h) (pace_allows (timed a now).pace.last now)
   where
-    by : (b : Calling) → CoreKnows b w g → (t : Bool) →
-        let r : Ticked = if◌then◌else◌ {A = Ticked} t (given_first writes job b now b.waiting) (record { core = b; given = None }) in
+    by : (b : CallerCore) → CoreKnows b w g → (t : Bool) →
+        let r : TickResult = if◌then◌else◌ {A = TickResult} t (given_first writes job b now b.waiting) (record { core = b; given = None }) in
         CoreKnows r.core w (last_by r.given now g)
     by b k true = first_knows writes job b now w g b.waiting k
     by b k false = k
 
 -- ---- a call
 
-call_knows : (writes : Writing) (job : JobValue) (core : Calling) (start : ℕ) (events : List CallEvent) →
-    let begun : Calling = started core job start in
+call_knows : (writes : Writing) (job : JobValue) (core : CallerCore) (start : ℕ) (events : List CallEvent) →
+    let begun : CallerCore = started core job start in
     CoreKnows (after_events writes job begun events) (awaited_since writes job begun start events) (last_given writes job begun events)
 call_knows writes job core start [] = refl
 call_knows writes job core start (Comes piece now ∷ before) =
-    let begun : Calling = started core job start in
+    let begun : CallerCore = started core job start in
     came_knows (after_events writes job begun before) piece now (awaited_since writes job begun start before) (last_given writes job begun before) (call_knows writes job core start before)
 call_knows writes job core start (Ticks now ∷ before) =
-    let begun : Calling = started core job start in
+    let begun : CallerCore = started core job start in
     ticked_knows writes job (after_events writes job begun before) now (awaited_since writes job begun start before) (last_given writes job begun before) (call_knows writes job core start before)
 
 timer_is : (s : State) (t1 t4 : Option ℕ) (w : ℕ) (g : Option ℕ) → Knows s [] t1 t4 w g → timer_of s t1 t4 ≡ timer_since s w g
@@ -203,10 +203,10 @@ timer_is (Closing x) t1 t4 w g k = refl
 pub no_timer_is_early : NoTimerIsEarly
 no_timer_is_early writes job core start events rests = (due, λ now fits early. rests_before writes job a now fits (ap (λ (t : Option ℕ). is_due t now) due ∙ early))
   where
-    begun : Calling
+    begun : CallerCore
     begun = started core job start
 
-    a : Calling
+    a : CallerCore
     a = after_events writes job begun events
 
     w : ℕ

@@ -16,16 +16,16 @@ use Rattle.fax_call.specs.declared.pending.Pending.{Pending}
 use Rattle.fax_call.specs.declared.pending.Pending.TheVariants.{Nothing, Tone, Preamble, Frame, Training, Check, Image, Text}
 use Rattle.fax_call.specs.declared.procedure.Procedure.{Procedure}
 use Rattle.fax_call.specs.Writings.{Writing}
-use Rattle.fax_call.specs.Replies.{command_behind}
+use Rattle.fax_call.specs.Replies.{command_after}
 use Rattle.fax_call.specs.Table.{Counts, Move, Stays, Trains, Sends, AsksAgain, Turns, Closes, HangsUp}
-use Rattle.fax_call.specs.Calls.{Calling, formats_of, text_at, moved, came, came_all, timed}
-use Rattle.fax_call.specs.Kept.{counts_shown, waiting_of}
+use Rattle.fax_call.specs.Calls.{CallerCore, formats_of, text_at, moved, came, came_all, timed}
+use Rattle.fax_call.specs.Rep.{counts_shown, waiting_of}
 use Rattle.fax_call.specs.Following.{IsFit, IsLeft, KeepsTurn, Follows, HasFormats}
 use Rattle.fax_call.proofs.Due.{IsDue, came_due, timed_due}
 
 -- ---- a core for which a procedure stands
 
-core_of : Procedure → JobValue → Calling
+core_of : Procedure → JobValue → CallerCore
 core_of p job =
     record {
       state = p.state;
@@ -33,7 +33,7 @@ core_of p job =
       formats = formats_of job;
       pages = p.pages;
       counts = counts_shown p.counts;
-      waiting = waiting_of p.pending (command_behind (formats_of job) p.pages p.counts.page) p.counts.page 0;
+      waiting = waiting_of p.pending (command_after (formats_of job) p.pages p.counts.page) p.counts.page 0;
       t1 = p.t1;
       t4 = p.t4;
       pace = p.pace;
@@ -110,7 +110,7 @@ some_at [] n h = absurd (omega arith)
 some_at (f ∷ fs) zero h = (f, refl)
 some_at (f ∷ fs) (suc n) h = some_at fs n (omega arith)
 
-has_formats : (writes : Writing) (job : JobValue) (core : Calling) (writer : WriterValue) (p : Procedure) → Follows writes job core writer p → IsDue (formats_of job) core → core.pages ≡ length job.pages → IsFit p
+has_formats : (writes : Writing) (job : JobValue) (core : CallerCore) (writer : WriterValue) (p : Procedure) → Follows writes job core writer p → IsDue (formats_of job) core → core.pages ≡ length job.pages → IsFit p
     → HasFormats p job
 has_formats writes job core writer p f d pages fit =
     record {
@@ -134,7 +134,7 @@ has_formats writes job core writer p f d pages fit =
 
 -- ---- what comes, and the timers
 
-moved_pages : (a : Calling) (m : Move) → (moved a m).pages ≡ a.pages
+moved_pages : (a : CallerCore) (m : Move) → (moved a m).pages ≡ a.pages
 moved_pages a Stays = refl
 moved_pages a (Trains dis dcs c) = refl
 moved_pages a (Sends dis dcs c) = refl
@@ -143,26 +143,26 @@ moved_pages a (Turns format t1 c) = refl
 moved_pages a (Closes outcome c) = refl
 moved_pages a HangsUp = refl
 
-all_due : (fs : List Format) (a : Calling) (ps : List Piece) (now : ℕ) → IsDue fs a → IsDue fs (came_all a ps now)
+all_due : (fs : List Format) (a : CallerCore) (ps : List Piece) (now : ℕ) → IsDue fs a → IsDue fs (came_all a ps now)
 all_due fs a [] now d = d
 all_due fs a (p ∷ ps) now d = all_due fs (came a p now) ps now (came_due fs a p now d)
 
-all_pages : (a : Calling) (ps : List Piece) (now : ℕ) → (came_all a ps now).pages ≡ a.pages
+all_pages : (a : CallerCore) (ps : List Piece) (now : ℕ) → (came_all a ps now).pages ≡ a.pages
 all_pages a [] now = refl
 all_pages a (p ∷ ps) now = all_pages (came a p now) ps now ∙ moved_pages a _
 
 pub heard_job : (old new : Procedure) (job : JobValue) (ps : List Piece) (now : ℕ)
-    → ((writes : Writing) (job : JobValue) (core : Calling) (writer : WriterValue) → Follows writes job core writer old → Follows writes job (came_all core ps now) writer new)
+    → ((writes : Writing) (job : JobValue) (core : CallerCore) (writer : WriterValue) → Follows writes job core writer old → Follows writes job (came_all core ps now) writer new)
     → IsFit new → HasFormats old job → HasFormats new job
 heard_job old new job ps now heard fit h =
-    let core : Calling = core_of old job in
+    let core : CallerCore = core_of old job in
     has_formats empty job (came_all core ps now) (done_of old job) new (heard empty job core (done_of old job) (follows_itself job old h)) (all_due (formats_of job) core ps now (due_itself job old h))
     (all_pages core ps now ∙ pages_itself job old h) fit
 
 pub acted_job : (old new : Procedure) (job : JobValue) (now : ℕ)
-    → ((writes : Writing) (job : JobValue) (core : Calling) (writer : WriterValue) → Follows writes job core writer old → Follows writes job (timed core now) writer new)
+    → ((writes : Writing) (job : JobValue) (core : CallerCore) (writer : WriterValue) → Follows writes job core writer old → Follows writes job (timed core now) writer new)
     → IsFit new → HasFormats old job → HasFormats new job
 acted_job old new job now acted fit h =
-    let core : Calling = core_of old job in
+    let core : CallerCore = core_of old job in
     has_formats empty job (timed core now) (done_of old job) new (acted empty job core (done_of old job) (follows_itself job old h)) (timed_due (formats_of job) core now (due_itself job old h))
     (moved_pages core _ ∙ pages_itself job old h) fit

@@ -21,16 +21,16 @@ use Rattle.fax_jobs.specs.Jobs.{JobValue, IsJob}
 use Rattle.fax_call.specs.declared.state.State.{State}
 use Rattle.fax_call.specs.declared.state.State.TheVariants.{Idle, AwaitDis, AwaitCfr, AwaitMcf, Closing}
 use Rattle.fax_call.specs.Writings.{Writing}
-use Rattle.fax_call.specs.Replies.{Packet, Part, Due, One, Text, waits, part_length, turn_behind, is_last_page}
+use Rattle.fax_call.specs.Replies.{Packet, Part, Due, One, Text, waits, part_length, turn_after, is_last_page}
 use Rattle.fax_call.specs.Table.{Counts, Move, Stays, Trains, Sends, AsksAgain, Turns, Closes, HangsUp, first_try, next_try, next_step, next_page, one_delivered, one_refused, most_tries, by_choice, turns_or, on_frame, on_timers}
-use Rattle.fax_call.specs.Calls.{Calling, started, moved, came, timed, text_at, Taken, taken, state_when_given, after_giving, Ticked, given_first, paced, ticked, CallEvent, Comes, Ticks, after_events}
+use Rattle.fax_call.specs.Calls.{CallerCore, started, moved, came, timed, text_at, TakenPart, taken, state_when_given, after_giving, TickResult, given_first, paced, ticked, CallEvent, Comes, Ticks, after_events}
 use Rattle.fax_call.specs.Emission.{Emission, since_dcs, emitted_at, Mark, Gave, gave_all, elements_given, marks_given, marks_after, replied, Reply, Emits}
 use Rattle.fax_call.specs.Refusals.{dis_by, dis_with, dis_taken, Allows, EndsImage, NoneIsLacking}
 use Rattle.fax_frames.specs.Rates.{kind_of}
 use Rattle.fax_ifp.specs.ImageOctets.{image_octets}
 use Rattle.fax_call.proofs.PacketsBack.{elements_in, part_back}
 use Rattle.fax_call.proofs.Waiting.{Texts, Quiet, SafeTo, PostOf, part_some, page_at}
-use Rattle.fax_call.proofs.Emitted.{InTurn, Kept, Good, not_last, le_if, gt_if, end_emits, timed_good, start_good, events_good}
+use Rattle.fax_call.proofs.Emitted.{InTurn, Rep, Good, not_last, le_if, gt_if, end_emits, timed_good, start_good, events_good}
 use Rattle.fax_call.proofs.Numbered.{numbers_are_fixed}
 use Rattle.fax_call.proofs.Due.{format_at}
 
@@ -47,7 +47,7 @@ chosen_allows dis format step dcs h = by (has_bit 10 dis.caps.0) (has_width form
     by true true true true r a b c d e = record { receives = a; width = b; fine = λ q. d }
     by true true false z r a b c d e = record { receives = a; width = b; fine = λ q. let w : false ≡ true = sym c ∙ q in cc }
 
--- ---- behind a DIS that was taken, the format of the page due is allowed
+-- ---- after a DIS that was taken, the format of the page due is allowed
 
 abbrev Allowed : Dis → Format → Option Dis → Type 0
 Allowed dis format o = (o ≡ Some dis) × Allows dis format
@@ -62,7 +62,7 @@ HeldMove format o (Trains dis dcs c) = Allowed dis format o
 HeldMove format o (Sends dis dcs c) = Allowed dis format o
 HeldMove format o m = Unit {0}
 
-moved_held : (a : Calling) (o : Option Dis) (m : Move) → HeldOf a.state a.format o → HeldMove a.format o m → HeldOf (moved a m).state (moved a m).format o
+moved_held : (a : CallerCore) (o : Option Dis) (m : Move) → HeldOf a.state a.format o → HeldMove a.format o m → HeldOf (moved a m).state (moved a m).format o
 moved_held a o Stays h k = h
 moved_held a o (Trains dis dcs c) h k = k
 moved_held a o (Sends dis dcs c) h k = k
@@ -119,14 +119,14 @@ timers_held format o x false (AwaitMcf dis dcs) c h = tt
 
 -- ---- a piece, and a tick
 
-abbrev pub Held : Calling → Option Dis → Type 0
+abbrev pub Held : CallerCore → Option Dis → Type 0
 Held a o = HeldOf a.state a.format o
 
-came_held : (a : Calling) (o : Option Dis) (piece : pieces.Piece) (now : ℕ) → Held a o → Held (came a piece now) (dis_with a piece o)
+came_held : (a : CallerCore) (o : Option Dis) (piece : pieces.Piece) (now : ℕ) → Held a o → Held (came a piece now) (dis_with a piece o)
 came_held a o (pieces.Frame octets) now h = by (waits a.waiting)
   where
     turn : Option Format
-    turn = turn_behind a.formats a.counts.page
+    turn = turn_after a.formats a.counts.page
 
     by : (w : Bool) → Held (moved a (if w then Stays else on_frame now a.format turn a.pages a.state a.counts (frame_of octets))) (dis_by a.state w (frame_of octets) o)
     by true = kept_held a.state a.format true (frame_of octets) o h
@@ -138,7 +138,7 @@ came_held a o (pieces.Octets os) now h = h
 came_held a o (pieces.End w) now h = h
 came_held a o pieces.Gap now h = h
 
-pub timed_held : (a : Calling) (o : Option Dis) (now : ℕ) → Held a o → Held (timed a now) o
+pub timed_held : (a : CallerCore) (o : Option Dis) (now : ℕ) → Held a o → Held (timed a now) o
 timed_held a o now h =
     moved_held a o _ h (if_held a.format o (waits a.waiting) Stays (on_timers (is_due a.t1 now) (is_due a.t4 now) a.state a.counts) tt
     (timers_held a.format o (is_due a.t1 now) (is_due a.t4 now) a.state a.counts h))
@@ -150,28 +150,28 @@ given_held (AwaitCfr dis dcs) format o h = h
 given_held (AwaitMcf dis dcs) format o h = h
 given_held (Closing x) format o h = tt
 
-after_held : (a : Calling) (o : Option Dis) (now : ℕ) (packet : Packet) (rest : List Due) → Held a o → Held (after_giving a now packet rest) o
+after_held : (a : CallerCore) (o : Option Dis) (now : ℕ) (packet : Packet) (rest : List Due) → Held a o → Held (after_giving a now packet rest) o
 after_held a o now packet [] h = given_held a.state a.format o h
 after_held a o now packet (d ∷ rest) h = h
 
-first_held : (writes : Writing) (job : JobValue) (a : Calling) (o : Option Dis) (now : ℕ) (due : List Due) → Held a o → Held (given_first writes job a now due).core o
+first_held : (writes : Writing) (job : JobValue) (a : CallerCore) (o : Option Dis) (now : ℕ) (due : List Due) → Held a o → Held (given_first writes job a now due).core o
 first_held writes job a o now [] h = h
 first_held writes job a o now (d ∷ due) h = after_held a o now (taken writes job d due).packet (taken writes job d due).rest h
 
-ticked_held : (writes : Writing) (job : JobValue) (a : Calling) (o : Option Dis) (now : ℕ) → Held a o → Held (ticked writes job a now).core o
+ticked_held : (writes : Writing) (job : JobValue) (a : CallerCore) (o : Option Dis) (now : ℕ) → Held a o → Held (ticked writes job a now).core o
 ticked_held writes job a o now h = by (timed a now) (timed_held a o now h) (pace_allows (timed a now).pace.last now)
   where
-    by : (b : Calling) → Held b o → (t : Bool) → Held (if◌then◌else◌ {A = Ticked} t (given_first writes job b now b.waiting) (record { core = b; given = None })).core o
+    by : (b : CallerCore) → Held b o → (t : Bool) → Held (if◌then◌else◌ {A = TickResult} t (given_first writes job b now b.waiting) (record { core = b; given = None })).core o
     by b k true = first_held writes job b o now b.waiting k
     by b k false = k
 
-pub held_in_call : (writes : Writing) (job : JobValue) (core : Calling) (start : ℕ) (events : List CallEvent) → Held (after_events writes job (started core job start) events) (dis_taken writes job (started core job start) events)
+pub held_in_call : (writes : Writing) (job : JobValue) (core : CallerCore) (start : ℕ) (events : List CallEvent) → Held (after_events writes job (started core job start) events) (dis_taken writes job (started core job start) events)
 held_in_call writes job core start [] = tt
 held_in_call writes job core start (Comes piece now ∷ before) =
-    let begun : Calling = started core job start in
+    let begun : CallerCore = started core job start in
     came_held (after_events writes job begun before) (dis_taken writes job begun before) piece now (held_in_call writes job core start before)
 held_in_call writes job core start (Ticks now ∷ before) =
-    let begun : Calling = started core job start in
+    let begun : CallerCore = started core job start in
     ticked_held writes job (after_events writes job begun before) (dis_taken writes job begun before) now (held_in_call writes job core start before)
 
 -- ---- what ends an image
@@ -186,7 +186,7 @@ quiet_ends (e ∷ es) marks q (inl s) = none_some (emitted_at (elements_given ma
 quiet_ends (e ∷ es) marks q (inr h) = quiet_ends es (Gave e ∷ marks) q.1 h
 
 -- the last part of a text alone, in Await MCF
-record InMcf (texts : Texts) (job : JobValue) (a : Calling) (marks : List Mark) (packet : Packet) : Type 0 where
+record InMcf (texts : Texts) (job : JobValue) (a : CallerCore) (marks : List Mark) (packet : Packet) : Type 0 where
   dis : Dis
   dcs : Dcs
   state : a.state ≡ AwaitMcf dis dcs
@@ -200,7 +200,7 @@ in_mcf last r page m (AwaitCfr dis dcs) c from due before t = absurd t.1
 in_mcf last r page m (AwaitMcf dis dcs) c from due before t = (dis, dcs, refl)
 in_mcf last r page m (Closing x) c from due before t = let q : false ≡ true = t in cc
 
-text_ends : (texts : Texts) (job : JobValue) (a : Calling) (marks : List Mark) (dcs : Dcs) (from : ℕ) (due : List Due) (last : Option ℕ) → IsJob job → a.counts.page < length job.pages → Emits job marks last →
+text_ends : (texts : Texts) (job : JobValue) (a : CallerCore) (marks : List Mark) (dcs : Dcs) (from : ℕ) (due : List Due) (last : Option ℕ) → IsJob job → a.counts.page < length job.pages → Emits job marks last →
     SafeTo texts job a.counts.page (PostOf a.state) (Text a.counts.page dcs from ∷ due) (elements_given marks) → InTurn last (replied marks) a.counts.page a.state (Text a.counts.page dcs from ∷ due) (elements_given marks) →
     EndsImage (elements_in (taken texts.writes job (Text a.counts.page dcs from) due).packet) marks →
     Emits job (gave_all (elements_in (taken texts.writes job (Text a.counts.page dcs from) due).packet) marks) (Some a.counts.page)
@@ -212,10 +212,10 @@ text_ends texts job a marks dcs from due last is within e s t h0 = by (nat_le (l
     os : List ℕ
     os = drop from (text_at texts.writes job page dcs)
 
-    last_one : Taken
+    last_one : TakenPart
     last_one = record { packet = Part (kind_of dcs.rate) true os; rest = due }
 
-    more : Taken
+    more : TakenPart
     more = record { packet = Part (kind_of dcs.rate) false (take (part_length dcs) os); rest = Text page dcs (from + part_length dcs) ∷ due }
 
     ends : EndsImage (elements_in last_one.packet) marks → nat_le (length os) (part_length dcs) ≡ true → Emits job (gave_all (elements_in last_one.packet) marks) (Some page)
@@ -233,13 +233,13 @@ text_ends texts job a marks dcs from due last is within e s t h0 = by (nat_le (l
         quiet_ends (elements.Field (kind_of dcs.rate) 6 part ∷ []) marks (q, tt)
         (subst (λ (es : List elements.Element). EndsImage es marks) (part_back dcs.rate false part (omega arith) (omega arith)) h)
 
-    by : (w : Bool) → nat_le (length os) (part_length dcs) ≡ w → EndsImage (elements_in (if◌then◌else◌ {A = Taken} w last_one more).packet) marks →
-        Emits job (gave_all (elements_in (if◌then◌else◌ {A = Taken} w last_one more).packet) marks) (Some page)
+    by : (w : Bool) → nat_le (length os) (part_length dcs) ≡ w → EndsImage (elements_in (if◌then◌else◌ {A = TakenPart} w last_one more).packet) marks →
+        Emits job (gave_all (elements_in (if◌then◌else◌ {A = TakenPart} w last_one more).packet) marks) (Some page)
     by true k h = ends h k
     by false k h = absurd (goes_on k h)
 
 -- so it is in each tick that gives such a packet
-first_ends : (texts : Texts) (job : JobValue) (a : Calling) (now : ℕ) (marks : List Mark) (packet : Packet) (w : List Due) → a.waiting ≡ w → Good texts job a marks → (given_first texts.writes job a now w).given ≡ Some packet →
+first_ends : (texts : Texts) (job : JobValue) (a : CallerCore) (now : ℕ) (marks : List Mark) (packet : Packet) (w : List Due) → a.waiting ≡ w → Good texts job a marks → (given_first texts.writes job a now w).given ≡ Some packet →
     EndsImage (elements_in packet) marks → InMcf texts job a marks packet
 first_ends texts job a now marks packet [] e g is h = cc
 first_ends texts job a now marks packet (One p ∷ due) e g is h =
@@ -267,28 +267,28 @@ first_ends texts job a now marks packet (Text m dcs from ∷ due) e g is h =
           emits = subst (λ (x : Packet). Emits job (gave_all (elements_in x) marks) (Some a.counts.page)) same1 (text_ends texts job a marks dcs from due g.last g.kept.is_job g.kept.within g.kept.emits s1 t1 h1);
         }
 
-paced_ends : (texts : Texts) (job : JobValue) (a : Calling) (now : ℕ) (marks : List Mark) (packet : Packet) → Good texts job a marks → (paced texts.writes job a now).given ≡ Some packet → EndsImage (elements_in packet) marks → InMcf texts job a marks packet
+paced_ends : (texts : Texts) (job : JobValue) (a : CallerCore) (now : ℕ) (marks : List Mark) (packet : Packet) → Good texts job a marks → (paced texts.writes job a now).given ≡ Some packet → EndsImage (elements_in packet) marks → InMcf texts job a marks packet
 paced_ends texts job a now marks packet g is h = by (pace_allows a.pace.last now) is
   where
-    by : (w : Bool) → (if◌then◌else◌ {A = Ticked} w (given_first texts.writes job a now a.waiting) (record { core = a; given = None })).given ≡ Some packet → InMcf texts job a marks packet
+    by : (w : Bool) → (if◌then◌else◌ {A = TickResult} w (given_first texts.writes job a now a.waiting) (record { core = a; given = None })).given ≡ Some packet → InMcf texts job a marks packet
     by true q = first_ends texts job a now marks packet a.waiting refl g q h
     by false q = cc
 
 pub none_is_lacking : NoneIsLacking
 none_is_lacking writes job old core start before now packet n is_writing is_job given ends emits =
     let texts : Texts = record { writes = writes; are = is_writing } in
-    let begun : Calling = started core job start in
-    let a : Calling = after_events writes job begun before in
+    let begun : CallerCore = started core job start in
+    let a : CallerCore = after_events writes job begun before in
     let marks : List Mark = marks_after writes job old begun before in
     let g : Good texts job a marks = events_good texts job old begun before is_job (start_good texts job old core start is_job) in
-    let t : Calling = timed a now in
+    let t : CallerCore = timed a now in
     let m : InMcf texts job t marks packet = paced_ends texts job t now marks packet (timed_good texts job a now marks g) given ends in
     let o : Option Dis = dis_taken writes job begun before in
     let held : HeldOf (AwaitMcf m.dis m.dcs) t.format o = subst (λ (s : State). HeldOf s t.format o) m.state (timed_held a o now (held_in_call writes job core start before)) in
     let after : Emits job (gave_all (elements_in packet) marks) (Some n) = subst (λ (p : Option Packet). Emits job (marks_given p marks) (Some n)) given emits in
     let same : Some (Some n) ≡ Some (Some t.counts.page) = sym (numbers_are_fixed job (gave_all (elements_in packet) marks) (Some n) after) ∙ numbers_are_fixed job (gave_all (elements_in packet) marks) (Some t.counts.page) m.emits in
     let at : t.counts.page ≡ n = cc in
-    let k : Kept texts job t marks (timed_good texts job a now marks g).last = (timed_good texts job a now marks g).kept in
+    let k : Rep texts job t marks (timed_good texts job a now marks g).last = (timed_good texts job a now marks g).kept in
     let p = page_at job.pages t.counts.page k.within in
     let format : p.0.format ≡ t.format = k.due.due p.0.format (format_at job.pages t.counts.page p.0 p.1) in
     (p.0, subst (λ (i : ℕ). slice_get job.pages i ≡ Some p.0) at p.1, m.dis, held.0, subst (Allows m.dis) (sym format) held.1)

@@ -4,7 +4,7 @@ mod FollowingLemmas
 mod GivingLemmas
 mod HearingLemmas
 mod JobLemmas
-mod KeptLemmas
+mod RepLemmas
 mod MakingLemmas
 mod Numbered
 mod PacketLemmas

@@ -25,9 +25,9 @@ use Rattle.fax_timers.specs.Paces.{pace_allows}
 use Rattle.fax_call.specs.declared.state.State.{State}
 use Rattle.fax_call.specs.declared.state.State.TheVariants.{Idle, AwaitDis, AwaitCfr, AwaitMcf, Closing}
 use Rattle.fax_call.specs.Writings.{Writing}
-use Rattle.fax_call.specs.Replies.{Packet, Signals, Tells, Part, Due, One, Text, part_length, training, training_check, goodbye, is_last_page, turn_behind, command_by, command_behind, command, waits}
+use Rattle.fax_call.specs.Replies.{Packet, Signals, Tells, Part, Due, One, Text, part_length, training, training_check, goodbye, is_last_page, turn_after, command_by, command_after, command, waits}
 use Rattle.fax_call.specs.Table.{Counts, Move, Stays, Trains, Sends, AsksAgain, Turns, Closes, HangsUp, first_try, next_try, next_step, next_page, one_delivered, one_refused, by_choice, turns_or, tries_again, asks_again, on_frame, on_timers}
-use Rattle.fax_call.specs.Calls.{Calling, started, moved, heard, timed, text_at, Taken, taken_text, taken, state_when_given, after_giving, given_first, Ticked, CallEvent, Comes, Ticks, after_events}
+use Rattle.fax_call.specs.Calls.{CallerCore, started, moved, heard, timed, text_at, TakenPart, taken_text, taken, state_when_given, after_giving, given_first, TickResult, CallEvent, Comes, Ticks, after_events}
 use Rattle.fax_call.specs.Given.{packets_with, packets_given, dcs_in, told_dcs, EachDcs, IsOfKind, tells_eom, GivesOneKind}
 use Rattle.fax_call.proofs.PacketsBack.{dcs_back}
 use Rattle.fax_call.proofs.Waiting.{AreParts, check_parts}
@@ -116,18 +116,18 @@ IsToTell due given = (is_eom_due due ≡ true) ⊎ TellsEom given
 
 -- where the next page is of another format, the command of the page that is sent is EOM
 abbrev Asks : List Format → (pages : ℕ) → State → Counts → List Due → List Packet → Type 0
-Asks formats pages (AwaitMcf dis dcs) c due given = (turn : Format) → turn_behind formats c.page ≡ Some turn → is_last_page pages c.page ≡ false → IsToTell due given
+Asks formats pages (AwaitMcf dis dcs) c due given = (turn : Format) → turn_after formats c.page ≡ Some turn → is_last_page pages c.page ≡ false → IsToTell due given
 Asks formats pages state c due given = Unit {0}
 
-asks_command : (formats : List Format) (pages page : ℕ) (turn : Format) → turn_behind formats page ≡ Some turn → is_last_page pages page ≡ false → is_eom_due (command (command_behind formats pages page)) ≡ true
-asks_command formats pages page turn e l = by (is_last_page pages page) (turn_behind formats page) l e
+asks_command : (formats : List Format) (pages page : ℕ) (turn : Format) → turn_after formats page ≡ Some turn → is_last_page pages page ≡ false → is_eom_due (command (command_after formats pages page)) ≡ true
+asks_command formats pages page turn e l = by (is_last_page pages page) (turn_after formats page) l e
   where
     by : (b : Bool) (t : Option Format) → b ≡ false → t ≡ Some turn → is_eom_due (command (command_by b t)) ≡ true
     by true t l e = cc
     by false None l e = cc
     by false (Some x) l e = refl
 
--- BEFORE A DCS, AND BEHIND THE FIRST
+-- BEFORE A DCS, AND AFTER THE FIRST
 abbrev IsEarly : State → Type 0
 IsEarly (AwaitCfr dis dcs) = ⊥
 IsEarly (AwaitMcf dis dcs) = ⊥
@@ -142,13 +142,13 @@ StateKind f c (AwaitCfr dis dcs) = Known f c dis dcs
 StateKind f c (AwaitMcf dis dcs) = Known f c dis dcs
 StateKind f c state = Unit {0}
 
-record Early (f : Format) (a : Calling) (given : List Packet) : Type 0 where
+record Early (f : Format) (a : CallerCore) (given : List Packet) : Type 0 where
   format : a.format ≡ f
   state : IsEarly a.state
   due : AllDue Never a.waiting
   given_so : EachDcs Never given
 
-record Late (f : Format) (a : Calling) (given : List Packet) : Type 0 where
+record Late (f : Format) (a : CallerCore) (given : List Packet) : Type 0 where
   coding : Coding
   format : a.format ≡ f
   state : StateKind f coding a.state
@@ -157,9 +157,9 @@ record Late (f : Format) (a : Calling) (given : List Packet) : Type 0 where
   given_so : EachDcs (IsOfKind f coding) given
 
 -- and where EOM was given nothing more is told
-data Stage (f : Format) (a : Calling) (given : List Packet) : Type 0 where
+data Stage (f : Format) (a : CallerCore) (given : List Packet) : Type 0 where
   IsBefore : (early : Early f a given) → Stage f a given
-  IsBehind : (late : Late f a given) → Stage f a given
+  IsAfter : (late : Late f a given) → Stage f a given
   IsTurned : (told : TellsEom given) → Stage f a given
 
 -- a move
@@ -176,24 +176,24 @@ LateMove f k (Sends dis dcs c) = Known f k dis dcs
 LateMove f k (Turns format t1 c) = ⊥
 LateMove f k m = Unit {0}
 
-early_moved : (f : Format) (a : Calling) (given : List Packet) (m : Move) → EarlyMove f m → Early f a given → Stage f (moved a m) given
+early_moved : (f : Format) (a : CallerCore) (given : List Packet) (m : Move) → EarlyMove f m → Early f a given → Stage f (moved a m) given
 early_moved f a given Stays h e = IsBefore e
 early_moved f a given (Trains dis dcs c) h e =
-    IsBehind (record { coding = dis_coding dis; format = e.format; state = (refl, h); due = training_due f (dis_coding dis) dcs h; asks = tt; given_so = no_dcs (IsOfKind f (dis_coding dis)) given e.given_so })
+    IsAfter (record { coding = dis_coding dis; format = e.format; state = (refl, h); due = training_due f (dis_coding dis) dcs h; asks = tt; given_so = no_dcs (IsOfKind f (dis_coding dis)) given e.given_so })
 early_moved f a given (Sends dis dcs c) h e = absurd h
 early_moved f a given (AsksAgain c) h e = absurd h
 early_moved f a given (Turns format t1 c) h e = absurd h
 early_moved f a given (Closes outcome c) h e = IsBefore (record { format = e.format; state = tt; due = goodbye_due Never; given_so = e.given_so })
 early_moved f a given HangsUp h e = IsBefore (record { format = e.format; state = tt; due = tt; given_so = e.given_so })
 
-asked_again : (a : Calling) (c : Counts) (state : State) (given : List Packet) → Asks a.formats a.pages state c (command (command_behind a.formats a.pages c.page)) given
+asked_again : (a : CallerCore) (c : Counts) (state : State) (given : List Packet) → Asks a.formats a.pages state c (command (command_after a.formats a.pages c.page)) given
 asked_again a c Idle given = tt
 asked_again a c AwaitDis given = tt
 asked_again a c (Closing o) given = tt
 asked_again a c (AwaitCfr dis dcs) given = tt
 asked_again a c (AwaitMcf dis dcs) given = λ turn e l. inl (asks_command a.formats a.pages c.page turn e l)
 
-late_moved : (f : Format) (a : Calling) (given : List Packet) (m : Move) (l : Late f a given) → LateMove f l.coding m → Late f (moved a m) given
+late_moved : (f : Format) (a : CallerCore) (given : List Packet) (m : Move) (l : Late f a given) → LateMove f l.coding m → Late f (moved a m) given
 late_moved f a given Stays l h = l
 late_moved f a given (Trains dis dcs c) l h =
     record { coding = l.coding; format = l.format; state = h; due = training_due f l.coding dcs h.1; asks = tt; given_so = l.given_so }
@@ -202,7 +202,7 @@ late_moved f a given (Sends dis dcs c) l h =
       coding = l.coding;
       format = l.format;
       state = h;
-      due = (tt, command_due (IsOfKind f l.coding) (is_last_page a.pages c.page) (turn_behind a.formats c.page));
+      due = (tt, command_due (IsOfKind f l.coding) (is_last_page a.pages c.page) (turn_after a.formats c.page));
       asks = λ turn e k. inl (asks_command a.formats a.pages c.page turn e k);
       given_so = l.given_so;
     }
@@ -211,7 +211,7 @@ late_moved f a given (AsksAgain c) l h =
       coding = l.coding;
       format = l.format;
       state = l.state;
-      due = command_due (IsOfKind f l.coding) (is_last_page a.pages c.page) (turn_behind a.formats c.page);
+      due = command_due (IsOfKind f l.coding) (is_last_page a.pages c.page) (turn_after a.formats c.page);
       asks = asked_again a c a.state given;
       given_so = l.given_so;
     }
@@ -293,9 +293,9 @@ late_free : (f : Format) (k : Coding) (b : Bool) (m : Move) → LateMove f k m �
 late_free f k true m h = tt
 late_free f k false m h = h
 
-early_heard : (f : Format) (a : Calling) (piece : pieces.Piece) (now : ℕ) → a.format ≡ f → IsEarly a.state → EarlyMove f (heard a piece now)
+early_heard : (f : Format) (a : CallerCore) (piece : pieces.Piece) (now : ℕ) → a.format ≡ f → IsEarly a.state → EarlyMove f (heard a piece now)
 early_heard f a (pieces.Frame octets) now e h =
-    let turn : Option Format = turn_behind a.formats a.counts.page in
+    let turn : Option Format = turn_after a.formats a.counts.page in
     early_free f (waits a.waiting) (on_frame now a.format turn a.pages a.state a.counts (frame_of octets))
     (subst (λ (x : Format). EarlyMove f (on_frame now x turn a.pages a.state a.counts (frame_of octets))) (sym e) (early_frame f now turn a.pages a.state a.counts (frame_of octets) h))
 early_heard f a (pieces.Start k) now e h = tt
@@ -304,7 +304,7 @@ early_heard f a (pieces.End w) now e h = tt
 early_heard f a pieces.Gap now e h = tt
 
 -- where nothing waits, EOM was given
-turning : (formats : List Format) (pages : ℕ) (state : State) (c : Counts) (given : List Packet) → Asks formats pages state c [] given → Turning (TellsEom given) state (turn_behind formats c.page) pages c
+turning : (formats : List Format) (pages : ℕ) (state : State) (c : Counts) (given : List Packet) → Asks formats pages state c [] given → Turning (TellsEom given) state (turn_after formats c.page) pages c
 turning formats pages Idle c given h = tt
 turning formats pages AwaitDis c given h = tt
 turning formats pages (Closing o) c given h = tt
@@ -315,11 +315,11 @@ turning formats pages (AwaitMcf dis dcs) c given h = λ t e l. given_so (h t e l
     given_so (inl x) = cc
     given_so (inr x) = x
 
-late_heard : (f : Format) (a : Calling) (piece : pieces.Piece) (now : ℕ) (given : List Packet) (l : Late f a given) → LateMove f l.coding (heard a piece now) ⊎ TellsEom given
+late_heard : (f : Format) (a : CallerCore) (piece : pieces.Piece) (now : ℕ) (given : List Packet) (l : Late f a given) → LateMove f l.coding (heard a piece now) ⊎ TellsEom given
 late_heard f a (pieces.Frame octets) now given l = by a.waiting refl
   where
     turn : Option Format
-    turn = turn_behind a.formats a.counts.page
+    turn = turn_after a.formats a.counts.page
 
     by : (w : List Due) → a.waiting ≡ w → LateMove f l.coding (if waits w then Stays else on_frame now a.format turn a.pages a.state a.counts (frame_of octets)) ⊎ TellsEom given
     by [] e =
@@ -333,14 +333,14 @@ late_heard f a (pieces.End w) now given l = inl tt
 late_heard f a pieces.Gap now given l = inl tt
 
 -- GIVING
-record TakenSo (P : Dcs → Type 0) (t : Taken) : Type 0 where
+record TakenSo (P : Dcs → Type 0) (t : TakenPart) : Type 0 where
   packet : IfSome (told_dcs t.packet) P
   rest : AllDue P t.rest
 
 text_taken : (P : Dcs → Type 0) (page : ℕ) (dcs : Dcs) (from : ℕ) (text : List ℕ) (due : List Due) → AllDue P due → TakenSo P (taken_text page dcs from text due)
 text_taken P page dcs from text due h = by (nat_le (length (drop from text)) (part_length dcs))
   where
-    by : (t : Bool) → TakenSo P (if◌then◌else◌ {A = Taken} t (record { packet = Part (kind_of dcs.rate) true (drop from text); rest = due }) (record { packet = Part (kind_of dcs.rate) false (take (part_length dcs) (drop from text)); rest = Text page dcs (from + part_length dcs) ∷ due }))
+    by : (t : Bool) → TakenSo P (if◌then◌else◌ {A = TakenPart} t (record { packet = Part (kind_of dcs.rate) true (drop from text); rest = due }) (record { packet = Part (kind_of dcs.rate) false (take (part_length dcs) (drop from text)); rest = Text page dcs (from + part_length dcs) ∷ due }))
     by true = record { packet = tt; rest = h }
     by false = record { packet = tt; rest = h }
 
@@ -348,11 +348,11 @@ all_taken : (P : Dcs → Type 0) (writes : Writing) (job : JobValue) (d : Due) (
 all_taken P writes job (One p) due h = record { packet = h.0; rest = h.1 }
 all_taken P writes job (Text n dcs from) due h = text_taken P n dcs from (text_at writes job n dcs) due h
 
-after_due : (P : Dcs → Type 0) (a : Calling) (now : ℕ) (packet : Packet) (due : List Due) → AllDue P due → AllDue P (after_giving a now packet due).waiting
+after_due : (P : Dcs → Type 0) (a : CallerCore) (now : ℕ) (packet : Packet) (due : List Due) → AllDue P due → AllDue P (after_giving a now packet due).waiting
 after_due P a now packet [] h = tt
 after_due P a now packet (d ∷ due) h = h
 
-after_format : (a : Calling) (now : ℕ) (packet : Packet) (due : List Due) → (after_giving a now packet due).format ≡ a.format
+after_format : (a : CallerCore) (now : ℕ) (packet : Packet) (due : List Due) → (after_giving a now packet due).format ≡ a.format
 after_format a now packet [] = refl
 after_format a now packet (d ∷ due) = refl
 
@@ -370,11 +370,11 @@ late_given f k (AwaitCfr dis dcs) h = h
 late_given f k (AwaitMcf dis dcs) h = h
 late_given f k (Closing o) h = tt
 
-early_after : (a : Calling) (now : ℕ) (packet : Packet) (due : List Due) → IsEarly a.state → IsEarly (after_giving a now packet due).state
+early_after : (a : CallerCore) (now : ℕ) (packet : Packet) (due : List Due) → IsEarly a.state → IsEarly (after_giving a now packet due).state
 early_after a now packet [] h = early_given a.state h
 early_after a now packet (d ∷ due) h = h
 
-late_after : (f : Format) (k : Coding) (a : Calling) (now : ℕ) (packet : Packet) (due : List Due) → StateKind f k a.state → StateKind f k (after_giving a now packet due).state
+late_after : (f : Format) (k : Coding) (a : CallerCore) (now : ℕ) (packet : Packet) (due : List Due) → StateKind f k a.state → StateKind f k (after_giving a now packet due).state
 late_after f k a now packet [] h = late_given f k a.state h
 late_after f k a now packet (d ∷ due) h = h
 
@@ -390,17 +390,17 @@ any_rest p given e = by (tells_eom p)
     by false = e
 
 text_to_tell : (page : ℕ) (dcs : Dcs) (from : ℕ) (text : List ℕ) (due : List Due) (given : List Packet) → IsToTell due given →
-    let t : Taken = taken_text page dcs from text due in IsToTell t.rest (t.packet ∷ given)
+    let t : TakenPart = taken_text page dcs from text due in IsToTell t.rest (t.packet ∷ given)
 text_to_tell page dcs from text due given h = by (nat_le (length (drop from text)) (part_length dcs)) h
   where
     by : (b : Bool) → IsToTell due given →
-        let t : Taken = if◌then◌else◌ {A = Taken} b (record { packet = Part (kind_of dcs.rate) true (drop from text); rest = due }) (record { packet = Part (kind_of dcs.rate) false (take (part_length dcs) (drop from text)); rest = Text page dcs (from + part_length dcs) ∷ due }) in
+        let t : TakenPart = if◌then◌else◌ {A = TakenPart} b (record { packet = Part (kind_of dcs.rate) true (drop from text); rest = due }) (record { packet = Part (kind_of dcs.rate) false (take (part_length dcs) (drop from text)); rest = Text page dcs (from + part_length dcs) ∷ due }) in
         IsToTell t.rest (t.packet ∷ given)
     by true h = h
     by false h = h
 
 taken_to_tell : (writes : Writing) (job : JobValue) (d : Due) (due : List Due) (given : List Packet) → IsToTell (d ∷ due) given →
-    let t : Taken = taken writes job d due in IsToTell t.rest (t.packet ∷ given)
+    let t : TakenPart = taken writes job d due in IsToTell t.rest (t.packet ∷ given)
 taken_to_tell writes job (Text n dcs from) due given h = text_to_tell n dcs from (text_at writes job n dcs) due given h
 taken_to_tell writes job (One p) due given (inr h) = inr (any_rest p given h)
 taken_to_tell writes job (One p) due given (inl h) = by (tells_eom p) refl h
@@ -409,11 +409,11 @@ taken_to_tell writes job (One p) due given (inl h) = by (tells_eom p) refl h
     by true e k = inr (any_first p given e)
     by false e k = inl k
 
-abbrev AsksOf : Calling → List Packet → Type 0
+abbrev AsksOf : CallerCore → List Packet → Type 0
 AsksOf a given = Asks a.formats a.pages a.state a.counts a.waiting given
 
-after_asks : (writes : Writing) (job : JobValue) (a : Calling) (now : ℕ) (d : Due) (due : List Due) (given : List Packet) → Asks a.formats a.pages a.state a.counts (d ∷ due) given →
-    let t : Taken = taken writes job d due in AsksOf (after_giving a now t.packet t.rest) (t.packet ∷ given)
+after_asks : (writes : Writing) (job : JobValue) (a : CallerCore) (now : ℕ) (d : Due) (due : List Due) (given : List Packet) → Asks a.formats a.pages a.state a.counts (d ∷ due) given →
+    let t : TakenPart = taken writes job d due in AsksOf (after_giving a now t.packet t.rest) (t.packet ∷ given)
 after_asks writes job a now d due given h =
     by (taken writes job d due).rest a.state (λ x. taken_to_tell writes job d due given x) h
   where
@@ -439,22 +439,22 @@ after_asks writes job a now d due given h =
     by [] state g h = ended state (of [] state g h)
     by (x ∷ rest) state g h = of (x ∷ rest) state g h
 
-abbrev StageBehind : Format → Ticked → List Packet → Type 0
-StageBehind f t given = Stage f t.core (packets_with t.given given)
+abbrev StageAfter : Format → TickResult → List Packet → Type 0
+StageAfter f t given = Stage f t.core (packets_with t.given given)
 
-first_stage : (f : Format) (writes : Writing) (job : JobValue) (a : Calling) (now : ℕ) (due : List Due) (given : List Packet) → a.waiting ≡ due → Stage f a given → StageBehind f (given_first writes job a now due) given
+first_stage : (f : Format) (writes : Writing) (job : JobValue) (a : CallerCore) (now : ℕ) (due : List Due) (given : List Packet) → a.waiting ≡ due → Stage f a given → StageAfter f (given_first writes job a now due) given
 first_stage f writes job a now [] given e s = s
 first_stage f writes job a now (d ∷ due) given e (IsBefore s) =
     let t = all_taken Never writes job d due (subst (AllDue Never) e s.due) in
     let packet : Packet = (taken writes job d due).packet in
     let rest : List Due = (taken writes job d due).rest in
     IsBefore (record { format = after_format a now packet rest ∙ s.format; state = early_after a now packet rest s.state; due = after_due Never a now packet rest t.rest; given_so = (t.packet, s.given_so) })
-first_stage f writes job a now (d ∷ due) given e (IsBehind s) =
+first_stage f writes job a now (d ∷ due) given e (IsAfter s) =
     let P : Dcs → Type 0 = IsOfKind f s.coding in
     let t = all_taken P writes job d due (subst (AllDue P) e s.due) in
     let packet : Packet = (taken writes job d due).packet in
     let rest : List Due = (taken writes job d due).rest in
-    IsBehind (record {
+    IsAfter (record {
       coding = s.coding;
       format = after_format a now packet rest ∙ s.format;
       state = late_after f s.coding a now packet rest s.state;
@@ -464,40 +464,40 @@ first_stage f writes job a now (d ∷ due) given e (IsBehind s) =
     })
 first_stage f writes job a now (d ∷ due) given e (IsTurned s) = IsTurned (any_rest (taken writes job d due).packet given s)
 
-paced_stage : (f : Format) (b : Bool) (a : Calling) (t : Ticked) (given : List Packet) → Stage f a given → StageBehind f t given → StageBehind f (if◌then◌else◌ {A = Ticked} b t (record { core = a; given = None })) given
+paced_stage : (f : Format) (b : Bool) (a : CallerCore) (t : TickResult) (given : List Packet) → Stage f a given → StageAfter f t given → StageAfter f (if◌then◌else◌ {A = TickResult} b t (record { core = a; given = None })) given
 paced_stage f true a t given s h = h
 paced_stage f false a t given s h = s
 
-timed_stage : (f : Format) (a : Calling) (now : ℕ) (given : List Packet) → Stage f a given → Stage f (timed a now) given
+timed_stage : (f : Format) (a : CallerCore) (now : ℕ) (given : List Packet) → Stage f a given → Stage f (timed a now) given
 timed_stage f a now given (IsBefore s) = early_moved f a given _ (early_free f (waits a.waiting) _ (early_timer f (is_due a.t1 now) (is_due a.t4 now) a.state a.counts s.state)) s
-timed_stage f a now given (IsBehind s) = IsBehind (late_moved f a given _ s (late_free f s.coding (waits a.waiting) _ (late_timer f s.coding (is_due a.t1 now) (is_due a.t4 now) a.state a.counts s.state)))
+timed_stage f a now given (IsAfter s) = IsAfter (late_moved f a given _ s (late_free f s.coding (waits a.waiting) _ (late_timer f s.coding (is_due a.t1 now) (is_due a.t4 now) a.state a.counts s.state)))
 timed_stage f a now given (IsTurned s) = IsTurned s
 
-came_stage : (f : Format) (a : Calling) (piece : pieces.Piece) (now : ℕ) (given : List Packet) → Stage f a given → Stage f (moved a (heard a piece now)) given
+came_stage : (f : Format) (a : CallerCore) (piece : pieces.Piece) (now : ℕ) (given : List Packet) → Stage f a given → Stage f (moved a (heard a piece now)) given
 came_stage f a piece now given (IsBefore s) = early_moved f a given (heard a piece now) (early_heard f a piece now s.format s.state) s
-came_stage f a piece now given (IsBehind s) = by (late_heard f a piece now given s)
+came_stage f a piece now given (IsAfter s) = by (late_heard f a piece now given s)
   where
     by : LateMove f s.coding (heard a piece now) ⊎ TellsEom given → Stage f (moved a (heard a piece now)) given
-    by (inl m) = IsBehind (late_moved f a given (heard a piece now) s m)
+    by (inl m) = IsAfter (late_moved f a given (heard a piece now) s m)
     by (inr t) = IsTurned t
 came_stage f a piece now given (IsTurned s) = IsTurned s
 
-stage : (f : Format) (writes : Writing) (job : JobValue) (a : Calling) (events : List CallEvent) → Stage f a [] → Stage f (after_events writes job a events) (packets_given writes job a events)
+stage : (f : Format) (writes : Writing) (job : JobValue) (a : CallerCore) (events : List CallEvent) → Stage f a [] → Stage f (after_events writes job a events) (packets_given writes job a events)
 stage f writes job a [] s = s
 stage f writes job a (Comes piece now ∷ before) s = came_stage f (after_events writes job a before) piece now (packets_given writes job a before) (stage f writes job a before s)
 stage f writes job a (Ticks now ∷ before) s =
     let given : List Packet = packets_given writes job a before in
-    let b : Calling = timed (after_events writes job a before) now in
+    let b : CallerCore = timed (after_events writes job a before) now in
     let u : Stage f b given = timed_stage f (after_events writes job a before) now given (stage f writes job a before s) in
     paced_stage f (pace_allows b.pace.last now) b (given_first writes job b now b.waiting) given u (first_stage f writes job b now b.waiting given refl u)
 
-one_of : (f : Format) (a : Calling) (given : List Packet) → Stage f a given → list_any tells_eom given ≡ false → (coding : Coding) × EachDcs (IsOfKind f coding) given
+one_of : (f : Format) (a : CallerCore) (given : List Packet) → Stage f a given → list_any tells_eom given ≡ false → (coding : Coding) × EachDcs (IsOfKind f coding) given
 one_of f a given (IsBefore s) n = (Mh, no_dcs (IsOfKind f Mh) given s.given_so)
-one_of f a given (IsBehind s) n = (s.coding, s.given_so)
+one_of f a given (IsAfter s) n = (s.coding, s.given_so)
 one_of f a given (IsTurned s) n = let e : true ≡ false = sym s ∙ n in cc
 
 pub gives_one_kind : GivesOneKind
 gives_one_kind writes job core start events none =
-    let a : Calling = started core job start in
+    let a : CallerCore = started core job start in
     one_of job.format (after_events writes job a events) (packets_given writes job a events)
     (stage job.format writes job a events (IsBefore (record { format = refl; state = tt; due = (tt, tt); given_so = tt }))) none

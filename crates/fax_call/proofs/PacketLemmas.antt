@@ -1,19 +1,19 @@
--- The packets of the calling side are short.
+-- The packets of the caller are short.
 use Rattle.std.proofs.Common.{◌≡◌, ℕ, ◌-◌, ◌/◌, ◌≤◌, ◌<◌, ◌↔◌, Bool, true, false, IsTrue, nat_le, List, [], ◌∷◌, ◌++◌, length, take, drop, replicate, Option, Some, IfSome, refl, sym, ◌∙◌, ap, subst, arith, length-drop, if◌then◌else◌}
 use Rattle.std.proofs.lemmas.List.{append-nil, length-replicate, take_all}
 use Rattle.fax_frames.specs.declared.dcs.Dcs.{Dcs}
 use Rattle.fax_frames.specs.declared.rate.Rate.{Rate}
 use Rattle.fax_frames.specs.declared.rate.Rate.TheVariants.{V27At2400, V27At4800, V29At7200, V29At9600, V17At7200, V17At9600, V17At12000, V17At14400}
 use Rattle.fax_frames.specs.Rates.{bits_a_second, kind_of}
-use Rattle.fax_ifp.specs.WrittenPackets.{written_behind, written_message, image_fields}
+use Rattle.fax_ifp.specs.WrittenPackets.{written_after, written_message, image_fields}
 use Rattle.fax_call.specs.declared.pending.Message.TheVariants as messages
 use Rattle.fax_call.specs.declared.pending.Pending.{Pending}
 use Rattle.fax_call.specs.declared.pending.Pending.TheVariants.{Nothing, Tone, Preamble, Frame, Training, Check, Image, Text}
 use Rattle.fax_call.specs.Replies.{Packet, Part, written, part_length, check_length}
-use Rattle.fax_call.specs.Kept.{packet_of, check_part, text_part}
+use Rattle.fax_call.specs.Rep.{packet_of, check_part, text_part}
 
 part_short : (kind : ℕ) (last : Bool) (octets : List ℕ) → length octets ≤ 72 → length (written (Part kind last octets)) ≤ 100
-unfolding written_behind
+unfolding written_after
 part_short kind last octets h = let e : length (octets ++ []) ≡ length octets = ap length (append-nil octets) in omega arith
 
 le_if : (m n : ℕ) → nat_le m n ≡ true → m ≤ n
@@ -59,12 +59,12 @@ le_told m n b when_true when_false = by b (nat_le m n) when_true when_false (le_
 
 pub last_told : (dcs : Dcs) (left : List ℕ) (is_last : Bool) → IsTrue is_last ↔ (drop (part_length dcs) left ≡ []) → is_last ≡ nat_le (length left) (part_length dcs)
 last_told dcs left is_last h =
-    let behind : length (drop (part_length dcs) left) ≡ length left - part_length dcs = length-drop (part_length dcs) left in
+    let after : length (drop (part_length dcs) left) ≡ length left - part_length dcs = length-drop (part_length dcs) left in
     le_told (length left) (part_length dcs) is_last
     (λ e. let none : length (drop (part_length dcs) left) ≡ 0 = ap length (h.0 e) in omega arith)
-    (λ e. not_all (drop (part_length dcs) left) behind (λ none. let both : is_last ≡ true = h.1 none in cc))
+    (λ e. not_all (drop (part_length dcs) left) after (λ none. let both : is_last ≡ true = h.1 none in cc))
   where
-    not_all : (behind : List ℕ) → length behind ≡ length left - part_length dcs → (behind ≡ [] → ⊥) → part_length dcs < length left
+    not_all : (after : List ℕ) → length after ≡ length left - part_length dcs → (after ≡ [] → ⊥) → part_length dcs < length left
     not_all [] size some = absurd (some refl)
     not_all (o ∷ os) size some = omega arith
 
@@ -78,7 +78,7 @@ part_told dcs left given is_last is told =
     by true e = let l : length left ≤ part_length dcs = le_if (length left) (part_length dcs) e in ap (λ (os : List ℕ). Part (kind_of dcs.rate) true os) (take_all (part_length dcs) left l)
     by false e = refl
 
--- what is put for a part of an image behind nothing
+-- what is put for a part of an image after nothing
 part_put : (dcs : Dcs) (own before items : List ℕ) (kind : ℕ) (is_last : Bool) → kind ≡ kind_of dcs.rate → before ≡ [] → items ≡ before ++ written_message kind (image_fields is_last own)
     → items ≡ written (Part (kind_of dcs.rate) is_last own)
 part_put dcs own before items kind is_last kind_is none put =
@@ -95,7 +95,7 @@ short_put dcs own before items kind is_last few kind_is none put =
     subst (λ (os : List ℕ). length os ≤ 100) (sym (part_put dcs own before items kind is_last kind_is none put)) (octets_short dcs is_last own few)
 
 packet_short : (p : Pending) → length (written (packet_of p)) ≤ 100
-unfolding written_behind
+unfolding written_after
 packet_short Nothing = omega arith
 packet_short Tone = omega arith
 packet_short (Preamble message) = omega arith

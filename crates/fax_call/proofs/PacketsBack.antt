@@ -1,4 +1,4 @@
--- What the grammars read of the packets that the calling side writes.
+-- What the grammars read of the packets that the caller writes.
 use Rattle.std.proofs.Common.{◌≡◌, ℕ, ◌<◌, ◌≤◌, ◌==◌, Bool, true, false, List, [], ◌∷◌, ◌++◌, ◌+◌, length, Some, None, refl, sym, ◌∙◌, ap, arith, if◌then◌else◌, unwrap_or}
 use Rattle.std.proofs.lemmas.List.Elements.{All-from_recursion}
 use Rattle.fax_frames.specs.declared.dcs.Dcs.{Dcs}

@@ -5,7 +5,7 @@ use Rattle.fax_jobs.specs.Jobs.{JobValue}
 use Rattle.fax_call.specs.Calls.{CallEvent}
 use Rattle.fax_call.specs.Emission.{Emission, Mark, Gave, Acknowledged, Refused, Begins, elements_given, emitted_at, Reply, Unasked, Asked, Answered, replied, IsAnswered, EmitsBy, Emits}
 use Rattle.fax_call.specs.Numbers.{numbered}
-use Rattle.fax_call.specs.Delivery.{good_one, answered_if, answered_before, CountsAnswers, IsBehind, page_answered, page_if, pages_before, pages_answered, all_below, AnswersThePages}
+use Rattle.fax_call.specs.Delivery.{good_one, answered_if, answered_before, CountsAnswers, IsAfter, page_answered, page_if, pages_before, pages_answered, all_below, AnswersThePages}
 use Rattle.fax_call.proofs.Numbered.{numbers_are_fixed}
 
 -- at least as many were answered as pages stand before the last
@@ -67,7 +67,7 @@ pages_are job (Acknowledged ∷ marks) last h = pages_are job marks last h
 pages_are job (Refused ∷ marks) last h = pages_are job marks last h
 pages_are job (Gave e ∷ marks) last h = pages_by job marks (emitted_at (elements_given marks) e) last h (λ m k. pages_are job marks m k)
 
-pub pages_told : (job : JobValue) (marks : List Mark) (last : Option ℕ) (x : Outcome) (n : ℕ) (events : List CallEvent) → Emits job marks last → IsBehind last (replied marks) n →
+pub pages_told : (job : JobValue) (marks : List Mark) (last : Option ℕ) (x : Outcome) (n : ℕ) (events : List CallEvent) → Emits job marks last → IsAfter last (replied marks) n →
     CountsAnswers x n events marks → AnswersThePages x n events marks
 pages_told job marks last x n events e h c = by last (replied marks) refl e h c
   where
@@ -85,7 +85,7 @@ pages_told job marks last x n events e h c = by last (replied marks) refl e h c
     good : (m : ℕ) (r : Reply) → n ≡ m + 1 → r ≡ Answered true → page_answered r (Some (Some m)) (all_below m) ≡ all_below n
     good m r q g = ap (λ (s : Reply). page_answered s (Some (Some m)) (all_below m)) g ∙ one_below m n q
 
-    by : (last : Option ℕ) (r : Reply) → replied marks ≡ r → Emits job marks last → IsBehind last (replied marks) n → CountsAnswers x n events marks → AnswersThePages x n events marks
+    by : (last : Option ℕ) (r : Reply) → replied marks ≡ r → Emits job marks last → IsAfter last (replied marks) n → CountsAnswers x n events marks → AnswersThePages x n events marks
     by None r u e h c = inl (lists None e ∙ none_with (replied marks) ∙ ap all_below (sym h))
     by (Some m) r u e (inr h) c = inl (lists (Some m) e ∙ good m (replied marks) h.0 h.1)
     by (Some m) r u e (inl h) (inl k) = inl (lists (Some m) e ∙ same m (replied marks) refl e h k)

@@ -18,9 +18,9 @@ use Rattle.fax_jobs.specs.Jobs.{JobValue}
 use Rattle.fax_call.specs.declared.state.State.{State}
 use Rattle.fax_call.specs.declared.state.State.TheVariants.{Idle, AwaitDis, AwaitCfr, AwaitMcf, Closing}
 use Rattle.fax_call.specs.Writings.{Writing}
-use Rattle.fax_call.specs.Replies.{Packet, Due, waits, is_last_page, turn_behind, training, goodbye}
+use Rattle.fax_call.specs.Replies.{Packet, Due, waits, is_last_page, turn_after, training, goodbye}
 use Rattle.fax_call.specs.Table.{Counts, Move, Stays, Trains, Sends, AsksAgain, Turns, Closes, HangsUp, first_try, next_try, next_step, next_page, one_delivered, one_refused, most_tries, outcome_of, by_choice, after_refusal, turns_or, on_frame, gives_up_dis, on_timers}
-use Rattle.fax_call.specs.Calls.{Calling, started, moved, heard, came, timed, taken, state_when_given, outcome_when_given, after_giving, Ticked, given_first, ticked, CallEvent, Comes, Ticks, after_events}
+use Rattle.fax_call.specs.Calls.{CallerCore, started, moved, heard, came, timed, taken, state_when_given, outcome_when_given, after_giving, TickResult, given_first, ticked, CallEvent, Comes, Ticks, after_events}
 use Rattle.fax_call.specs.RefusedPages.{refused_by, refused_with, refusals, RefusesAtTheThird, ThirdRefusalEnds}
 
 -- what is known, where so many RTNs are counted and heard
@@ -43,10 +43,10 @@ MoveKnows s r o n (Turns format t1 c) = (o ≡ None) × (c.refused ≡ n) × (n 
 MoveKnows s r o n (Closes x c) = (o ≡ None) × Ends x n
 MoveKnows s r o n HangsUp = n ≤ 3
 
-abbrev CoreKnows : Calling → ℕ → Type 0
+abbrev CoreKnows : CallerCore → ℕ → Type 0
 CoreKnows a n = Knows a.state a.counts.refused a.outcome n
 
-moved_knows : (a : Calling) (m : Move) (n : ℕ) → MoveKnows a.state a.counts.refused a.outcome n m → CoreKnows (moved a m) n
+moved_knows : (a : CallerCore) (m : Move) (n : ℕ) → MoveKnows a.state a.counts.refused a.outcome n m → CoreKnows (moved a m) n
 moved_knows a Stays n h = h
 moved_knows a (Trains dis dcs c) n h = h
 moved_knows a (Sends dis dcs c) n h = h
@@ -135,19 +135,19 @@ not_while_waiting (AwaitCfr dis dcs) frame n = refl
 not_while_waiting (AwaitMcf dis dcs) frame n = refl
 not_while_waiting (Closing outcome) frame n = refl
 
-came_knows : (a : Calling) (piece : pieces.Piece) (now n : ℕ) → CoreKnows a n → CoreKnows (came a piece now) (refused_with a piece n)
+came_knows : (a : CallerCore) (piece : pieces.Piece) (now n : ℕ) → CoreKnows a n → CoreKnows (came a piece now) (refused_with a piece n)
 came_knows a (pieces.Frame octets) now n h = moved_knows a _ _ (by (waits a.waiting))
   where
     by : (w : Bool) → MoveKnows a.state a.counts.refused a.outcome (refused_by a.state w (frame_of octets) n)
-        (if w then Stays else on_frame now a.format (turn_behind a.formats a.counts.page) a.pages a.state a.counts (frame_of octets))
+        (if w then Stays else on_frame now a.format (turn_after a.formats a.counts.page) a.pages a.state a.counts (frame_of octets))
     by true = subst (λ (k : ℕ). Knows a.state a.counts.refused a.outcome k) (sym (not_while_waiting a.state (frame_of octets) n)) h
-    by false = frame_knows now a.format (turn_behind a.formats a.counts.page) a.pages a.state a.counts a.outcome (frame_of octets) n h
+    by false = frame_knows now a.format (turn_after a.formats a.counts.page) a.pages a.state a.counts a.outcome (frame_of octets) n h
 came_knows a (pieces.Start k) now n h = h
 came_knows a (pieces.Octets os) now n h = h
 came_knows a (pieces.End w) now n h = h
 came_knows a pieces.Gap now n h = h
 
-timed_knows : (a : Calling) (now n : ℕ) → CoreKnows a n → CoreKnows (timed a now) n
+timed_knows : (a : CallerCore) (now n : ℕ) → CoreKnows a n → CoreKnows (timed a now) n
 timed_knows a now n h =
     moved_knows a _ n (if_knows a.state a.counts.refused a.outcome n (waits a.waiting) Stays (on_timers (is_due a.t1 now) (is_due a.t4 now) a.state a.counts) h
     (timers_know (is_due a.t1 now) (is_due a.t4 now) a.state a.counts a.outcome n h))
@@ -162,24 +162,24 @@ given_knows (Closing x) r o n h = (h.1.0, λ e. h.1.1 (some_one e))
     some_one : ◌≡◌ {A = Option Outcome} (Some x) (Some outcomes.PageRefused) → x ≡ outcomes.PageRefused
     some_one e = cc
 
-after_knows : (a : Calling) (now : ℕ) (packet : Packet) (rest : List Due) (n : ℕ) → CoreKnows a n → CoreKnows (after_giving a now packet rest) n
+after_knows : (a : CallerCore) (now : ℕ) (packet : Packet) (rest : List Due) (n : ℕ) → CoreKnows a n → CoreKnows (after_giving a now packet rest) n
 after_knows a now packet [] n h = given_knows a.state a.counts.refused a.outcome n h
 after_knows a now packet (r ∷ rest) n h = h
 
-first_knows : (writes : Writing) (job : JobValue) (a : Calling) (now : ℕ) (due : List Due) (n : ℕ) → CoreKnows a n → CoreKnows (given_first writes job a now due).core n
+first_knows : (writes : Writing) (job : JobValue) (a : CallerCore) (now : ℕ) (due : List Due) (n : ℕ) → CoreKnows a n → CoreKnows (given_first writes job a now due).core n
 first_knows writes job a now [] n h = h
 first_knows writes job a now (r ∷ due) n h = after_knows a now (taken writes job r due).packet (taken writes job r due).rest n h
 
-ticked_knows : (writes : Writing) (job : JobValue) (a : Calling) (now n : ℕ) → CoreKnows a n → CoreKnows (ticked writes job a now).core n
+ticked_knows : (writes : Writing) (job : JobValue) (a : CallerCore) (now n : ℕ) → CoreKnows a n → CoreKnows (ticked writes job a now).core n
 ticked_knows writes job a now n h = by (timed a now) (timed_knows a now n h) (pace_allows (timed a now).pace.last now)
   where
-    by : (b : Calling) → CoreKnows b n → (t : Bool) → CoreKnows (if◌then◌else◌ {A = Ticked} t (given_first writes job b now b.waiting) (record { core = b; given = None })).core n
+    by : (b : CallerCore) → CoreKnows b n → (t : Bool) → CoreKnows (if◌then◌else◌ {A = TickResult} t (given_first writes job b now b.waiting) (record { core = b; given = None })).core n
     by b k true = first_knows writes job b now b.waiting n k
     by b k false = k
 
 -- ---- a call
 
-call_knows : (writes : Writing) (job : JobValue) (core : Calling) (start : ℕ) (events : List CallEvent)
+call_knows : (writes : Writing) (job : JobValue) (core : CallerCore) (start : ℕ) (events : List CallEvent)
     → CoreKnows (after_events writes job (started core job start) events) (refusals writes job (started core job start) events)
 call_knows writes job core start [] = (refl, refl, omega arith)
 call_knows writes job core start (Comes piece now ∷ before) =
@@ -201,27 +201,27 @@ ended (AwaitCfr dis dcs) r o n h e = let q : None ≡ Some outcomes.PageRefused 
 ended (AwaitMcf dis dcs) r o n h e = let q : None ≡ Some outcomes.PageRefused = sym h.0 ∙ e in cc
 ended (Closing x) r o n h e = let q : None ≡ Some outcomes.PageRefused = sym h.0 ∙ e in cc
 
-refuses : (a : Calling) (n : ℕ) (dis : Dis) (dcs : Dcs) (octets : List ℕ) (now : ℕ) → a.counts.refused ≡ n → a.state ≡ AwaitMcf dis dcs → a.waiting ≡ [] → frame_of octets ≡ Some frames.Rtn
+refuses : (a : CallerCore) (n : ℕ) (dis : Dis) (dcs : Dcs) (octets : List ℕ) (now : ℕ) → a.counts.refused ≡ n → a.state ≡ AwaitMcf dis dcs → a.waiting ≡ [] → frame_of octets ≡ Some frames.Rtn
     → RefusesAtTheThird n dis dcs (came a (pieces.Frame octets) now)
 refuses a n dis dcs octets now r s w f = subst (λ (m : Move). RefusesAtTheThird n dis dcs (moved a m)) (sym move) (by (nat_lt n 2))
   where
     move : heard a (pieces.Frame octets) now ≡ (if nat_lt n 2 then Trains dis dcs (one_refused a.counts) else Closes outcomes.PageRefused a.counts)
     move =
-        ap (λ (due : List Due). if waits due then Stays else on_frame now a.format (turn_behind a.formats a.counts.page) a.pages a.state a.counts (frame_of octets)) w
-        ∙ ap (λ (state : State). on_frame now a.format (turn_behind a.formats a.counts.page) a.pages state a.counts (frame_of octets)) s
-        ∙ ap (λ (o : Option Frame). on_frame now a.format (turn_behind a.formats a.counts.page) a.pages (AwaitMcf dis dcs) a.counts o) f
+        ap (λ (due : List Due). if waits due then Stays else on_frame now a.format (turn_after a.formats a.counts.page) a.pages a.state a.counts (frame_of octets)) w
+        ∙ ap (λ (state : State). on_frame now a.format (turn_after a.formats a.counts.page) a.pages state a.counts (frame_of octets)) s
+        ∙ ap (λ (o : Option Frame). on_frame now a.format (turn_after a.formats a.counts.page) a.pages (AwaitMcf dis dcs) a.counts o) f
         ∙ ap (λ (k : ℕ). if nat_lt k 2 then Trains dis dcs (one_refused a.counts) else Closes outcomes.PageRefused a.counts) r
 
     by : (t : Bool) →
-        let z : Calling = moved a (if t then Trains dis dcs (one_refused a.counts) else Closes outcomes.PageRefused a.counts) in
+        let z : CallerCore = moved a (if t then Trains dis dcs (one_refused a.counts) else Closes outcomes.PageRefused a.counts) in
         (z.state ≡ (if t then AwaitCfr dis dcs else Closing outcomes.PageRefused)) × (z.waiting ≡ (if t then training dcs else goodbye))
     by true = (refl, refl)
     by false = (refl, refl)
 
 pub third_refusal_ends : ThirdRefusalEnds
 third_refusal_ends writes job core start events =
-    let begun : Calling = started core job start in
-    let a : Calling = after_events writes job begun events in
+    let begun : CallerCore = started core job start in
+    let a : CallerCore = after_events writes job begun events in
     let n : ℕ = refusals writes job begun events in
     let k : CoreKnows a n = call_knows writes job core start events in (
       few a.state a.counts.refused a.outcome n k,

@@ -273,13 +273,13 @@ split_at (x ∷ xs) place l = by (nat_eq (length xs) place) refl (λ m. split_at
 texts_back : List Packet → List (List ℕ)
 texts_back packets = reverse (map written packets)
 
-behind_front : (xs ys : List (List ℕ)) → drop (length xs) (xs ++ ys) ≡ ys
-behind_front [] ys = refl
-behind_front (x ∷ xs) ys = behind_front xs ys
+after_front : (xs ys : List (List ℕ)) → drop (length xs) (xs ++ ys) ≡ ys
+after_front [] ys = refl
+after_front (x ∷ xs) ys = after_front xs ys
 
-get_behind : (xs ys : List (List ℕ)) → slice_get (xs ++ ys) (length xs) ≡ slice_get ys 0
-get_behind [] ys = refl
-get_behind (x ∷ xs) ys = get_behind xs ys
+get_after : (xs ys : List (List ℕ)) → slice_get (xs ++ ys) (length xs) ≡ slice_get ys 0
+get_after [] ys = refl
+get_after (x ∷ xs) ys = get_after xs ys
 
 list_split : (later : List Packet) (p : Packet) (before : List Packet) → texts_back (later ++ p ∷ before) ≡ texts_back before ++ written p ∷ texts_back later
 unfolding texts_back
@@ -345,9 +345,9 @@ at_place P packets place octets f n h =
     ap (λ (ps : List Packet). texts_back ps) s.split ∙ list_split s.later s.packet s.before in
     let at : place ≡ length (texts_back s.before) = sym (back_length s.before ∙ s.at) in
     let got : slice_get list place ≡ Some (written s.packet) =
-    ap (λ (xs : List (List ℕ)). slice_get xs place) list_is ∙ ap (slice_get (texts_back s.before ++ written s.packet ∷ texts_back s.later)) at ∙ get_behind (texts_back s.before) (written s.packet ∷ texts_back s.later) in
+    ap (λ (xs : List (List ℕ)). slice_get xs place) list_is ∙ ap (slice_get (texts_back s.before ++ written s.packet ∷ texts_back s.later)) at ∙ get_after (texts_back s.before) (written s.packet ∷ texts_back s.later) in
     let rest : drop place list ≡ written s.packet ∷ texts_back s.later =
-    ap (λ (xs : List (List ℕ)). drop place xs) list_is ∙ ap (λ (m : ℕ). drop m (texts_back s.before ++ written s.packet ∷ texts_back s.later)) at ∙ behind_front (texts_back s.before) (written s.packet ∷ texts_back s.later) in
+    ap (λ (xs : List (List ℕ)). drop place xs) list_is ∙ ap (λ (m : ℕ). drop m (texts_back s.before ++ written s.packet ∷ texts_back s.later)) at ∙ after_front (texts_back s.before) (written s.packet ∷ texts_back s.later) in
     let fine : AreFine (s.later ++ s.packet ∷ s.before) = subst AreFine s.split f in
     let neat : IsNeat P (s.later ++ s.packet ∷ s.before) = subst (IsNeat P) s.split n in
     let begins : Begun s.packet = begun s.packet (fine_at s.later s.packet s.before fine) (sym (ap begins_signal got) ∙ b.0) in

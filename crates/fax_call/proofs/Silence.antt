@@ -26,9 +26,9 @@ use Rattle.fax_jobs.specs.Jobs.{JobValue}
 use Rattle.fax_call.specs.declared.state.State.{State}
 use Rattle.fax_call.specs.declared.state.State.TheVariants.{Idle, AwaitDis, AwaitCfr, AwaitMcf, Closing}
 use Rattle.fax_call.specs.Writings.{Writing}
-use Rattle.fax_call.specs.Replies.{Packet, Part, Due, One, Text, waits, signals_preamble, part_length, parts_of, check_length, training_check, training, command, command_behind, goodbye, is_last_page, turn_behind}
+use Rattle.fax_call.specs.Replies.{Packet, Part, Due, One, Text, waits, signals_preamble, part_length, parts_of, check_length, training_check, training, command, command_after, goodbye, is_last_page, turn_after}
 use Rattle.fax_call.specs.Table.{Counts, Move, Stays, Trains, Sends, AsksAgain, Turns, Closes, HangsUp, first_try, next_try, next_step, next_page, one_delivered, one_refused, most_tries, by_choice, tries_again, asks_again, turns_or, on_frame, gives_up_dis, on_timers}
-use Rattle.fax_call.specs.Calls.{Calling, started, replied_with, moved, came, timed, text_at, Taken, taken, after_giving, Ticked, given_first, paced, ticked, CallEvent, Comes, Ticks, after_events}
+use Rattle.fax_call.specs.Calls.{CallerCore, started, replied_with, moved, came, timed, text_at, TakenPart, taken, after_giving, TickResult, given_first, paced, ticked, CallEvent, Comes, Ticks, after_events}
 use Rattle.fax_call.specs.Silence.{packet_time, time_of, last_tick, AllUntil, IsSilence, silent_time, NoCallHangs}
 
 le_if : (m n : ℕ) → nat_le m n ≡ true → m ≤ n
@@ -40,7 +40,7 @@ gt_if m n h = grind (arith)
 pub lt_if : (m n : ℕ) → nat_lt m n ≡ true → m < n
 lt_if m n h = grind (arith)
 
--- ---- WHAT IS KNOWN at a moment behind all that came
+-- ---- WHAT IS KNOWN at a moment after all that came
 
 abbrev pub SetBy : Option ℕ → ℕ → Type 0
 SetBy None x = ⊥
@@ -57,7 +57,7 @@ TimelyState m (AwaitMcf dis dcs) (d ∷ due) t1 t4 o = Unit {0}
 TimelyState m (Closing x) [] t1 t4 o = ⊥
 TimelyState m (Closing x) (d ∷ due) t1 t4 o = Unit {0}
 
-pub record IsTimely (m : ℕ) (a : Calling) : Type 0 where
+pub record IsTimely (m : ℕ) (a : CallerCore) : Type 0 where
   pub pace : allowed_from a.pace.last ≤ m + spans.longest_pause
   pub state : TimelyState m a.state a.waiting a.t1 a.t4 a.outcome
 
@@ -76,7 +76,7 @@ state_later m n (AwaitMcf dis dcs) (d ∷ due) t1 t4 o h k = tt
 state_later m n (Closing x) [] t1 t4 o h k = k
 state_later m n (Closing x) (d ∷ due) t1 t4 o h k = tt
 
-pub later : (m n : ℕ) (a : Calling) → m ≤ n → IsTimely m a → IsTimely n a
+pub later : (m n : ℕ) (a : CallerCore) → m ≤ n → IsTimely m a → IsTimely n a
 later m n a h k =
     let p : allowed_from a.pace.last ≤ m + spans.longest_pause = k.pace in
     record { pace = omega arith; state = state_later m n a.state a.waiting a.t1 a.t4 a.outcome h k.state }
@@ -91,13 +91,13 @@ MoveTimely m s (AsksAgain c) = AsksOf s
 MoveTimely m s (Turns format t1 c) = t1 ≤ m + spans.t1
 MoveTimely m s move = Unit {0}
 
-moved_timely : (m : ℕ) (a : Calling) (move : Move) → IsTimely m a → MoveTimely m a.state move → IsTimely m (moved a move)
+moved_timely : (m : ℕ) (a : CallerCore) (move : Move) → IsTimely m a → MoveTimely m a.state move → IsTimely m (moved a move)
 moved_timely m a Stays k h = k
 moved_timely m a (Trains dis dcs c) k h = record { pace = k.pace; state = tt }
 moved_timely m a (Sends dis dcs c) k h = record { pace = k.pace; state = tt }
 moved_timely m a (AsksAgain c) k h = record { pace = k.pace; state = by a.state h }
   where
-    by : (s : State) → AsksOf s → TimelyState m s (command (command_behind a.formats a.pages c.page)) None None a.outcome
+    by : (s : State) → AsksOf s → TimelyState m s (command (command_after a.formats a.pages c.page)) None None a.outcome
     by (AwaitMcf dis dcs) g = tt
     by Idle g = absurd g
     by AwaitDis g = absurd g
@@ -148,16 +148,16 @@ timers_timely m x false (AwaitCfr dis dcs) c = tt
 timers_timely m x true (AwaitMcf dis dcs) c = if_timely m (AwaitMcf dis dcs) (nat_lt c.tries most_tries) (AsksAgain (next_try c)) (Closes outcomes.NoReply c) tt tt
 timers_timely m x false (AwaitMcf dis dcs) c = tt
 
-pub came_timely : (m : ℕ) (a : Calling) (piece : pieces.Piece) (now : ℕ) → now ≤ m → IsTimely m a → IsTimely m (came a piece now)
+pub came_timely : (m : ℕ) (a : CallerCore) (piece : pieces.Piece) (now : ℕ) → now ≤ m → IsTimely m a → IsTimely m (came a piece now)
 came_timely m a (pieces.Frame octets) now h k =
-    moved_timely m a _ k (if_timely m a.state (waits a.waiting) Stays (on_frame now a.format (turn_behind a.formats a.counts.page) a.pages a.state a.counts (frame_of octets)) tt
-    (frame_timely m now a.format (turn_behind a.formats a.counts.page) a.pages a.state a.counts (frame_of octets) h))
+    moved_timely m a _ k (if_timely m a.state (waits a.waiting) Stays (on_frame now a.format (turn_after a.formats a.counts.page) a.pages a.state a.counts (frame_of octets)) tt
+    (frame_timely m now a.format (turn_after a.formats a.counts.page) a.pages a.state a.counts (frame_of octets) h))
 came_timely m a (pieces.Start k) now h t = t
 came_timely m a (pieces.Octets os) now h t = t
 came_timely m a (pieces.End w) now h t = t
 came_timely m a pieces.Gap now h t = t
 
-timed_timely : (m : ℕ) (a : Calling) (now : ℕ) → IsTimely m a → IsTimely m (timed a now)
+timed_timely : (m : ℕ) (a : CallerCore) (now : ℕ) → IsTimely m a → IsTimely m (timed a now)
 timed_timely m a now k =
     moved_timely m a _ k (if_timely m a.state (waits a.waiting) Stays (on_timers (is_due a.t1 now) (is_due a.t4 now) a.state a.counts) tt
     (timers_timely m (is_due a.t1 now) (is_due a.t4 now) a.state a.counts))
@@ -171,21 +171,21 @@ pub span_long : (is_preamble : Bool) → (if is_preamble then spans.longest_paus
 span_long true = omega arith
 span_long false = omega arith
 
-allowed_behind : (m now pause : ℕ) (is_preamble : Bool) → now ≤ m → now + (packet_at is_preamble pause now).span ≤ m + spans.longest_pause
-allowed_behind m now pause is_preamble h =
+allowed_after : (m now pause : ℕ) (is_preamble : Bool) → now ≤ m → now + (packet_at is_preamble pause now).span ≤ m + spans.longest_pause
+allowed_after m now pause is_preamble h =
     let s : (packet_at is_preamble pause now).span ≤ (if is_preamble then spans.longest_pause else spans.pace) = span_most is_preamble pause now in
     let l : (if is_preamble then spans.longest_pause else spans.pace) ≤ spans.longest_pause = span_long is_preamble in
     omega arith
 
-abbrev pub put : Calling → State → List Due → Option ℕ → Option ℕ → Calling
+abbrev pub put : CallerCore → State → List Due → Option ℕ → Option ℕ → CallerCore
 put a s due t1 t4 = record a { state = s; waiting = due; t1 = t1; t4 = t4 }
 
-given_timely : (m now : ℕ) (a : Calling) (s : State) (d : Due) (due rest : List Due) (t1 t4 : Option ℕ) (packet : Packet) → now ≤ m
+given_timely : (m now : ℕ) (a : CallerCore) (s : State) (d : Due) (due rest : List Due) (t1 t4 : Option ℕ) (packet : Packet) → now ≤ m
     → IsTimely m (put a s (d ∷ due) t1 t4) → IsTimely m (after_giving (put a s (d ∷ due) t1 t4) now packet rest)
 given_timely m now a s d due rest t1 t4 packet h k = by s rest k.state
   where
     next : now + (packet_at (signals_preamble packet) a.pace.pause now).span ≤ m + spans.longest_pause
-    next = allowed_behind m now a.pace.pause (signals_preamble packet) h
+    next = allowed_after m now a.pace.pause (signals_preamble packet) h
 
     by : (s : State) (rest : List Due) → TimelyState m s (d ∷ due) t1 t4 a.outcome → IsTimely m (after_giving (put a s (d ∷ due) t1 t4) now packet rest)
     by Idle rest g = absurd g
@@ -198,21 +198,21 @@ given_timely m now a s d due rest t1 t4 packet h k = by s rest k.state
     by (Closing x) [] g = record { pace = next; state = refl }
     by (Closing x) (r ∷ rest) g = record { pace = next; state = tt }
 
-paced_timely : (m now : ℕ) (writes : Writing) (job : JobValue) (a : Calling) → now ≤ m → IsTimely m a → IsTimely m (paced writes job a now).core
+paced_timely : (m now : ℕ) (writes : Writing) (job : JobValue) (a : CallerCore) → now ≤ m → IsTimely m a → IsTimely m (paced writes job a now).core
 paced_timely m now writes job a h k = by (pace_allows a.pace.last now) a.waiting k
   where
     by : (t : Bool) (due : List Due) → IsTimely m (put a a.state due a.t1 a.t4)
-        → IsTimely m (if◌then◌else◌ {A = Ticked} t (given_first writes job (put a a.state due a.t1 a.t4) now due) (record { core = put a a.state due a.t1 a.t4; given = None })).core
+        → IsTimely m (if◌then◌else◌ {A = TickResult} t (given_first writes job (put a a.state due a.t1 a.t4) now due) (record { core = put a a.state due a.t1 a.t4; given = None })).core
     by true [] g = g
     by true (d ∷ due) g = given_timely m now a a.state d due (taken writes job d due).rest a.t1 a.t4 (taken writes job d due).packet h g
     by false due g = g
 
-pub ticked_timely : (m now : ℕ) (writes : Writing) (job : JobValue) (a : Calling) → now ≤ m → IsTimely m a → IsTimely m (ticked writes job a now).core
+pub ticked_timely : (m now : ℕ) (writes : Writing) (job : JobValue) (a : CallerCore) → now ≤ m → IsTimely m a → IsTimely m (ticked writes job a now).core
 ticked_timely m now writes job a h k = paced_timely m now writes job (timed a now) h (timed_timely m a now k)
 
 -- ---- A CALL, until the silence
 
-pub until_timely : (writes : Writing) (job : JobValue) (core : Calling) (start from : ℕ) (events : List CallEvent) → allowed_from core.pace.last ≤ start + spans.longest_pause → start ≤ from
+pub until_timely : (writes : Writing) (job : JobValue) (core : CallerCore) (start from : ℕ) (events : List CallEvent) → allowed_from core.pace.last ≤ start + spans.longest_pause → start ≤ from
     → AllUntil from events → IsTimely from (after_events writes job (started core job start) events)
 until_timely writes job core start from [] p s u = record { pace = omega arith; state = omega arith }
 until_timely writes job core start from (Comes piece now ∷ before) p s u =
@@ -253,7 +253,7 @@ few_parts V17At12000 = omega arith
 few_parts V17At14400 = omega arith
 
 taken_text_time : (writes : Writing) (job : JobValue) (gap page : ℕ) (dcs : Dcs) (from : ℕ) (due : List Due) →
-    let t : Taken = taken writes job (Text page dcs from) due in
+    let t : TakenPart = taken writes job (Text page dcs from) due in
     time_of writes job gap t.rest + packet_time gap t.packet ≤ time_of writes job gap (Text page dcs from ∷ due)
 taken_text_time writes job gap page dcs from due = by (nat_le n p) refl
   where
@@ -273,7 +273,7 @@ taken_text_time writes job gap page dcs from due = by (nat_le n p) refl
     left = ap length (sym (drop-drop p from text)) ∙ length-drop p (drop from text)
 
     by : (b : Bool) → nat_le n p ≡ b →
-        let t : Taken = if◌then◌else◌ {A = Taken} b (record { packet = Part (kind_of dcs.rate) true (drop from text); rest = due }) (record { packet = Part (kind_of dcs.rate) false (take p (drop from text)); rest = Text page dcs (from + p) ∷ due }) in
+        let t : TakenPart = if◌then◌else◌ {A = TakenPart} b (record { packet = Part (kind_of dcs.rate) true (drop from text); rest = due }) (record { packet = Part (kind_of dcs.rate) false (take p (drop from text)); rest = Text page dcs (from + p) ∷ due }) in
         time_of writes job gap t.rest + packet_time gap t.packet ≤ (n / p + 1) * u + time_of writes job gap due
     by true e = let o : u ≤ (n / p + 1) * u = one_part n p u in omega arith
     by false e =
@@ -349,23 +349,23 @@ again gap (suc n) = training_time gap + spans.t4 + again gap n
 abbrev tries_time : (gap : ℕ) → Counts → ℕ
 tries_time gap c = again gap (3 - c.tries) + goodbye_time gap
 
-abbrev behind : (gap : ℕ) → State → Counts → List Due → Option ℕ → Option ℕ → (m : ℕ) → ℕ
-behind gap Idle c due t1 t4 m = 0
-behind gap (Closing x) c due t1 t4 m = 0
-behind gap AwaitDis c due t1 t4 m = left_of t1 m + goodbye_time gap
-behind gap (AwaitCfr dis dcs) c [] t1 t4 m = left_of t4 m + tries_time gap c
-behind gap (AwaitCfr dis dcs) c (d ∷ due) t1 t4 m = spans.t4 + tries_time gap c
-behind gap (AwaitMcf dis dcs) c [] t1 t4 m = left_of t4 m + tries_time gap c
-behind gap (AwaitMcf dis dcs) c (d ∷ due) t1 t4 m = spans.t4 + tries_time gap c
+abbrev after : (gap : ℕ) → State → Counts → List Due → Option ℕ → Option ℕ → (m : ℕ) → ℕ
+after gap Idle c due t1 t4 m = 0
+after gap (Closing x) c due t1 t4 m = 0
+after gap AwaitDis c due t1 t4 m = left_of t1 m + goodbye_time gap
+after gap (AwaitCfr dis dcs) c [] t1 t4 m = left_of t4 m + tries_time gap c
+after gap (AwaitCfr dis dcs) c (d ∷ due) t1 t4 m = spans.t4 + tries_time gap c
+after gap (AwaitMcf dis dcs) c [] t1 t4 m = left_of t4 m + tries_time gap c
+after gap (AwaitMcf dis dcs) c (d ∷ due) t1 t4 m = spans.t4 + tries_time gap c
 
-abbrev needed : Writing → JobValue → (gap : ℕ) → Calling → (m : ℕ) → ℕ
-needed writes job gap a m = allowed_from a.pace.last - m + time_of writes job gap a.waiting + behind gap a.state a.counts a.waiting a.t1 a.t4 m
+abbrev needed : Writing → JobValue → (gap : ℕ) → CallerCore → (m : ℕ) → ℕ
+needed writes job gap a m = allowed_from a.pace.last - m + time_of writes job gap a.waiting + after gap a.state a.counts a.waiting a.t1 a.t4 m
 
 -- over, or within a moment
-abbrev Goes : Writing → JobValue → (gap : ℕ) → (x : ℕ) → Calling → (now : ℕ) → Type 0
+abbrev Goes : Writing → JobValue → (gap : ℕ) → (x : ℕ) → CallerCore → (now : ℕ) → Type 0
 Goes writes job gap x b now = (b.state ≡ Idle) ⊎ (needed writes job gap b now + now ≤ x)
 
-goes_most : (writes : Writing) (job : JobValue) (gap x y : ℕ) (b : Calling) (now : ℕ) → x ≤ y → Goes writes job gap x b now → Goes writes job gap y b now
+goes_most : (writes : Writing) (job : JobValue) (gap x y : ℕ) (b : CallerCore) (now : ℕ) → x ≤ y → Goes writes job gap x b now → Goes writes job gap y b now
 goes_most writes job gap x y b now h (inl e) = inl e
 goes_most writes job gap x y b now h (inr k) = inr (omega arith)
 
@@ -373,27 +373,27 @@ pub left_falls : (t : Option ℕ) (m now : ℕ) → m ≤ now → left_of t now 
 left_falls None m now h = omega arith
 left_falls (Some t) m now h = omega arith
 
-behind_falls : (gap : ℕ) (s : State) (c : Counts) (d r : Due) (due rest : List Due) (t1 t4 : Option ℕ) (m now : ℕ) → m ≤ now
-    → behind gap s c (r ∷ rest) t1 t4 now ≤ behind gap s c (d ∷ due) t1 t4 m
-behind_falls gap Idle c d r due rest t1 t4 m now h = omega arith
-behind_falls gap (Closing x) c d r due rest t1 t4 m now h = omega arith
-behind_falls gap AwaitDis c d r due rest t1 t4 m now h = let l : left_of t1 now ≤ left_of t1 m = left_falls t1 m now h in omega arith
-behind_falls gap (AwaitCfr dis dcs) c d r due rest t1 t4 m now h = omega arith
-behind_falls gap (AwaitMcf dis dcs) c d r due rest t1 t4 m now h = omega arith
+after_falls : (gap : ℕ) (s : State) (c : Counts) (d r : Due) (due rest : List Due) (t1 t4 : Option ℕ) (m now : ℕ) → m ≤ now
+    → after gap s c (r ∷ rest) t1 t4 now ≤ after gap s c (d ∷ due) t1 t4 m
+after_falls gap Idle c d r due rest t1 t4 m now h = omega arith
+after_falls gap (Closing x) c d r due rest t1 t4 m now h = omega arith
+after_falls gap AwaitDis c d r due rest t1 t4 m now h = let l : left_of t1 now ≤ left_of t1 m = left_falls t1 m now h in omega arith
+after_falls gap (AwaitCfr dis dcs) c d r due rest t1 t4 m now h = omega arith
+after_falls gap (AwaitMcf dis dcs) c d r due rest t1 t4 m now h = omega arith
 
 -- A PACKET IS GIVEN
-given_goes : (writes : Writing) (job : JobValue) (gap x m now : ℕ) (a : Calling) (s : State) (d : Due) (due rest : List Due) (t1 t4 : Option ℕ) (packet : Packet) → m ≤ now → now ≤ m + gap
+given_goes : (writes : Writing) (job : JobValue) (gap x m now : ℕ) (a : CallerCore) (s : State) (d : Due) (due rest : List Due) (t1 t4 : Option ℕ) (packet : Packet) → m ≤ now → now ≤ m + gap
     → time_of writes job gap rest + packet_time gap packet ≤ x
-    → Goes writes job gap (x + behind gap s a.counts (d ∷ due) t1 t4 m + m) (after_giving (put a s (d ∷ due) t1 t4) now packet rest) now
+    → Goes writes job gap (x + after gap s a.counts (d ∷ due) t1 t4 m + m) (after_giving (put a s (d ∷ due) t1 t4) now packet rest) now
 given_goes writes job gap x m now a s d due rest t1 t4 packet h k t = by s rest t
   where
     span : (packet_at (signals_preamble packet) a.pace.pause now).span ≤ (if signals_preamble packet then spans.longest_pause else spans.pace)
     span = span_most (signals_preamble packet) a.pace.pause now
 
     by : (s : State) (rest : List Due) → time_of writes job gap rest + packet_time gap packet ≤ x
-        → Goes writes job gap (x + behind gap s a.counts (d ∷ due) t1 t4 m + m) (after_giving (put a s (d ∷ due) t1 t4) now packet rest) now
+        → Goes writes job gap (x + after gap s a.counts (d ∷ due) t1 t4 m + m) (after_giving (put a s (d ∷ due) t1 t4) now packet rest) now
     by s (r ∷ rest) t =
-        let f : behind gap s a.counts (r ∷ rest) t1 t4 now ≤ behind gap s a.counts (d ∷ due) t1 t4 m = behind_falls gap s a.counts d r due rest t1 t4 m now h in
+        let f : after gap s a.counts (r ∷ rest) t1 t4 now ≤ after gap s a.counts (d ∷ due) t1 t4 m = after_falls gap s a.counts d r due rest t1 t4 m now h in
         let w : (packet_at (signals_preamble packet) a.pace.pause now).span ≤ (if signals_preamble packet then spans.longest_pause else spans.pace) = span in
         inr (omega arith)
     by Idle [] t = inl refl
@@ -410,34 +410,34 @@ given_goes writes job gap x m now a s d due rest t1 t4 packet h k t = by s rest 
         inr (omega arith)
 
 -- WHILE PACKETS WAIT
-paced_goes : (writes : Writing) (job : JobValue) (gap m now : ℕ) (a : Calling) (s : State) (d : Due) (due : List Due) (t1 t4 : Option ℕ) → m ≤ now → now ≤ m + gap
+paced_goes : (writes : Writing) (job : JobValue) (gap m now : ℕ) (a : CallerCore) (s : State) (d : Due) (due : List Due) (t1 t4 : Option ℕ) → m ≤ now → now ≤ m + gap
     → Goes writes job gap (needed writes job gap (put a s (d ∷ due) t1 t4) m + m) (paced writes job (put a s (d ∷ due) t1 t4) now).core now
 paced_goes writes job gap m now a s d due t1 t4 h k = by (pace_allows a.pace.last now) (sym (allows_is a.pace.last now))
   where
     by : (t : Bool) → nat_le (allowed_from a.pace.last) now ≡ t
         → Goes writes job gap (needed writes job gap (put a s (d ∷ due) t1 t4) m + m)
-        (if◌then◌else◌ {A = Ticked} t (given_first writes job (put a s (d ∷ due) t1 t4) now (d ∷ due)) (record { core = put a s (d ∷ due) t1 t4; given = None })).core now
+        (if◌then◌else◌ {A = TickResult} t (given_first writes job (put a s (d ∷ due) t1 t4) now (d ∷ due)) (record { core = put a s (d ∷ due) t1 t4; given = None })).core now
     by true e =
         let x : ℕ = time_of writes job gap (d ∷ due) in
-        goes_most writes job gap (x + behind gap s a.counts (d ∷ due) t1 t4 m + m) (needed writes job gap (put a s (d ∷ due) t1 t4) m + m)
+        goes_most writes job gap (x + after gap s a.counts (d ∷ due) t1 t4 m + m) (needed writes job gap (put a s (d ∷ due) t1 t4) m + m)
         (after_giving (put a s (d ∷ due) t1 t4) now (taken writes job d due).packet (taken writes job d due).rest) now (omega arith)
         (given_goes writes job gap x m now a s d due (taken writes job d due).rest t1 t4 (taken writes job d due).packet h k (taken_time writes job gap d due))
     by false e =
         let l : now < allowed_from a.pace.last = gt_if (allowed_from a.pace.last) now e in
-        let f : behind gap s a.counts (d ∷ due) t1 t4 now ≤ behind gap s a.counts (d ∷ due) t1 t4 m = behind_falls gap s a.counts d d due due t1 t4 m now h in
+        let f : after gap s a.counts (d ∷ due) t1 t4 now ≤ after gap s a.counts (d ∷ due) t1 t4 m = after_falls gap s a.counts d d due due t1 t4 m now h in
         inr (omega arith)
 
 -- WHERE NO PACKET WAITS, and no timer is due
-rests_goes : (writes : Writing) (job : JobValue) (gap x m now : ℕ) (a : Calling) (s : State) (t1 t4 : Option ℕ) → needed writes job gap (put a s [] t1 t4) now + now ≤ x
+rests_goes : (writes : Writing) (job : JobValue) (gap x m now : ℕ) (a : CallerCore) (s : State) (t1 t4 : Option ℕ) → needed writes job gap (put a s [] t1 t4) now + now ≤ x
     → Goes writes job gap x (paced writes job (put a s [] t1 t4) now).core now
 rests_goes writes job gap x m now a s t1 t4 h = by (pace_allows a.pace.last now)
   where
-    by : (t : Bool) → Goes writes job gap x (if◌then◌else◌ {A = Ticked} t (given_first writes job (put a s [] t1 t4) now []) (record { core = put a s [] t1 t4; given = None })).core now
+    by : (t : Bool) → Goes writes job gap x (if◌then◌else◌ {A = TickResult} t (given_first writes job (put a s [] t1 t4) now []) (record { core = put a s [] t1 t4; given = None })).core now
     by true = inr h
     by false = inr h
 
 -- and where one is
-acts_goes : (writes : Writing) (job : JobValue) (gap x m now : ℕ) (a : Calling) (s : State) (c : Counts) (due : List Due) → waits due ≡ true → m ≤ now → now ≤ m + gap
+acts_goes : (writes : Writing) (job : JobValue) (gap x m now : ℕ) (a : CallerCore) (s : State) (c : Counts) (due : List Due) → waits due ≡ true → m ≤ now → now ≤ m + gap
     → needed writes job gap (replied_with a s c due) m + m ≤ x
     → Goes writes job gap x (paced writes job (replied_with a s c due) now).core now
 acts_goes writes job gap x m now a s c [] some h k l = cc
@@ -449,7 +449,7 @@ tries_less : (gap tries : ℕ) → tries < 3 → again gap (3 - tries) ≡ train
 tries_less gap tries h = let e : 3 - tries ≡ suc (3 - (tries + 1)) = omega arith in ap (again gap) e
 
 -- T4 is due in Await CFR
-trains_goes : (writes : Writing) (job : JobValue) (gap x m now : ℕ) (a : Calling) (dis : Dis) (dcs : Dcs) → m ≤ now → now ≤ m + gap
+trains_goes : (writes : Writing) (job : JobValue) (gap x m now : ℕ) (a : CallerCore) (dis : Dis) (dcs : Dcs) → m ≤ now → now ≤ m + gap
     → allowed_from a.pace.last - m + tries_time gap a.counts + m ≤ x
     → Goes writes job gap x (paced writes job (moved a (tries_again dis dcs a.counts)) now).core now
 trains_goes writes job gap x m now a dis dcs h k l = by (nat_lt a.counts.tries most_tries) refl
@@ -463,7 +463,7 @@ trains_goes writes job gap x m now a dis dcs h k l = by (nat_lt a.counts.tries m
     by false e = acts_goes writes job gap x m now a (Closing outcomes.NoReply) a.counts goodbye refl h k (omega arith)
 
 -- T4 is due in Await MCF
-asks_goes : (writes : Writing) (job : JobValue) (gap x m now : ℕ) (a : Calling) (dis : Dis) (dcs : Dcs) (t1 t4 : Option ℕ) → m ≤ now → now ≤ m + gap
+asks_goes : (writes : Writing) (job : JobValue) (gap x m now : ℕ) (a : CallerCore) (dis : Dis) (dcs : Dcs) (t1 t4 : Option ℕ) → m ≤ now → now ≤ m + gap
     → allowed_from a.pace.last - m + tries_time gap a.counts + m ≤ x
     → Goes writes job gap x (paced writes job (moved (put a (AwaitMcf dis dcs) [] t1 t4) (asks_again a.counts)) now).core now
 asks_goes writes job gap x m now a dis dcs t1 t4 h k l = by (nat_lt a.counts.tries most_tries) refl
@@ -473,17 +473,17 @@ asks_goes writes job gap x m now a dis dcs t1 t4 h k l = by (nat_lt a.counts.tri
     by true e =
         let some : a.counts.tries < 3 = lt_if a.counts.tries most_tries e in
         let less : again gap (3 - a.counts.tries) ≡ training_time gap + spans.t4 + again gap (3 - (a.counts.tries + 1)) = tries_less gap a.counts.tries some in
-        acts_goes writes job gap x m now a (AwaitMcf dis dcs) (next_try a.counts) (command (command_behind a.formats a.pages a.counts.page)) refl h k (omega arith)
+        acts_goes writes job gap x m now a (AwaitMcf dis dcs) (next_try a.counts) (command (command_after a.formats a.pages a.counts.page)) refl h k (omega arith)
     by false e = acts_goes writes job gap x m now a (Closing outcomes.NoReply) a.counts goodbye refl h k (omega arith)
 
 -- A TICK
-tick_goes : (writes : Writing) (job : JobValue) (gap m now : ℕ) (a : Calling) (s : State) (due : List Due) (t1 t4 : Option ℕ) → m ≤ now → now ≤ m + gap
+tick_goes : (writes : Writing) (job : JobValue) (gap m now : ℕ) (a : CallerCore) (s : State) (due : List Due) (t1 t4 : Option ℕ) → m ≤ now → now ≤ m + gap
     → TimelyState m s due t1 t4 a.outcome → Goes writes job gap (needed writes job gap (put a s due t1 t4) m + m) (ticked writes job (put a s due t1 t4) now).core now
 tick_goes writes job gap m now a s (d ∷ due) t1 t4 h k g = paced_goes writes job gap m now a s d due t1 t4 h k
 tick_goes writes job gap m now a Idle [] t1 t4 h k g = by (pace_allows a.pace.last now)
   where
     by : (t : Bool) → Goes writes job gap (needed writes job gap (put a Idle [] t1 t4) m + m)
-        (if◌then◌else◌ {A = Ticked} t (given_first writes job (put a Idle [] t1 t4) now []) (record { core = put a Idle [] t1 t4; given = None })).core now
+        (if◌then◌else◌ {A = TickResult} t (given_first writes job (put a Idle [] t1 t4) now []) (record { core = put a Idle [] t1 t4; given = None })).core now
     by true = inl refl
     by false = inl refl
 tick_goes writes job gap m now a (Closing x) [] t1 t4 h k g = absurd g
@@ -511,18 +511,18 @@ tick_goes writes job gap m now a (AwaitMcf dis dcs) [] t1 (Some t) h k g = by (n
 
 -- ---- THE SILENCE
 
-record IsWithin (writes : Writing) (job : JobValue) (gap x m : ℕ) (a : Calling) : Type 0 where
+record IsWithin (writes : Writing) (job : JobValue) (gap x m : ℕ) (a : CallerCore) : Type 0 where
   timely : IsTimely m a
   goes : Goes writes job gap x a m
 
 -- a call that is over stays so
-pub idle_stays : (writes : Writing) (job : JobValue) (now m : ℕ) (a : Calling) → IsTimely m a → a.state ≡ Idle → (ticked writes job a now).core.state ≡ Idle
+pub idle_stays : (writes : Writing) (job : JobValue) (now m : ℕ) (a : CallerCore) → IsTimely m a → a.state ≡ Idle → (ticked writes job a now).core.state ≡ Idle
 idle_stays writes job now m a k e = by a.state a.waiting e (k.state) (pace_allows a.pace.last now)
   where
     by : (s : State) (due : List Due) → s ≡ Idle → TimelyState m s due a.t1 a.t4 a.outcome → Bool → (ticked writes job (put a s due a.t1 a.t4) now).core.state ≡ Idle
     by Idle [] q g t = two (pace_allows a.pace.last now)
       where
-        two : (t : Bool) → (if◌then◌else◌ {A = Ticked} t (given_first writes job (put a Idle [] a.t1 a.t4) now []) (record { core = put a Idle [] a.t1 a.t4; given = None })).core.state ≡ Idle
+        two : (t : Bool) → (if◌then◌else◌ {A = TickResult} t (given_first writes job (put a Idle [] a.t1 a.t4) now []) (record { core = put a Idle [] a.t1 a.t4; given = None })).core.state ≡ Idle
         two true = refl
         two false = refl
     by Idle (d ∷ due) q g t = absurd g
@@ -531,7 +531,7 @@ idle_stays writes job now m a k e = by a.state a.waiting e (k.state) (pace_allow
     by (AwaitMcf dis dcs) due q g t = cc
     by (Closing x) due q g t = cc
 
-ticked_within : (writes : Writing) (job : JobValue) (gap x m now : ℕ) (a : Calling) → m ≤ now → now ≤ m + gap → IsWithin writes job gap x m a
+ticked_within : (writes : Writing) (job : JobValue) (gap x m now : ℕ) (a : CallerCore) → m ≤ now → now ≤ m + gap → IsWithin writes job gap x m a
     → IsWithin writes job gap x now (ticked writes job a now).core
 ticked_within writes job gap x m now a h k w =
     record { timely = ticked_timely now now writes job a (omega arith) (later m now a h w.timely); goes = by w.goes }
@@ -542,11 +542,11 @@ ticked_within writes job gap x m now a h k w =
         goes_most writes job gap (needed writes job gap a m + m) x (ticked writes job a now).core now n
         (tick_goes writes job gap m now a a.state a.waiting a.t1 a.t4 h k w.timely.state)
 
-silent_within : (writes : Writing) (job : JobValue) (a : Calling) (gap x from : ℕ) (silence : List CallEvent) → IsWithin writes job gap x from a → IsSilence writes job a gap from silence
+silent_within : (writes : Writing) (job : JobValue) (a : CallerCore) (gap x from : ℕ) (silence : List CallEvent) → IsWithin writes job gap x from a → IsSilence writes job a gap from silence
     → IsWithin writes job gap x (last_tick from silence) (after_events writes job a silence)
 silent_within writes job a gap x from [] w s = w
 silent_within writes job a gap x from (Comes piece now ∷ silence) w s =
-    let b : Calling = after_events writes job a silence in
+    let b : CallerCore = after_events writes job a silence in
     subst (λ (move : Move). IsWithin writes job gap x (last_tick from silence) (moved b move)) (sym s.0) (silent_within writes job a gap x from silence w s.1)
 silent_within writes job a gap x from (Ticks now ∷ silence) w s =
     ticked_within writes job gap x (last_tick from silence) now (after_events writes job a silence) s.0 s.1 (silent_within writes job a gap x from silence w s.2)
@@ -559,27 +559,27 @@ again_most gap (suc (suc zero)) h = omega arith
 again_most gap (suc (suc (suc zero))) h = omega arith
 again_most gap (suc (suc (suc (suc n)))) h = absurd (omega arith)
 
-behind_most : (gap m : ℕ) (s : State) (c : Counts) (due : List Due) (t1 t4 : Option ℕ) (o : Option Outcome) → TimelyState m s due t1 t4 o
-    → behind gap s c due t1 t4 m ≤ 38000 + 130 * gap
-behind_most gap m Idle c due t1 t4 o g = omega arith
-behind_most gap m (Closing x) c due t1 t4 o g = omega arith
-behind_most gap m AwaitDis c due None t4 o g = absurd g
-behind_most gap m AwaitDis c due (Some t) t4 o g = omega arith
-behind_most gap m (AwaitCfr dis dcs) c [] t1 None o g = absurd g
-behind_most gap m (AwaitCfr dis dcs) c [] t1 (Some t) o g = let a : again gap (3 - c.tries) ≤ 3 * (training_time gap + spans.t4) = again_most gap (3 - c.tries) (omega arith) in omega arith
-behind_most gap m (AwaitCfr dis dcs) c (d ∷ due) t1 t4 o g = let a : again gap (3 - c.tries) ≤ 3 * (training_time gap + spans.t4) = again_most gap (3 - c.tries) (omega arith) in omega arith
-behind_most gap m (AwaitMcf dis dcs) c [] t1 None o g = absurd g
-behind_most gap m (AwaitMcf dis dcs) c [] t1 (Some t) o g = let a : again gap (3 - c.tries) ≤ 3 * (training_time gap + spans.t4) = again_most gap (3 - c.tries) (omega arith) in omega arith
-behind_most gap m (AwaitMcf dis dcs) c (d ∷ due) t1 t4 o g = let a : again gap (3 - c.tries) ≤ 3 * (training_time gap + spans.t4) = again_most gap (3 - c.tries) (omega arith) in omega arith
+after_most : (gap m : ℕ) (s : State) (c : Counts) (due : List Due) (t1 t4 : Option ℕ) (o : Option Outcome) → TimelyState m s due t1 t4 o
+    → after gap s c due t1 t4 m ≤ 38000 + 130 * gap
+after_most gap m Idle c due t1 t4 o g = omega arith
+after_most gap m (Closing x) c due t1 t4 o g = omega arith
+after_most gap m AwaitDis c due None t4 o g = absurd g
+after_most gap m AwaitDis c due (Some t) t4 o g = omega arith
+after_most gap m (AwaitCfr dis dcs) c [] t1 None o g = absurd g
+after_most gap m (AwaitCfr dis dcs) c [] t1 (Some t) o g = let a : again gap (3 - c.tries) ≤ 3 * (training_time gap + spans.t4) = again_most gap (3 - c.tries) (omega arith) in omega arith
+after_most gap m (AwaitCfr dis dcs) c (d ∷ due) t1 t4 o g = let a : again gap (3 - c.tries) ≤ 3 * (training_time gap + spans.t4) = again_most gap (3 - c.tries) (omega arith) in omega arith
+after_most gap m (AwaitMcf dis dcs) c [] t1 None o g = absurd g
+after_most gap m (AwaitMcf dis dcs) c [] t1 (Some t) o g = let a : again gap (3 - c.tries) ≤ 3 * (training_time gap + spans.t4) = again_most gap (3 - c.tries) (omega arith) in omega arith
+after_most gap m (AwaitMcf dis dcs) c (d ∷ due) t1 t4 o g = let a : again gap (3 - c.tries) ≤ 3 * (training_time gap + spans.t4) = again_most gap (3 - c.tries) (omega arith) in omega arith
 
-needed_most : (writes : Writing) (job : JobValue) (gap m : ℕ) (a : Calling) → IsTimely m a → needed writes job gap a m ≤ silent_time writes job gap a
+needed_most : (writes : Writing) (job : JobValue) (gap m : ℕ) (a : CallerCore) → IsTimely m a → needed writes job gap a m ≤ silent_time writes job gap a
 needed_most writes job gap m a k =
     let p : allowed_from a.pace.last ≤ m + spans.longest_pause = k.pace in
-    let b : behind gap a.state a.counts a.waiting a.t1 a.t4 m ≤ 38000 + 130 * gap = behind_most gap m a.state a.counts a.waiting a.t1 a.t4 a.outcome k.state in
+    let b : after gap a.state a.counts a.waiting a.t1 a.t4 m ≤ 38000 + 130 * gap = after_most gap m a.state a.counts a.waiting a.t1 a.t4 a.outcome k.state in
     omega arith
 
 -- a call that is over has an outcome
-pub over_has : (m : ℕ) (a : Calling) (s : State) (due : List Due) → s ≡ Idle → TimelyState m s due a.t1 a.t4 a.outcome → IsSome a.outcome
+pub over_has : (m : ℕ) (a : CallerCore) (s : State) (due : List Due) → s ≡ Idle → TimelyState m s due a.t1 a.t4 a.outcome → IsSome a.outcome
 over_has m a Idle [] e g = g
 over_has m a Idle (d ∷ due) e g = absurd g
 over_has m a AwaitDis due e g = cc
@@ -590,10 +590,10 @@ over_has m a (Closing x) due e g = cc
 pub no_call_hangs : NoCallHangs
 no_call_hangs writes job core start from gap events silence p s u silent long = by w.goes
   where
-    a : Calling
+    a : CallerCore
     a = after_events writes job (started core job start) events
 
-    z : Calling
+    z : CallerCore
     z = after_events writes job a silence
 
     k : IsTimely from a

@@ -20,11 +20,11 @@ use Rattle.fax_jobs.specs.Jobs.{JobValue}
 use Rattle.fax_call.specs.declared.state.State.{State}
 use Rattle.fax_call.specs.declared.state.State.TheVariants.{Idle, AwaitDis, AwaitCfr, AwaitMcf, Closing}
 use Rattle.fax_call.specs.Writings.{Writing}
-use Rattle.fax_call.specs.Replies.{Packet, Due, waits, is_last_page, turn_behind}
+use Rattle.fax_call.specs.Replies.{Packet, Due, waits, is_last_page, turn_after}
 use Rattle.fax_call.specs.Table.{Counts, Move, Stays, Trains, Sends, AsksAgain, Turns, Closes, HangsUp, first_try, next_try, next_step, next_page, one_delivered, one_refused, most_tries, by_choice, turns_or, on_frame, on_timers}
-use Rattle.fax_call.specs.Calls.{Calling, started, moved, heard, came, timed, taken, state_when_given, after_giving, Ticked, given_first, ticked, CallEvent, Comes, Ticks, after_events}
+use Rattle.fax_call.specs.Calls.{CallerCore, started, moved, heard, came, timed, taken, state_when_given, after_giving, TickResult, given_first, ticked, CallEvent, Comes, Ticks, after_events}
 use Rattle.fax_call.specs.Refusals.{dis_by, dis_with, dis_taken}
-use Rattle.fax_call.specs.Steps.{failed_by, failed_with, failures, rate_behind, trained_at, IsAtRate, FttStepsTheRates}
+use Rattle.fax_call.specs.Steps.{failed_by, failed_with, failures, rate_after, trained_at, IsAtRate, FttStepsTheRates}
 
 -- ---- THE CHOICE at a step, where nothing but a rate may lack
 
@@ -55,10 +55,10 @@ chosen_at false true z r q dcs h = cc
 chosen_at false false true r q dcs h = cc
 chosen_at false false false r q dcs h = (h, refl)
 
-pub choice_at : (dis : Dis) (format : Format) (n m : ℕ) (dcs : Dcs) → choice dis format n ≡ Ok dcs → IsRate dis format (rate_behind dis n) dcs × (choice dis format m ≡ at_rate dis format (rate_behind dis m))
+pub choice_at : (dis : Dis) (format : Format) (n m : ℕ) (dcs : Dcs) → choice dis format n ≡ Ok dcs → IsRate dis format (rate_after dis n) dcs × (choice dis format m ≡ at_rate dis format (rate_after dis m))
 choice_at dis format n m dcs h =
-    let c = chosen_at (not (has_bit 10 dis.caps.0)) (not (has_width format.width dis.caps.0)) (format.fine && not (has_bit 15 dis.caps.0)) (at_rate dis format (rate_behind dis n)) (at_rate dis format (rate_behind dis m)) dcs h in
-    (rate_is dis format (rate_behind dis n) dcs c.0, c.1)
+    let c = chosen_at (not (has_bit 10 dis.caps.0)) (not (has_width format.width dis.caps.0)) (format.fine && not (has_bit 15 dis.caps.0)) (at_rate dis format (rate_after dis n)) (at_rate dis format (rate_after dis m)) dcs h in
+    (rate_is dis format (rate_after dis n) dcs c.0, c.1)
 
 -- ---- WHAT IS KNOWN
 
@@ -82,10 +82,10 @@ MoveKnows format s step n t (Turns next t1 c) = c.step ≡ 0
 MoveKnows format s step n t (Closes outcome c) = Unit {0}
 MoveKnows format s step n t HangsUp = Unit {0}
 
-abbrev pub CoreKnows : Calling → ℕ → Option Dis → Type 0
+abbrev pub CoreKnows : CallerCore → ℕ → Option Dis → Type 0
 CoreKnows a n t = Knows a.format a.state a.counts.step n t
 
-moved_knows : (a : Calling) (m : Move) (n : ℕ) (t : Option Dis) → MoveKnows a.format a.state a.counts.step n t m → CoreKnows (moved a m) n t
+moved_knows : (a : CallerCore) (m : Move) (n : ℕ) (t : Option Dis) → MoveKnows a.format a.state a.counts.step n t m → CoreKnows (moved a m) n t
 moved_knows a Stays n t h = h
 moved_knows a (Trains dis dcs c) n t h = h
 moved_knows a (Sends dis dcs c) n t h = h
@@ -152,21 +152,21 @@ none_taken (AwaitCfr dis dcs) frame t = refl
 none_taken (AwaitMcf dis dcs) frame t = refl
 none_taken (Closing outcome) frame t = refl
 
-came_knows : (a : Calling) (piece : pieces.Piece) (now n : ℕ) (t : Option Dis) → CoreKnows a n t → CoreKnows (came a piece now) (failed_with a piece n) (dis_with a piece t)
+came_knows : (a : CallerCore) (piece : pieces.Piece) (now n : ℕ) (t : Option Dis) → CoreKnows a n t → CoreKnows (came a piece now) (failed_with a piece n) (dis_with a piece t)
 came_knows a (pieces.Frame octets) now n t h = moved_knows a _ _ _ (by (waits a.waiting))
   where
     by : (w : Bool) → MoveKnows a.format a.state a.counts.step (failed_by a.state w (frame_of octets) n) (dis_by a.state w (frame_of octets) t)
-        (if w then Stays else on_frame now a.format (turn_behind a.formats a.counts.page) a.pages a.state a.counts (frame_of octets))
+        (if w then Stays else on_frame now a.format (turn_after a.formats a.counts.page) a.pages a.state a.counts (frame_of octets))
     by true =
         subst (λ (k : ℕ). Knows a.format a.state a.counts.step k (dis_by a.state true (frame_of octets) t)) (sym (none_failed a.state (frame_of octets) n))
         (subst (λ (u : Option Dis). Knows a.format a.state a.counts.step n u) (sym (none_taken a.state (frame_of octets) t)) h)
-    by false = frame_knows now a.format (turn_behind a.formats a.counts.page) a.pages a.state a.counts (frame_of octets) n t h
+    by false = frame_knows now a.format (turn_after a.formats a.counts.page) a.pages a.state a.counts (frame_of octets) n t h
 came_knows a (pieces.Start k) now n t h = h
 came_knows a (pieces.Octets os) now n t h = h
 came_knows a (pieces.End w) now n t h = h
 came_knows a pieces.Gap now n t h = h
 
-timed_knows : (a : Calling) (now n : ℕ) (t : Option Dis) → CoreKnows a n t → CoreKnows (timed a now) n t
+timed_knows : (a : CallerCore) (now n : ℕ) (t : Option Dis) → CoreKnows a n t → CoreKnows (timed a now) n t
 timed_knows a now n t h =
     moved_knows a _ n t (if_knows a.format a.state a.counts.step n t (waits a.waiting) Stays (on_timers (is_due a.t1 now) (is_due a.t4 now) a.state a.counts) h
     (timers_know a.format (is_due a.t1 now) (is_due a.t4 now) a.state a.counts n t h))
@@ -178,48 +178,48 @@ given_knows f (AwaitCfr dis dcs) p n t h = h
 given_knows f (AwaitMcf dis dcs) p n t h = h
 given_knows f (Closing x) p n t h = tt
 
-after_knows : (a : Calling) (now : ℕ) (packet : Packet) (rest : List Due) (n : ℕ) (t : Option Dis) → CoreKnows a n t → CoreKnows (after_giving a now packet rest) n t
+after_knows : (a : CallerCore) (now : ℕ) (packet : Packet) (rest : List Due) (n : ℕ) (t : Option Dis) → CoreKnows a n t → CoreKnows (after_giving a now packet rest) n t
 after_knows a now packet [] n t h = given_knows a.format a.state a.counts.step n t h
 after_knows a now packet (r ∷ rest) n t h = h
 
-first_knows : (writes : Writing) (job : JobValue) (a : Calling) (now : ℕ) (due : List Due) (n : ℕ) (t : Option Dis) → CoreKnows a n t → CoreKnows (given_first writes job a now due).core n t
+first_knows : (writes : Writing) (job : JobValue) (a : CallerCore) (now : ℕ) (due : List Due) (n : ℕ) (t : Option Dis) → CoreKnows a n t → CoreKnows (given_first writes job a now due).core n t
 first_knows writes job a now [] n t h = h
 first_knows writes job a now (r ∷ due) n t h = after_knows a now (taken writes job r due).packet (taken writes job r due).rest n t h
 
-ticked_knows : (writes : Writing) (job : JobValue) (a : Calling) (now n : ℕ) (t : Option Dis) → CoreKnows a n t → CoreKnows (ticked writes job a now).core n t
+ticked_knows : (writes : Writing) (job : JobValue) (a : CallerCore) (now n : ℕ) (t : Option Dis) → CoreKnows a n t → CoreKnows (ticked writes job a now).core n t
 ticked_knows writes job a now n t h = by (timed a now) (timed_knows a now n t h) (pace_allows (timed a now).pace.last now)
   where
-    by : (b : Calling) → CoreKnows b n t → (x : Bool) → CoreKnows (if◌then◌else◌ {A = Ticked} x (given_first writes job b now b.waiting) (record { core = b; given = None })).core n t
+    by : (b : CallerCore) → CoreKnows b n t → (x : Bool) → CoreKnows (if◌then◌else◌ {A = TickResult} x (given_first writes job b now b.waiting) (record { core = b; given = None })).core n t
     by b k true = first_knows writes job b now b.waiting n t k
     by b k false = k
 
 -- ---- a call
 
-pub call_knows : (writes : Writing) (job : JobValue) (core : Calling) (start : ℕ) (events : List CallEvent) →
-    let begun : Calling = started core job start in
+pub call_knows : (writes : Writing) (job : JobValue) (core : CallerCore) (start : ℕ) (events : List CallEvent) →
+    let begun : CallerCore = started core job start in
     CoreKnows (after_events writes job begun events) (failures writes job begun events) (dis_taken writes job begun events)
 call_knows writes job core start [] = refl
 call_knows writes job core start (Comes piece now ∷ before) =
-    let begun : Calling = started core job start in
+    let begun : CallerCore = started core job start in
     came_knows (after_events writes job begun before) piece now (failures writes job begun before) (dis_taken writes job begun before) (call_knows writes job core start before)
 call_knows writes job core start (Ticks now ∷ before) =
-    let begun : Calling = started core job start in
+    let begun : CallerCore = started core job start in
     ticked_knows writes job (after_events writes job begun before) now (failures writes job begun before) (dis_taken writes job begun before) (call_knows writes job core start before)
 
 told : (format : Format) (step n : ℕ) (taken : Option Dis) (dis : Dis) (dcs : Dcs) → IsStep format step n taken dis dcs → IsAtRate format n taken dis dcs
 told format step n taken dis dcs k =
-    let r : IsRate dis format (rate_behind dis step) dcs = (choice_at dis format step step dcs k.chosen).0 in
-    record { is_taken = k.is_taken; rate = ap (rate_behind dis) (sym k.step_is) ∙ r.rate; dcs_is = r.dcs_is }
+    let r : IsRate dis format (rate_after dis step) dcs = (choice_at dis format step step dcs k.chosen).0 in
+    record { is_taken = k.is_taken; rate = ap (rate_after dis) (sym k.step_is) ∙ r.rate; dcs_is = r.dcs_is }
 
-stepped : (a : Calling) (n : ℕ) (taken : Option Dis) (dis : Dis) (dcs : Dcs) (octets : List ℕ) (now : ℕ) → IsStep a.format a.counts.step n taken dis dcs
-    → a.state ≡ AwaitCfr dis dcs → a.waiting ≡ [] → frame_of octets ≡ Some frames.Ftt → (came a (pieces.Frame octets) now).state ≡ trained_at dis a.format (rate_behind dis (n + 1))
-stepped a n taken dis dcs octets now k s w f = ap (λ (m : Move). (moved a m).state) move ∙ by (rate_behind dis (a.counts.step + 1)) ∙ ap (λ (p : ℕ). trained_at dis a.format (rate_behind dis (p + 1))) k.step_is
+stepped : (a : CallerCore) (n : ℕ) (taken : Option Dis) (dis : Dis) (dcs : Dcs) (octets : List ℕ) (now : ℕ) → IsStep a.format a.counts.step n taken dis dcs
+    → a.state ≡ AwaitCfr dis dcs → a.waiting ≡ [] → frame_of octets ≡ Some frames.Ftt → (came a (pieces.Frame octets) now).state ≡ trained_at dis a.format (rate_after dis (n + 1))
+stepped a n taken dis dcs octets now k s w f = ap (λ (m : Move). (moved a m).state) move ∙ by (rate_after dis (a.counts.step + 1)) ∙ ap (λ (p : ℕ). trained_at dis a.format (rate_after dis (p + 1))) k.step_is
   where
-    move : heard a (pieces.Frame octets) now ≡ by_choice dis (next_step a.counts) (at_rate dis a.format (rate_behind dis (a.counts.step + 1)))
+    move : heard a (pieces.Frame octets) now ≡ by_choice dis (next_step a.counts) (at_rate dis a.format (rate_after dis (a.counts.step + 1)))
     move =
-        ap (λ (due : List Due). if waits due then Stays else on_frame now a.format (turn_behind a.formats a.counts.page) a.pages a.state a.counts (frame_of octets)) w
-        ∙ ap (λ (state : State). on_frame now a.format (turn_behind a.formats a.counts.page) a.pages state a.counts (frame_of octets)) s
-        ∙ ap (λ (o : Option Frame). on_frame now a.format (turn_behind a.formats a.counts.page) a.pages (AwaitCfr dis dcs) a.counts o) f
+        ap (λ (due : List Due). if waits due then Stays else on_frame now a.format (turn_after a.formats a.counts.page) a.pages a.state a.counts (frame_of octets)) w
+        ∙ ap (λ (state : State). on_frame now a.format (turn_after a.formats a.counts.page) a.pages state a.counts (frame_of octets)) s
+        ∙ ap (λ (o : Option Frame). on_frame now a.format (turn_after a.formats a.counts.page) a.pages (AwaitCfr dis dcs) a.counts o) f
         ∙ ap (λ (r : Result Dcs Refusal). by_choice dis (next_step a.counts) r) (choice_at dis a.format a.counts.step (a.counts.step + 1) dcs k.chosen).1
 
     by : (o : Option Rate) → (moved a (by_choice dis (next_step a.counts) (at_rate dis a.format o))).state ≡ trained_at dis a.format o
@@ -228,8 +228,8 @@ stepped a n taken dis dcs octets now k s w f = ap (λ (m : Move). (moved a m).st
 
 pub ftt_steps_the_rates : FttStepsTheRates
 ftt_steps_the_rates writes job core start events dis dcs =
-    let begun : Calling = started core job start in
-    let a : Calling = after_events writes job begun events in
+    let begun : CallerCore = started core job start in
+    let a : CallerCore = after_events writes job begun events in
     let n : ℕ = failures writes job begun events in
     let t : Option Dis = dis_taken writes job begun events in
     let k : CoreKnows a n t = call_knows writes job core start events in

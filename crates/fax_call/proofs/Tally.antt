@@ -20,11 +20,11 @@ use Rattle.fax_jobs.specs.declared.outcome.Outcome.TheVariants as outcomes
 use Rattle.fax_jobs.specs.Jobs.{JobValue, IsJob}
 use Rattle.fax_call.specs.declared.state.State.{State}
 use Rattle.fax_call.specs.declared.state.State.TheVariants.{Idle, AwaitDis, AwaitCfr, AwaitMcf, Closing}
-use Rattle.fax_call.specs.Replies.{Packet, Due, One, Text, is_last_page, command, goodbye, waits, turn_behind, command_behind}
+use Rattle.fax_call.specs.Replies.{Packet, Due, One, Text, is_last_page, command, goodbye, waits, turn_after, command_after}
 use Rattle.fax_call.specs.Table.{Counts, Move, Stays, Trains, Sends, AsksAgain, Closes, HangsUp, outcome_of, first_try, next_try, next_step, next_page, one_delivered, one_refused, by_choice, tries_again, asks_again, after_refusal, on_frame, on_timers, turns_or, gives_up_dis}
-use Rattle.fax_call.specs.Calls.{Calling, started, moved, came, timed, Taken, taken, state_when_given, outcome_when_given, after_giving, given_first, paced, ticked, Ticked}
+use Rattle.fax_call.specs.Calls.{CallerCore, started, moved, came, timed, TakenPart, taken, state_when_given, outcome_when_given, after_giving, given_first, paced, ticked, TickResult}
 use Rattle.fax_call.specs.Emission.{Emission, Mark, Gave, Begins, gave_all, elements_given, acknowledged_by, marks_heard, marks_given, is_preamble, Reply, Asked, Unasked, Answered, closed, reply_given, reply_or, reply_heard, replied, IsAnswered, Emits}
-use Rattle.fax_call.specs.Delivery.{IsBehind}
+use Rattle.fax_call.specs.Delivery.{IsAfter}
 use Rattle.fax_call.proofs.PacketsBack.{elements_in}
 use Rattle.fax_call.proofs.Waiting.{Texts, Quiet, pushed_given, quiet_emits, NoCommand, after_one, SafeTo, PostOf, Keeps, frame_keeps}
 use Rattle.fax_call.proofs.Emitted.{IsSent, InTurn, Good, reply_by, replied_by, emits_ack, elements_ack, timed_good}
@@ -48,7 +48,7 @@ Sums state pages c o = Underway pages c
 pub record IsAcked (job : JobValue) (n : ℕ) (marks : List Mark) : Type 0 where
   pub last : Option ℕ
   pub emits : Emits job marks last
-  pub behind : IsBehind last (replied marks) n
+  pub after : IsAfter last (replied marks) n
 
 abbrev pub Acked : JobValue → State → List Due → ℕ → List Mark → Type 0
 Acked job Idle due n marks = Keeps due (elements_given marks) × IsAcked job n marks
@@ -58,21 +58,21 @@ Acked job state due n marks = Unit {0}
 abbrev pub TallyOf : JobValue → State → ℕ → Counts → Option Outcome → List Due → List Mark → Type 0
 TallyOf job state pages c o due marks = Sums state pages c o × Acked job state due c.delivered marks
 
-abbrev pub Tally : JobValue → Calling → List Mark → Type 0
+abbrev pub Tally : JobValue → CallerCore → List Mark → Type 0
 Tally job a marks = TallyOf job a.state a.pages a.counts a.outcome a.waiting marks
 
-behind_of : (last : Option ℕ) (r : Reply) (n : ℕ) → IsAnswered last r n → IsBehind last r n
-behind_of None r n h = h
-behind_of (Some m) Unasked n h = absurd h
-behind_of (Some m) Asked n h = absurd h
-behind_of (Some m) (Answered true) n h = inr (h, refl)
-behind_of (Some m) (Answered false) n h = inl h
+after_of : (last : Option ℕ) (r : Reply) (n : ℕ) → IsAnswered last r n → IsAfter last r n
+after_of None r n h = h
+after_of (Some m) Unasked n h = absurd h
+after_of (Some m) Asked n h = absurd h
+after_of (Some m) (Answered true) n h = inr (h, refl)
+after_of (Some m) (Answered false) n h = inl h
 
 -- it stays so, if a good answer stays one
-behind_if : (last : Option ℕ) (r s : Reply) (n : ℕ) → (r ≡ Answered true → s ≡ Answered true) → IsBehind last r n → IsBehind last s n
-behind_if None r s n f h = h
-behind_if (Some m) r s n f (inl e) = inl e
-behind_if (Some m) r s n f (inr h) = inr (h.0, f h.1)
+after_if : (last : Option ℕ) (r s : Reply) (n : ℕ) → (r ≡ Answered true → s ≡ Answered true) → IsAfter last r n → IsAfter last s n
+after_if None r s n f h = h
+after_if (Some m) r s n f (inl e) = inl e
+after_if (Some m) r s n f (inr h) = inr (h.0, f h.1)
 
 good_heard : (frame : Option Frame) (r : Reply) → r ≡ Answered true → reply_by frame r ≡ Answered true
 good_heard (Some frames.Mcf) r e = ap (reply_heard true) e
@@ -97,7 +97,7 @@ acked_by job frame n marks a =
     record {
       last = a.last;
       emits = emits_ack job frame marks a.last a.emits;
-      behind = behind_if a.last (replied marks) (replied (acknowledged_by frame marks)) n (λ e. replied_by frame marks ∙ good_heard frame (replied marks) e) a.behind;
+      after = after_if a.last (replied marks) (replied (acknowledged_by frame marks)) n (λ e. replied_by frame marks ∙ good_heard frame (replied marks) e) a.after;
     }
 
 acked_heard : (job : JobValue) (frame : Option Frame) (state : State) (due : List Due) (n : ℕ) (marks : List Mark) → Acked job state due n marks → Acked job state due n (acknowledged_by frame marks)
@@ -107,7 +107,7 @@ acked_heard job frame AwaitDis due n marks a = tt
 acked_heard job frame (AwaitCfr dis dcs) due n marks a = tt
 acked_heard job frame (AwaitMcf dis dcs) due n marks a = tt
 
-stays : (job : JobValue) (a : Calling) (frame : Option Frame) (marks : List Mark) → Tally job a marks → Tally job a (acknowledged_by frame marks)
+stays : (job : JobValue) (a : CallerCore) (frame : Option Frame) (marks : List Mark) → Tally job a marks → Tally job a (acknowledged_by frame marks)
 stays job a frame marks t = (t.0, acked_heard job frame a.state a.waiting a.counts.delivered marks t.1)
 
 -- an end that is no delivery
@@ -126,7 +126,7 @@ no_refusal refusals.WidthLacking e = cc
 no_refusal refusals.FineLacking e = cc
 no_refusal refusals.RatesSpent e = cc
 
-if_tally : (job : JobValue) (a : Calling) (marks : List Mark) (t : Bool) (m n : Move) → Tally job (moved a m) marks → Tally job (moved a n) marks → Tally job (moved a (if t then m else n)) marks
+if_tally : (job : JobValue) (a : CallerCore) (marks : List Mark) (t : Bool) (m n : Move) → Tally job (moved a m) marks → Tally job (moved a n) marks → Tally job (moved a (if t then m else n)) marks
 if_tally job a marks true m n x y = x
 if_tally job a marks false m n x y = y
 
@@ -135,23 +135,23 @@ record Waits (job : JobValue) (pages : ℕ) (c : Counts) (marks : List Mark) : T
   underway : Underway pages c
   acked : IsAcked job c.page marks
 
-closes_short : (job : JobValue) (a : Calling) (marks : List Mark) (outcome : Outcome) (c : Counts) → (outcome ≡ outcomes.Delivered → ⊥) → Waits job a.pages c marks → Tally job (moved a (Closes outcome c)) marks
+closes_short : (job : JobValue) (a : CallerCore) (marks : List Mark) (outcome : Outcome) (c : Counts) → (outcome ≡ outcomes.Delivered → ⊥) → Waits job a.pages c marks → Tally job (moved a (Closes outcome c)) marks
 closes_short job a marks outcome c n w = (short_of outcome a.pages c n w.underway, (goodbye_keeps (elements_given marks), subst (λ (k : ℕ). IsAcked job k marks) (sym w.underway.delivered) w.acked))
 
-choice_tally : (job : JobValue) (a : Calling) (marks : List Mark) (dis : Dis) (c : Counts) (r : Result Dcs Refusal) → Waits job a.pages c marks → Tally job (moved a (by_choice dis c r)) marks
+choice_tally : (job : JobValue) (a : CallerCore) (marks : List Mark) (dis : Dis) (c : Counts) (r : Result Dcs Refusal) → Waits job a.pages c marks → Tally job (moved a (by_choice dis c r)) marks
 choice_tally job a marks dis c (Ok dcs) w = (w.underway, tt)
 choice_tally job a marks dis c (Err e) w = closes_short job a marks (outcome_of e) c (no_refusal e) w
 
-tries_tally : (job : JobValue) (a : Calling) (marks : List Mark) (dis : Dis) (dcs : Dcs) (c : Counts) → Waits job a.pages c marks → Tally job (moved a (tries_again dis dcs c)) marks
+tries_tally : (job : JobValue) (a : CallerCore) (marks : List Mark) (dis : Dis) (dcs : Dcs) (c : Counts) → Waits job a.pages c marks → Tally job (moved a (tries_again dis dcs c)) marks
 tries_tally job a marks dis dcs c w =
     if_tally job a marks (nat_lt c.tries 3) (Trains dis dcs (next_try c)) (Closes outcomes.NoReply c) (record { delivered = w.underway.delivered; within = w.underway.within }, tt) (closes_short job a marks outcomes.NoReply c (λ e. cc) w)
 
-refused_tally : (job : JobValue) (a : Calling) (marks : List Mark) (dis : Dis) (dcs : Dcs) (c : Counts) → Waits job a.pages c marks → Tally job (moved a (after_refusal dis dcs c)) marks
+refused_tally : (job : JobValue) (a : CallerCore) (marks : List Mark) (dis : Dis) (dcs : Dcs) (c : Counts) → Waits job a.pages c marks → Tally job (moved a (after_refusal dis dcs c)) marks
 refused_tally job a marks dis dcs c w =
     if_tally job a marks (nat_lt c.refused 2) (Trains dis dcs (one_refused c)) (Closes outcomes.PageRefused c) (record { delivered = w.underway.delivered; within = w.underway.within }, tt)
     (closes_short job a marks outcomes.PageRefused c (λ e. cc) w)
 
-hangs_tally : (job : JobValue) (a : Calling) (marks : List Mark) → Waits job a.pages a.counts marks → Tally job (moved a HangsUp) marks
+hangs_tally : (job : JobValue) (a : CallerCore) (marks : List Mark) → Waits job a.pages a.counts marks → Tally job (moved a HangsUp) marks
 hangs_tally job a marks w =
     ((outcomes.HungUp, refl, short_of outcomes.HungUp a.pages a.counts (λ e. cc) w.underway), (tt, subst (λ (k : ℕ). IsAcked job k marks) (sym w.underway.delivered) w.acked))
 
@@ -162,7 +162,7 @@ not_last : (pages page : ℕ) → is_last_page pages page ≡ false → page + 1
 not_last pages page e q = grind (arith)
 
 -- MCF or RTP: the page that went out last is delivered
-acknowledged_tally : (job : JobValue) (a : Calling) (marks : List Mark) (m : Move) → Underway a.pages a.counts → Emits job marks (Some a.counts.page) → replied marks ≡ Answered true →
+acknowledged_tally : (job : JobValue) (a : CallerCore) (marks : List Mark) (m : Move) → Underway a.pages a.counts → Emits job marks (Some a.counts.page) → replied marks ≡ Answered true →
     (Underway a.pages (next_page a.counts) → Tally job (moved a m) marks) → Tally job (moved a (if is_last_page a.pages a.counts.page then Closes outcomes.Delivered (one_delivered a.counts) else m)) marks
 acknowledged_tally job a marks m u e k f = by (is_last_page a.pages a.counts.page) refl
   where
@@ -171,7 +171,7 @@ acknowledged_tally job a marks m u e k f = by (is_last_page a.pages a.counts.pag
         let d : a.counts.delivered ≡ a.counts.page = u.delivered in
         let l : a.counts.page + 1 ≡ a.pages = last_page a.pages a.counts.page h in (
           record { most = omega arith; all_if = λ x. omega arith; if_all = λ x. refl },
-          (goodbye_keeps (elements_given marks), record { last = Some a.counts.page; emits = e; behind = inr (ap (λ (n : ℕ). n + 1) d, k) }),
+          (goodbye_keeps (elements_given marks), record { last = Some a.counts.page; emits = e; after = inr (ap (λ (n : ℕ). n + 1) d, k) }),
         )
     by false h =
         let d : a.counts.delivered ≡ a.counts.page = u.delivered in
@@ -179,7 +179,7 @@ acknowledged_tally job a marks m u e k f = by (is_last_page a.pages a.counts.pag
         let n : (a.counts.page + 1 ≡ a.pages) → ⊥ = not_last a.pages a.counts.page h in
         f (record { delivered = ap (λ (n : ℕ). n + 1) d; within = omega (arith, n) })
 
-turns_tally : (job : JobValue) (a : Calling) (marks : List Mark) (now : ℕ) (m : Move) (t : Option Format) → Underway a.pages (next_page a.counts) → Tally job (moved a m) marks → Tally job (moved a (turns_or now t a.counts m)) marks
+turns_tally : (job : JobValue) (a : CallerCore) (marks : List Mark) (now : ℕ) (m : Move) (t : Option Format) → Underway a.pages (next_page a.counts) → Tally job (moved a m) marks → Tally job (moved a (turns_or now t a.counts m)) marks
 turns_tally job a marks now m (Some format) u r = (record { delivered = u.delivered; within = u.within }, tt)
 turns_tally job a marks now m None u r = r
 
@@ -187,35 +187,35 @@ never_delivered : (t : Bool) → (if t then outcomes.NoAnswer else outcomes.NoRe
 never_delivered true e = cc
 never_delivered false e = cc
 
-sent_behind : (last : Option ℕ) (r : Reply) (n : ℕ) → last ≡ Some n → IsBehind last r n
-sent_behind last r n e = subst (λ (o : Option ℕ). IsBehind o r n) (sym e) (inl refl)
+sent_after : (last : Option ℕ) (r : Reply) (n : ℕ) → last ≡ Some n → IsAfter last r n
+sent_after last r n e = subst (λ (o : Option ℕ). IsAfter o r n) (sym e) (inl refl)
 
-frame_tally : (job : JobValue) (a : Calling) (now : ℕ) (marks : List Mark) (state : State) (frame : Option Frame) → Tally job a marks → Sums state a.pages a.counts a.outcome →
+frame_tally : (job : JobValue) (a : CallerCore) (now : ℕ) (marks : List Mark) (state : State) (frame : Option Frame) → Tally job a marks → Sums state a.pages a.counts a.outcome →
     (last : Option ℕ) → Emits job marks last → InTurn last (replied marks) a.counts.page state [] (elements_given marks) → IsSent last a.counts.page state [] →
-    Tally job (moved a (on_frame now a.format (turn_behind a.formats a.counts.page) a.pages state a.counts frame)) (acknowledged_by frame marks)
+    Tally job (moved a (on_frame now a.format (turn_after a.formats a.counts.page) a.pages state a.counts frame)) (acknowledged_by frame marks)
 frame_tally job a now marks AwaitDis (Some (frames.Dis dis)) t s last e n i =
-    choice_tally job a marks dis (first_try a.counts) (choice dis a.format a.counts.step) (record { underway = record { delivered = s.delivered; within = s.within }; acked = record { last = last; emits = e; behind = behind_of last (replied marks) a.counts.page n.0 } })
-frame_tally job a now marks AwaitDis (Some frames.Dcn) t s last e n i = hangs_tally job a marks (record { underway = s; acked = record { last = last; emits = e; behind = behind_of last (replied marks) a.counts.page n.0 } })
+    choice_tally job a marks dis (first_try a.counts) (choice dis a.format a.counts.step) (record { underway = record { delivered = s.delivered; within = s.within }; acked = record { last = last; emits = e; after = after_of last (replied marks) a.counts.page n.0 } })
+frame_tally job a now marks AwaitDis (Some frames.Dcn) t s last e n i = hangs_tally job a marks (record { underway = s; acked = record { last = last; emits = e; after = after_of last (replied marks) a.counts.page n.0 } })
 frame_tally job a now marks (AwaitCfr dis dcs) (Some frames.Cfr) t s last e n i = (record { delivered = s.delivered; within = s.within }, tt)
 frame_tally job a now marks (AwaitCfr dis dcs) (Some frames.Ftt) t s last e n i =
-    choice_tally job a marks dis (next_step a.counts) (choice dis a.format (a.counts.step + 1)) (record { underway = record { delivered = s.delivered; within = s.within }; acked = record { last = last; emits = e; behind = behind_of last (replied marks) a.counts.page n.0 } })
-frame_tally job a now marks (AwaitCfr dis dcs) (Some (frames.Dis other)) t s last e n i = tries_tally job a marks dis dcs a.counts (record { underway = s; acked = record { last = last; emits = e; behind = behind_of last (replied marks) a.counts.page n.0 } })
-frame_tally job a now marks (AwaitCfr dis dcs) (Some frames.Dcn) t s last e n i = hangs_tally job a marks (record { underway = s; acked = record { last = last; emits = e; behind = behind_of last (replied marks) a.counts.page n.0 } })
+    choice_tally job a marks dis (next_step a.counts) (choice dis a.format (a.counts.step + 1)) (record { underway = record { delivered = s.delivered; within = s.within }; acked = record { last = last; emits = e; after = after_of last (replied marks) a.counts.page n.0 } })
+frame_tally job a now marks (AwaitCfr dis dcs) (Some (frames.Dis other)) t s last e n i = tries_tally job a marks dis dcs a.counts (record { underway = s; acked = record { last = last; emits = e; after = after_of last (replied marks) a.counts.page n.0 } })
+frame_tally job a now marks (AwaitCfr dis dcs) (Some frames.Dcn) t s last e n i = hangs_tally job a marks (record { underway = s; acked = record { last = last; emits = e; after = after_of last (replied marks) a.counts.page n.0 } })
 frame_tally job a now marks (AwaitMcf dis dcs) (Some frames.Mcf) t s last e n i =
-    acknowledged_tally job a (acknowledged_by (Some frames.Mcf) marks) (turns_or now (turn_behind a.formats a.counts.page) a.counts (Sends dis dcs (next_page a.counts))) s (subst (Emits job marks) (i refl) e) (ap (reply_heard true) n)
-    (λ u. turns_tally job a (acknowledged_by (Some frames.Mcf) marks) now (Sends dis dcs (next_page a.counts)) (turn_behind a.formats a.counts.page) u (u, tt))
+    acknowledged_tally job a (acknowledged_by (Some frames.Mcf) marks) (turns_or now (turn_after a.formats a.counts.page) a.counts (Sends dis dcs (next_page a.counts))) s (subst (Emits job marks) (i refl) e) (ap (reply_heard true) n)
+    (λ u. turns_tally job a (acknowledged_by (Some frames.Mcf) marks) now (Sends dis dcs (next_page a.counts)) (turn_after a.formats a.counts.page) u (u, tt))
 frame_tally job a now marks (AwaitMcf dis dcs) (Some frames.Rtp) t s last e n i =
-    acknowledged_tally job a (acknowledged_by (Some frames.Rtp) marks) (turns_or now (turn_behind a.formats a.counts.page) a.counts (Trains dis dcs (next_page a.counts))) s (subst (Emits job marks) (i refl) e) (ap (reply_heard true) n)
-    (λ u. turns_tally job a (acknowledged_by (Some frames.Rtp) marks) now (Trains dis dcs (next_page a.counts)) (turn_behind a.formats a.counts.page) u (u, tt))
+    acknowledged_tally job a (acknowledged_by (Some frames.Rtp) marks) (turns_or now (turn_after a.formats a.counts.page) a.counts (Trains dis dcs (next_page a.counts))) s (subst (Emits job marks) (i refl) e) (ap (reply_heard true) n)
+    (λ u. turns_tally job a (acknowledged_by (Some frames.Rtp) marks) now (Trains dis dcs (next_page a.counts)) (turn_after a.formats a.counts.page) u (u, tt))
 frame_tally job a now marks (AwaitMcf dis dcs) (Some frames.Rtn) t s last e n i =
-    refused_tally job a (acknowledged_by (Some frames.Rtn) marks) dis dcs a.counts (record { underway = s; acked = acked_by job (Some frames.Rtn) a.counts.page marks (record { last = last; emits = e; behind = sent_behind last (replied marks) a.counts.page (i refl) }) })
-frame_tally job a now marks (AwaitMcf dis dcs) (Some frames.Dcn) t s last e n i = hangs_tally job a marks (record { underway = s; acked = record { last = last; emits = e; behind = sent_behind last (replied marks) a.counts.page (i refl) } })
+    refused_tally job a (acknowledged_by (Some frames.Rtn) marks) dis dcs a.counts (record { underway = s; acked = acked_by job (Some frames.Rtn) a.counts.page marks (record { last = last; emits = e; after = sent_after last (replied marks) a.counts.page (i refl) }) })
+frame_tally job a now marks (AwaitMcf dis dcs) (Some frames.Dcn) t s last e n i = hangs_tally job a marks (record { underway = s; acked = record { last = last; emits = e; after = sent_after last (replied marks) a.counts.page (i refl) } })
 frame_tally job a now marks state frame t s last e n i = stays job a frame marks t
 
-pub comes_tally : (texts : Texts) (job : JobValue) (a : Calling) (piece : pieces.Piece) (now : ℕ) (marks : List Mark) → Good texts job a marks → Tally job a marks → Tally job (came a piece now) (marks_heard piece marks)
+pub comes_tally : (texts : Texts) (job : JobValue) (a : CallerCore) (piece : pieces.Piece) (now : ℕ) (marks : List Mark) → Good texts job a marks → Tally job a marks → Tally job (came a piece now) (marks_heard piece marks)
 comes_tally texts job a (pieces.Frame octets) now marks g t = by a.waiting refl
   where
-    by : (w : List Due) → a.waiting ≡ w → Tally job (moved a (if waits w then Stays else on_frame now a.format (turn_behind a.formats a.counts.page) a.pages a.state a.counts (frame_of octets))) (acknowledged_by (frame_of octets) marks)
+    by : (w : List Due) → a.waiting ≡ w → Tally job (moved a (if waits w then Stays else on_frame now a.format (turn_after a.formats a.counts.page) a.pages a.state a.counts (frame_of octets))) (acknowledged_by (frame_of octets) marks)
     by [] e = frame_tally job a now marks a.state (frame_of octets) t t.0 g.last g.kept.emits (subst (λ (w : List Due). InTurn g.last (replied marks) a.counts.page a.state w (elements_given marks)) e g.turn) (subst (λ (w : List Due). IsSent g.last a.counts.page a.state w) e g.kept.sent)
     by (d ∷ due) e = stays job a (frame_of octets) marks t
 comes_tally texts job a (pieces.Start k) now marks g t = t
@@ -224,24 +224,24 @@ comes_tally texts job a (pieces.End w) now marks g t = t
 comes_tally texts job a pieces.Gap now marks g t = t
 
 -- a tick
-timer_tally : (job : JobValue) (a : Calling) (t1_due t4_due : Bool) (marks : List Mark) (state : State) → a.state ≡ state → Tally job a marks → Sums state a.pages a.counts a.outcome →
+timer_tally : (job : JobValue) (a : CallerCore) (t1_due t4_due : Bool) (marks : List Mark) (state : State) → a.state ≡ state → Tally job a marks → Sums state a.pages a.counts a.outcome →
     (last : Option ℕ) → Emits job marks last → InTurn last (replied marks) a.counts.page state [] (elements_given marks) → IsSent last a.counts.page state [] →
     Tally job (moved a (on_timers t1_due t4_due state a.counts)) marks
 timer_tally job a t1_due t4_due marks Idle h t s last e n i = t
 timer_tally job a t1_due t4_due marks (Closing o) h t s last e n i = t
 timer_tally job a t1_due t4_due marks AwaitDis h t s last e n i =
     if_tally job a marks t1_due (gives_up_dis a.counts) Stays
-    (closes_short job a marks (if nat_eq a.counts.delivered 0 then outcomes.NoAnswer else outcomes.NoReply) a.counts (never_delivered (nat_eq a.counts.delivered 0)) (record { underway = s; acked = record { last = last; emits = e; behind = behind_of last (replied marks) a.counts.page n.0 } })) t
+    (closes_short job a marks (if nat_eq a.counts.delivered 0 then outcomes.NoAnswer else outcomes.NoReply) a.counts (never_delivered (nat_eq a.counts.delivered 0)) (record { underway = s; acked = record { last = last; emits = e; after = after_of last (replied marks) a.counts.page n.0 } })) t
 timer_tally job a t1_due t4_due marks (AwaitCfr dis dcs) h t s last e n i =
     if_tally job a marks t4_due (tries_again dis dcs a.counts) Stays
-    (tries_tally job a marks dis dcs a.counts (record { underway = s; acked = record { last = last; emits = e; behind = behind_of last (replied marks) a.counts.page n.0 } })) t
+    (tries_tally job a marks dis dcs a.counts (record { underway = s; acked = record { last = last; emits = e; after = after_of last (replied marks) a.counts.page n.0 } })) t
 timer_tally job a t1_due t4_due marks (AwaitMcf dis dcs) h t s last e n i =
     if_tally job a marks t4_due (asks_again a.counts) Stays
     (if_tally job a marks (nat_lt a.counts.tries 3) (AsksAgain (next_try a.counts)) (Closes outcomes.NoReply a.counts)
-    (subst (λ (p : State). TallyOf job p a.pages (next_try a.counts) a.outcome (command (command_behind a.formats a.pages a.counts.page)) marks) (sym h) (record { delivered = s.delivered; within = s.within }, tt))
-    (closes_short job a marks outcomes.NoReply a.counts (λ e. cc) (record { underway = s; acked = record { last = last; emits = e; behind = sent_behind last (replied marks) a.counts.page (i refl) } }))) t
+    (subst (λ (p : State). TallyOf job p a.pages (next_try a.counts) a.outcome (command (command_after a.formats a.pages a.counts.page)) marks) (sym h) (record { delivered = s.delivered; within = s.within }, tt))
+    (closes_short job a marks outcomes.NoReply a.counts (λ e. cc) (record { underway = s; acked = record { last = last; emits = e; after = sent_after last (replied marks) a.counts.page (i refl) } }))) t
 
-timed_tally : (texts : Texts) (job : JobValue) (a : Calling) (now : ℕ) (marks : List Mark) → Good texts job a marks → Tally job a marks → Tally job (timed a now) marks
+timed_tally : (texts : Texts) (job : JobValue) (a : CallerCore) (now : ℕ) (marks : List Mark) → Good texts job a marks → Tally job a marks → Tally job (timed a now) marks
 timed_tally texts job a now marks g t = by a.waiting refl
   where
     by : (w : List Due) → a.waiting ≡ w → Tally job (moved a (if waits w then Stays else on_timers (is_due a.t1 now) (is_due a.t4 now) a.state a.counts)) marks
@@ -258,7 +258,7 @@ tally_when_given job AwaitDis pages c o marks t = t
 tally_when_given job (AwaitCfr dis dcs) pages c o marks t = t
 tally_when_given job (AwaitMcf dis dcs) pages c o marks t = t
 
-after_tally : (job : JobValue) (a : Calling) (now : ℕ) (packet : Packet) (rest : List Due) (marks : List Mark) → TallyOf job a.state a.pages a.counts a.outcome rest marks → Tally job (after_giving a now packet rest) marks
+after_tally : (job : JobValue) (a : CallerCore) (now : ℕ) (packet : Packet) (rest : List Due) (marks : List Mark) → TallyOf job a.state a.pages a.counts a.outcome rest marks → Tally job (after_giving a now packet rest) marks
 after_tally job a now packet [] marks t = tally_when_given job a.state a.pages a.counts a.outcome marks t
 after_tally job a now packet (d ∷ due) marks t = t
 
@@ -269,7 +269,7 @@ quiet_acked texts job page n Post (One p) due marks s a = (
   record {
     last = a.1.last;
     emits = quiet_emits job (elements_in p) marks a.1.last s.0 a.1.emits;
-    behind = behind_if a.1.last (replied marks) (replied (gave_all (elements_in p) marks)) n (good_given (elements_in p) marks s.0 a.0.0) a.1.behind;
+    after = after_if a.1.last (replied marks) (replied (gave_all (elements_in p) marks)) n (good_given (elements_in p) marks s.0 a.0.0) a.1.after;
   },
 )
 quiet_acked texts job page n Post (Text m dcs from) due marks s a = absurd a.0
@@ -282,26 +282,26 @@ acked_given texts job AwaitDis page n d due marks s a = tt
 acked_given texts job (AwaitCfr dis dcs) page n d due marks s a = tt
 acked_given texts job (AwaitMcf dis dcs) page n d due marks s a = tt
 
-first_tally : (texts : Texts) (job : JobValue) (a : Calling) (now : ℕ) (marks : List Mark) (due : List Due) → a.waiting ≡ due → Good texts job a marks → Tally job a marks →
+first_tally : (texts : Texts) (job : JobValue) (a : CallerCore) (now : ℕ) (marks : List Mark) (due : List Due) → a.waiting ≡ due → Good texts job a marks → Tally job a marks →
     Tally job (given_first texts.writes job a now due).core (marks_given (given_first texts.writes job a now due).given marks)
 first_tally texts job a now marks [] h g t = t
 first_tally texts job a now marks (d ∷ due) h g t =
-    let k : Taken = taken texts.writes job d due in
+    let k : TakenPart = taken texts.writes job d due in
     after_tally job a now k.packet k.rest (gave_all (elements_in k.packet) marks) (
       t.0,
       acked_given texts job a.state a.counts.page a.counts.delivered d due marks (subst (λ (w : List Due). SafeTo texts job a.counts.page (PostOf a.state) w (elements_given marks)) h g.kept.safe)
           (subst (λ (w : List Due). Acked job a.state w a.counts.delivered marks) h t.1),
     )
 
-paced_tally : (texts : Texts) (job : JobValue) (a : Calling) (now : ℕ) (marks : List Mark) → Good texts job a marks → Tally job a marks → Tally job (paced texts.writes job a now).core (marks_given (paced texts.writes job a now).given marks)
+paced_tally : (texts : Texts) (job : JobValue) (a : CallerCore) (now : ℕ) (marks : List Mark) → Good texts job a marks → Tally job a marks → Tally job (paced texts.writes job a now).core (marks_given (paced texts.writes job a now).given marks)
 paced_tally texts job a now marks g t = by (pace_allows a.pace.last now)
   where
-    by : (w : Bool) → Tally job (if◌then◌else◌ {A = Ticked} w (given_first texts.writes job a now a.waiting) (record { core = a; given = None })).core (marks_given (if◌then◌else◌ {A = Ticked} w (given_first texts.writes job a now a.waiting) (record { core = a; given = None })).given marks)
+    by : (w : Bool) → Tally job (if◌then◌else◌ {A = TickResult} w (given_first texts.writes job a now a.waiting) (record { core = a; given = None })).core (marks_given (if◌then◌else◌ {A = TickResult} w (given_first texts.writes job a now a.waiting) (record { core = a; given = None })).given marks)
     by true = first_tally texts job a now marks a.waiting refl g t
     by false = t
 
-pub ticked_tally : (texts : Texts) (job : JobValue) (a : Calling) (now : ℕ) (marks : List Mark) → Good texts job a marks → Tally job a marks → Tally job (ticked texts.writes job a now).core (marks_given (ticked texts.writes job a now).given marks)
+pub ticked_tally : (texts : Texts) (job : JobValue) (a : CallerCore) (now : ℕ) (marks : List Mark) → Good texts job a marks → Tally job a marks → Tally job (ticked texts.writes job a now).core (marks_given (ticked texts.writes job a now).given marks)
 ticked_tally texts job a now marks g t = paced_tally texts job (timed a now) now marks (timed_good texts job a now marks g) (timed_tally texts job a now marks g t)
 
-pub start_tally : (job : JobValue) (old : List Mark) (core : Calling) (now : ℕ) → IsJob job → Tally job (started core job now) (Begins ∷ old)
+pub start_tally : (job : JobValue) (old : List Mark) (core : CallerCore) (now : ℕ) → IsJob job → Tally job (started core job now) (Begins ∷ old)
 start_tally job old core now is = (record { delivered = refl; within = is.some }, tt)

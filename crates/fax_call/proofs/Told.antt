@@ -9,9 +9,9 @@ use Rattle.fax_jobs.specs.Jobs.{JobValue, IsJob}
 use Rattle.fax_call.specs.declared.state.State.{State}
 use Rattle.fax_call.specs.declared.state.State.TheVariants.{Idle, AwaitDis, AwaitCfr, AwaitMcf, Closing}
 use Rattle.fax_call.specs.Writings.{Writing}
-use Rattle.fax_call.specs.Replies.{Due, waits, turn_behind}
+use Rattle.fax_call.specs.Replies.{Due, waits, turn_after}
 use Rattle.fax_call.specs.Table.{Stays, on_frame, on_timers}
-use Rattle.fax_call.specs.Calls.{Calling, started, moved, came, timed, given_first, paced, ticked, Ticked, CallEvent, Comes, Ticks, after_events}
+use Rattle.fax_call.specs.Calls.{CallerCore, started, moved, came, timed, given_first, paced, ticked, TickResult, CallEvent, Comes, Ticks, after_events}
 use Rattle.fax_call.specs.Emission.{Mark, Begins, elements_given, marks_heard, marks_given, marks_after}
 use Rattle.fax_call.specs.Delivery.{AtTheLastMoment, is_over, marks_until_over, TellsWhatWasAnswered}
 use Rattle.fax_call.proofs.Waiting.{Texts}
@@ -22,7 +22,7 @@ use Rattle.fax_call.proofs.Unanswered.{IsAsking, comes_open, ticked_open}
 use Rattle.fax_call.proofs.Paged.{pages_told}
 
 -- what is known in a call: `marks` are all of it, and `until` those until it was over
-record Sound (texts : Texts) (job : JobValue) (a : Calling) (events : List CallEvent) (marks until : List Mark) : Type 0 where
+record Sound (texts : Texts) (job : JobValue) (a : CallerCore) (events : List CallEvent) (marks until : List Mark) : Type 0 where
   good : Good texts job a marks
   timed_so : Timed a
   tally : Tally job a until
@@ -39,29 +39,29 @@ over_is_idle (AwaitCfr dis dcs) h = cc
 over_is_idle (AwaitMcf dis dcs) h = cc
 over_is_idle (Closing x) h = cc
 
-nothing_waits : (L : Type 0) (a : Calling) (marks : List Mark) → a.state ≡ Idle → Counted L a marks → a.waiting ≡ []
+nothing_waits : (L : Type 0) (a : CallerCore) (marks : List Mark) → a.state ≡ Idle → Counted L a marks → a.waiting ≡ []
 nothing_waits L a marks e s = (subst (λ (state : State). StateOf L state a.waiting a.counts.delivered marks a.outcome) e s).3
 
-comes_idle : (a : Calling) (piece : pieces.Piece) (now : ℕ) → a.state ≡ Idle → a.waiting ≡ [] → came a piece now ≡ a
+comes_idle : (a : CallerCore) (piece : pieces.Piece) (now : ℕ) → a.state ≡ Idle → a.waiting ≡ [] → came a piece now ≡ a
 comes_idle a (pieces.Frame octets) now e w =
-    ap (λ (due : List Due). moved a (if waits due then Stays else on_frame now a.format (turn_behind a.formats a.counts.page) a.pages a.state a.counts (frame_of octets))) w
-    ∙ ap (λ (state : State). moved a (on_frame now a.format (turn_behind a.formats a.counts.page) a.pages state a.counts (frame_of octets))) e
+    ap (λ (due : List Due). moved a (if waits due then Stays else on_frame now a.format (turn_after a.formats a.counts.page) a.pages a.state a.counts (frame_of octets))) w
+    ∙ ap (λ (state : State). moved a (on_frame now a.format (turn_after a.formats a.counts.page) a.pages state a.counts (frame_of octets))) e
 comes_idle a (pieces.Start k) now e w = refl
 comes_idle a (pieces.Octets os) now e w = refl
 comes_idle a (pieces.End whole) now e w = refl
 comes_idle a pieces.Gap now e w = refl
 
-nothing_given : Calling → Ticked
+nothing_given : CallerCore → TickResult
 nothing_given a = record { core = a; given = None }
 
-ticks_idle : (writes : Writing) (job : JobValue) (a : Calling) (now : ℕ) → a.state ≡ Idle → a.waiting ≡ [] → ticked writes job a now ≡ record { core = a; given = None }
+ticks_idle : (writes : Writing) (job : JobValue) (a : CallerCore) (now : ℕ) → a.state ≡ Idle → a.waiting ≡ [] → ticked writes job a now ≡ record { core = a; given = None }
 ticks_idle writes job a now e w =
     ap (λ (due : List Due). paced writes job (moved a (if waits due then Stays else on_timers (is_due a.t1 now) (is_due a.t4 now) a.state a.counts)) now) w
     ∙ ap (λ (state : State). paced writes job (moved a (on_timers (is_due a.t1 now) (is_due a.t4 now) state a.counts)) now) e
-    ∙ ap (λ (due : List Due). if◌then◌else◌ {A = Ticked} (pace_allows a.pace.last now) (given_first writes job a now due) (record { core = a; given = None })) w
+    ∙ ap (λ (due : List Due). if◌then◌else◌ {A = TickResult} (pace_allows a.pace.last now) (given_first writes job a now due) (record { core = a; given = None })) w
     ∙ by (pace_allows a.pace.last now)
   where
-    by : (t : Bool) → if◌then◌else◌ {A = Ticked} t (record { core = a; given = None }) (record { core = a; given = None }) ≡ record { core = a; given = None }
+    by : (t : Bool) → if◌then◌else◌ {A = TickResult} t (record { core = a; given = None }) (record { core = a; given = None }) ≡ record { core = a; given = None }
     by true = refl
     by false = refl
 
@@ -72,7 +72,7 @@ elements_heard (pieces.Octets os) marks = refl
 elements_heard (pieces.End whole) marks = refl
 elements_heard pieces.Gap marks = refl
 
-sound_comes : (texts : Texts) (job : JobValue) (a : Calling) (piece : pieces.Piece) (now : ℕ) (events : List CallEvent) (marks until : List Mark) → Sound texts job a events marks until →
+sound_comes : (texts : Texts) (job : JobValue) (a : CallerCore) (piece : pieces.Piece) (now : ℕ) (events : List CallEvent) (marks until : List Mark) → Sound texts job a events marks until →
     Sound texts job (came a piece now) (Comes piece now ∷ events) (marks_heard piece marks) (if is_over a.state then until else marks_heard piece marks)
 sound_comes texts job a piece now events marks until s = by (is_over a.state) refl
   where
@@ -86,10 +86,10 @@ sound_comes texts job a piece now events marks until s = by (is_over a.state) re
         record {
           good = comes_good texts job a piece now marks s.good;
           timed_so = comes_timed a piece now s.timed_so;
-          tally = subst (λ (c : Calling). Tally job c until) stays s.tally;
-          counted = subst (λ (c : Calling). Counted (AtTheLastMoment events) c until) stays s.counted;
+          tally = subst (λ (c : CallerCore). Tally job c until) stays s.tally;
+          counted = subst (λ (c : CallerCore). Counted (AtTheLastMoment events) c until) stays s.counted;
           asks = s.asks;
-          same = λ o. let q : true ≡ false = sym h ∙ ap (λ (c : Calling). is_over c.state) stays ∙ o in cc;
+          same = λ o. let q : true ≡ false = sym h ∙ ap (λ (c : CallerCore). is_over c.state) stays ∙ o in cc;
           silent = elements_heard piece marks ∙ s.silent;
         }
     by false h =
@@ -110,7 +110,7 @@ asks_too : (L M : Type 0) (f : L → M) (marks : List Mark) → IsAsking L marks
 asks_too L M f marks (inl k) = inl k
 asks_too L M f marks (inr l) = inr (f l)
 
-sound_ticks : (texts : Texts) (job : JobValue) (a : Calling) (now : ℕ) (events : List CallEvent) (marks until : List Mark) → IsJob job → Sound texts job a events marks until →
+sound_ticks : (texts : Texts) (job : JobValue) (a : CallerCore) (now : ℕ) (events : List CallEvent) (marks until : List Mark) → IsJob job → Sound texts job a events marks until →
     Sound texts job (ticked texts.writes job a now).core (Ticks now ∷ events) (marks_given (ticked texts.writes job a now).given marks)
     (if is_over a.state then until else marks_given (ticked texts.writes job a now).given marks)
 sound_ticks texts job a now events marks until is s = by (is_over a.state) refl
@@ -126,15 +126,15 @@ sound_ticks texts job a now events marks until is s = by (is_over a.state) refl
         let M : Type 0 = AtTheLastMoment (Ticks now ∷ events) in
         let e : a.state ≡ Idle = over_is_idle a.state h in
         let none : ticked texts.writes job a now ≡ record { core = a; given = None } = ticks_idle texts.writes job a now e (nothing_waits L a until e s.counted) in
-        let stays : a ≡ (ticked texts.writes job a now).core = sym (ap (λ (t : Ticked). t.core) none) in
+        let stays : a ≡ (ticked texts.writes job a now).core = sym (ap (λ (t : TickResult). t.core) none) in
         record {
           good = good;
           timed_so = ticked_timed texts job a now s.timed_so;
-          tally = subst (λ (c : Calling). Tally job c until) stays s.tally;
-          counted = subst (λ (c : Calling). Counted M c until) stays (counted_too L M (λ l. inr l) a until s.counted);
+          tally = subst (λ (c : CallerCore). Tally job c until) stays s.tally;
+          counted = subst (λ (c : CallerCore). Counted M c until) stays (counted_too L M (λ l. inr l) a until s.counted);
           asks = asks_too L M (λ l. inr l) until s.asks;
-          same = λ o. let q : true ≡ false = sym h ∙ ap (λ (c : Calling). is_over c.state) stays ∙ o in cc;
-          silent = ap (λ (t : Ticked). elements_given (marks_given t.given marks)) none ∙ s.silent;
+          same = λ o. let q : true ≡ false = sym h ∙ ap (λ (c : CallerCore). is_over c.state) stays ∙ o in cc;
+          silent = ap (λ (t : TickResult). elements_given (marks_given t.given marks)) none ∙ s.silent;
         }
     by false h =
         let L : Type 0 = AtTheLastMoment events in
@@ -153,7 +153,7 @@ sound_ticks texts job a now events marks until is s = by (is_over a.state) refl
           silent = refl;
         }
 
-sound_start : (texts : Texts) (job : JobValue) (old : List Mark) (core : Calling) (start : ℕ) → IsJob job → Sound texts job (started core job start) [] (Begins ∷ old) (Begins ∷ old)
+sound_start : (texts : Texts) (job : JobValue) (old : List Mark) (core : CallerCore) (start : ℕ) → IsJob job → Sound texts job (started core job start) [] (Begins ∷ old) (Begins ∷ old)
 sound_start texts job old core start is =
     record {
       good = start_good texts job old core start is;
@@ -165,7 +165,7 @@ sound_start texts job old core start is =
       silent = refl;
     }
 
-sound : (texts : Texts) (job : JobValue) (old : List Mark) (a : Calling) (events : List CallEvent) → IsJob job → Sound texts job a [] (Begins ∷ old) (Begins ∷ old) →
+sound : (texts : Texts) (job : JobValue) (old : List Mark) (a : CallerCore) (events : List CallEvent) → IsJob job → Sound texts job a [] (Begins ∷ old) (Begins ∷ old) →
     Sound texts job (after_events texts.writes job a events) events (marks_after texts.writes job old a events) (marks_until_over texts.writes job old a events)
 sound texts job old a [] is s = s
 sound texts job old a (Comes piece now ∷ before) is s =
@@ -176,8 +176,8 @@ sound texts job old a (Ticks now ∷ before) is s =
 pub tells_what_was_answered : TellsWhatWasAnswered
 tells_what_was_answered writes job old core start events w is e =
     let texts : Texts = record { writes = writes; are = w } in
-    let begun : Calling = started core job start in
-    let over : Calling = after_events writes job begun events in
+    let begun : CallerCore = started core job start in
+    let over : CallerCore = after_events writes job begun events in
     let marks : List Mark = marks_until_over writes job old begun events in
     let n : ℕ = over.counts.delivered in
     let s : Sound texts job over events (marks_after writes job old begun events) marks = sound texts job old begun events is (sound_start texts job old core start is) in
@@ -194,9 +194,9 @@ tells_what_was_answered writes job old core start events w is e =
       record {
         last = k.last;
         emits = k.emits;
-        behind = k.behind;
+        after = k.after;
         counts = c.2;
-        pages = pages_told job marks k.last outcome n events k.emits k.behind c.2;
+        pages = pages_told job marks k.last outcome n events k.emits k.after c.2;
         asks = s.asks;
         most = f.most;
         all_if = f.all_if;

@@ -18,9 +18,9 @@ use Rattle.fax_jobs.specs.Jobs.{JobValue}
 use Rattle.fax_call.specs.declared.state.State.{State}
 use Rattle.fax_call.specs.declared.state.State.TheVariants.{Idle, AwaitDis, AwaitCfr, AwaitMcf, Closing}
 use Rattle.fax_call.specs.Writings.{Writing}
-use Rattle.fax_call.specs.Replies.{Packet, Tells, Part, Due, One, Text, waits, is_last_page, turn_behind, part_length, parts_of, check_length, training_check, training, command_by, command, image}
+use Rattle.fax_call.specs.Replies.{Packet, Tells, Part, Due, One, Text, waits, is_last_page, turn_after, part_length, parts_of, check_length, training_check, training, command_by, command, image}
 use Rattle.fax_call.specs.Table.{Counts, Move, Stays, Trains, Sends, AsksAgain, Turns, Closes, HangsUp, first_try, next_try, next_step, next_page, one_delivered, one_refused, most_tries, by_choice, tries_again, asks_again, turns_or, on_frame, on_timers}
-use Rattle.fax_call.specs.Calls.{Calling, started, moved, came, timed, text_at, Taken, taken, state_when_given, after_giving, Ticked, given_first, paced, ticked, CallEvent, Comes, Ticks, after_events}
+use Rattle.fax_call.specs.Calls.{CallerCore, started, moved, came, timed, text_at, TakenPart, taken, state_when_given, after_giving, TickResult, given_first, paced, ticked, CallEvent, Comes, Ticks, after_events}
 use Rattle.fax_call.specs.Tries.{asks_for, asks, answers_by, answers, asked_by, asked, ThreeTries}
 use Rattle.fax_call.proofs.PacketsBack.{dcs_back}
 
@@ -81,14 +81,14 @@ MoveKnows s k n (Turns format t1 c) = n ≡ 0
 MoveKnows s k n (Closes outcome c) = n ≤ 3
 MoveKnows s k n HangsUp = n ≤ 3
 
-abbrev CoreKnows : Calling → ℕ → Type 0
+abbrev CoreKnows : CallerCore → ℕ → Type 0
 CoreKnows a n = Knows a.state a.counts.tries (asking a.waiting) n
 
-moved_knows : (a : Calling) (m : Move) (n : ℕ) → a.waiting ≡ [] → MoveKnows a.state a.counts.tries n m → CoreKnows (moved a m) n
+moved_knows : (a : CallerCore) (m : Move) (n : ℕ) → a.waiting ≡ [] → MoveKnows a.state a.counts.tries n m → CoreKnows (moved a m) n
 moved_knows a Stays n w h = subst (λ (due : List Due). Knows a.state a.counts.tries (asking due) n) (sym w) h
 moved_knows a (Trains dis dcs c) n w h = subst (λ (k : ℕ). (n + k ≡ c.tries) × (c.tries ≤ 3)) (sym (asking_training dcs)) h
-moved_knows a (Sends dis dcs c) n w h = subst (λ (k : ℕ). (n + k ≡ c.tries) × (c.tries ≤ 3)) (sym (asking_image (is_last_page a.pages c.page) (turn_behind a.formats c.page) c.page dcs)) h
-moved_knows a (AsksAgain c) n w h = subst (λ (k : ℕ). Knows a.state c.tries k n) (sym (asking_command (is_last_page a.pages c.page) (turn_behind a.formats c.page))) h
+moved_knows a (Sends dis dcs c) n w h = subst (λ (k : ℕ). (n + k ≡ c.tries) × (c.tries ≤ 3)) (sym (asking_image (is_last_page a.pages c.page) (turn_after a.formats c.page) c.page dcs)) h
+moved_knows a (AsksAgain c) n w h = subst (λ (k : ℕ). Knows a.state c.tries k n) (sym (asking_command (is_last_page a.pages c.page) (turn_after a.formats c.page))) h
 moved_knows a (Turns format t1 c) n w h = omega arith
 moved_knows a (Closes outcome c) n w h = omega arith
 moved_knows a HangsUp n w h = omega arith
@@ -175,23 +175,23 @@ none_answers (AwaitCfr dis dcs) frame = refl
 none_answers (AwaitMcf dis dcs) frame = refl
 none_answers (Closing outcome) frame = refl
 
-came_knows : (a : Calling) (piece : pieces.Piece) (now n : ℕ) → CoreKnows a n → CoreKnows (came a piece now) (asked_if (answers a piece) n)
+came_knows : (a : CallerCore) (piece : pieces.Piece) (now n : ℕ) → CoreKnows a n → CoreKnows (came a piece now) (asked_if (answers a piece) n)
 came_knows a (pieces.Frame octets) now n h = by a.waiting refl
   where
     move : Move
-    move = on_frame now a.format (turn_behind a.formats a.counts.page) a.pages a.state a.counts (frame_of octets)
+    move = on_frame now a.format (turn_after a.formats a.counts.page) a.pages a.state a.counts (frame_of octets)
 
     by : (due : List Due) → a.waiting ≡ due → CoreKnows (moved a (if waits due then Stays else move)) (asked_if (answers_by a.state (waits due) (frame_of octets)) n)
     by [] e =
         moved_knows a move (asked_if (answers_by a.state false (frame_of octets)) n) e
-        (frame_knows now a.format (turn_behind a.formats a.counts.page) a.pages a.state a.counts (frame_of octets) n (subst (λ (d : List Due). Knows a.state a.counts.tries (asking d) n) e h))
+        (frame_knows now a.format (turn_after a.formats a.counts.page) a.pages a.state a.counts (frame_of octets) n (subst (λ (d : List Due). Knows a.state a.counts.tries (asking d) n) e h))
     by (d ∷ due) e = subst (λ (t : Bool). CoreKnows a (asked_if t n)) (sym (none_answers a.state (frame_of octets))) h
 came_knows a (pieces.Start k) now n h = h
 came_knows a (pieces.Octets os) now n h = h
 came_knows a (pieces.End w) now n h = h
 came_knows a pieces.Gap now n h = h
 
-timed_knows : (a : Calling) (now n : ℕ) → CoreKnows a n → CoreKnows (timed a now) n
+timed_knows : (a : CallerCore) (now n : ℕ) → CoreKnows a n → CoreKnows (timed a now) n
 timed_knows a now n h = by a.waiting refl
   where
     move : Move
@@ -210,7 +210,7 @@ taken_asks writes job (Text page dcs from) due = by (nat_le (length (drop from (
     text = text_at writes job page dcs
 
     by : (t : Bool) →
-        let k : Taken = if◌then◌else◌ {A = Taken} t (record { packet = Part (kind_of dcs.rate) true (drop from text); rest = due }) (record { packet = Part (kind_of dcs.rate) false (take (part_length dcs) (drop from text)); rest = Text page dcs (from + part_length dcs) ∷ due }) in
+        let k : TakenPart = if◌then◌else◌ {A = TakenPart} t (record { packet = Part (kind_of dcs.rate) true (drop from text); rest = due }) (record { packet = Part (kind_of dcs.rate) false (take (part_length dcs) (drop from text)); rest = Text page dcs (from + part_length dcs) ∷ due }) in
         one_if (asks k.packet) + asking k.rest ≡ asking due
     by true = omega arith
     by false = omega arith
@@ -240,11 +240,11 @@ given_knows (AwaitCfr dis dcs) k w n h = h
 given_knows (AwaitMcf dis dcs) k w n h = h
 given_knows (Closing x) k w n h = h
 
-after_knows : (a : Calling) (now : ℕ) (packet : Packet) (rest : List Due) (n : ℕ) → Knows a.state a.counts.tries (asking rest) n → CoreKnows (after_giving a now packet rest) n
+after_knows : (a : CallerCore) (now : ℕ) (packet : Packet) (rest : List Due) (n : ℕ) → Knows a.state a.counts.tries (asking rest) n → CoreKnows (after_giving a now packet rest) n
 after_knows a now packet [] n h = given_knows a.state a.counts.tries 0 n h
 after_knows a now packet (r ∷ rest) n h = h
 
-first_knows : (writes : Writing) (job : JobValue) (a : Calling) (now : ℕ) (due : List Due) (n : ℕ) → Knows a.state a.counts.tries (asking due) n → a.waiting ≡ due
+first_knows : (writes : Writing) (job : JobValue) (a : CallerCore) (now : ℕ) (due : List Due) (n : ℕ) → Knows a.state a.counts.tries (asking due) n → a.waiting ≡ due
     → CoreKnows (given_first writes job a now due).core (asked_by (given_first writes job a now due).given n)
 first_knows writes job a now [] n h e = subst (λ (due : List Due). Knows a.state a.counts.tries (asking due) n) (sym e) h
 first_knows writes job a now (d ∷ due) n h e =
@@ -253,18 +253,18 @@ first_knows writes job a now (d ∷ due) n h e =
     after_knows a now packet rest (if asks packet then n + 1 else n)
     (moves_over a.state a.counts.tries (asking (d ∷ due)) (asking rest) n (asks packet) (taken_asks writes job d due) h)
 
-ticked_knows : (writes : Writing) (job : JobValue) (a : Calling) (now n : ℕ) → CoreKnows a n → CoreKnows (ticked writes job a now).core (asked_by (ticked writes job a now).given n)
+ticked_knows : (writes : Writing) (job : JobValue) (a : CallerCore) (now n : ℕ) → CoreKnows a n → CoreKnows (ticked writes job a now).core (asked_by (ticked writes job a now).given n)
 ticked_knows writes job a now n h = by (timed a now) (timed_knows a now n h) (pace_allows (timed a now).pace.last now)
   where
-    by : (b : Calling) → CoreKnows b n → (t : Bool) →
-        let r : Ticked = if◌then◌else◌ {A = Ticked} t (given_first writes job b now b.waiting) (record { core = b; given = None }) in
+    by : (b : CallerCore) → CoreKnows b n → (t : Bool) →
+        let r : TickResult = if◌then◌else◌ {A = TickResult} t (given_first writes job b now b.waiting) (record { core = b; given = None }) in
         CoreKnows r.core (asked_by r.given n)
     by b k true = first_knows writes job b now b.waiting n k refl
     by b k false = k
 
 -- ---- a call
 
-call_knows : (writes : Writing) (job : JobValue) (core : Calling) (start : ℕ) (events : List CallEvent)
+call_knows : (writes : Writing) (job : JobValue) (core : CallerCore) (start : ℕ) (events : List CallEvent)
     → CoreKnows (after_events writes job (started core job start) events) (asked writes job (started core job start) events)
 call_knows writes job core start [] = refl
 call_knows writes job core start (Comes piece now ∷ before) =
@@ -274,7 +274,7 @@ call_knows writes job core start (Ticks now ∷ before) =
 
 -- ---- T4 is due
 
-trains : (writes : Writing) (job : JobValue) (a : Calling) (n now : ℕ) (dis : Dis) (dcs : Dcs) → (n + 0 ≡ a.counts.tries) × (a.counts.tries ≤ 3) → a.state ≡ AwaitCfr dis dcs → a.waiting ≡ [] → is_due a.t4 now ≡ true
+trains : (writes : Writing) (job : JobValue) (a : CallerCore) (n now : ℕ) (dis : Dis) (dcs : Dcs) → (n + 0 ≡ a.counts.tries) × (a.counts.tries ≤ 3) → a.state ≡ AwaitCfr dis dcs → a.waiting ≡ [] → is_due a.t4 now ≡ true
     → (ticked writes job a now).core.state ≡ (if nat_lt n 3 then AwaitCfr dis dcs else Closing outcomes.NoReply)
 trains writes job a n now dis dcs k s w e =
     ap (λ (m : Move). (paced writes job (moved a m) now).core.state) move ∙ by (nat_lt n 3)
@@ -292,22 +292,22 @@ trains writes job a n now dis dcs k s w e =
     by : (t : Bool) → (paced writes job (moved a (if t then Trains dis dcs (next_try a.counts) else Closes outcomes.NoReply a.counts)) now).core.state ≡ (if t then AwaitCfr dis dcs else Closing outcomes.NoReply)
     by true = two (pace_allows a.pace.last now)
       where
-        b : Calling
+        b : CallerCore
         b = moved a (Trains dis dcs (next_try a.counts))
 
-        two : (t : Bool) → (if◌then◌else◌ {A = Ticked} t (given_first writes job b now b.waiting) (record { core = b; given = None })).core.state ≡ AwaitCfr dis dcs
+        two : (t : Bool) → (if◌then◌else◌ {A = TickResult} t (given_first writes job b now b.waiting) (record { core = b; given = None })).core.state ≡ AwaitCfr dis dcs
         two true = refl
         two false = refl
     by false = two (pace_allows a.pace.last now)
       where
-        b : Calling
+        b : CallerCore
         b = moved a (Closes outcomes.NoReply a.counts)
 
-        two : (t : Bool) → (if◌then◌else◌ {A = Ticked} t (given_first writes job b now b.waiting) (record { core = b; given = None })).core.state ≡ Closing outcomes.NoReply
+        two : (t : Bool) → (if◌then◌else◌ {A = TickResult} t (given_first writes job b now b.waiting) (record { core = b; given = None })).core.state ≡ Closing outcomes.NoReply
         two true = refl
         two false = refl
 
-asks_so : (writes : Writing) (job : JobValue) (a : Calling) (n now : ℕ) (dis : Dis) (dcs : Dcs) → (n + 0 ≡ a.counts.tries) × (a.counts.tries ≤ 3) → a.state ≡ AwaitMcf dis dcs → a.waiting ≡ [] → is_due a.t4 now ≡ true
+asks_so : (writes : Writing) (job : JobValue) (a : CallerCore) (n now : ℕ) (dis : Dis) (dcs : Dcs) → (n + 0 ≡ a.counts.tries) × (a.counts.tries ≤ 3) → a.state ≡ AwaitMcf dis dcs → a.waiting ≡ [] → is_due a.t4 now ≡ true
     → (ticked writes job a now).core.state ≡ (if nat_lt n 3 then AwaitMcf dis dcs else Closing outcomes.NoReply)
 asks_so writes job a n now dis dcs k s w e =
     ap (λ (m : Move). (paced writes job (moved a m) now).core.state) move ∙ by (nat_lt n 3)
@@ -325,25 +325,25 @@ asks_so writes job a n now dis dcs k s w e =
     by : (t : Bool) → (paced writes job (moved a (if t then AsksAgain (next_try a.counts) else Closes outcomes.NoReply a.counts)) now).core.state ≡ (if t then AwaitMcf dis dcs else Closing outcomes.NoReply)
     by true = two (pace_allows a.pace.last now)
       where
-        b : Calling
+        b : CallerCore
         b = moved a (AsksAgain (next_try a.counts))
 
-        two : (t : Bool) → (if◌then◌else◌ {A = Ticked} t (given_first writes job b now b.waiting) (record { core = b; given = None })).core.state ≡ AwaitMcf dis dcs
+        two : (t : Bool) → (if◌then◌else◌ {A = TickResult} t (given_first writes job b now b.waiting) (record { core = b; given = None })).core.state ≡ AwaitMcf dis dcs
         two true = s
         two false = s
     by false = two (pace_allows a.pace.last now)
       where
-        b : Calling
+        b : CallerCore
         b = moved a (Closes outcomes.NoReply a.counts)
 
-        two : (t : Bool) → (if◌then◌else◌ {A = Ticked} t (given_first writes job b now b.waiting) (record { core = b; given = None })).core.state ≡ Closing outcomes.NoReply
+        two : (t : Bool) → (if◌then◌else◌ {A = TickResult} t (given_first writes job b now b.waiting) (record { core = b; given = None })).core.state ≡ Closing outcomes.NoReply
         two true = refl
         two false = refl
 
 pub three_tries : ThreeTries
 three_tries writes job core start events =
-    let begun : Calling = started core job start in
-    let a : Calling = after_events writes job begun events in
+    let begun : CallerCore = started core job start in
+    let a : CallerCore = after_events writes job begun events in
     let n : ℕ = asked writes job begun events in
     let k : CoreKnows a n = call_knows writes job core start events in
     let known : (s : State) → a.state ≡ s → a.waiting ≡ [] → Knows s a.counts.tries 0 n

@@ -1,4 +1,4 @@
--- No command is given behind an answer to its image.
+-- No command is given after an answer to its image.
 use Rattle.std.proofs.Common.{◌≡◌, ℕ, ◌+◌, ◌-◌, ◌^◌, ◌<◌, ◌≤◌, Bool, true, false, nat_le, List, [], ◌∷◌, Option, Some, ◌⊎◌, inl, inr, refl, sym, ap, subst, arith, length, drop, take, length-drop, length-take, if◌then◌else◌}
 use Rattle.fax_frames.specs.declared.dcs.Dcs.{Dcs}
 use Rattle.fax_frames.specs.declared.frame.Frame.{Frame}
@@ -13,7 +13,7 @@ use Rattle.fax_jobs.specs.Jobs.{JobValue}
 use Rattle.fax_call.specs.declared.state.State.{State}
 use Rattle.fax_call.specs.declared.state.State.TheVariants.{Idle, AwaitDis, AwaitCfr, AwaitMcf, Closing}
 use Rattle.fax_call.specs.Replies.{Packet, Signals, Part, Due, One, Text, part_length}
-use Rattle.fax_call.specs.Calls.{Calling, timed, text_at, Taken, taken_text, taken, given_first, paced, ticked}
+use Rattle.fax_call.specs.Calls.{CallerCore, timed, text_at, TakenPart, taken_text, taken, given_first, paced, ticked}
 use Rattle.fax_call.specs.Emission.{Emission, Mark, Gave, gave_all, elements_given, acknowledged_by, marks_heard, marks_given, frame_at, is_command, is_preamble, Reply, Unasked, Asked, Answered, reply_given, reply_or, replied}
 use Rattle.fax_call.specs.Delivery.{IsOpen, AsksTheUnanswered}
 use Rattle.fax_call.proofs.PacketsBack.{elements_in, part_back}
@@ -100,7 +100,7 @@ text_plain texts job page dcs from due before t = by (nat_le (length os) (part_l
         subst (NoCommand before) (sym (part_back dcs.rate false (take (part_length dcs) os) (omega arith) (omega arith))) (ap is_command (high_speed dcs.rate 6 before), tt)
 
     by : (w : Bool) → nat_le (length os) (part_length dcs) ≡ w →
-        NoCommand before (elements_in (if◌then◌else◌ {A = Taken} w (record { packet = Part (kind_of dcs.rate) true os; rest = due }) (record { packet = Part (kind_of dcs.rate) false (take (part_length dcs) os); rest = Text page dcs (from + part_length dcs) ∷ due })).packet)
+        NoCommand before (elements_in (if◌then◌else◌ {A = TakenPart} w (record { packet = Part (kind_of dcs.rate) true os; rest = due }) (record { packet = Part (kind_of dcs.rate) false (take (part_length dcs) os); rest = Text page dcs (from + part_length dcs) ∷ due })).packet)
     by true h = ends (le_if (length os) (part_length dcs) h)
     by false h = goes_on (gt_if (length os) (part_length dcs) h)
 
@@ -139,14 +139,14 @@ given_open L texts job page state (Text m dcs from) due n marks g s k =
     text_open L packet marks
     (subst (λ (i : ℕ). NoCommand (elements_given marks) (elements_in (taken texts.writes job (Text i dcs from) due).packet)) eq (text_plain texts job page dcs from due (elements_given marks) g.1)) k
 
-first_open : (L : Type 0) (texts : Texts) (job : JobValue) (a : Calling) (now : ℕ) (marks : List Mark) (due : List Due) → a.waiting ≡ due → Good texts job a marks → IsRunning L a marks →
+first_open : (L : Type 0) (texts : Texts) (job : JobValue) (a : CallerCore) (now : ℕ) (marks : List Mark) (due : List Due) → a.waiting ≡ due → Good texts job a marks → IsRunning L a marks →
     IsAsking L marks → IsAsking L (marks_given (given_first texts.writes job a now due).given marks)
 first_open L texts job a now marks [] h g s k = k
 first_open L texts job a now marks (d ∷ due) h g s k =
     given_open L texts job a.counts.page a.state d due a.counts.delivered marks (subst (λ (w : List Due). SafeTo texts job a.counts.page (PostOf a.state) w (elements_given marks)) h g.kept.safe)
     (subst (λ (w : List Due). Running L a.state w a.counts.delivered marks) h s) k
 
-paced_open : (L : Type 0) (texts : Texts) (job : JobValue) (a : Calling) (now : ℕ) (marks : List Mark) → Good texts job a marks → IsTimed L a now marks → IsAsking L marks →
+paced_open : (L : Type 0) (texts : Texts) (job : JobValue) (a : CallerCore) (now : ℕ) (marks : List Mark) → Good texts job a marks → IsTimed L a now marks → IsAsking L marks →
     IsAsking L (marks_given (paced texts.writes job a now).given marks)
 paced_open L texts job a now marks g (inl s) k = by (pace_allows a.pace.last now)
   where
@@ -158,6 +158,6 @@ paced_open L texts job a now marks g (inr e) k =
     (subst (λ (due : List Due). IsAsking L (marks_given (given_first texts.writes job a now due).given marks)) (sym e.first)
     (text_open L (Signals 3) marks (signal_asks_nothing 3 (elements_given marks) (omega arith)) k))
 
-pub ticked_open : (L : Type 0) (texts : Texts) (job : JobValue) (a : Calling) (now : ℕ) (marks : List Mark) → (2 ^ 64 ≤ now + longest_pause → L) → Good texts job a marks → Timed a → IsRunning L a marks →
+pub ticked_open : (L : Type 0) (texts : Texts) (job : JobValue) (a : CallerCore) (now : ℕ) (marks : List Mark) → (2 ^ 64 ≤ now + longest_pause → L) → Good texts job a marks → Timed a → IsRunning L a marks →
     IsAsking L marks → IsAsking L (marks_given (ticked texts.writes job a now).given marks)
 ticked_open L texts job a now marks f g h s k = paced_open L texts job (timed a now) now marks (timed_good texts job a now marks g) (timed_counted L a now marks f h s) k

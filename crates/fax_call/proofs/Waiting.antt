@@ -479,7 +479,7 @@ image_safe texts job page end turn dcs before is a h f =
     )
 
 -- one more part of the text
--- the image that is open behind a training indicator
+-- the image that is open after a training indicator
 pub image_at : (before : List elements.Element) (code : ℕ) (later : List elements.Element) → pieces.since_indicator before ≡ Some (record { code = code; later = later }) →
     pieces.is_training code ≡ true → list_any (pieces.is_image_end (pieces.kind_of_training code)) later ≡ false →
     (i : pieces.Image) × (pieces.open_image before ≡ Some i) × (i.kind ≡ pieces.kind_of_training code)

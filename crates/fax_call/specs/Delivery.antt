@@ -7,7 +7,7 @@ use Rattle.fax_jobs.specs.Jobs.{JobValue, IsJob}
 use Rattle.fax_call.specs.declared.state.State.{State}
 use Rattle.fax_call.specs.declared.state.State.TheVariants.{Idle}
 use Rattle.fax_call.specs.Writings.{Writing, IsWriting}
-use Rattle.fax_call.specs.Calls.{Calling, started, CallEvent, Comes, Ticks, after_events}
+use Rattle.fax_call.specs.Calls.{CallerCore, started, CallEvent, Comes, Ticks, after_events}
 use Rattle.fax_call.specs.Emission.{Emission, emitted_at, Mark, Gave, Acknowledged, Refused, Begins, elements_given, marks_after, Emits, frame_at, is_command, Reply, Answered, replied}
 use Rattle.fax_call.specs.Numbers.{numbered}
 
@@ -92,17 +92,17 @@ AsksTheUnanswered (Refused ∷ marks) = AsksTheUnanswered marks
 AsksTheUnanswered (Gave e ∷ marks) = IsOpen (is_command (frame_at (elements_given marks) e)) (replied marks) × AsksTheUnanswered marks
 
 -- the image emitted last is that of page n, or of the page before it, and then MCF or RTP answered
-abbrev pub IsBehind : Option ℕ → Reply → ℕ → Type 0
-IsBehind None r n = n ≡ 0
-IsBehind (Some m) r n = (n ≡ m) ⊎ ((n ≡ m + 1) × (r ≡ Answered true))
+abbrev pub IsAfter : Option ℕ → Reply → ℕ → Type 0
+IsAfter None r n = n ≡ 0
+IsAfter (Some m) r n = (n ≡ m) ⊎ ((n ≡ m + 1) × (r ≡ Answered true))
 
 -- Of a call that has ended: the pages below `delivered` went out, each to its end and in the order of the answers, and none
--- behind the next did; they are those that were answered with MCF or RTP, one each, and no answer was passed over and asked
+-- after the next did; they are those that were answered with MCF or RTP, one each, and no answer was passed over and asked
 -- for again; and the outcome is Delivered exactly where they are all.
 pub record IsTold (job : JobValue) (outcome : Outcome) (delivered : ℕ) (events : List CallEvent) (marks : List Mark) : Type 0 where
   pub last : Option ℕ
   pub emits : Emits job marks last
-  pub behind : IsBehind last (replied marks) delivered
+  pub after : IsAfter last (replied marks) delivered
   pub counts : CountsAnswers outcome delivered events marks
   pub pages : AnswersThePages outcome delivered events marks
   pub asks : AsksTheUnanswered marks ⊎ AtTheLastMoment events
@@ -116,7 +116,7 @@ is_over Idle = true
 is_over state = false
 
 -- what the leg gave and heard in a call until it was over
-abbrev pub marks_until_over : Writing → JobValue → List Mark → Calling → List CallEvent → List Mark
+abbrev pub marks_until_over : Writing → JobValue → List Mark → CallerCore → List CallEvent → List Mark
 marks_until_over writes job old a [] = Begins ∷ old
 marks_until_over writes job old a (e ∷ before) =
     if is_over (after_events writes job a before).state then marks_until_over writes job old a before
@@ -125,9 +125,9 @@ marks_until_over writes job old a (e ∷ before) =
 -- That holds of every call over one unchanged job: each that is over has an outcome, and gives nothing more.
 abbrev pub TellsWhatWasAnswered : Type 0
 TellsWhatWasAnswered =
-    (writes : Writing) (job : JobValue) (old : List Mark) (core : Calling) (start : ℕ) (events : List CallEvent) →
-    let begun : Calling = started core job start in
-    let over : Calling = after_events writes job begun events in
+    (writes : Writing) (job : JobValue) (old : List Mark) (core : CallerCore) (start : ℕ) (events : List CallEvent) →
+    let begun : CallerCore = started core job start in
+    let over : CallerCore = after_events writes job begun events in
     let marks : List Mark = marks_until_over writes job old begun events in
     IsWriting writes → IsJob job → over.state ≡ Idle
     → (outcome : Outcome) × (over.outcome ≡ Some outcome) × IsTold job outcome over.counts.delivered events marks

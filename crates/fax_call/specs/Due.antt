@@ -8,7 +8,7 @@ use Rattle.fax_call.specs.declared.state.State.{State}
 use Rattle.fax_call.specs.declared.state.State.TheVariants.{Idle, AwaitDis, AwaitCfr, AwaitMcf, Closing}
 use Rattle.fax_call.specs.Writings.{Writing}
 use Rattle.fax_call.specs.Replies.{waits}
-use Rattle.fax_call.specs.Calls.{Calling, Ticked, ticked}
+use Rattle.fax_call.specs.Calls.{CallerCore, TickResult, ticked}
 
 -- where no packet waits: Await DIS, T1; Await CFR and Await MCF, T4
 abbrev pub timer_of : State → (t1 : Option ℕ) → (t4 : Option ℕ) → Option ℕ
@@ -19,20 +19,20 @@ timer_of (AwaitCfr dis dcs) t1 t4 = t4
 timer_of (AwaitMcf dis dcs) t1 t4 = t4
 
 -- where packets wait, the moment from which on the pace lets one through
-abbrev pub due_at : Calling → Option ℕ
+abbrev pub due_at : CallerCore → Option ℕ
 due_at a = if waits a.waiting then on_clock (allowed_from a.pace.last) else timer_of a.state a.t1 a.t4
 
 -- a tick that gives nothing and changes nothing
-abbrev pub untouched : Calling → Ticked
+abbrev pub untouched : CallerCore → TickResult
 untouched a = record { core = a; given = None }
 
 -- no tick before that moment does anything
 abbrev pub RestsBefore : Type 0
 RestsBefore =
-    (writes : Writing) (job : JobValue) (a : Calling) (now : ℕ) → now < 2 ^ 64 → is_due (due_at a) now ≡ false → ticked writes job a now ≡ untouched a
+    (writes : Writing) (job : JobValue) (a : CallerCore) (now : ℕ) → now < 2 ^ 64 → is_due (due_at a) now ≡ false → ticked writes job a now ≡ untouched a
 
 -- and from it on a tick does something: it gives a packet, or it leaves another core
 abbrev pub ActsFrom : Type 0
 ActsFrom =
-    (writes : Writing) (job : JobValue) (a : Calling) (now : ℕ) → is_due (due_at a) now ≡ true
+    (writes : Writing) (job : JobValue) (a : CallerCore) (now : ℕ) → is_due (due_at a) now ≡ true
     → IsSome (ticked writes job a now).given ⊎ ((ticked writes job a now).core ≢ a)

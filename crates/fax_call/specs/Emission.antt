@@ -14,7 +14,7 @@ use Rattle.fax_ifp.specs.Pieces as pieces
 use Rattle.fax_jobs.specs.Jobs.{JobValue, IsJob}
 use Rattle.fax_call.specs.Writings.{Writing, IsWriting}
 use Rattle.fax_call.specs.Replies.{Packet, written}
-use Rattle.fax_call.specs.Calls.{Calling, started, ticked, CallEvent, Comes, Ticks, after_events}
+use Rattle.fax_call.specs.Calls.{CallerCore, started, ticked, CallEvent, Comes, Ticks, after_events}
 
 -- an image that was given to its end, and the DCS that was given before it
 pub record Emission : Type 0 where
@@ -47,7 +47,7 @@ since_dcs (elements.Missing ∷ before) = since_dcs before
 since_dcs (elements.Signal code ∷ before) = if pieces.is_training code then option_map one_more (since_dcs before) else since_dcs before
 since_dcs (elements.Field kind what octets ∷ before) = dcs_by (ended_frame kind what before) (since_dcs before)
 
--- The first high-speed signal behind a DCS is the training check; each later one whose end was given is an image.
+-- The first high-speed signal after a DCS is the training check; each later one whose end was given is an image.
 abbrev pub emitted_with : Option SinceDcs → Option pieces.Image → (begun : List ℕ) → ℕ → ℕ → List ℕ → Option Emission
 emitted_with (Some s) (Some image) begun kind what octets =
     if nat_eq kind image.kind && (nat_eq what 7 && nat_lt 1 s.signals)
@@ -94,7 +94,7 @@ marks_given None marks = marks
 marks_given (Some packet) marks = gave_all (elements.elements_in (packet_of (written packet))) marks
 
 -- over a call; `old` stood before it
-abbrev pub marks_after : Writing → JobValue → List Mark → Calling → List CallEvent → List Mark
+abbrev pub marks_after : Writing → JobValue → List Mark → CallerCore → List CallEvent → List Mark
 marks_after writes job old a [] = Begins ∷ old
 marks_after writes job old a (Comes piece now ∷ before) = marks_heard piece (marks_after writes job old a before)
 marks_after writes job old a (Ticks now ∷ before) =
@@ -122,8 +122,8 @@ abbrev pub is_preamble : Option pieces.Since → Bool
 is_preamble None = false
 is_preamble (Some s) = nat_eq s.code 3
 
--- Whether the image emitted last was asked about and answered: a command (EOM, MPS or EOP) was given since, behind its preamble,
--- and the first frame MCF, RTP or RTN that came behind the last command says so. Whatever is given next closes the
+-- Whether the image emitted last was asked about and answered: a command (EOM, MPS or EOP) was given since, after its preamble,
+-- and the first frame MCF, RTP or RTN that came after the last command says so. Whatever is given next closes the
 -- question, and a frame that comes then answers nothing.
 pub data Reply : Type 0 where
   Unasked : Reply
@@ -134,11 +134,11 @@ abbrev pub closed : Reply → Reply
 closed Asked = Unasked
 closed r = r
 
--- what is given: whether it is a command, and whether that stands behind the preamble
+-- what is given: whether it is a command, and whether that stands after the preamble
 abbrev pub reply_given : Bool → Bool → Reply → Reply
 reply_given true true r = Asked
 reply_given true false r = Unasked
-reply_given false behind r = closed r
+reply_given false after r = closed r
 
 abbrev pub reply_or : Option Emission → Reply → Reply
 reply_or (Some e) r = Unasked
@@ -157,7 +157,7 @@ replied (Gave e ∷ marks) =
     let before = elements_given marks in
     reply_or (emitted_at before e) (reply_given (is_command (frame_at before e)) (is_preamble (pieces.since_indicator before)) (replied marks))
 
--- the first page is page 0; behind MCF or RTP the next, behind RTN the same again; and nothing without an answer
+-- the first page is page 0; after MCF or RTP the next, after RTN the same again; and nothing without an answer
 abbrev pub IsAnswered : Option ℕ → Reply → ℕ → Type 0
 IsAnswered None r n = n ≡ 0
 IsAnswered (Some m) (Answered true) n = n ≡ m + 1
@@ -185,6 +185,6 @@ Emits job (Gave e ∷ marks) last = EmitsBy job (emitted_at (elements_given mark
 -- order.
 abbrev pub EmitsThePages : Type 0
 EmitsThePages =
-    (writes : Writing) (job : JobValue) (old : List Mark) (core : Calling) (start : ℕ) (events : List CallEvent)
+    (writes : Writing) (job : JobValue) (old : List Mark) (core : CallerCore) (start : ℕ) (events : List CallEvent)
     → IsWriting writes → IsJob job
     → (last : Option ℕ) × Emits job (marks_after writes job old (started core job start) events) last

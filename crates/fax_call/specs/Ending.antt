@@ -11,7 +11,7 @@ use Rattle.fax_jobs.specs.Jobs.{JobValue, IsJob}
 use Rattle.fax_call.specs.declared.state.State.TheVariants.{Idle}
 use Rattle.fax_call.specs.Writings.{Writing, IsWriting}
 use Rattle.fax_call.specs.Replies.{Text}
-use Rattle.fax_call.specs.Calls.{Calling, started, CallEvent, Comes, Ticks, after_events}
+use Rattle.fax_call.specs.Calls.{CallerCore, started, CallEvent, Comes, Ticks, after_events}
 use Rattle.fax_call.specs.Silence.{due_time, last_tick}
 
 -- what was heard and the ticks, in the order of time: each within so many milliseconds of the tick before it, the first of the
@@ -39,12 +39,12 @@ exchange_time gap longest = 8680 + 44 * gap + longest
 abbrev pub longest_call : (pages gap longest : ℕ) → ℕ
 longest_call pages gap longest = pages * (36 * exchange_time gap longest + (spans.t1 + gap)) + (5000 + 3 * gap)
 
--- Every call is over behind that time, with its outcome, whatever is heard: nobody holds a line for ever. (The last packet of the
+-- Every call is over after that time, with its outcome, whatever is heard: nobody holds a line for ever. (The last packet of the
 -- call before it was no longer ago than a packet can be.)
 abbrev pub EveryCallEnds : Type 0
 EveryCallEnds =
-    (writes : Writing) (job : JobValue) (core : Calling) (start gap longest : ℕ) (events : List CallEvent) →
-    let z : Calling = after_events writes job (started core job start) events in
+    (writes : Writing) (job : JobValue) (core : CallerCore) (start gap longest : ℕ) (events : List CallEvent) →
+    let z : CallerCore = after_events writes job (started core job start) events in
     IsWriting writes → IsJob job → allowed_from core.pace.last ≤ start + spans.longest_pause → NoTextIsLonger writes job gap longest → AreSteady gap start events
     → start + longest_call (length job.pages) gap longest < last_tick start events
     → (z.state ≡ Idle) × IsSome z.outcome

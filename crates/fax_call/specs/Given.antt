@@ -1,4 +1,4 @@
--- The packets that the calling side gives, each by itself. (ITU-T T.38.)
+-- The packets that the caller gives, each by itself. (ITU-T T.38.)
 use Rattle.std.specs.Prelude.{◌≡◌, ℕ, Bool, true, false, List, [], ◌∷◌, map, Contains, Option, Some, None, IfSome}
 use Rattle.std.specs.List.{list_any}
 use Rattle.fax_runcodes.specs.declared.format.Coding.{Coding}
@@ -14,13 +14,13 @@ use Rattle.fax_ifp.specs.Schedules.{is_closed}
 use Rattle.fax_jobs.specs.Jobs.{JobValue, IsJob}
 use Rattle.fax_call.specs.Writings.{Writing, IsWriting}
 use Rattle.fax_call.specs.Replies.{Packet, Tells, written}
-use Rattle.fax_call.specs.Calls.{Calling, started, ticked, CallEvent, Comes, Ticks, after_events}
+use Rattle.fax_call.specs.Calls.{CallerCore, started, ticked, CallEvent, Comes, Ticks, after_events}
 
 -- In every call each packet that a tick gives can be read, and one of V.21 data ends at a boundary: so who hears some of them
 -- hears no frame but those that were given.
 abbrev pub GivesClosedPackets : Type 0
 GivesClosedPackets =
-    (writes : Writing) (job : JobValue) (core : Calling) (start now : ℕ) (events : List CallEvent) (packet : Packet) → IsWriting writes → IsJob job
+    (writes : Writing) (job : JobValue) (core : CallerCore) (start now : ℕ) (events : List CallEvent) (packet : Packet) → IsWriting writes → IsJob job
     → (ticked writes job (after_events writes job (started core job start) events) now).given ≡ Some packet
     → is_closed (packet_of (written packet)) ≡ true
 
@@ -29,7 +29,7 @@ abbrev pub packets_with : Option Packet → List Packet → List Packet
 packets_with None packets = packets
 packets_with (Some packet) packets = packet ∷ packets
 
-abbrev pub packets_given : Writing → JobValue → Calling → List CallEvent → List Packet
+abbrev pub packets_given : Writing → JobValue → CallerCore → List CallEvent → List Packet
 packets_given writes job a [] = []
 packets_given writes job a (Comes piece now ∷ before) = packets_given writes job a before
 packets_given writes job a (Ticks now ∷ before) =
@@ -52,7 +52,7 @@ pub record IsOfKind (format : Format) (coding : Coding) (dcs : Dcs) : Type 0 whe
   pub format_is : format_of dcs ≡ format
   pub coding_is : coding_of dcs ≡ coding
 
--- EOM: behind it a call goes on with another format, and the DIS and DCS are exchanged again (ITU-T T.30, 5.3.6.1.6)
+-- EOM: after it a call goes on with another format, and the DIS and DCS are exchanged again (ITU-T T.30, 5.3.6.1.6)
 abbrev pub is_eom : Option Frame → Bool
 is_eom (Some frames.Eom) = true
 is_eom frame = false
@@ -65,7 +65,7 @@ tells_eom packet = false
 -- under which of them an image is read.
 abbrev pub GivesOneKind : Type 0
 GivesOneKind =
-    (writes : Writing) (job : JobValue) (core : Calling) (start : ℕ) (events : List CallEvent) →
+    (writes : Writing) (job : JobValue) (core : CallerCore) (start : ℕ) (events : List CallEvent) →
     let given : List Packet = packets_given writes job (started core job start) events in
     list_any tells_eom given ≡ false → (coding : Coding) × EachDcs (IsOfKind job.format coding) given
 
@@ -76,7 +76,7 @@ is_eom_frame piece = false
 
 abbrev pub TellsOneKind : Type 0
 TellsOneKind =
-    (writes : Writing) (job : JobValue) (core : Calling) (start : ℕ) (events : List CallEvent) →
+    (writes : Writing) (job : JobValue) (core : CallerCore) (start : ℕ) (events : List CallEvent) →
     let heard : List pieces.Piece = pieces.pieces (map Some (map written (packets_given writes job (started core job start) events))) in
     IsWriting writes → IsJob job → list_any is_eom_frame heard ≡ false
     → (coding : Coding)

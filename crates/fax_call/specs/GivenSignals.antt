@@ -5,7 +5,7 @@ use Rattle.fax_ifp.specs.Schedules.{signal_at}
 use Rattle.fax_jobs.specs.Jobs.{JobValue, IsJob}
 use Rattle.fax_call.specs.Writings.{Writing, IsWriting}
 use Rattle.fax_call.specs.Replies.{Packet, Part, written}
-use Rattle.fax_call.specs.Calls.{Calling, started, ticked, CallEvent, Ticks, after_events}
+use Rattle.fax_call.specs.Calls.{CallerCore, started, ticked, CallEvent, Ticks, after_events}
 use Rattle.fax_call.specs.Emission.{Mark, IsPageOf, Emits, marks_after}
 use Rattle.fax_call.specs.Given.{packets_given, told_dcs}
 
@@ -29,7 +29,7 @@ IsCheck octets = (n : ℕ) × (octets ≡ replicate n 0)
 
 -- The image of a page of the job: a tick gave its end, it means the page under the DCS that was given last before, and with that
 -- tick the page is the one emitted last.
-pub record IsImage (writes : Writing) (job : JobValue) (old : List Mark) (begun : Calling) (events : List CallEvent) (octets : List ℕ) : Type 0 where
+pub record IsImage (writes : Writing) (job : JobValue) (old : List Mark) (begun : CallerCore) (events : List CallEvent) (octets : List ℕ) : Type 0 where
   pub page : ℕ
   pub dcs : Dcs
   pub later : List CallEvent
@@ -45,7 +45,7 @@ pub record IsImage (writes : Writing) (job : JobValue) (old : List Mark) (begun 
 -- the job under the DCS given last before it.
 abbrev pub GivesChecksAndPages : Type 0
 GivesChecksAndPages =
-    (writes : Writing) (job : JobValue) (old : List Mark) (core : Calling) (start : ℕ) (events : List CallEvent) (place : ℕ) (octets : List ℕ) →
-    let begun : Calling = started core job start in
+    (writes : Writing) (job : JobValue) (old : List Mark) (core : CallerCore) (start : ℕ) (events : List CallEvent) (place : ℕ) (octets : List ℕ) →
+    let begun : CallerCore = started core job start in
     IsWriting writes → IsJob job → signal_at (reverse (map written (packets_given writes job begun events))) place ≡ Some octets
     → IsCheck octets ⊎ IsImage writes job old begun events octets

@@ -15,7 +15,7 @@ use Rattle.fax_call.specs.declared.state.State.{State}
 use Rattle.fax_call.specs.declared.state.State.TheVariants.{AwaitDis, Closing}
 use Rattle.fax_call.specs.Writings.{Writing}
 use Rattle.fax_call.specs.Replies.{waits}
-use Rattle.fax_call.specs.Calls.{Calling, started, ticked, CallEvent, Comes, Ticks, after_events}
+use Rattle.fax_call.specs.Calls.{CallerCore, started, ticked, CallEvent, Comes, Ticks, after_events}
 
 -- a DIS that leaves a choice for the page due is accepted: it comes in Await DIS, while no packet waits
 abbrev pub leaves_choice : Result Dcs Refusal → Bool
@@ -26,12 +26,12 @@ abbrev pub is_accepted : State → (waits : Bool) → Format → (step : ℕ) �
 is_accepted AwaitDis false format step (Some (frames.Dis dis)) = leaves_choice (choice dis format step)
 is_accepted state waits format step frame = false
 
-abbrev pub accepts : Calling → pieces.Piece → Bool
+abbrev pub accepts : CallerCore → pieces.Piece → Bool
 accepts a (pieces.Frame octets) = is_accepted a.state (waits a.waiting) a.format a.counts.step (frame_of octets)
 accepts a piece = false
 
 -- whether a DIS was accepted in the call
-abbrev pub was_accepted : Writing → JobValue → Calling → List CallEvent → Bool
+abbrev pub was_accepted : Writing → JobValue → CallerCore → List CallEvent → Bool
 was_accepted writes job begun [] = false
 was_accepted writes job begun (Comes piece now ∷ before) = accepts (after_events writes job begun before) piece || was_accepted writes job begun before
 was_accepted writes job begun (Ticks now ∷ before) = was_accepted writes job begun before
@@ -39,8 +39,8 @@ was_accepted writes job begun (Ticks now ∷ before) = was_accepted writes job b
 -- Where T1 is due in Await DIS, the call ends with NoReply where a DIS was accepted before in it, else with NoAnswer.
 abbrev pub TellsWhyItGaveUp : Type 0
 TellsWhyItGaveUp =
-    (writes : Writing) (job : JobValue) (core : Calling) (start now : ℕ) (events : List CallEvent) →
-    let begun : Calling = started core job start in
-    let a : Calling = after_events writes job begun events in
+    (writes : Writing) (job : JobValue) (core : CallerCore) (start now : ℕ) (events : List CallEvent) →
+    let begun : CallerCore = started core job start in
+    let a : CallerCore = after_events writes job begun events in
     a.state ≡ AwaitDis → a.waiting ≡ [] → is_due a.t1 now ≡ true
     → (ticked writes job a now).core.state ≡ Closing (if was_accepted writes job begun events then outcomes.NoReply else outcomes.NoAnswer)

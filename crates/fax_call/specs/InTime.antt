@@ -8,19 +8,19 @@ use Rattle.fax_call.specs.declared.state.State.{State}
 use Rattle.fax_call.specs.declared.state.State.TheVariants.{AwaitDis, AwaitCfr, AwaitMcf}
 use Rattle.fax_call.specs.Writings.{Writing}
 use Rattle.fax_call.specs.Replies.{Packet}
-use Rattle.fax_call.specs.Calls.{Calling, started, came, ticked, CallEvent, Comes, Ticks, after_events}
+use Rattle.fax_call.specs.Calls.{CallerCore, started, came, ticked, CallEvent, Comes, Ticks, after_events}
 use Rattle.fax_call.specs.Due.{due_at, untouched}
 
--- the moment from which on a DIS is awaited: the start of the call, and behind EOM that of its answer
+-- the moment from which on a DIS is awaited: the start of the call, and after EOM that of its answer
 abbrev pub since_by : (old new : State) → (now before : ℕ) → ℕ
 since_by AwaitDis new now before = before
 since_by old AwaitDis now before = now
 since_by old new now before = before
 
-abbrev pub awaited_since : Writing → JobValue → (begun : Calling) → (start : ℕ) → List CallEvent → ℕ
+abbrev pub awaited_since : Writing → JobValue → (begun : CallerCore) → (start : ℕ) → List CallEvent → ℕ
 awaited_since writes job begun start [] = start
 awaited_since writes job begun start (Comes piece now ∷ before) =
-    let a : Calling = after_events writes job begun before in
+    let a : CallerCore = after_events writes job begun before in
     since_by a.state (came a piece now).state now (awaited_since writes job begun start before)
 awaited_since writes job begun start (Ticks now ∷ before) = awaited_since writes job begun start before
 
@@ -29,7 +29,7 @@ abbrev pub last_by : Option Packet → (now : ℕ) → Option ℕ → Option ℕ
 last_by (Some packet) now before = Some now
 last_by None now before = before
 
-abbrev pub last_given : Writing → JobValue → (begun : Calling) → List CallEvent → Option ℕ
+abbrev pub last_given : Writing → JobValue → (begun : CallerCore) → List CallEvent → Option ℕ
 last_given writes job begun [] = None
 last_given writes job begun (Comes piece now ∷ before) = last_given writes job begun before
 last_given writes job begun (Ticks now ∷ before) = last_by (ticked writes job (after_events writes job begun before) now).given now (last_given writes job begun before)
@@ -45,8 +45,8 @@ timer_since state awaited given = None
 -- changes nothing: no timer acts before its time.
 abbrev pub NoTimerIsEarly : Type 0
 NoTimerIsEarly =
-    (writes : Writing) (job : JobValue) (core : Calling) (start : ℕ) (events : List CallEvent) →
-    let begun : Calling = started core job start in
-    let a : Calling = after_events writes job begun events in
+    (writes : Writing) (job : JobValue) (core : CallerCore) (start : ℕ) (events : List CallEvent) →
+    let begun : CallerCore = started core job start in
+    let a : CallerCore = after_events writes job begun events in
     let timer : Option ℕ = timer_since a.state (awaited_since writes job begun start events) (last_given writes job begun events) in
     a.waiting ≡ [] → (due_at a ≡ timer) × ((now : ℕ) → now < 2 ^ 64 → is_due timer now ≡ false → ticked writes job a now ≡ untouched a)

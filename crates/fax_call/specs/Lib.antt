@@ -2,7 +2,7 @@ pub mod Calls
 pub mod Delivery
 pub mod Emission
 pub mod Following
-pub mod Kept
+pub mod Rep
 pub mod Numbers
 pub mod Reached
 pub mod Refusals

@@ -20,16 +20,16 @@ use Rattle.fax_call.specs.declared.state.State.TheVariants.{Idle, AwaitDis, Clos
 use Rattle.fax_call.specs.Writings.{Writing, IsWriting}
 use Rattle.fax_call.specs.Replies.{Packet, written, waits}
 use Rattle.fax_call.specs.Table.{outcome_of}
-use Rattle.fax_call.specs.Calls.{Calling, started, ticked, CallEvent, Comes, Ticks, after_events}
+use Rattle.fax_call.specs.Calls.{CallerCore, started, ticked, CallEvent, Comes, Ticks, after_events}
 use Rattle.fax_call.specs.Emission.{Mark, Gave, elements_given, emitted_at, marks_after, Emits}
 
 -- Where Await DIS takes a DIS that leaves no choice for the page due, the job ends with that refusal alone, whatever comes.
 abbrev pub EndsByRefusal : Type 0
 EndsByRefusal =
-    (writes : Writing) (job : JobValue) (core : Calling) (start : ℕ) (later events : List CallEvent) (now : ℕ) (octets : List ℕ) (dis : Dis) (page : PageValue) (refusal : Refusal) →
-    let begun : Calling = started core job start in
-    let a : Calling = after_events writes job begun events in
-    let z : Calling = after_events writes job begun (later ++ Comes (pieces.Frame octets) now ∷ events) in
+    (writes : Writing) (job : JobValue) (core : CallerCore) (start : ℕ) (later events : List CallEvent) (now : ℕ) (octets : List ℕ) (dis : Dis) (page : PageValue) (refusal : Refusal) →
+    let begun : CallerCore = started core job start in
+    let a : CallerCore = after_events writes job begun events in
+    let z : CallerCore = after_events writes job begun (later ++ Comes (pieces.Frame octets) now ∷ events) in
     IsJob job → a.state ≡ AwaitDis → a.waiting ≡ [] → frame_of octets ≡ Some (frames.Dis dis)
     → slice_get job.pages a.counts.page ≡ Some page → choice dis page.format 0 ≡ Err refusal
     → (z.state ≡ Closing (outcome_of refusal)) ⊎ ((z.state ≡ Idle) × (z.outcome ≡ Some (outcome_of refusal)))
@@ -39,11 +39,11 @@ abbrev pub dis_by : State → (waits : Bool) → Option Frame → Option Dis →
 dis_by AwaitDis false (Some (frames.Dis dis)) before = Some dis
 dis_by state waits frame before = before
 
-abbrev pub dis_with : Calling → pieces.Piece → Option Dis → Option Dis
+abbrev pub dis_with : CallerCore → pieces.Piece → Option Dis → Option Dis
 dis_with a (pieces.Frame octets) before = dis_by a.state (waits a.waiting) (frame_of octets) before
 dis_with a piece before = before
 
-abbrev pub dis_taken : Writing → JobValue → Calling → List CallEvent → Option Dis
+abbrev pub dis_taken : Writing → JobValue → CallerCore → List CallEvent → Option Dis
 dis_taken writes job begun [] = None
 dis_taken writes job begun (Comes piece now ∷ before) = dis_with (after_events writes job begun before) piece (dis_taken writes job begun before)
 dis_taken writes job begun (Ticks now ∷ before) = dis_taken writes job begun before
@@ -54,7 +54,7 @@ pub record Allows (dis : Dis) (format : Format) : Type 0 where
   pub width : has_width format.width dis.caps.0 ≡ true
   pub fine : format.fine ≡ true → has_bit 15 dis.caps.0 ≡ true
 
--- these elements, given behind that, end an image
+-- these elements, given after that, end an image
 abbrev pub EndsImage : List elements.Element → List Mark → Type 0
 EndsImage [] marks = ⊥
 EndsImage (e ∷ es) marks = IsSome (emitted_at (elements_given marks) e) ⊎ EndsImage es (Gave e ∷ marks)
@@ -62,8 +62,8 @@ EndsImage (e ∷ es) marks = IsSome (emitted_at (elements_given marks) e) ⊎ En
 -- An image is emitted only where the DIS that Await DIS took last before it allows the format of its page.
 abbrev pub NoneIsLacking : Type 0
 NoneIsLacking =
-    (writes : Writing) (job : JobValue) (old : List Mark) (core : Calling) (start : ℕ) (before : List CallEvent) (now : ℕ) (packet : Packet) (n : ℕ) →
-    let begun : Calling = started core job start in
+    (writes : Writing) (job : JobValue) (old : List Mark) (core : CallerCore) (start : ℕ) (before : List CallEvent) (now : ℕ) (packet : Packet) (n : ℕ) →
+    let begun : CallerCore = started core job start in
     IsWriting writes → IsJob job → (ticked writes job (after_events writes job begun before) now).given ≡ Some packet
     → EndsImage (elements.elements_in (packet_of (written packet))) (marks_after writes job old begun before) → Emits job (marks_after writes job old begun (Ticks now ∷ before)) (Some n)
     → (page : PageValue) × (slice_get job.pages n ≡ Some page) × (dis : Dis) × (dis_taken writes job begun before ≡ Some dis) × Allows dis page.format

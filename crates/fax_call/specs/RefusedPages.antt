@@ -13,7 +13,7 @@ use Rattle.fax_call.specs.declared.state.State.{State}
 use Rattle.fax_call.specs.declared.state.State.TheVariants.{AwaitCfr, AwaitMcf, Closing}
 use Rattle.fax_call.specs.Writings.{Writing}
 use Rattle.fax_call.specs.Replies.{waits, training, goodbye}
-use Rattle.fax_call.specs.Calls.{Calling, started, came, CallEvent, Comes, Ticks, after_events}
+use Rattle.fax_call.specs.Calls.{CallerCore, started, came, CallEvent, Comes, Ticks, after_events}
 
 -- the frames RTN that answered the page due: each came in Await MCF while no packet waited; an MCF or RTP that came so is for
 -- the page before
@@ -23,17 +23,17 @@ refused_by (AwaitMcf dis dcs) false (Some frames.Mcf) n = 0
 refused_by (AwaitMcf dis dcs) false (Some frames.Rtp) n = 0
 refused_by state waits frame n = n
 
-abbrev pub refused_with : Calling → pieces.Piece → ℕ → ℕ
+abbrev pub refused_with : CallerCore → pieces.Piece → ℕ → ℕ
 refused_with a (pieces.Frame octets) n = refused_by a.state (waits a.waiting) (frame_of octets) n
 refused_with a piece n = n
 
-abbrev pub refusals : Writing → JobValue → Calling → List CallEvent → ℕ
+abbrev pub refusals : Writing → JobValue → CallerCore → List CallEvent → ℕ
 refusals writes job begun [] = 0
 refusals writes job begun (Comes piece now ∷ before) = refused_with (after_events writes job begun before) piece (refusals writes job begun before)
 refusals writes job begun (Ticks now ∷ before) = refusals writes job begun before
 
 -- An RTN that comes in Await MCF while no packet waits: the third for a page ends the job, each before it leads to a training.
-abbrev pub RefusesAtTheThird : (n : ℕ) → Dis → Dcs → Calling → Type 0
+abbrev pub RefusesAtTheThird : (n : ℕ) → Dis → Dcs → CallerCore → Type 0
 RefusesAtTheThird n dis dcs z =
     (z.state ≡ (if nat_lt n 2 then AwaitCfr dis dcs else Closing outcomes.PageRefused))
     × (z.waiting ≡ (if nat_lt n 2 then training dcs else goodbye))
@@ -41,9 +41,9 @@ RefusesAtTheThird n dis dcs z =
 -- That holds in every call: no page has more than three, and a call ends so only where its page has three.
 abbrev pub ThirdRefusalEnds : Type 0
 ThirdRefusalEnds =
-    (writes : Writing) (job : JobValue) (core : Calling) (start : ℕ) (events : List CallEvent) →
-    let begun : Calling = started core job start in
-    let a : Calling = after_events writes job begun events in
+    (writes : Writing) (job : JobValue) (core : CallerCore) (start : ℕ) (events : List CallEvent) →
+    let begun : CallerCore = started core job start in
+    let a : CallerCore = after_events writes job begun events in
     let n : ℕ = refusals writes job begun events in
     (n ≤ 3)
     × (a.state ≡ Closing outcomes.PageRefused → n ≡ 3)

@@ -1,4 +1,4 @@
--- The packets that the calling side gives (ITU-T T.30, 5.3 and 5.2, as packets of T.38).
+-- The packets that the caller gives (ITU-T T.30, 5.3 and 5.2, as packets of T.38).
 use Rattle.std.specs.Prelude.{ℕ, zero, suc, ◌+◌, ◌*◌, ◌/◌, nat_eq, nat_le, Bool, true, false, not, ◌&&◌, List, [], ◌∷◌, length, take, drop, replicate, slice_get, Option, Some, None, if◌then◌else◌}
 use Rattle.fax_runcodes.specs.declared.format.Format.{Format}
 use Rattle.fax_runcodes.specs.declared.Width.{Width}
@@ -60,7 +60,7 @@ signals_preamble (Part kind last octets) = false
 abbrev pub calling_tone : List Due
 calling_tone = One (Signals (indicator_code Cng)) ∷ []
 
--- a frame behind its preamble
+-- a frame after its preamble
 abbrev pub frame_reply : List ℕ → List Due
 frame_reply frame = One (Signals (indicator_code V21Preamble)) ∷ One (Tells frame) ∷ []
 
@@ -87,23 +87,23 @@ same_bool false b = not b
 abbrev pub same_format : Format → Format → Bool
 same_format f g = same_width f.width g.width && same_bool f.fine g.fine
 
--- the format of the page behind one, where there is such a page and its format is another
+-- the format of the page after one, where there is such a page and its format is another
 abbrev pub turn_if : Option Format → Option Format → Option Format
 turn_if (Some format) (Some next) = if same_format format next then None else Some next
 turn_if format next = None
 
-abbrev pub turn_behind : List Format → (page : ℕ) → Option Format
-turn_behind formats page = turn_if (slice_get formats page) (slice_get formats (page + 1))
+abbrev pub turn_after : List Format → (page : ℕ) → Option Format
+turn_after formats page = turn_if (slice_get formats page) (slice_get formats (page + 1))
 
--- the command behind a page (ITU-T T.30, 5.3.6.1.5): EOP behind the last one, EOM where the next one is of another format,
+-- the command after a page (ITU-T T.30, 5.3.6.1.5): EOP after the last one, EOM where the next one is of another format,
 -- else MPS
 abbrev pub command_by : (is_last : Bool) → (turn : Option Format) → Plain
 command_by true turn = Eop
 command_by false (Some format) = Eom
 command_by false None = Mps
 
-abbrev pub command_behind : List Format → (pages : ℕ) → (page : ℕ) → Plain
-command_behind formats pages page = command_by (is_last_page pages page) (turn_behind formats page)
+abbrev pub command_after : List Format → (pages : ℕ) → (page : ℕ) → Plain
+command_after formats pages page = command_by (is_last_page pages page) (turn_after formats page)
 
 abbrev pub command : Plain → List Due
 command plain = frame_reply (written_plain plain true)

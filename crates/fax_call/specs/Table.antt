@@ -84,11 +84,11 @@ tries_again dis dcs c = if nat_lt c.tries most_tries then Trains dis dcs (next_t
 abbrev pub asks_again : Counts → Move
 asks_again c = if nat_lt c.tries most_tries then AsksAgain (next_try c) else Closes outcomes.NoReply c
 
--- AWAIT MCF, an RTN: the training again, and the same page behind it; at the third for a page DCN (own)
+-- AWAIT MCF, an RTN: the training again, and the same page after it; at the third for a page DCN (own)
 abbrev pub after_refusal : Dis → Dcs → Counts → Move
 after_refusal dis dcs c = if nat_lt c.refused 2 then Trains dis dcs (one_refused c) else Closes outcomes.PageRefused c
 
--- AWAIT MCF, an MCF or RTP, where pages are left: behind EOM, since the next page is of another format, a DIS is awaited
+-- AWAIT MCF, an MCF or RTP, where pages are left: after EOM, since the next page is of another format, a DIS is awaited
 abbrev pub turns_or : (now : ℕ) → (turn : Option Format) → Counts → Move → Move
 turns_or now (Some format) c m = Turns format (moment_after now spans.t1) (next_exchange c)
 turns_or now None c m = m
@@ -110,7 +110,7 @@ on_frame now format turn pages (AwaitMcf dis dcs) c (Some frames.Dcn) = HangsUp
 on_frame now format turn pages state c frame = Stays
 
 -- AWAIT DIS, T1 due: nobody answered, or, where a DIS was accepted before in the call, no reply came. One was exactly where a
--- page was delivered: only behind EOM is a DIS awaited again.
+-- page was delivered: only after EOM is a DIS awaited again.
 abbrev pub gives_up_dis : Counts → Move
 gives_up_dis c = Closes (if nat_eq c.delivered 0 then outcomes.NoAnswer else outcomes.NoReply) c
 

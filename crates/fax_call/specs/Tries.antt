@@ -14,9 +14,9 @@ use Rattle.fax_call.specs.declared.state.State.{State}
 use Rattle.fax_call.specs.declared.state.State.TheVariants.{AwaitDis, AwaitCfr, AwaitMcf, Closing}
 use Rattle.fax_call.specs.Writings.{Writing}
 use Rattle.fax_call.specs.Replies.{Packet, Tells, waits}
-use Rattle.fax_call.specs.Calls.{Calling, started, ticked, CallEvent, Comes, Ticks, after_events}
+use Rattle.fax_call.specs.Calls.{CallerCore, started, ticked, CallEvent, Comes, Ticks, after_events}
 
--- a packet that asks for an answer: the DCS of a training, or the command behind an image (EOM, MPS or EOP)
+-- a packet that asks for an answer: the DCS of a training, or the command after an image (EOM, MPS or EOP)
 abbrev pub asks_for : Option Frame → Bool
 asks_for (Some (frames.Dcs dcs)) = true
 asks_for (Some frames.Eom) = true
@@ -38,7 +38,7 @@ answers_by (AwaitMcf dis dcs) false (Some frames.Rtp) = true
 answers_by (AwaitMcf dis dcs) false (Some frames.Rtn) = true
 answers_by state waits frame = false
 
-abbrev pub answers : Calling → pieces.Piece → Bool
+abbrev pub answers : CallerCore → pieces.Piece → Bool
 answers a (pieces.Frame octets) = answers_by a.state (waits a.waiting) (frame_of octets)
 answers a piece = false
 
@@ -47,7 +47,7 @@ abbrev pub asked_by : Option Packet → ℕ → ℕ
 asked_by None n = n
 asked_by (Some packet) n = if asks packet then n + 1 else n
 
-abbrev pub asked : Writing → JobValue → Calling → List CallEvent → ℕ
+abbrev pub asked : Writing → JobValue → CallerCore → List CallEvent → ℕ
 asked writes job begun [] = 0
 asked writes job begun (Comes piece now ∷ before) = if answers (after_events writes job begun before) piece then 0 else asked writes job begun before
 asked writes job begun (Ticks now ∷ before) = asked_by (ticked writes job (after_events writes job begun before) now).given (asked writes job begun before)
@@ -56,9 +56,9 @@ asked writes job begun (Ticks now ∷ before) = asked_by (ticked writes job (aft
 -- exactly where it was given fewer than three times, and else the call ends, for want of a reply.
 abbrev pub ThreeTries : Type 0
 ThreeTries =
-    (writes : Writing) (job : JobValue) (core : Calling) (start : ℕ) (events : List CallEvent) →
-    let begun : Calling = started core job start in
-    let a : Calling = after_events writes job begun events in
+    (writes : Writing) (job : JobValue) (core : CallerCore) (start : ℕ) (events : List CallEvent) →
+    let begun : CallerCore = started core job start in
+    let a : CallerCore = after_events writes job begun events in
     let n : ℕ = asked writes job begun events in
     (n ≤ 3)
     × ((dis : Dis) (dcs : Dcs) (now : ℕ) → a.state ≡ AwaitCfr dis dcs → a.waiting ≡ [] → is_due a.t4 now ≡ true

@@ -1,11 +1,11 @@
-//! The calling side of a call.
+//! The caller.
 ghost use Rattle.std.specs.Prelude.{◌≡◌, ◌≢◌, ◌<◌, ◌≤◌, Bool, false, List, [], Ok, Some, None, IsSome, IfSome, IfOk, OnOk, OnErr, length};
 ghost use Rattle.fax_ifp.specs.Elements.{Slot as SlotShown};
 ghost use Rattle.fax_jobs.specs.Jobs.{JobValue, IsJob};
 ghost use Rattle.fax_call.specs.Writings.{Writing, IsWriting};
-ghost use Rattle.fax_call.specs.Calls.{Calling, new_calling, not_placed, started, ticked};
+ghost use Rattle.fax_call.specs.Calls.{CallerCore, new_calling, not_placed, started, ticked};
 ghost use Rattle.fax_call.specs.Following.{IsFit, Follows, HasTextLeft, IsJobOfCall, given_by, with_turn, GivesPacket};
-ghost use Rattle.fax_call.specs.Kept.{packet_of};
+ghost use Rattle.fax_call.specs.Rep.{packet_of};
 ghost use Rattle.fax_call.specs.Replies.{written};
 ghost use Rattle.fax_frames.specs.declared.dcs.Dcs.{Dcs as DcsShown};
 ghost use Rattle.fax_frames.specs.declared.writing.Plain.{Plain as PlainShown};
@@ -26,7 +26,7 @@ use fax_pagestore::{Coding, Format, PageWriter, RowStore};
 use std::alloc::Global;
 use std::marker::Model;
 
-/// The calling side of the calls of a leg, one after another (ITU-T T.30, phases B to D of a calling terminal). Seen as
+/// The caller of the calls of a leg, one after another (ITU-T T.30, phases B to D of a calling terminal). Seen as
 /// what a call has led to: its contracts are told over every history of slots, pieces and ticks.
 #[derive(Drop)]
 pub struct Caller {
@@ -41,9 +41,9 @@ pub struct Caller {
 
 impl Model for Caller {
     ghost use Rattle.fax_call.specs.Following.{IsFit, HasText};
-    ghost use Rattle.fax_call.specs.Reached.{Kept};
+    ghost use Rattle.fax_call.specs.Reached.{Rep};
 
-    ghost Value = { Kept };
+    ghost Value = { Rep };
 
     ghost view = { λ c. record { tracked = c.signals; procedure = c.procedure; writer = c.writer; spare = c.room } };
 
@@ -51,7 +51,7 @@ impl Model for Caller {
 }
 
 impl Caller {
-    /// A calling side on whose leg no call was. The packet behind a preamble is given so many milliseconds later, at most
+    /// A caller on whose leg no call was. The packet after a preamble is given so many milliseconds later, at most
     /// 2,000. It takes no memory.
     pub fn new(alloc: Global, preamble_ms: u16) -> Self
         ensures reached { (writes : Writing) (job : JobValue) → IsReached writes job [] (new_calling preamble_ms result.procedure.format) result }
@@ -67,11 +67,11 @@ impl Caller {
         }
     }
 
-    /// Takes the memory of the first packet of a call, where none is spare: behind it the first tick after a `start` takes
+    /// Takes the memory of the first packet of a call, where none is spare: after it the first tick after a `start` takes
     /// none. An `Err` changes nothing.
     pub fn reserve(&mut self) -> Result<(), NoMemory>
         ensures room { OnOk result (1 ≤ self.new.spare) }
-        ensures reached { (writes : Writing) (job : JobValue) (heard : List SlotShown) (core : Calling) → IsReached writes job heard core self.old
+        ensures reached { (writes : Writing) (job : JobValue) (heard : List SlotShown) (core : CallerCore) → IsReached writes job heard core self.old
             → IsReached writes job heard core self.new }
         ensures same { self.new ≡ record self.old { spare = self.new.spare } }
         ensures err { OnErr result (self.new ≡ self.old) }
@@ -84,7 +84,7 @@ impl Caller {
     pub fn start(&mut self, format: Format, pages: u32, now: u64)
         requires idle { self.old.procedure.state ≡ State.Idle }
         requires some { 1 ≤ pages }
-        ensures started { (writes others : Writing) (job other : JobValue) (heard : List SlotShown) (core : Calling) → IsReached others other heard core self.old
+        ensures started { (writes others : Writing) (job other : JobValue) (heard : List SlotShown) (core : CallerCore) → IsReached others other heard core self.old
             → job.format ≡ format → length job.pages ≡ pages → IsReached writes job [] (started core job now) self.new }
         ensures job { (job : JobValue) → IsJob job → job.format ≡ format → length job.pages ≡ pages → IsJobOfCall self.new.procedure job }
         ensures tone { self.new.procedure.pending ≡ Pending.Tone }
@@ -100,7 +100,7 @@ impl Caller {
     pub fn fail_to_place(&mut self, format: Format, pages: u32)
         requires idle { self.old.procedure.state ≡ State.Idle }
         requires some { 1 ≤ pages }
-        ensures not_placed { (writes others : Writing) (job other : JobValue) (heard : List SlotShown) (core : Calling) → IsReached others other heard core self.old
+        ensures not_placed { (writes others : Writing) (job other : JobValue) (heard : List SlotShown) (core : CallerCore) → IsReached others other heard core self.old
             → job.format ≡ format → length job.pages ≡ pages → IsReached writes job [] (not_placed core job) self.new }
         ensures over { self.new.procedure.state ≡ State.Idle }
         ensures spare { self.new.spare ≡ self.old.spare }
@@ -134,7 +134,7 @@ impl Caller {
     /// The first moment at which a tick may give something or change the call: an earlier tick does nothing. `None`: none
     /// does until something comes.
     pub fn next_due(&self) -> Option<u64>
-        ensures { (writes : Writing) (job : JobValue) (heard : List SlotShown) (core : Calling) → IsReached writes job heard core self.now → result ≡ due_at core }
+        ensures { (writes : Writing) (job : JobValue) (heard : List SlotShown) (core : CallerCore) → IsReached writes job heard core self.now → result ≡ due_at core }
     {
         self.procedure.next_due()
     }
@@ -147,13 +147,13 @@ impl Caller {
     /// nothing.
     pub fn tick<S: RowStore>(&mut self, job: &Job<S>, now: u64) -> Result<Option<Octets>, NoMemory>
         requires { IsJobOfCall self.old.procedure job.now }
-        ensures ticked { IfOk result (λ given. (writes : Writing) (heard : List SlotShown) (core : Calling) → IsWriting writes
+        ensures ticked { IfOk result (λ given. (writes : Writing) (heard : List SlotShown) (core : CallerCore) → IsWriting writes
             → IsReached writes job.now heard core self.old
             → IsReached writes job.now heard (ticked writes job.now core now).core self.new × IsGiven (ticked writes job.now core now) given) }
         ensures job { OnOk result (IsJobOfCall self.new.procedure job.now) }
         ensures idle { self.old.procedure.state ≡ State.Idle → (result ≡ Ok None) × (self.new ≡ self.old) }
         ensures err { OnErr result (self.new ≡ self.old) }
-        ensures memory { OnErr result ((writes : Writing) (heard : List SlotShown) (core : Calling) → IsReached writes job.now heard core self.old
+        ensures memory { OnErr result ((writes : Writing) (heard : List SlotShown) (core : CallerCore) → IsReached writes job.now heard core self.old
             → IsSome (ticked writes job.now core now).given) }
         ensures spared { self.old.procedure.pending ≡ Pending.Tone → OnErr result (self.old.spare ≡ 0) }
         ensures short { IfOk result (λ given. IfSome given (λ packet. length packet ≤ 100)) }
@@ -171,7 +171,7 @@ impl Caller {
         }
     }
 
-    /// The short training indicator is given, all of the text of the page is left behind it, and the next page's format is
+    /// The short training indicator is given, all of the text of the page is left after it, and the next page's format is
     /// kept, where it is another. An `Err` changes nothing.
     fn begin_text<S: RowStore>(
         &mut self,
@@ -214,7 +214,7 @@ impl Caller {
         requires page { procedure.counts.page < length job.now.pages }
         requires pending { (asks : PlainShown) × (procedure.pending ≡ Pending.Text dcs asks) }
         requires more { HasMore self.old.writer }
-        ensures given { IfOk result (λ given. (writes : Writing) (core : Calling) → Follows writes job.now core self.old.writer procedure
+        ensures given { IfOk result (λ given. (writes : Writing) (core : CallerCore) → Follows writes job.now core self.old.writer procedure
             → GivesPacket writes job.now core now given self.new.writer self.new.procedure) }
         ensures same { OnOk result ((last : Bool) × (self.new ≡ record {
           tracked = self.old.tracked;

@@ -1,6 +1,6 @@
 //! What is counted of a call.
 ghost use Rattle.std.specs.Prelude.{◌≡◌, ◌+◌, ◌<◌, ◌^◌};
-ghost use Rattle.fax_call.specs.Kept.{counts_shown};
+ghost use Rattle.fax_call.specs.Rep.{counts_shown};
 ghost use Rattle.fax_call.specs.Table.{no_counts, first_try, next_try, next_step, next_page, next_exchange, one_delivered, one_refused};
 
 /// What is counted of a call.

@@ -1,4 +1,4 @@
-//! What the calling side makes of the slots that come.
+//! What the caller makes of the slots that come.
 ghost use Rattle.std.specs.Prelude.{◌≡◌, ℕ, List, [], ◌∷◌, Some, IsOk, OnOk, OnErr};
 ghost use Rattle.fax_ifp.specs.Elements.{Slot as SlotShown};
 ghost use Rattle.fax_ifp.specs.Shown.{pieces_shown};
@@ -6,7 +6,7 @@ ghost use Rattle.fax_ifp.specs.Tracked.{lost_slots};
 ghost use Rattle.fax_udptl.specs.Taking.{slots_in};
 ghost use Rattle.fax_jobs.specs.Jobs.{JobValue};
 ghost use Rattle.fax_call.specs.Writings.{Writing};
-ghost use Rattle.fax_call.specs.Calls.{Calling, came_all};
+ghost use Rattle.fax_call.specs.Calls.{CallerCore, came_all};
 ghost use Rattle.fax_call.specs.Following.{Follows, IsJobOfCall};
 ghost use Rattle.fax_call.specs.Reached.{IsReached, Hears};
 
@@ -20,7 +20,7 @@ impl Caller {
     /// MCF or RTP answers an EOM, T1 is set from this moment. It takes memory for packets of more than four fields, and
     /// none where no packet is decided. An `Err` changes nothing.
     pub fn slots(&mut self, decided: &Decided<'_>, now: u64) -> Result<(), NoMemory>
-        ensures heard { OnOk result ((writes : Writing) (job : JobValue) (heard : List SlotShown) (core : Calling)
+        ensures heard { OnOk result ((writes : Writing) (job : JobValue) (heard : List SlotShown) (core : CallerCore)
             → IsReached writes job heard core self.old → Hears writes job (slots_in decided.now) now heard core self.new) }
         ensures job { (job : JobValue) → IsJobOfCall self.old.procedure job → IsJobOfCall self.new.procedure job }
         ensures err { OnErr result (self.new ≡ self.old) }
@@ -38,7 +38,7 @@ impl Caller {
 
     /// Hears the slots. An `Err` leaves the writer of the text, and the room.
     fn hear_slots(&mut self, decided: &Decided<'_>, now: u64) -> Result<(), NoMemory>
-        ensures heard { OnOk result ((writes : Writing) (job : JobValue) (heard : List SlotShown) (core : Calling)
+        ensures heard { OnOk result ((writes : Writing) (job : JobValue) (heard : List SlotShown) (core : CallerCore)
             → IsReached writes job heard core self.old → Hears writes job (slots_in decided.now) now heard core self.new) }
         ensures job { (job : JobValue) → IsJobOfCall self.old.procedure job → IsJobOfCall self.new.procedure job }
         ensures writer { self.new.writer ≡ self.old.writer }
@@ -59,7 +59,7 @@ impl Caller {
 
     /// Hears the slot of a packet. An `Err` leaves the writer of the text, and the room.
     fn hear_packet(&mut self, packet: &[u8], now: u64) -> Result<(), NoMemory>
-        ensures heard { OnOk result ((writes : Writing) (job : JobValue) (heard : List SlotShown) (core : Calling)
+        ensures heard { OnOk result ((writes : Writing) (job : JobValue) (heard : List SlotShown) (core : CallerCore)
             → IsReached writes job heard core self.old → Hears writes job (Some packet.now ∷ []) now heard core self.new) }
         ensures job { (job : JobValue) → IsJobOfCall self.old.procedure job → IsJobOfCall self.new.procedure job }
         ensures writer { self.new.writer ≡ self.old.writer }
@@ -73,7 +73,7 @@ impl Caller {
 
     /// Hears pieces, in the order of time.
     fn hear_all(&mut self, pieces: &[Piece<'_>], now: u64)
-        ensures heard { (writes : Writing) (job : JobValue) (core : Calling) → Follows writes job core self.old.writer self.old.procedure
+        ensures heard { (writes : Writing) (job : JobValue) (core : CallerCore) → Follows writes job core self.old.writer self.old.procedure
             → Follows writes job (came_all core (pieces_shown pieces.now) now) self.new.writer self.new.procedure }
         ensures tracked { self.new.tracked ≡ self.old.tracked }
         ensures writer { self.new.writer ≡ self.old.writer }
@@ -85,7 +85,7 @@ impl Caller {
 
     /// So many slots are missing.
     fn lose(&mut self, count: u16)
-        ensures heard { (writes : Writing) (job : JobValue) (now : ℕ) (heard : List SlotShown) (core : Calling)
+        ensures heard { (writes : Writing) (job : JobValue) (now : ℕ) (heard : List SlotShown) (core : CallerCore)
             → IsReached writes job heard core self.old → Hears writes job (lost_slots count) now heard core self.new }
         ensures procedure { self.new.procedure ≡ self.old.procedure }
         ensures writer { self.new.writer ≡ self.old.writer }

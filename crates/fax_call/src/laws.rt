@@ -1,4 +1,4 @@
-//! Laws of the calling side: functions that do nothing, each of whose contracts is a theorem. Each is told of every call
+//! Laws of the caller: functions that do nothing, each of whose contracts is a theorem. Each is told of every call
 //! over one unchanged job, whatever the called machine answers.
 ghost use Rattle.fax_call.specs.Delivery.{TellsWhatWasAnswered};
 ghost use Rattle.fax_call.specs.Due.{ActsFrom, RestsBefore};
@@ -17,8 +17,8 @@ ghost use Rattle.fax_call.specs.Tries.{ThreeTries};
 ghost use Rattle.fax_call.specs.Writings.{PagesHaveTexts, TextsAreOne};
 
 /// Each image that is emitted to its end means, under the DCS given before it, a page of the job, its format included:
-/// the first is page 0, the next page goes out only behind an MCF or RTP that answers the command behind the image, the
-/// same page again only behind such an RTN, and nothing without an answer.
+/// the first is page 0, the next page goes out only after an MCF or RTP that answers the command after the image, the
+/// same page again only after such an RTN, and nothing without an answer.
 pub fn emits_the_pages()
     ensures { EmitsThePages }
 {}
@@ -30,7 +30,7 @@ pub fn numbers_are_fixed()
 
 /// A call that is over has an outcome and a count of pages: those whose images were answered with MCF or RTP until it was
 /// over, one each, each emitted to its end before that answer. No answer is passed over and asked for again; the outcome
-/// is Delivered exactly where they are all; and nothing is given behind the end. (A tick within 2 s of the last moment,
+/// is Delivered exactly where they are all; and nothing is given after the end. (A tick within 2 s of the last moment,
 /// 2^64 - 1 ms, may find a timer due and the pace not yet over: an answer that comes in that while may be passed over.)
 pub fn tells_what_was_answered()
     ensures { TellsWhatWasAnswered }
@@ -93,7 +93,7 @@ pub fn acts_from_when_it_is_due()
     ensures { ActsFrom }
 {}
 
-/// No line hangs for ever: a call in which nothing more is heard is over in time, whatever was heard before: behind all that
+/// No line hangs for ever: a call in which nothing more is heard is over in time, whatever was heard before: after all that
 /// waits, 40 seconds, and the time of 130 ticks.
 pub fn no_call_hangs()
     ensures { NoCallHangs }

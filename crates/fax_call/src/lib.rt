@@ -1,4 +1,4 @@
-//! The calling side of a call (ITU-T T.30, phases B to D of a calling terminal), without sockets or a clock: slots of
+//! The caller (ITU-T T.30, phases B to D of a calling terminal), without sockets or a clock: slots of
 //! packets and moments go in, packets come out.
 //!
 //! Moments are milliseconds. Each definition that a contract here speaks of stands in `specs/`: the calling table in

@@ -2,7 +2,7 @@
 ghost use Rattle.std.specs.Prelude.{◌≡◌, ◌≢◌, ◌≤◌, ◌<◌, ◌*◌, ◌/◌, length, replicate, IfOk, OnErr};
 ghost use Rattle.fax_ifp.specs.WrittenPackets.{written_indicator, written_message, image_fields};
 ghost use Rattle.fax_call.specs.Replies.{written, signals_preamble, part_length, check_length, Part};
-ghost use Rattle.fax_call.specs.Kept.{frame_text, frame_behind, packet_of, pending_behind, check_part, FitsMessage, FitsPending};
+ghost use Rattle.fax_call.specs.Rep.{frame_text, frame_after, packet_of, pending_after, check_part, FitsMessage, FitsPending};
 ghost use Rattle.fax_frames.specs.Rates.{kind_of};
 ghost use Rattle.fax_frames.specs.declared.dcs.Dcs.{Dcs as DcsShown};
 ghost use Rattle.fax_frames.specs.declared.writing.Plain.{Plain as PlainShown};
@@ -13,7 +13,7 @@ use fax_frames::{Dcs, FrameBytes, Plain, write_dcs, write_plain};
 use fax_ifp::{Indicator, put_indicator, write_frame, write_image};
 use std::alloc::Global;
 
-/// A frame that the calling side gives.
+/// A frame that the caller gives.
 #[derive(Clone, Copy, PartialEq, Eq)]
 pub(crate) enum Message {
     /// The DCS of a training, which follows it.
@@ -36,9 +36,9 @@ impl Message {
         }
     }
 
-    /// What waits behind the frame.
-    fn behind(self) -> Pending
-        ensures { result ≡ frame_behind self }
+    /// What waits after the frame.
+    fn after(self) -> Pending
+        ensures { result ≡ frame_after self }
     {
         match self {
             Message::Dcs(dcs) => Pending::Training(dcs),
@@ -47,7 +47,7 @@ impl Message {
     }
 }
 
-/// The packet that is given next; those behind it follow from it.
+/// The packet that is given next; those after it follow from it.
 #[derive(Clone, Copy, PartialEq, Eq)]
 pub(crate) enum Pending {
     Nothing,
@@ -56,13 +56,13 @@ pub(crate) enum Pending {
     /// The preamble of a frame.
     Preamble(Message),
     Frame(Message),
-    /// The long training indicator, and the training check behind it.
+    /// The long training indicator, and the training check after it.
     Training(Dcs),
     /// The training check, of which so many octets were given.
     Check(Dcs, u16),
-    /// The short training indicator, and behind it the text of the page and its command.
+    /// The short training indicator, and after it the text of the page and its command.
     Image(Dcs),
-    /// What is left of the text of the page, and behind it this command.
+    /// What is left of the text of the page, and after it this command.
     Text(Dcs, Plain),
 }
 
@@ -96,16 +96,16 @@ impl Pending {
         }
     }
 
-    /// What waits behind it, where it may be the last packet of a text, and this is the command behind the page due.
-    pub fn behind(self, is_last: bool, command: Plain) -> Pending
+    /// What waits after it, where it may be the last packet of a text, and this is the command after the page due.
+    pub fn after(self, is_last: bool, command: Plain) -> Pending
         requires { FitsPending self }
-        ensures behind { result ≡ pending_behind self command is_last }
+        ensures after { result ≡ pending_after self command is_last }
         ensures fits { FitsPending result }
     {
         match self {
             Pending::Nothing | Pending::Tone => Pending::Nothing,
             Pending::Preamble(message) => Pending::Frame(message),
-            Pending::Frame(message) => message.behind(),
+            Pending::Frame(message) => message.after(),
             Pending::Training(dcs) => Pending::Check(dcs, 0),
             Pending::Check(dcs, given) => {
                 let part = part_length(dcs);

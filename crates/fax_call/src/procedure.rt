@@ -4,11 +4,11 @@ ghost use Rattle.std.specs.Prelude.{◌≡◌, ◌≢◌, ◌↔◌, ◌≤◌, 
 ghost use Rattle.fax_jobs.specs.Jobs.{JobValue, IsJob};
 ghost use Rattle.fax_pagestore.specs.Writers.{WriterValue};
 ghost use Rattle.fax_call.specs.Writings.{Writing};
-ghost use Rattle.fax_call.specs.Replies.{turn_behind};
+ghost use Rattle.fax_call.specs.Replies.{turn_after};
 ghost use Rattle.fax_call.specs.Calls.{formats_of};
-ghost use Rattle.fax_call.specs.Calls.{Calling, new_calling, not_placed, started, moved, timed, came, came_all, state_when_given, outcome_when_given, t4_when_given};
+ghost use Rattle.fax_call.specs.Calls.{CallerCore, new_calling, not_placed, started, moved, timed, came, came_all, state_when_given, outcome_when_given, t4_when_given};
 ghost use Rattle.fax_call.specs.Due.{due_at, timer_of};
-ghost use Rattle.fax_call.specs.Kept.{move_shown, pending_of, FitsMove};
+ghost use Rattle.fax_call.specs.Rep.{move_shown, pending_of, FitsMove};
 ghost use Rattle.fax_call.specs.Following.{IsFit, Follows, HasText, IsJobOfCall, command_kept, with_turn, given_by, gives_now};
 ghost use Rattle.fax_ifp.specs.Shown.{piece_of, pieces_shown};
 
@@ -29,7 +29,7 @@ pub(crate) struct Procedure {
     pub state: State,
     /// The format of the page due.
     pub format: Format,
-    /// The format of the page behind the one whose image goes out, where it is another: its command is EOM then.
+    /// The format of the page after the one whose image goes out, where it is another: its command is EOM then.
     pub turn: Option<Format>,
     /// How many pages the job has.
     pub pages: u32,
@@ -41,14 +41,14 @@ pub(crate) struct Procedure {
     pub outcome: Option<Outcome>,
 }
 
-/// The format of a calling side that was not started yet.
+/// The format of a caller that was not started yet.
 pub(crate) const NO_FORMAT: Format = Format {
     width: Width::W1728,
     fine: false,
 };
 
 impl Procedure {
-    /// No call is on, and none was. The packet behind a preamble waits so many milliseconds, at most 2,000.
+    /// No call is on, and none was. The packet after a preamble waits so many milliseconds, at most 2,000.
     pub fn new(preamble_ms: u16) -> Self
         ensures fit { IsFit result }
         ensures follows { (writes : Writing) (job : JobValue) (writer : WriterValue) → Follows writes job (new_calling preamble_ms result.format) writer result }
@@ -76,7 +76,7 @@ impl Procedure {
         ensures fit { IsFit self.new }
         ensures pending { self.new.pending ≡ Pending.Tone }
         ensures job { (job : JobValue) → IsJob job → job.format ≡ format → length job.pages ≡ pages → IsJobOfCall self.new job }
-        ensures started { (writes others : Writing) (job other : JobValue) (core : Calling) (writer left : WriterValue) → Follows others other core writer self.old
+        ensures started { (writes others : Writing) (job other : JobValue) (core : CallerCore) (writer left : WriterValue) → Follows others other core writer self.old
             → job.format ≡ format → length job.pages ≡ pages → Follows writes job (started core job now) left self.new }
     {
         let mut t1 = Timer::new();
@@ -101,7 +101,7 @@ impl Procedure {
         ensures fit { IsFit self.new }
         ensures pending { self.new.pending ≡ Pending.Nothing }
         ensures idle { self.new.state ≡ State.Idle }
-        ensures not_placed { (writes others : Writing) (job other : JobValue) (core : Calling) (writer left : WriterValue) → Follows others other core writer self.old
+        ensures not_placed { (writes others : Writing) (job other : JobValue) (core : CallerCore) (writer left : WriterValue) → Follows others other core writer self.old
             → job.format ≡ format → length job.pages ≡ pages → Follows writes job (not_placed core job) left self.new }
     {
         *self = Procedure {
@@ -126,7 +126,7 @@ impl Procedure {
         self.pending != Pending::Nothing
     }
 
-    /// The command behind the page due, by the next page's format that is kept: EOP behind the last page, EOM where the
+    /// The command after the page due, by the next page's format that is kept: EOP after the last page, EOM where the
     /// next one is of another format, else MPS.
     fn command(&self) -> Plain
         requires { self.now.counts.page < self.now.pages }
@@ -145,7 +145,7 @@ impl Procedure {
         requires { self.old.counts.page < length job.now.pages }
         ensures { self.new ≡ with_turn self.old job.now }
     {
-        self.turn = turn_behind(job, self.counts.page);
+        self.turn = turn_after(job, self.counts.page);
     }
 
     /// What is decided is done, where nothing waits.
@@ -157,7 +157,7 @@ impl Procedure {
         ensures fit { IsFit self.new }
         ensures pending { self.new.pending ≡ pending_of (command_kept self.old) decided }
         ensures stays { decided ≡ Move.Stay → self.new ≡ self.old }
-        ensures made { (writes : Writing) (job : JobValue) (core : Calling) (writer left : WriterValue) → Follows writes job core writer self.old
+        ensures made { (writes : Writing) (job : JobValue) (core : CallerCore) (writer left : WriterValue) → Follows writes job core writer self.old
             → Follows writes job (moved core (move_shown now decided)) left self.new }
     {
         match decided {
@@ -214,7 +214,7 @@ impl Procedure {
         ensures idle { self.old.state ≡ State.Idle → self.new ≡ self.old }
         ensures job { (job : JobValue) → IsJobOfCall self.old job → IsJobOfCall self.new job }
         ensures text { (writer : WriterValue) → HasText self.old.pending writer → HasText self.new.pending writer }
-        ensures heard { (writes : Writing) (job : JobValue) (core : Calling) (writer : WriterValue) → Follows writes job core writer self.old
+        ensures heard { (writes : Writing) (job : JobValue) (core : CallerCore) (writer : WriterValue) → Follows writes job core writer self.old
             → Follows writes job (came_all core (pieces_shown pieces.now) now) writer self.new }
     {
         for piece in pieces {
@@ -228,7 +228,7 @@ impl Procedure {
         ensures fit { IsFit self.new }
         ensures text { (writer : WriterValue) → HasText self.old.pending writer → HasText self.new.pending writer }
         ensures idle { self.old.state ≡ State.Idle → self.new ≡ self.old }
-        ensures heard { (writes : Writing) (job : JobValue) (core : Calling) (writer : WriterValue) → Follows writes job core writer self.old
+        ensures heard { (writes : Writing) (job : JobValue) (core : CallerCore) (writer : WriterValue) → Follows writes job core writer self.old
             → Follows writes job (came core (piece_of piece.now) now) writer self.new }
     {
         let Piece::Frame(octets) = piece else {
@@ -246,7 +246,7 @@ impl Procedure {
     /// Whether a packet is given now: one waits, and the pace lets it through.
     pub fn gives(&self, now: u64) -> bool
         requires { IsFit self.now }
-        ensures gives { (writes : Writing) (job : JobValue) (core : Calling) (writer : WriterValue) → Follows writes job core writer self.now
+        ensures gives { (writes : Writing) (job : JobValue) (core : CallerCore) (writer : WriterValue) → Follows writes job core writer self.now
             → result ≡ gives_now core now }
         ensures waits { IsTrue result → self.now.pending ≢ Pending.Nothing }
     {
@@ -257,7 +257,7 @@ impl Procedure {
     /// else that of the timer that acts.
     pub fn next_due(&self) -> Option<u64>
         requires { IsFit self.now }
-        ensures { (writes : Writing) (job : JobValue) (core : Calling) (writer : WriterValue) → Follows writes job core writer self.now
+        ensures { (writes : Writing) (job : JobValue) (core : CallerCore) (writer : WriterValue) → Follows writes job core writer self.now
             → result ≡ due_at core }
     {
         if self.is_waiting() {
@@ -286,7 +286,7 @@ impl Procedure {
         ensures idle { self.old.state ≡ State.Idle → self.new ≡ self.old }
         ensures job { (job : JobValue) → IsJobOfCall self.old job → IsJobOfCall self.new job }
         ensures text { (writer : WriterValue) → HasText self.old.pending writer → HasText self.new.pending writer }
-        ensures acted { (writes : Writing) (job : JobValue) (core : Calling) (writer : WriterValue) → Follows writes job core writer self.old
+        ensures acted { (writes : Writing) (job : JobValue) (core : CallerCore) (writer : WriterValue) → Follows writes job core writer self.old
             → Follows writes job (timed core now) writer self.new }
     {
         if self.is_waiting() {
@@ -296,14 +296,14 @@ impl Procedure {
         self.make(decided, now);
     }
 
-    /// The next packet is given, and what waits behind it is due. Where that is a packet of a text it may be the last one.
+    /// The next packet is given, and what waits after it is due. Where that is a packet of a text it may be the last one.
     pub fn give(&mut self, is_last: bool, now: u64)
         requires { IsFit self.old }
         ensures fit { IsFit self.new }
         ensures given { self.new ≡ given_by self.old is_last now }
     {
         self.pace.given(self.pending.is_preamble(), now);
-        self.pending = self.pending.behind(is_last, self.command());
+        self.pending = self.pending.after(is_last, self.command());
         if self.pending == Pending::Nothing {
             self.finish_reply(now);
         }
@@ -328,10 +328,10 @@ impl Procedure {
     }
 }
 
-/// The format of the page behind one of a job, counted from 0, where there is one and its format is another.
-pub(crate) fn turn_behind<S: RowStore>(job: &Job<S>, page: u32) -> Option<Format>
+/// The format of the page after one of a job, counted from 0, where there is one and its format is another.
+pub(crate) fn turn_after<S: RowStore>(job: &Job<S>, page: u32) -> Option<Format>
     requires { page < length job.now.pages }
-    ensures { result ≡ turn_behind (formats_of job.now) page }
+    ensures { result ≡ turn_after (formats_of job.now) page }
 {
     let pages = job.pages().as_slice();
     let format = pages[page as usize].format();

@@ -1,7 +1,7 @@
 //! The calling table (ITU-T T.30, figure 5-1): what a frame or a timer brings about.
 ghost use Rattle.std.specs.Prelude.{◌≡◌, ◌≢◌, ◌<◌, ℕ, Some, None};
 ghost use Rattle.fax_call.specs.Table.{on_frame, on_timers, by_choice, tries_again, asks_again, after_refusal, gives_up_dis};
-ghost use Rattle.fax_call.specs.Kept.{counts_shown, move_shown, AwaitsMcf, FitsMove, HasTerms};
+ghost use Rattle.fax_call.specs.Rep.{counts_shown, move_shown, AwaitsMcf, FitsMove, HasTerms};
 ghost use Rattle.fax_call.specs.Following.{IsFit};
 ghost use Rattle.fax_frames.specs.Choice.{choice};
 
@@ -33,7 +33,7 @@ pub(crate) enum Move {
 /// The trainings or commands that are sent for one wait.
 const MOST_TRIES: u8 = 3;
 
-/// The RTNs behind which a page is sent again.
+/// The RTNs after which a page is sent again.
 const MOST_REFUSALS: u8 = 2;
 
 impl Procedure {

@@ -2,7 +2,7 @@
 ghost use Rattle.std.specs.Prelude.{ℕ, List, false, ◌≡◌, ◌<◌, ◌≤◌, drop, length, nat_le, IfOk, OnOk, OnErr};
 ghost use Rattle.fax_pagestore.specs.Writers.{HasLeft, HasMore};
 ghost use Rattle.fax_call.specs.Replies.{written, part_length};
-ghost use Rattle.fax_call.specs.Kept.{text_part};
+ghost use Rattle.fax_call.specs.Rep.{text_part};
 ghost use Rattle.fax_call.specs.Following.{HasTextLeft};
 ghost use Rattle.fax_call.specs.Writings.{Writing, IsWriting};
 
@@ -18,7 +18,7 @@ use std::alloc::Global;
 #[derive(Drop)]
 pub(crate) struct TextPacket {
     pub octets: Octets,
-    /// Whether nothing is left of the text behind it.
+    /// Whether nothing is left of the text after it.
     pub is_last: bool,
 }
 

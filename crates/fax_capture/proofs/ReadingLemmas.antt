@@ -13,27 +13,27 @@ use Rattle.fax_capture.specs.declared.script_fault.ScriptFault.{ScriptFault}
 use Rattle.fax_capture.specs.declared.script_fault.ScriptFault.TheVariants.{Capture, NoAddress, TooLong}
 use Rattle.fax_capture.specs.Answers.{Allows, Ends, Fails, FailsCapture, FailsReading, LacksAt, Refuses, ToldSoFar, ToldWhole, most_octets}
 use Rattle.fax_capture.specs.Growing.{Stops}
-use Rattle.fax_capture.specs.Kept.{Breaks, BreaksAt, HasRead, Holds, Took, TookAll, Untold}
-use Rattle.fax_capture.specs.Scripts.{Tells, TellsAll, TellsFound, Told, only_ring, script_lines, tick_lines}
+use Rattle.fax_capture.specs.Rep.{Breaks, BreaksAt, HasRead, Holds, TakesAllRecords, TakesRecords, Untold}
+use Rattle.fax_capture.specs.Scripts.{ScriptSoFar, Tells, TellsAll, TellsFound, only_ring, script_lines, tick_lines}
 use Rattle.fax_capture.proofs.FollowLemmas.{TellsAll-append, TellsAll-push}
 use Rattle.fax_capture.proofs.StopLemmas.{Stops-more, Stops-same}
 
 -- ---- one record more
 
-pub Took-found : (caller called : Address) (old : HeadValue) (octets : List ℕ) (told : Told) (mid : HeadValue) (rest : List ℕ) (new : HeadValue) (behind : List ℕ) (script grown : Script) (found : Option TimedDatagram)
-    → (took : Took caller called old octets told mid rest script) → ReadsAs (record_at mid rest) found new behind
-    → (next : Told) → TellsFound caller called took.next found next → Holds grown next → Took caller called old octets told new behind grown
-Took-found caller called old octets told mid rest new behind script grown found took reads next tells holds = record {
+pub TakesRecords-found : (caller called : Address) (old : HeadValue) (octets : List ℕ) (told : ScriptSoFar) (mid : HeadValue) (rest : List ℕ) (new : HeadValue) (after : List ℕ) (script grown : Script) (found : Option TimedDatagram)
+    → (took : TakesRecords caller called old octets told mid rest script) → ReadsAs (record_at mid rest) found new after
+    → (next : ScriptSoFar) → TellsFound caller called took.next found next → Holds grown next → TakesRecords caller called old octets told new after grown
+TakesRecords-found caller called old octets told mid rest new after script grown found took reads next tells holds = record {
   found = took.found ++ found ∷ [];
   next = next;
-  follow = Follow-push old octets took.found found mid rest new behind took.follow reads;
+  follow = Follow-push old octets took.found found mid rest new after took.follow reads;
   tells = TellsAll-push caller called told took.found found took.next next took.tells tells;
   holds = holds;
 }
 
 -- ---- faults
 
-refused : (caller called : Address) (head : HeadValue) (octets : List ℕ) (told : Told) (fault : CaptureFault)
+refused : (caller called : Address) (head : HeadValue) (octets : List ℕ) (told : ScriptSoFar) (fault : CaptureFault)
     → FailsAs (record_at head octets) fault → fault ≢ capture.Cut → BreaksAt caller called head octets told (Capture fault)
 refused caller called head octets told capture.NoMemory fails other = tt
 refused caller called head octets told capture.Cut fails other = absurd (other refl)
@@ -44,13 +44,13 @@ refused caller called head octets told capture.NoCapture (inr is) other = is
 refused caller called head octets told capture.Damaged (inl memory) other = let wrong : capture.Damaged ≡ capture.NoMemory = memory in cc
 refused caller called head octets told capture.Damaged (inr is) other = is
 
-pub Breaks-refused : (caller called : Address) (old : HeadValue) (octets : List ℕ) (told : Told) (mid : HeadValue) (rest : List ℕ) (script : Script) (fault : CaptureFault)
-    → Took caller called old octets told mid rest script → FailsAs (record_at mid rest) fault → fault ≢ capture.Cut → Breaks caller called old octets told (Capture fault)
+pub Breaks-refused : (caller called : Address) (old : HeadValue) (octets : List ℕ) (told : ScriptSoFar) (mid : HeadValue) (rest : List ℕ) (script : Script) (fault : CaptureFault)
+    → TakesRecords caller called old octets told mid rest script → FailsAs (record_at mid rest) fault → fault ≢ capture.Cut → Breaks caller called old octets told (Capture fault)
 Breaks-refused caller called old octets told mid rest script fault took fails other =
     (took.found, mid, rest, took.next, took.follow, took.tells, refused caller called mid rest took.next fault fails other)
 
 -- a text that stops to grow
-stopped : (caller called : Address) (head : HeadValue) (octets : List ℕ) (told : Told) (fault : ScriptFault)
+stopped : (caller called : Address) (head : HeadValue) (octets : List ℕ) (told : ScriptSoFar) (fault : ScriptFault)
     → Stops fault (text_of_lines told.lines) → BreaksAt caller called head octets told fault
 stopped caller called head octets told TooLong stops =
     Stops-same TooLong _ _ (sym (text_of_lines-append told.lines (tick_lines told.ticks 1000))) (Stops-more TooLong (text_of_lines told.lines) (text_of_lines (tick_lines told.ticks 1000)) stops)
@@ -61,31 +61,31 @@ stopped caller called head octets told (Capture capture.Cut) stops = absurd stop
 stopped caller called head octets told (Capture capture.Snapped) stops = absurd stops
 stopped caller called head octets told (Capture capture.Damaged) stops = absurd stops
 
-untold : (caller called : Address) (old : HeadValue) (octets : List ℕ) (told : Told) (mid : HeadValue) (rest : List ℕ) (new : HeadValue) (behind : List ℕ) (script : Script) (captured : TimedDatagram) (fault : ScriptFault)
-    → (took : Took caller called old octets told mid rest script) → ReadsAs (record_at mid rest) (Some captured) new behind
+untold : (caller called : Address) (old : HeadValue) (octets : List ℕ) (told : ScriptSoFar) (mid : HeadValue) (rest : List ℕ) (new : HeadValue) (after : List ℕ) (script : Script) (captured : TimedDatagram) (fault : ScriptFault)
+    → (took : TakesRecords caller called old octets told mid rest script) → ReadsAs (record_at mid rest) (Some captured) new after
     → Untold caller called took.next (Some captured) fault → Breaks caller called old octets told fault
-untold caller called old octets told mid rest new behind script captured fault took reads (inl lacking) =
+untold caller called old octets told mid rest new after script captured fault took reads (inl lacking) =
     subst (λ (f : ScriptFault). Breaks caller called old octets told f) (sym lacking.1)
-    (took.found, mid, rest, took.next, took.follow, took.tells, inr (captured, new, behind, reads, lacking.0))
-untold caller called old octets told mid rest new behind script captured fault took reads (inr stops) = (
+    (took.found, mid, rest, took.next, took.follow, took.tells, inr (captured, new, after, reads, lacking.0))
+untold caller called old octets told mid rest new after script captured fault took reads (inr stops) = (
   took.found ++ Some captured ∷ [],
   new,
-  behind,
+  after,
   stops.0,
-  Follow-push old octets took.found (Some captured) mid rest new behind took.follow reads,
+  Follow-push old octets took.found (Some captured) mid rest new after took.follow reads,
   TellsAll-push caller called told took.found (Some captured) took.next stops.0 took.tells stops.1,
-  stopped caller called new behind stops.0 fault stops.2,
+  stopped caller called new after stops.0 fault stops.2,
 )
 
-pub Breaks-untold : (caller called : Address) (old : HeadValue) (octets : List ℕ) (told : Told) (mid : HeadValue) (rest : List ℕ) (new : HeadValue) (behind : List ℕ) (script : Script) (found : Option TimedDatagram) (fault : ScriptFault)
-    → (took : Took caller called old octets told mid rest script) → ReadsAs (record_at mid rest) found new behind
+pub Breaks-untold : (caller called : Address) (old : HeadValue) (octets : List ℕ) (told : ScriptSoFar) (mid : HeadValue) (rest : List ℕ) (new : HeadValue) (after : List ℕ) (script : Script) (found : Option TimedDatagram) (fault : ScriptFault)
+    → (took : TakesRecords caller called old octets told mid rest script) → ReadsAs (record_at mid rest) found new after
     → Untold caller called took.next found fault → Breaks caller called old octets told fault
-Breaks-untold caller called old octets told mid rest new behind script None fault took reads fails = absurd fails
-Breaks-untold caller called old octets told mid rest new behind script (Some captured) fault took reads fails =
-    untold caller called old octets told mid rest new behind script captured fault took reads fails
+Breaks-untold caller called old octets told mid rest new after script None fault took reads fails = absurd fails
+Breaks-untold caller called old octets told mid rest new after script (Some captured) fault took reads fails =
+    untold caller called old octets told mid rest new after script captured fault took reads fails
 
 -- memory may be wanting anywhere
-pub Breaks-memory : (caller called : Address) (old : HeadValue) (octets : List ℕ) (told : Told) → Breaks caller called old octets told (Capture capture.NoMemory)
+pub Breaks-memory : (caller called : Address) (old : HeadValue) (octets : List ℕ) (told : ScriptSoFar) → Breaks caller called old octets told (Capture capture.NoMemory)
 Breaks-memory caller called old octets told = ([], old, octets, told, (refl, refl), refl, tt)
 
 -- ---- pieces
@@ -103,7 +103,7 @@ HasRead-nothing caller called script few holds = record {
 }
 
 pub HasRead-take : (caller called : Address) (read piece : List ℕ) (head : HeadValue) (script : Script) (left : List ℕ) (new : HeadValue) (grown : Script) (still : List ℕ)
-    → (has : HasRead caller called read head script left) → TookAll caller called head (left ++ piece) has.took.next new still grown → grown.ticks ≤ 2 ^ 103
+    → (has : HasRead caller called read head script left) → TakesAllRecords caller called head (left ++ piece) has.took.next new still grown → grown.ticks ≤ 2 ^ 103
     → HasRead caller called (read ++ piece) new grown still
 HasRead-take caller called read piece head script left new grown still has all few = record {
   few = few;
@@ -135,11 +135,11 @@ HasRead-same caller called read other head same script like left equal has read_
 -- what a piece was taken to
 pub take_ok : {V : Type 0} → (caller called : Address) (read piece : List ℕ) (head : HeadValue) (script : Script) (left octets : List ℕ) (new : HeadValue) (grown : Script) (result : Result V ScriptFault) (items : V → List ℕ)
     → HasRead caller called read head script left → octets ≡ left ++ piece
-    → ((told : Told) → Holds script told → IfOk result (λ still. TookAll caller called head octets told new (items still) grown)) → OnOk result (grown.ticks ≤ 2 ^ 103)
+    → ((told : ScriptSoFar) → Holds script told → IfOk result (λ still. TakesAllRecords caller called head octets told new (items still) grown)) → OnOk result (grown.ticks ≤ 2 ^ 103)
     → IfOk result (λ still. HasRead caller called (read ++ piece) new grown (items still))
 take_ok caller called read piece head script left octets new grown (Ok still) items has is took few =
     HasRead-take caller called read piece head script left new grown (items still) has
-    (subst (λ (o : List ℕ). TookAll caller called head o has.took.next new (items still) grown) is (took has.took.next has.took.holds)) few
+    (subst (λ (o : List ℕ). TakesAllRecords caller called head o has.took.next new (items still) grown) is (took has.took.next has.took.holds)) few
 take_ok caller called read piece head script left octets new grown (Err fault) items has is took few = tt
 
 -- a fault is met whatever follows
@@ -153,7 +153,7 @@ Refuses-more caller called head octets more capture.NoCapture is = refused-more 
 Refuses-more caller called head octets more capture.Damaged is = refused-more head octets more capture.Damaged (λ (e : capture.Damaged ≡ capture.Cut). cc) is
 Refuses-more caller called head octets more capture.NoMemory is = refused-more head octets more capture.NoMemory (λ (e : capture.NoMemory ≡ capture.Cut). cc) is
 
-fails_by : (caller called : Address) (input : List ℕ) (head : HeadValue) (rest more : List ℕ) (told : Told) (fault : ScriptFault)
+fails_by : (caller called : Address) (input : List ℕ) (head : HeadValue) (rest more : List ℕ) (told : ScriptSoFar) (fault : ScriptFault)
     → ToldSoFar caller called input head (rest ++ more) told → BreaksAt caller called head rest told fault → Fails caller called input fault
 fails_by caller called input head rest more told TooLong so_far breaks = (head, rest ++ more, told, so_far, breaks)
 fails_by caller called input head rest more told (NoAddress counts) so_far breaks = absurd breaks
@@ -214,7 +214,7 @@ fails_growing caller called read head script left (Capture capture.Damaged) has 
 
 pub take_err : {V : Type 0} → (caller called : Address) (read piece : List ℕ) (head : HeadValue) (script : Script) (left octets : List ℕ) (result : Result V ScriptFault)
     → HasRead caller called read head script left → octets ≡ left ++ piece
-    → ((told : Told) → Holds script told → IfErr result (λ e. Breaks caller called head octets told e))
+    → ((told : ScriptSoFar) → Holds script told → IfErr result (λ e. Breaks caller called head octets told e))
     → IfErr result (λ e. (more : List ℕ) → Fails caller called ((read ++ piece) ++ more) e)
 take_err caller called read piece head script left octets (Ok still) has is breaks = tt
 take_err caller called read piece head script left octets (Err fault) has is breaks = λ more.

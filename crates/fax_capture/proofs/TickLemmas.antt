@@ -21,7 +21,7 @@ ticks_up_to from to less =
     let is : to - from ≡ suc (to - (from + 1)) = omega arith in
     ap (λ (n : ℕ). text_of_lines (tick_lines from n)) is ∙ first_tick from (to - (from + 1))
 
--- behind a text
+-- after a text
 pub text_with_tick : (text : List ℕ) (from to : ℕ) → from < to
     → text ++ text_of_lines (tick_lines from (to - from)) ≡ (text ++ (tick_line from ++ 10 ∷ [])) ++ text_of_lines (tick_lines (from + 1) (to - (from + 1)))
 text_with_tick text from to less =

@@ -8,7 +8,7 @@ use Rattle.fax_capture.specs.declared.address.Address.{Address}
 use Rattle.fax_capture.specs.declared.counts.Counts.{Counts}
 use Rattle.fax_capture.specs.declared.script_fault.ScriptFault.{ScriptFault}
 use Rattle.fax_capture.specs.declared.script_fault.ScriptFault.TheVariants.{Capture, NoAddress, TooLong}
-use Rattle.fax_capture.specs.Scripts.{Told, TellsAll, IsLacking, only_ring, script_lines}
+use Rattle.fax_capture.specs.Scripts.{ScriptSoFar, TellsAll, IsLacking, only_ring, script_lines}
 
 -- a script and how many datagrams came from whom, or what is wrong with the input
 abbrev pub Outcome : Type 0
@@ -19,14 +19,14 @@ abbrev pub most_octets : ℕ
 most_octets = 16777216
 
 -- So far a capture was read, record by record, and its datagrams were told: what is told of the capture then, and the octets
--- behind.
-pub record ToldSoFar (caller called : Address) (input : List ℕ) (head : HeadValue) (behind : List ℕ) (told : Told) : Type 0 where
+-- after.
+pub record ToldSoFar (caller called : Address) (input : List ℕ) (head : HeadValue) (after : List ℕ) (told : ScriptSoFar) : Type 0 where
   pub found : List (Option TimedDatagram)
-  pub follow : Follow untold_head input found head behind
+  pub follow : Follow untold_head input found head after
   pub tells : TellsAll caller called only_ring found told
 
 -- A capture was read to its end, where nothing is wrong.
-pub record ToldWhole (caller called : Address) (input : List ℕ) (told : Told) : Type 0 where
+pub record ToldWhole (caller called : Address) (input : List ℕ) (told : ScriptSoFar) : Type 0 where
   pub head : HeadValue
   pub left : List ℕ
   pub so_far : ToldSoFar caller called input head left told
@@ -34,8 +34,8 @@ pub record ToldWhole (caller called : Address) (input : List ℕ) (told : Told) 
 
 -- some is lacking of a datagram that is read at the front of octets
 abbrev pub LacksAt : Address → Address → HeadValue → List ℕ → Type 0
-LacksAt caller called head octets = (captured : TimedDatagram) × (next : HeadValue) × (behind : List ℕ)
-    × ReadsAs (record_at head octets) (Some captured) next behind × IsLacking caller called captured
+LacksAt caller called head octets = (captured : TimedDatagram) × (next : HeadValue) × (after : List ℕ)
+    × ReadsAs (record_at head octets) (Some captured) next after × IsLacking caller called captured
 
 -- The record at the front of octets is refused, or some of its datagram is lacking; that octets lack at the end is another fault.
 abbrev pub Refuses : Address → Address → HeadValue → List ℕ → CaptureFault → Type 0
@@ -47,10 +47,10 @@ Refuses caller called head octets fault = read_of (record_at head octets) ≡ Er
 abbrev pub Ends : HeadValue → List ℕ → CaptureFault → Type 0
 Ends head left fault = (read_of (record_at head left) ≡ Err capture.Cut) × (fault_of_end head.kind left ≡ Some fault)
 
--- a fault of the capture is met behind the records that were read
+-- a fault of the capture is met after the records that were read
 abbrev pub FailsCapture : Address → Address → List ℕ → CaptureFault → Type 0
-FailsCapture caller called input fault = (head : HeadValue) × (behind : List ℕ) × (told : Told)
-    × ToldSoFar caller called input head behind told × (Refuses caller called head behind fault ⊎ Ends head behind fault)
+FailsCapture caller called input fault = (head : HeadValue) × (after : List ℕ) × (told : ScriptSoFar)
+    × ToldSoFar caller called input head after told × (Refuses caller called head after fault ⊎ Ends head after fault)
 
 -- Memory may be wanting at any input.
 abbrev pub FailsReading : Address → Address → List ℕ → CaptureFault → Type 0
@@ -61,12 +61,12 @@ FailsReading caller called input fault = FailsCapture caller called input fault
 -- much of it is too long
 abbrev pub Fails : Address → Address → List ℕ → ScriptFault → Type 0
 Fails caller called input (Capture fault) = FailsReading caller called input fault
-Fails caller called input (NoAddress counts) = (told : Told) × ToldWhole caller called input told × (told.ticks ≡ 0) × (counts ≡ told.counts)
-Fails caller called input TooLong = (head : HeadValue) × (behind : List ℕ) × (told : Told)
-    × ToldSoFar caller called input head behind told × (most_octets < length (text_of_lines (script_lines told)))
+Fails caller called input (NoAddress counts) = (told : ScriptSoFar) × ToldWhole caller called input told × (told.ticks ≡ 0) × (counts ≡ told.counts)
+Fails caller called input TooLong = (head : HeadValue) × (after : List ℕ) × (told : ScriptSoFar)
+    × ToldSoFar caller called input head after told × (most_octets < length (text_of_lines (script_lines told)))
 
 abbrev pub Allows : Address → Address → List ℕ → Outcome → Type 0
-Allows caller called input (Ok made) = (told : Told) × ToldWhole caller called input told × (0 < told.ticks)
+Allows caller called input (Ok made) = (told : ScriptSoFar) × ToldWhole caller called input told × (0 < told.ticks)
     × (made.0 ≡ text_of_lines (script_lines told)) × (made.1 ≡ told.counts)
 Allows caller called input (Err fault) = Fails caller called input fault
 

@@ -3,7 +3,7 @@ pub mod Answers
 pub mod Counts
 pub mod Faults
 pub mod Growing
-pub mod Kept
+pub mod Rep
 pub mod Reading
 pub mod Runs
 pub mod Scripts

@@ -28,14 +28,14 @@ role_lines Unrelated octets = []
 
 -- What was told: when the first of the datagrams was captured that one of the two sent or was sent, where that is known;
 -- how many ticks were told, from 0 on; the lines; and how many datagrams came from whom.
-pub record Told : Type 0 where
+pub record ScriptSoFar : Type 0 where
   pub start : Option ℕ
   pub ticks : ℕ
   pub lines : List (List ℕ)
   pub counts : Counts
 
 -- it rings
-abbrev pub only_ring : Told
+abbrev pub only_ring : ScriptSoFar
 only_ring = record { start = None; ticks = 0; lines = codes "R" ∷ []; counts = no_counts }
 
 abbrev pub start_of : Option ℕ → Option ℕ → Option ℕ
@@ -49,10 +49,10 @@ tick_of (Some start) None = 0
 tick_of (Some start) (Some time) = (time - start) / 40000000
 
 -- Ticks are told up to that of a datagram, and then the datagram. None is told again.
-abbrev pub ticks_to : Told → Option ℕ → ℕ
+abbrev pub ticks_to : ScriptSoFar → Option ℕ → ℕ
 ticks_to told time = max told.ticks (tick_of (start_of told.start time) time + 1)
 
-abbrev pub told_with : Told → Option ℕ → Role → List ℕ → Told
+abbrev pub told_with : ScriptSoFar → Option ℕ → Role → List ℕ → ScriptSoFar
 told_with told time role octets = record {
   start = start_of told.start time;
   ticks = ticks_to told time;
@@ -61,11 +61,11 @@ told_with told time role octets = record {
 }
 
 -- one datagram more; one of others is counted alone
-abbrev pub told_of : Told → TimedDatagram → Role → Told
+abbrev pub told_of : ScriptSoFar → TimedDatagram → Role → ScriptSoFar
 told_of told captured Unrelated = record told { counts = counts_with told.counts Unrelated }
 told_of told captured role = told_with told captured.time role captured.datagram.octets
 
-abbrev pub Tells : Address → Address → Told → TimedDatagram → Told → Type 0
+abbrev pub Tells : Address → Address → ScriptSoFar → TimedDatagram → ScriptSoFar → Type 0
 Tells caller called old captured new = (role : Role) × IsRole caller called captured.datagram role
     × (lacks role captured.datagram.is_whole ≡ false) × (new ≡ told_of old captured role)
 
@@ -74,14 +74,14 @@ abbrev pub IsLacking : Address → Address → TimedDatagram → Type 0
 IsLacking caller called captured = (role : Role) × IsRole caller called captured.datagram role × (lacks role captured.datagram.is_whole ≡ true)
 
 -- what was found in the records of a capture, one by one
-abbrev pub TellsFound : Address → Address → Told → Option TimedDatagram → Told → Type 0
+abbrev pub TellsFound : Address → Address → ScriptSoFar → Option TimedDatagram → ScriptSoFar → Type 0
 TellsFound caller called old None new = new ≡ old
 TellsFound caller called old (Some captured) new = Tells caller called old captured new
 
-abbrev pub TellsAll : Address → Address → Told → List (Option TimedDatagram) → Told → Type 0
+abbrev pub TellsAll : Address → Address → ScriptSoFar → List (Option TimedDatagram) → ScriptSoFar → Type 0
 TellsAll caller called old [] new = new ≡ old
-TellsAll caller called old (found ∷ more) new = (next : Told) × TellsFound caller called old found next × TellsAll caller called next more new
+TellsAll caller called old (found ∷ more) new = (next : ScriptSoFar) × TellsFound caller called old found next × TellsAll caller called next more new
 
--- 40 s behind the last tick of a datagram: a thousand ticks more
-abbrev pub script_lines : Told → List (List ℕ)
+-- 40 s after the last tick of a datagram: a thousand ticks more
+abbrev pub script_lines : ScriptSoFar → List (List ℕ)
 script_lines told = told.lines ++ tick_lines told.ticks 1000

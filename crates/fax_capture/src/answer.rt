@@ -4,7 +4,7 @@ ghost use Rattle.std.specs.Io.KnownBytes.{Appends};
 ghost use Rattle.fax_command.specs.Statuses.{status_code};
 ghost use Rattle.fax_command.specs.Streams.{failed_after_write, greatest_count};
 ghost use Rattle.fax_capture.specs.Answers.{Answers};
-ghost use Rattle.fax_capture.specs.Kept.{counts_of_answer, status_of_answer, text_of_answer};
+ghost use Rattle.fax_capture.specs.Rep.{counts_of_answer, status_of_answer, text_of_answer};
 
 use crate::address::Address;
 use crate::counts::Counts;

@@ -5,9 +5,9 @@ ghost use Rattle.fax_command.specs.Streams.{greatest_count};
 ghost use Rattle.fax_capture.specs.declared.address.Address.{Address};
 ghost use Rattle.fax_capture.specs.Addresses.{lacks};
 ghost use Rattle.fax_capture.specs.Answers.{Allows, Fails};
-ghost use Rattle.fax_capture.specs.Kept.{Breaks, HasRead, Holds, TookAll, Untold};
+ghost use Rattle.fax_capture.specs.Rep.{Breaks, HasRead, Holds, TakesAllRecords, Untold};
 ghost use Rattle.fax_capture.specs.Reading.{FailsSo};
-ghost use Rattle.fax_capture.specs.Scripts.{TellsFound, Told};
+ghost use Rattle.fax_capture.specs.Scripts.{ScriptSoFar, TellsFound};
 
 use crate::address::{Address, Role, role_of};
 use crate::reading_fault::ReadingFault;
@@ -15,7 +15,7 @@ use crate::script::{Made, Script};
 use crate::script_fault::ScriptFault;
 use fax_bits::NoMemory;
 use fax_command::{MOST_AT_ONCE, ReadFault, Source};
-use fax_pcap::{Capture, CaptureFault, Captured};
+use fax_pcap::{Capture, CaptureFault, CapturedPacket};
 use std::alloc::{AllocError, Global};
 
 /// The script of the capture that a source gives, for the addresses of the caller and the called machine, or why there is none.
@@ -64,7 +64,7 @@ fn new_buffer(alloc: Global) -> Result<Vec<u8>, AllocError>
     vec![in alloc; 0; MOST_AT_ONCE]
 }
 
-/// Takes a piece behind the octets that are left, reads and tells all whole records, and answers the octets that are left then.
+/// Takes a piece after the octets that are left, reads and tells all whole records, and answers the octets that are left then.
 fn take(
     alloc: Global,
     caller: &Address,
@@ -99,14 +99,14 @@ fn take_records(
 ) -> Result<Vec<u8>, ScriptFault>
     requires few { script.old.ticks ≤ 2 ^ 103 }
     ensures few { OnOk result (script.new.ticks ≤ 2 ^ 103) }
-    ensures ok { (told : Told) → Holds script.old told
-        → IfOk result (λ left. TookAll caller.now called.now capture.old octets.now told capture.new left.items script.new) }
-    ensures err { (told : Told) → Holds script.old told → IfErr result (λ e. Breaks caller.now called.now capture.old octets.now told e) }
+    ensures ok { (told : ScriptSoFar) → Holds script.old told
+        → IfOk result (λ left. TakesAllRecords caller.now called.now capture.old octets.now told capture.new left.items script.new) }
+    ensures err { (told : ScriptSoFar) → Holds script.old told → IfErr result (λ e. Breaks caller.now called.now capture.old octets.now told e) }
 {
     let mut rest = octets;
     while let Some(read) = capture.read_record(rest)? {
         tell(alloc, caller, called, script, read.found)?;
-        rest = read.behind;
+        rest = read.after;
     }
     match Vec::from_slice(alloc, rest) {
         Ok(left) => Ok(left),
@@ -120,13 +120,13 @@ fn tell(
     caller: &Address,
     called: &Address,
     script: &mut Script,
-    found: Option<Captured<'_>>,
+    found: Option<CapturedPacket<'_>>,
 ) -> Result<(), ScriptFault>
     requires few { script.old.ticks ≤ 2 ^ 103 }
     ensures few { OnOk result (script.new.ticks ≤ 2 ^ 103) }
-    ensures ok { (told : Told) → Holds script.old told
-        → OnOk result ((next : Told) × TellsFound caller.now called.now told found.entry next × Holds script.new next) }
-    ensures err { (told : Told) → Holds script.old told → IfErr result (λ e. Untold caller.now called.now told found.entry e) }
+    ensures ok { (told : ScriptSoFar) → Holds script.old told
+        → OnOk result ((next : ScriptSoFar) × TellsFound caller.now called.now told found.entry next × Holds script.new next) }
+    ensures err { (told : ScriptSoFar) → Holds script.old told → IfErr result (λ e. Untold caller.now called.now told found.entry e) }
 {
     let Some(captured) = found else {
         return Ok(());

@@ -3,23 +3,23 @@ ghost use Rattle.std.specs.Prelude.{ℕ, List, ◌≡◌, ◌+◌, ◌-◌, ◌<
 ghost use Rattle.hex.specs.Hex.{encode_lower};
 ghost use Rattle.fax_command.specs.RowLines.{text_of_lines};
 ghost use Rattle.fax_capture.specs.Growing.{Stops};
-ghost use Rattle.fax_capture.specs.Kept.{Holds};
-ghost use Rattle.fax_capture.specs.Scripts.{Told, only_ring, role_lines, script_lines, start_of, tick_line, tick_lines, tick_of, told_of, ticks_to};
+ghost use Rattle.fax_capture.specs.Rep.{Holds};
+ghost use Rattle.fax_capture.specs.Scripts.{ScriptSoFar, only_ring, role_lines, script_lines, start_of, tick_line, tick_lines, tick_of, told_of, ticks_to};
 
 use crate::address::Role;
 use crate::counts::Counts;
 use crate::script_fault::ScriptFault;
 use fax_bits::NoMemory;
 use fax_command::MOST_OCTETS;
-use fax_pcap::Captured;
+use fax_pcap::CapturedPacket;
 use itoa::Buffer;
 use std::alloc::Global;
 
 /// How many nanoseconds pass from a tick to the next: 40 ms.
 const NANOSECONDS_OF_TICK: u128 = 40_000_000;
 
-/// How many ticks are told behind that of the last datagram: 40 s.
-const TICKS_BEHIND: u128 = 1000;
+/// How many ticks are told after that of the last datagram: 40 s.
+const TICKS_AFTER: u128 = 1000;
 
 /// How many milliseconds pass from a tick to the next.
 const MILLISECONDS_OF_TICK: u128 = 40;
@@ -69,17 +69,17 @@ impl Script {
         self.counts
     }
 
-    /// Tells a datagram, behind the ticks up to its own, unless it is unrelated, and counts it.
+    /// Tells a datagram, after the ticks up to its own, unless it is unrelated, and counts it.
     pub fn tell(
         &mut self,
         alloc: Global,
-        captured: &Captured<'_>,
+        captured: &CapturedPacket<'_>,
         role: Role,
     ) -> Result<(), ScriptFault>
         requires few { self.old.ticks ≤ 2 ^ 103 }
         ensures few { OnOk result (self.new.ticks ≤ 2 ^ 103) }
-        ensures ok { (told : Told) → Holds self.old told → OnOk result (Holds self.new (told_of told captured.now role)) }
-        ensures err { (told : Told) → Holds self.old told → IfErr result (λ e. Stops e (text_of_lines (told_of told captured.now role).lines)) }
+        ensures ok { (told : ScriptSoFar) → Holds self.old told → OnOk result (Holds self.new (told_of told captured.now role)) }
+        ensures err { (told : ScriptSoFar) → Holds self.old told → IfErr result (λ e. Stops e (text_of_lines (told_of told captured.now role).lines)) }
     {
         if role == Role::Unrelated {
             self.counts = self.counts.with(role);
@@ -96,15 +96,15 @@ impl Script {
         Ok(())
     }
 
-    /// The text, with the ticks behind the last datagram.
+    /// The text, with the ticks after the last datagram.
     pub fn finish(self, alloc: Global) -> Result<Made, ScriptFault>
         requires few { self.ticks ≤ 2 ^ 103 }
-        ensures text { (told : Told) → Holds self told → IfOk result (λ made. made.text.items ≡ text_of_lines (script_lines told)) }
-        ensures counts { (told : Told) → Holds self told → IfOk result (λ made. made.counts ≡ told.counts) }
-        ensures err { (told : Told) → Holds self told → IfErr result (λ e. Stops e (text_of_lines (script_lines told))) }
+        ensures text { (told : ScriptSoFar) → Holds self told → IfOk result (λ made. made.text.items ≡ text_of_lines (script_lines told)) }
+        ensures counts { (told : ScriptSoFar) → Holds self told → IfOk result (λ made. made.counts ≡ told.counts) }
+        ensures err { (told : ScriptSoFar) → Holds self told → IfErr result (λ e. Stops e (text_of_lines (script_lines told))) }
     {
         let mut text = self.text;
-        push_ticks(alloc, &mut text, self.ticks, self.ticks + TICKS_BEHIND)?;
+        push_ticks(alloc, &mut text, self.ticks, self.ticks + TICKS_AFTER)?;
         Ok(Made {
             text,
             counts: self.counts,

@@ -1,8 +1,8 @@
--- Clients one behind another.
+-- Clients one after another.
 use Rattle.std.proofs.Common.{◌≡◌, ℕ, zero, suc, ◌+◌, ◌<◌, ◌≤◌, List, [], ◌∷◌, length, get_or, map, refl, sym, ap, subst, ◌∙◌, add-one, arith, Option, None, Some, IfNone, IfSome, Result, Ok, Err, OnOk}
 use Rattle.std.proofs.Math.ListN.{set}
 use Rattle.std.specs.List.{AllZip}
-use Rattle.fax_control.specs.declared.hearing.Heard.{Heard}
+use Rattle.fax_control.specs.declared.hearing.HeardLine.{HeardLine}
 use Rattle.fax_clients.specs.Clients.{ClientValue, Hears, HearsLine, HearsNoLine, changed_at}
 
 -- each of the first clients, as many as n, went through R, and the others are as they were
@@ -38,7 +38,7 @@ first_all R (suc n) (one ∷ others) (y ∷ ys) (here, more) within = (here, fir
 
 -- a line of the next one is heard
 pub first_hears :
-    (n : ℕ) (heard : Heard) (old now : List ClientValue) (x d : ClientValue)
+    (n : ℕ) (heard : HeardLine) (old now : List ClientValue) (x d : ClientValue)
     → First HearsNoLine n old now → n < length now → HearsLine heard (get_or now n d) x → Hears n heard old (set now n x)
 first_hears zero heard old [] x d same within hears = absurd (omega arith)
 first_hears zero heard old (y ∷ ys) x d same within hears = subst (λ (l : List ClientValue). Hears 0 heard l (x ∷ ys)) same (hears, refl)
@@ -55,7 +55,7 @@ told_none (x ∷ xs) [] same = absurd same
 told_none (x ∷ xs) (y ∷ ys) (here, more) =
     ap (λ t. t ∷ map (λ (client : ClientValue). client.told) ys) here.told ∙ ap (λ l. x.told ∷ l) (told_none xs ys more)
 
-pub told_some : (place : ℕ) (heard : Heard) (old new : List ClientValue) → Hears place heard old new → map (λ client. client.told) new ≡ map (λ client. client.told) old
+pub told_some : (place : ℕ) (heard : HeardLine) (old new : List ClientValue) → Hears place heard old new → map (λ client. client.told) new ≡ map (λ client. client.told) old
 told_some zero heard [] new hears = absurd hears
 told_some zero heard (x ∷ xs) [] hears = absurd hears
 told_some zero heard (x ∷ xs) (y ∷ ys) (here, more) =
@@ -79,7 +79,7 @@ changed_nowhere change zero (y ∷ ys) past = absurd (omega arith)
 changed_nowhere change (suc place) (y ∷ ys) past = ap (λ l. y ∷ l) (changed_nowhere change place ys (omega arith))
 
 pub told_same :
-    (result : Option (ℕ × Heard)) (old new : List ClientValue) → IfNone result (AllZip HearsNoLine old new) → IfSome result (λ said. Hears said.0 said.1 old new)
+    (result : Option (ℕ × HeardLine)) (old new : List ClientValue) → IfNone result (AllZip HearsNoLine old new) → IfSome result (λ said. Hears said.0 said.1 old new)
     → map (λ client. client.told) new ≡ map (λ client. client.told) old
 told_same None old new none some = told_none old new none
 told_same (Some said) old new none some = told_some said.0 said.1 old new some

@@ -4,10 +4,10 @@ use Rattle.std.proofs.lemmas.Bool.{eqb-true}
 use Rattle.std.proofs.lemmas.List.{drop-drop, drop_at, drop_all}
 use Rattle.std.specs.Option.{IfSome}
 use Rattle.fax_control.specs.ClientStreams.{EndsALine, fitting, octets_of_heard}
-use Rattle.fax_control.specs.declared.hearing.Heard.{Heard}
+use Rattle.fax_control.specs.declared.hearing.HeardLine.{HeardLine}
 use Rattle.fax_clients.specs.Clients.{IsHeard}
 
--- behind the front of what was not heard yet is the rest
+-- after the front of what was not heard yet is the rest
 pub rest_left :
     (octets : List ℕ) (start stop : ℕ) (front rest : List ℕ) → start ≤ stop → stop ≤ length octets
     → drop start (take stop octets) ≡ front ++ rest → drop (stop - length rest) (take stop octets) ≡ rest
@@ -33,7 +33,7 @@ heard_all octets start stop is =
 
 -- a line that ends in what was not heard yet
 pub heard_of :
-    (result : Option Heard) (octets : List ℕ) (start stop : ℕ) (lines new_lines : Option (List ℕ)) (rest : List ℕ) (more : Bool) → start ≤ stop → stop ≤ length octets
+    (result : Option HeardLine) (octets : List ℕ) (start stop : ℕ) (lines new_lines : Option (List ℕ)) (rest : List ℕ) (more : Bool) → start ≤ stop → stop ≤ length octets
     → IfSome result (λ heard. (end : List ℕ) × EndsALine (drop start (take stop octets)) end rest
     × ((part : List ℕ) → lines ≡ fitting part → octets_of_heard heard ≡ fitting (part ++ end)))
     → IfSome result (λ heard. new_lines ≡ fitting [])

@@ -2,9 +2,9 @@
 use Rattle.std.proofs.Common.{◌≡◌, ℕ, List, [], ◌∷◌, ◌++◌, ◌⊎◌, take, drop, length, map, refl, sym, ◌∙◌, ap, subst, inl, inr, append-nil, arith}
 use Rattle.std.proofs.lemmas.List.{drop_all, take_all}
 use Rattle.std.specs.List.{AllZip}
-use Rattle.fax_clients.specs.Clients.{AreLeft, AreServed, AreWaitedFor, ClientValue, ComesOn, IsAsked, IsCounted, IsServed, IsWaitedFor, IsWritten, Said, Told, counted, silent}
+use Rattle.fax_clients.specs.Clients.{AreLeft, AreServed, AreWaitedFor, ClientInput, ClientOutput, ClientValue, ComesOn, IsAsked, IsCounted, IsServed, IsWaitedFor, IsWritten, counted, silent}
 
--- one behind another
+-- one after another
 zip_then :
     {A : Type 0} (R S T : A → A → Type 0) → ((x y z : A) → R x y → S y z → T x z) → (xs ys zs : List A) → AllZip R xs ys → AllZip S ys zs → AllZip T xs zs
 zip_then R S T join [] [] [] a b = tt
@@ -25,19 +25,19 @@ counted_all (x ∷ xs) [] a = absurd a
 counted_all (x ∷ xs) (y ∷ ys) (p, ps) = ap (λ c. c ∷ ys) p ∙ ap (λ l. counted x ∷ l) (counted_all xs ys ps)
 
 -- nothing came, and nothing was written
-pub comes_none : (said : Said) → ComesOn said said
+pub comes_none : (said : ClientInput) → ComesOn said said
 comes_none said = record { begun = refl; waits = λ h. refl; ended = λ h. refl }
 
-pub written_none : (told : Told) → IsWritten told told
+pub written_none : (told : ClientOutput) → IsWritten told told
 written_none told = record { count = 0; due = refl }
 
 waited : (old asked served : ClientValue) → IsAsked old asked → IsServed asked served → IsWaitedFor old (counted served)
 waited old asked served a s = record {
-  said = subst (λ (x : Said). ComesOn x served.said) a.said s.said;
+  said = subst (λ (x : ClientInput). ComesOn x served.said) a.said s.said;
   asked = asked.told;
   events = a.told;
   count = s.told.count;
-  told = ap (λ (t : Told). record { due = t.due; events = t.events; lost = 0 }) s.told.due;
+  told = ap (λ (t : ClientOutput). record { due = t.due; events = t.events; lost = 0 }) s.told.due;
 }
 
 waited_all : (old asked served : List ClientValue) → AllZip IsAsked old asked → AllZip IsServed asked served → AllZip IsWaitedFor old (map counted served)

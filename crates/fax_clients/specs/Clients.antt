@@ -2,26 +2,26 @@
 use Rattle.std.specs.Prelude.{◌≡◌, ℕ, zero, suc, ◌+◌, ◌<◌, min, codes, decimal, Bool, true, false, not, ◌&&◌, List, [], ◌∷◌, ◌++◌, drop, flat_map, length, map, ◌⊎◌, Option, None, Some, is_some, unwrap_or, MatchOption}
 use Rattle.std.specs.List.{AllZip, items_where_true, list_any}
 use Rattle.fax_control.specs.ClientStreams.{EndsALine, HasNoLineFeed, fitting, octets_of_heard}
-use Rattle.fax_control.specs.declared.hearing.Heard.{Heard}
-use Rattle.fax_events.specs.Queues.{Line, Lost, Telling, after_line, greatest_count, lines_in}
+use Rattle.fax_control.specs.declared.hearing.HeardLine.{HeardLine}
+use Rattle.fax_events.specs.Queues.{Line, Lost, QueuedLine, after_line, greatest_count, lines_in}
 
 -- What comes of a client: whether more may come, the octets that were read and not heard yet, and the beginning of its
 -- next line, none where that is too long.
-pub record Said : Type 0 where
+pub record ClientInput : Type 0 where
   pub more : Bool
   pub unheard : List ℕ
   pub begun : Option (List ℕ)
 
 -- What a client is told: the octets that are still to be written of the text that it is told now, its events as they wait
--- behind it, none where it wants none, and how many lines of events it lost that were not counted yet.
-pub record Told : Type 0 where
+-- after it, none where it wants none, and how many lines of events it lost that were not counted yet.
+pub record ClientOutput : Type 0 where
   pub due : List ℕ
-  pub events : Option (List Telling)
+  pub events : Option (List QueuedLine)
   pub lost : ℕ
 
 pub record ClientValue : Type 0 where
-  pub said : Said
-  pub told : Told
+  pub said : ClientInput
+  pub told : ClientOutput
 
 -- All clients: whether they come by a control socket, each of them, and how many lines of events were lost by clients,
 -- as far as they were counted.
@@ -32,10 +32,10 @@ pub record ClientsValue : Type 0 where
 
 -- ---- at the beginning
 
-abbrev pub nothing_said : Said
+abbrev pub nothing_said : ClientInput
 nothing_said = record { more = true; unheard = []; begun = Some [] }
 
-abbrev pub nothing_told : Told
+abbrev pub nothing_told : ClientOutput
 nothing_told = record { due = []; events = None; lost = 0 }
 
 -- a client that said nothing, and wants no events
@@ -86,14 +86,14 @@ answered text client = record { said = client.said; told = record { due = text; 
 -- ---- what is heard
 
 -- All that was read was heard, and no line ends in it: it goes on the beginning of the next line.
-pub record IsKept (old new : Said) : Type 0 where
+pub record IsKept (old new : ClientInput) : Type 0 where
   pub more : new.more ≡ old.more
   pub all : new.unheard ≡ []
   pub no_end : HasNoLineFeed old.unheard
   pub begun : (part : List ℕ) → old.begun ≡ fitting part → new.begun ≡ fitting (part ++ old.unheard)
 
--- A line ends in what was read: it was heard, and what is behind it was not.
-pub record IsHeard (heard : Heard) (old new : Said) : Type 0 where
+-- A line ends in what was read: it was heard, and what is after it was not.
+pub record IsHeard (heard : HeardLine) (old new : ClientInput) : Type 0 where
   pub more : new.more ≡ old.more
   pub line : (end : List ℕ) × EndsALine old.unheard end new.unheard
       × ((part : List ℕ) → old.begun ≡ fitting part → octets_of_heard heard ≡ fitting (part ++ end))
@@ -106,13 +106,13 @@ pub record HearsNoLine (old new : ClientValue) : Type 0 where
   pub kept : old.told.due ≡ [] → IsKept old.said new.said
 
 -- A line is heard of a client, to which nothing is still to be written.
-pub record HearsLine (heard : Heard) (old new : ClientValue) : Type 0 where
+pub record HearsLine (heard : HeardLine) (old new : ClientValue) : Type 0 where
   pub told : new.told ≡ old.told
   pub due : old.told.due ≡ []
   pub said : IsHeard heard old.said new.said
 
--- The client at a place is the first of which a line is heard, and no one behind it was asked.
-abbrev pub Hears : ℕ → Heard → List ClientValue → List ClientValue → Type 0
+-- The client at a place is the first of which a line is heard, and no one after it was asked.
+abbrev pub Hears : ℕ → HeardLine → List ClientValue → List ClientValue → Type 0
 Hears zero heard (one ∷ others) (new_one ∷ new_others) = HearsLine heard one new_one × (new_others ≡ others)
 Hears (suc place) heard (one ∷ others) (new_one ∷ new_others) = HearsNoLine one new_one × Hears place heard others new_others
 Hears place heard _ _ = ⊥
@@ -120,33 +120,33 @@ Hears place heard _ _ = ⊥
 -- ---- what is read and written
 
 -- What came of a client stays until it was heard, and no line is begun anew; where it says no more, nothing comes.
-pub record ComesOn (old new : Said) : Type 0 where
+pub record ComesOn (old new : ClientInput) : Type 0 where
   pub begun : new.begun ≡ old.begun
   pub waits : 0 < length old.unheard → new ≡ old
   pub ended : old.more ≡ false → new ≡ old
 
 -- so many octets of the text were written
-pub record IsWritten (old new : Told) : Type 0 where
+pub record IsWritten (old new : ClientOutput) : Type 0 where
   pub count : ℕ
   pub due : new ≡ record { due = drop count old.due; events = old.events; lost = old.lost }
 
 -- the octets of what the reader of events is told: a line, or that so many were lost
-abbrev pub telling_text : Telling → List ℕ
+abbrev pub telling_text : QueuedLine → List ℕ
 telling_text (Line octets) = octets
 telling_text (Lost count) = codes "{\"event\":\"lost\",\"lines\":" ++ (decimal count ++ codes "}\n")
 
 -- how many lines these tell that were lost
-abbrev pub lost_in : List Telling → ℕ
+abbrev pub lost_in : List QueuedLine → ℕ
 lost_in [] = 0
 lost_in (Line octets ∷ tellings) = lost_in tellings
 lost_in (Lost count ∷ tellings) = count + lost_in tellings
 
 -- Of the events that wait the next is what is told now: a line, and before it how many were lost there. Without memory
 -- the line is lost.
-pub record TakesNext (old new : Told) : Type 0 where
+pub record TakesNext (old new : ClientOutput) : Type 0 where
   pub idle : old.due ≡ []
-  pub next : List Telling
-  pub waiting : List Telling
+  pub next : List QueuedLine
+  pub waiting : List QueuedLine
   pub events : old.events ≡ Some (next ++ waiting)
   pub some : 0 < length next
   pub taken : let lost = min (old.lost + lost_in next) greatest_count in
@@ -154,7 +154,7 @@ pub record TakesNext (old new : Told) : Type 0 where
       ⊎ (new ≡ record { due = []; events = Some waiting; lost = min (lost + lines_in next) greatest_count })
 
 -- It is so where nothing is still to be written, and an event waits; else nothing changes.
-abbrev pub GoesOn : Told → Told → Type 0
+abbrev pub GoesOn : ClientOutput → ClientOutput → Type 0
 GoesOn old new = TakesNext old new ⊎ (((0 < length old.due) ⊎ (unwrap_or old.events [] ≡ [])) × (new ≡ old))
 
 pub record IsAsked (old new : ClientValue) : Type 0 where
@@ -181,7 +181,7 @@ IsCounted old new = new ≡ counted old
 -- While it is waited for, more may come of a client, its events go on, and some octets are written.
 pub record IsWaitedFor (old new : ClientValue) : Type 0 where
   pub said : ComesOn old.said new.said
-  pub asked : Told
+  pub asked : ClientOutput
   pub events : GoesOn old.told asked
   pub count : ℕ
   pub told : new.told ≡ record { due = drop count asked.due; events = asked.events; lost = 0 }
@@ -200,9 +200,9 @@ pub record AreWaitedFor (old new : List ClientValue) : Type 0 where
 
 -- ---- what is told
 
--- A line of an event waits behind the others of a client that wants events, or is lost for want of memory. One that wants
+-- A line of an event waits after the others of a client that wants events, or is lost for want of memory. One that wants
 -- none is not told.
-abbrev pub HasTold : List ℕ → Told → Told → Type 0
+abbrev pub HasTold : List ℕ → ClientOutput → ClientOutput → Type 0
 HasTold line old new = MatchOption old.events (new ≡ old)
     (λ waiting. (new ≡ record { due = old.due; events = Some (after_line waiting line); lost = old.lost })
     ⊎ (new ≡ record { due = old.due; events = old.events; lost = min (old.lost + 1) greatest_count }))

@@ -6,7 +6,7 @@ use crate::inbox::Inbox;
 use crate::outbox::Outbox;
 use crate::stream::Stream;
 use fax_bits::NoMemory;
-use fax_control::Heard;
+use fax_control::HeardLine;
 use std::alloc::Global;
 use std::io::{Read, Write};
 use std::marker::Model;
@@ -34,7 +34,7 @@ impl<I: Read + Drop, O: Write + Drop> Model for Client<I, O> {
 }
 
 impl<I: Read + Drop, O: Write + Drop> Client<I, O> {
-    /// A client that said nothing, which comes in behind so many lines of others.
+    /// A client that said nothing, which comes in after so many lines of others.
     pub(crate) fn new(alloc: Global, stream: Stream<I, O>, lines: u64) -> Self
         ensures { result ≡ silent }
     {
@@ -126,8 +126,8 @@ impl<I: Read + Drop, O: Write + Drop> Client<I, O> {
         }
     }
 
-    /// The next line that it said, behind so many of all clients. It is heard no further while a text is being written.
-    pub(crate) fn hear(&mut self, lines: u64) -> Option<Heard>
+    /// The next line that it said, after so many of all clients. It is heard no further while a text is being written.
+    pub(crate) fn hear(&mut self, lines: u64) -> Option<HeardLine>
         ensures none { IfNone result (HearsNoLine self.old self.new) }
         ensures heard { IfSome result (λ heard. HearsLine heard self.old self.new) }
     {

@@ -7,7 +7,7 @@ use crate::client::Client;
 use crate::ready::Ready;
 use crate::stream::Stream;
 use fax_bits::NoMemory;
-use fax_control::Heard;
+use fax_control::HeardLine;
 use std::alloc::Global;
 use std::io::{Read, Write};
 use std::marker::Model;
@@ -174,7 +174,7 @@ impl<I: Read + Drop, O: Write + Drop> Clients<I, O> {
     }
 
     /// The next line that a client said whose last one was answered, and who it was.
-    pub fn hear(&mut self) -> Option<(Asker, Heard)>
+    pub fn hear(&mut self) -> Option<(Asker, HeardLine)>
         ensures none { IfNone result (AllZip HearsNoLine self.old.clients self.new.clients) }
         ensures heard { IfSome result (λ said. Hears said.0 said.1 self.old.clients self.new.clients) }
         ensures told { map (λ client. client.told) self.new.clients ≡ map (λ client. client.told) self.old.clients }
@@ -270,7 +270,7 @@ fn ask<I: Read + Drop, O: Write + Drop>(ready: &mut Ready, clients: &mut [Client
     is_waiting
 }
 
-/// Reads and writes what can be, where the clients were waited for one behind the other.
+/// Reads and writes what can be, where the clients were waited for one after the other.
 fn serve<I: Read + Drop, O: Write + Drop>(ready: &Ready, clients: &mut [Client<I, O>])
     ensures { AllZip IsServed clients.old clients.new }
 {
@@ -339,11 +339,11 @@ fn silent_longest<I: Read + Drop, O: Write + Drop>(
     found
 }
 
-/// The next line that one of the clients said, behind so many that all said, and which one.
+/// The next line that one of the clients said, after so many that all said, and which one.
 fn hear<I: Read + Drop, O: Write + Drop>(
     clients: &mut [Client<I, O>],
     lines: u64,
-) -> Option<(Asker, Heard)>
+) -> Option<(Asker, HeardLine)>
     ensures none { IfNone result (AllZip HearsNoLine clients.old clients.new) }
     ensures heard { IfSome result (λ said. Hears said.0 said.1 clients.old clients.new) }
 {

@@ -2,7 +2,7 @@
 ghost use Rattle.std.specs.Prelude.{◌≡◌, ◌≤◌, true, [], length, take, drop, IfNone, IfSome};
 ghost use Rattle.fax_clients.specs.Clients.{ComesOn, IsHeard, IsKept, nothing_said};
 
-use fax_control::{ClientLines, Heard};
+use fax_control::{ClientLines, HeardLine};
 use std::io::{ErrorKind, Read};
 use std::marker::Model;
 
@@ -24,9 +24,9 @@ pub(crate) struct Inbox {
 /// Contracts see whether more may come, the octets that were not heard yet, and what has come of a line.
 impl Model for Inbox {
     ghost use Rattle.std.specs.Prelude.{◌≤◌, take, drop};
-    ghost use Rattle.fax_clients.specs.Clients.{Said};
+    ghost use Rattle.fax_clients.specs.Clients.{ClientInput};
 
-    ghost Value = { Said };
+    ghost Value = { ClientInput };
 
     ghost view = { λ b. record { more = b.is_open; unheard = drop b.start (take b.end b.octets); begun = b.lines } };
 
@@ -61,7 +61,7 @@ impl Inbox {
         self.start == self.end
     }
 
-    /// Reads what has come, where all that was read before was heard. Behind the end of the stream, or a read that failed,
+    /// Reads what has come, where all that was read before was heard. After the end of the stream, or a read that failed,
     /// nothing more comes.
     pub(crate) fn read<S: Read>(&mut self, stream: &mut S)
         ensures { ComesOn self.old self.new }
@@ -80,7 +80,7 @@ impl Inbox {
     }
 
     /// The next line of what was read, if one ends there.
-    pub(crate) fn hear(&mut self) -> Option<Heard>
+    pub(crate) fn hear(&mut self) -> Option<HeardLine>
         ensures none { IfNone result (IsKept self.old self.new) }
         ensures heard { IfSome result (λ heard. IsHeard heard self.old self.new) }
     {

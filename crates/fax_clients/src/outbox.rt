@@ -10,7 +10,7 @@ use std::alloc::Global;
 use std::io::Write;
 use std::marker::Model;
 
-/// The text that is being written, and the lines of events that wait behind it.
+/// The text that is being written, and the lines of events that wait after it.
 #[derive(Drop)]
 pub(crate) struct Outbox {
     alloc: Global,
@@ -28,9 +28,9 @@ pub(crate) struct Outbox {
 impl Model for Outbox {
     ghost use Rattle.std.specs.Prelude.{◌≤◌, length, drop, option_map};
     ghost use Rattle.fax_events.specs.Queues.{due_of};
-    ghost use Rattle.fax_clients.specs.Clients.{Told};
+    ghost use Rattle.fax_clients.specs.Clients.{ClientOutput};
 
-    ghost Value = { Told };
+    ghost Value = { ClientOutput };
 
     ghost view = { λ b. record { due = drop b.written b.text.items; events = option_map due_of b.events; lost = b.lost } };
 
@@ -90,7 +90,7 @@ impl Outbox {
         self.text = text;
     }
 
-    /// A line of an event waits behind the others, or is lost.
+    /// A line of an event waits after the others, or is lost.
     pub(crate) fn tell(&mut self, line: &[u8])
         ensures { HasTold line.now self.old self.new }
     {

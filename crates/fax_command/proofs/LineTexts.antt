@@ -10,7 +10,7 @@ unfolding runs_between
 line_of-cons n from [] end = refl
 line_of-cons n from (p ∷ places) end = refl
 
--- one more number of the line of a row, and a space behind it
+-- one more number of the line of a row, and a space after it
 pub line_goes_on : (line front places : List ℕ) (from i end : ℕ) → i < length places → line ≡ front ++ line_of (runs_between from (drop i places) end)
     → line ≡ (front ++ (decimal (get_or places i 0 - from) ++ 32 ∷ [])) ++ line_of (runs_between (get_or places i 0) (drop (i + 1) places) end)
 line_goes_on line front places from i end within so_far =
@@ -21,14 +21,14 @@ line_goes_on line front places from i end within so_far =
     ∙ ap (λ text. front ++ text) (line_of-cons run (get_or places i 0) (drop (i + 1) places) end ∙ sym (append_assoc (decimal run) (32 ∷ []) rest))
     ∙ sym (append_assoc front (decimal run ++ 32 ∷ []) rest)
 
--- the last number, and a line feed behind it
+-- the last number, and a line feed after it
 pub line_ends : (line front places : List ℕ) (from i end : ℕ) → length places ≤ i → line ≡ front ++ line_of (runs_between from (drop i places) end)
     → line ++ 10 ∷ [] ≡ front ++ (decimal (end - from) ++ 10 ∷ [])
 line_ends line front places from i end past so_far =
     ap (λ text. text ++ 10 ∷ []) (so_far ∙ ap (λ runs. front ++ line_of runs) (runs_between-drop_all from places i end past))
     ∙ append_assoc front (decimal (end - from)) (10 ∷ [])
 
--- the hex text of octets behind others
+-- the hex text of octets after others
 pub encode_lower-append : (xs ys : List ℕ) → encode_lower (xs ++ ys) ≡ encode_lower xs ++ encode_lower ys
 unfolding encode_with
 encode_lower-append [] ys = refl

@@ -1,4 +1,4 @@
--- Texts that were put into a sink, or behind what waits for it.
+-- Texts that were put into a sink, or after what waits for it.
 use Rattle.std.proofs.Common.{◌≡◌, ℕ, List, [], ◌++◌, Option, None, Some, Result, Ok, Err, sym, ◌∙◌, ap, append_assoc, append-nil}
 use Rattle.std.specs.Result.{OnOk}
 use Rattle.std.specs.Io.KnownBytes.{Appends, append_known}
@@ -9,7 +9,7 @@ use Rattle.fax_command.specs.Streams.{Puts}
 pub Puts-nothing : (held : Option (List ℕ)) (waiting : List ℕ) → Puts held waiting held waiting []
 Puts-nothing held waiting = record { grows = Appends-nil (append_known held waiting) }
 
--- one text behind another
+-- one text after another
 pub Puts-then : (a b c : Option (List ℕ)) (u v w : List ℕ) (s t : List ℕ) → Puts a u b v s → Puts b v c w t → Puts a u c w (s ++ t)
 Puts-then a b c u v w s t p q = record { grows = Appends-trans (append_known a u) (append_known b v) (append_known c w) s t p.grows q.grows }
 
@@ -60,7 +60,7 @@ pub Puts-last : {E : Type 0} (r : Result Unit E) (a b c : Option (List ℕ)) (u 
 Puts-last (Ok done) a b c u v w s t whole p e q = Puts-same a c u w (s ++ t) whole (Puts-then a b c u v w s t p q) e
 Puts-last (Err fault) a b c u v w s t whole p e q = tt
 
--- what a call that may fail leaves behind it, and what follows from that
+-- what a call that may fail leaves after it, and what follows from that
 pub OnOk-then : {T E P Q : Type 0} (r : Result T E) → OnOk r P → (P → Q) → OnOk r Q
 OnOk-then (Ok done) p f = f p
 OnOk-then (Err fault) p f = tt

@@ -12,7 +12,7 @@ use Rattle.fax_runcodes.specs.declared.Width.TheVariants.{W1728, W2048, W2432}
 use Rattle.fax_runcodes.specs.Rows.{Elements, AreRunsOfRow, IsWidth, other, stretches}
 use Rattle.fax_runcodes.specs.Widths.{elements_of}
 use Rattle.fax_mhcode.proofs.LineLaws.{IsWidth-elements}
-use Rattle.fax_command.specs.Answers.{ComesBehind}
+use Rattle.fax_command.specs.Answers.{ComesAfter}
 use Rattle.fax_command.specs.RowLines.{TellsRow, TellRows, IsRowLine, line_of, text_of_lines, lines_of}
 
 -- ---- one line
@@ -64,11 +64,11 @@ each_tells width [] (row ∷ rows) told wide = absurd told
 each_tells width (line ∷ lines) [] told wide = absurd told
 each_tells width (line ∷ lines) (row ∷ rows) told wide = ((row, wide.0, told.0), each_tells width lines rows told.1 wide.1)
 
--- a line behind those that tell rows
-pub ComesBehind-told : (width : ℕ) (input : List ℕ) (before : List (List ℕ)) (rows : List Elements) (n : ℕ) (line : List ℕ) (rest : List (List ℕ))
+-- a line after those that tell rows
+pub ComesAfter-told : (width : ℕ) (input : List ℕ) (before : List (List ℕ)) (rows : List Elements) (n : ℕ) (line : List ℕ) (rest : List (List ℕ))
     → lines_of input ≡ before ++ line ∷ rest → TellRows before rows → All (λ row. length row ≡ width) rows → length rows ≡ n
-    → ComesBehind width input n line
-ComesBehind-told width input before rows n line rest lines_are told wide many = record {
+    → ComesAfter width input n line
+ComesAfter-told width input before rows n line rest lines_are told wide many = record {
   before = before;
   rest = rest;
   lines_are = lines_are;
@@ -84,7 +84,7 @@ TellRows-empty (line ∷ lines) (row ∷ rows) told none = absurd (omega arith)
 
 -- ---- their text
 
--- the text of lines behind others
+-- the text of lines after others
 pub text_of_lines-append : (lines more : List (List ℕ)) → text_of_lines (lines ++ more) ≡ text_of_lines lines ++ text_of_lines more
 text_of_lines-append lines more = flat_map-append (λ line. line ++ 10 ∷ []) lines more
 

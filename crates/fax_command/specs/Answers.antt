@@ -89,8 +89,8 @@ AnswersPicture options input (Err fault) = RefusesPage options input fault
 
 -- ---- from rows to their page
 
--- This line comes behind so many lines that tell rows of the width.
-pub record ComesBehind (width : ℕ) (input : List ℕ) (n : ℕ) (line : List ℕ) : Type 0 where
+-- This line comes after so many lines that tell rows of the width.
+pub record ComesAfter (width : ℕ) (input : List ℕ) (n : ℕ) (line : List ℕ) : Type 0 where
   pub before : List (List ℕ)
   pub rest : List (List ℕ)
   pub lines_are : lines_of input ≡ before ++ line ∷ rest
@@ -104,14 +104,14 @@ pub record HoldPage (options : PageOptions) (octets : List ℕ) (rows : List Ele
   pub padded : IsPadded octets bits
   pub are_octets : AreOctets octets
 
--- What is wrong with lines: there is none, or the first that tells no row, or that comes behind as many
+-- What is wrong with lines: there is none, or the first that tells no row, or that comes after as many
 -- rows as a page may have. Memory may be wanting at any input.
 abbrev pub RefusesLines : ℕ → List ℕ → InputFault → Type 0
 RefusesLines width input Hex = ⊥
 RefusesLines width input (Page fault) =
     ((fault ≡ page.Empty) × (lines_of input ≡ []))
-    ⊎ ((fault ≡ page.TooManyRows) × (line : List ℕ) × ComesBehind width input most_rows line)
-RefusesLines width input (Row n) = (n < most_rows) × (line : List ℕ) × ComesBehind width input n line × (IsRowLine width line → ⊥)
+    ⊎ ((fault ≡ page.TooManyRows) × (line : List ℕ) × ComesAfter width input most_rows line)
+RefusesLines width input (Row n) = (n < most_rows) × (line : List ℕ) × ComesAfter width input n line × (IsRowLine width line → ⊥)
 RefusesLines width input NoMemory = Unit {0}
 
 -- the outcome for lines: the hex text of the page of the rows that they tell, or what is wrong

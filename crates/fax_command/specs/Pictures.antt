@@ -9,7 +9,7 @@ use Rattle.fax_runcodes.specs.Rows.{Elements}
 abbrev pub picture_head : ℕ → ℕ → List ℕ
 picture_head width rows = codes "P4\n" ++ (decimal width ++ (codes " " ++ (decimal rows ++ codes "\n")))
 
--- the octets of rows, one row behind the other: a bit an element, 1 for black, and zeros up to a whole octet
+-- the octets of rows, one row after the other: a bit an element, 1 for black, and zeros up to a whole octet
 abbrev pub AreRowsOctets : List ℕ → List Elements → Type 0
 AreRowsOctets octets [] = octets ≡ []
 AreRowsOctets octets (row ∷ rows) =

@@ -24,7 +24,7 @@ TellRows (line ∷ lines) [] = ⊥
 abbrev pub IsRowLine : ℕ → List ℕ → Type 0
 IsRowLine width line = (row : Elements) × (length row ≡ width) × TellsRow line row
 
--- lines, with a line feed behind each
+-- lines, with a line feed after each
 abbrev pub text_of_lines : List (List ℕ) → List ℕ
 text_of_lines lines = flat_map (λ line. line ++ 10 ∷ []) lines
 

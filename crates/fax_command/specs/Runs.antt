@@ -27,7 +27,7 @@ pub record RunsOver {I O : Type 0} (sources : Sources I) (sinks : Sinks O) (sour
   -- the source is read no further than its bounds
   pub reads : sources.reads read ≤ sources.reads source + MOST_READS
   pub given : sources.given read ≤ sources.given source + MOST_OCTETS + MOST_AT_ONCE
-  -- each fault of a stream that is met gives status 4, and behind those of a source nothing is written
+  -- each fault of a stream that is met gives status 4, and after those of a source nothing is written
   pub failed_read : sources.failed source ≡ false → sources.failed read ≡ true → (status ≡ 4) × Keeps (sinks.contents sink) (sinks.contents written)
   pub too_much : sources.given source ≡ 0 → MOST_OCTETS < sources.given read → (status ≡ 4) × Keeps (sinks.contents sink) (sinks.contents written)
   pub failed_write : sinks.failed sink ≡ false → sinks.failed written ≡ true → status ≡ 4

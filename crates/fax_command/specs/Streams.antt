@@ -24,7 +24,7 @@ abbrev pub failed_after_write : {E : Type 0} → Bool → Result Unit E → Bool
 failed_after_write failed (Ok done) = failed
 failed_after_write failed (Err fault) = true
 
--- A text was put into a sink, or behind the octets that wait to be written to it: what it holds and what waits,
+-- A text was put into a sink, or after the octets that wait to be written to it: what it holds and what waits,
 -- before and after.
 pub record Puts (old : Option (List ℕ)) (waiting : List ℕ) (new : Option (List ℕ)) (still_waiting text : List ℕ) : Type 0 where
   pub grows : Appends (append_known old waiting) (append_known new still_waiting) text

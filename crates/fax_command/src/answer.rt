@@ -191,7 +191,7 @@ fn rows_of_lines<S: RowStore>(alloc: Global, input: &[u8], width: Width) -> Resu
 {
     let mut rows = S::empty(alloc);
     let mut rest = input;
-    while let Some((line, behind)) = first_line(rest) {
+    while let Some((line, after)) = first_line(rest) {
         let number = rows.len();
         if number >= MOST_ROWS {
             return Err(InputFault::Page(PageFault::TooManyRows));
@@ -202,7 +202,7 @@ fn rows_of_lines<S: RowStore>(alloc: Global, input: &[u8], width: Width) -> Resu
         if rows.push(row).is_err() {
             return Err(InputFault::NoMemory);
         }
-        rest = behind;
+        rest = after;
     }
     if rows.len() == 0 {
         return Err(InputFault::Page(PageFault::Empty));

@@ -9,7 +9,7 @@ use itoa::Buffer;
 /// How many octets wait at most, but for those that were put last.
 const MOST_WAITING: usize = 65_536;
 
-/// Puts octets behind those that wait. Where there is no memory for them they are written at once.
+/// Puts octets after those that wait. Where there is no memory for them they are written at once.
 #[inline]
 pub fn put<O: Sink>(sink: &mut O, waiting: &mut Vec<u8>, octets: &[u8]) -> Result<(), WriteFault>
     ensures text { OnOk result (Puts (O.contents sink.old) waiting.old.items (O.contents sink.new) waiting.new.items octets.now) }
@@ -24,19 +24,19 @@ pub fn put<O: Sink>(sink: &mut O, waiting: &mut Vec<u8>, octets: &[u8]) -> Resul
     sink.write_all(octets)
 }
 
-/// Puts a number in decimal, and an octet behind it.
+/// Puts a number in decimal, and an octet after it.
 #[inline]
 pub fn put_number<O: Sink>(
     sink: &mut O,
     waiting: &mut Vec<u8>,
     number: u32,
-    behind: u8,
+    after: u8,
 ) -> Result<(), WriteFault>
-    ensures text { OnOk result (Puts (O.contents sink.old) waiting.old.items (O.contents sink.new) waiting.new.items (decimal number ++ behind ∷ [])) }
+    ensures text { OnOk result (Puts (O.contents sink.old) waiting.old.items (O.contents sink.new) waiting.new.items (decimal number ++ after ∷ [])) }
     ensures failed { O.failed sink.new ≡ failed_after_write (O.failed sink.old) result }
 {
     put(sink, waiting, Buffer::new().format(number).as_bytes())?;
-    put_octet(sink, waiting, behind)
+    put_octet(sink, waiting, after)
 }
 
 /// Puts one octet as [`put`] does, but looks not whether much waits.

@@ -14,7 +14,7 @@ pub enum InputFault {
     Hex,
     /// The octets mean no page, or the lines tell none.
     Page(PageFault),
-    /// The line behind so many tells no row.
+    /// The line after so many tells no row.
     Row(u32),
     NoMemory,
 }

@@ -10,7 +10,7 @@ use itoa::Buffer;
 use memchr::memchr;
 use std::alloc::Global;
 
-/// The first line of a text, and the text behind it; none of an empty text.
+/// The first line of a text, and the text after it; none of an empty text.
 pub fn first_line(text: &[u8]) -> Option<(&[u8], &[u8])>
     ensures none { IfNone result (text.now ≡ []) }
     ensures lines { IfSome result (λ cut. lines_of text.now ≡ cut.0.now ∷ lines_of cut.1.now) }

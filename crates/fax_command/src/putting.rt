@@ -131,9 +131,9 @@ pub fn put_hex_line<O: Sink>(
 {
     let mut rest = octets;
     while !rest.is_empty() {
-        let (front, behind) = rest.split_at(rest.len().min(HEX_AT_ONCE));
+        let (front, after) = rest.split_at(rest.len().min(HEX_AT_ONCE));
         put_hex(sink, waiting, front)?;
-        rest = behind;
+        rest = after;
     }
     put(sink, waiting, b"\n")
 }

@@ -7,7 +7,7 @@ use Rattle.std.specs.declared.net.socket_addr.SocketAddr.{SocketAddr}
 use Rattle.toml.specs.Data.{Data, string, integer, array, table, Items, no_items, item, Members, get_item, get_member, as_str, as_integer, as_array, as_table}
 use Rattle.toml.specs.Parse.{parse_document}
 use Rattle.toml.specs.Errors.{span_start}
-use Rattle.fax_control.specs.Words.{leg_text}
+use Rattle.fax_gateway.specs.LegNames.{leg_text}
 use Rattle.fax_config.specs.declared.config.LineConfig.{LineConfig}
 use Rattle.fax_config.specs.declared.config.Repeat.{Repeat}
 use Rattle.fax_config.specs.declared.fault.ConfigFault.{ConfigFault}
@@ -55,16 +55,16 @@ HasFlaw level inside flaws.NoMemory = Unit {0}
 
 -- a line is told of by its name, or by how many stand before it where it has no name that is a text
 abbrev pub IsToldAs : ℕ → Members → LineName → Type 0
-IsToldAs behind line (told.Named name) = get_member (codes "name") line ≡ Some (string (string_bytes name))
-IsToldAs behind line (told.Behind count) = (count ≡ behind) × (option_and_then as_str (get_member (codes "name") line) ≡ None)
+IsToldAs after line (told.Named name) = get_member (codes "name") line ≡ Some (string (string_bytes name))
+IsToldAs after line (told.After count) = (count ≡ after) × (option_and_then as_str (get_member (codes "name") line) ≡ None)
 
--- the table of a line, behind so many others, has the flaw, or the table of one of its legs
+-- the table of a line, after so many others, has the flaw, or the table of one of its legs
 abbrev pub HasMisfit : ℕ → Members → Misfit → Type 0
-HasMisfit behind line (misfits.Line name flaw) = IsToldAs behind line name × HasFlaw levels.Line line flaw
-HasMisfit behind line (misfits.Leg name leg flaw) =
-    IsToldAs behind line name × ((inner : Members) × IsTableAt (leg_text leg) line inner × HasFlaw levels.Leg inner flaw)
-HasMisfit behind line misfits.NoMemory = Unit {0}
-HasMisfit behind line _ = ⊥
+HasMisfit after line (misfits.Line name flaw) = IsToldAs after line name × HasFlaw levels.Line line flaw
+HasMisfit after line (misfits.Leg name leg flaw) =
+    IsToldAs after line name × ((inner : Members) × IsTableAt (leg_text leg) line inner × HasFlaw levels.Leg inner flaw)
+HasMisfit after line misfits.NoMemory = Unit {0}
+HasMisfit after line _ = ⊥
 
 -- some table of the list has the flaw
 abbrev pub SomeLineHasMisfit : Items → Misfit → Type 0
@@ -74,7 +74,7 @@ SomeLineHasMisfit items misfit = (i : ℕ) × (line : Members) × (get_item i it
 abbrev pub HasTwice : {X : Type 0} → List X → X → Type 0
 HasTwice xs x = (i : ℕ) × (j : ℕ) × (i < j) × (j < length xs) × (get_or xs i x ≡ x) × (get_or xs j x ≡ x)
 
--- the element stands at a place of the list, behind one that is like it by this test
+-- the element stands at a place of the list, after one that is like it by this test
 abbrev pub IsRepeated : {X : Type 0} → (X → X → Bool) → List X → X → Type 0
 IsRepeated eq xs x = (j : ℕ) × (j < length xs) × (get_or xs j x ≡ x) × (list_any (eq x) (take j xs) ≡ true)
 

@@ -10,7 +10,7 @@ pub const MOST_NAME_OCTETS: usize = 64;
 /// The most redundancy.
 pub const MOST_REDUNDANCY: u16 = 8;
 
-/// The least and the most that the packet behind a preamble waits, in milliseconds.
+/// The least and the most that the packet after a preamble waits, in milliseconds.
 pub const LEAST_PREAMBLE_MS: u16 = 40;
 
 pub const MOST_PREAMBLE_MS: u16 = 2000;
@@ -26,7 +26,7 @@ pub const MOST_STOP_SECONDS: u32 = 86_400;
 /// Which datagrams are sent again.
 #[derive(Clone, Copy, PartialEq, Eq, Debug)]
 pub enum Repeat {
-    /// Each once again, and the last one of a leg five times behind that.
+    /// Each once again, and the last one of a leg five times after that.
     Full,
     /// The last one of a leg, once.
     Last,
@@ -49,7 +49,7 @@ pub struct LineConfig {
     pub called: LegConfig,
     /// How many earlier packets a datagram repeats, 0 to 8.
     pub redundancy: u16,
-    /// How long the packet behind a preamble waits, 40 to 2,000 milliseconds.
+    /// How long the packet after a preamble waits, 40 to 2,000 milliseconds.
     pub preamble_ms: u16,
     pub repeat: Repeat,
     /// How long an answer is waited for where the call of a job is asked for, 1 to 3,600 seconds.

@@ -38,7 +38,7 @@ pub enum Flaw {
 pub enum LineName {
     Named(String),
     /// It has no name that can be read: so many lines stand before it.
-    Behind(usize),
+    After(usize),
 }
 
 /// Why a text tells no configuration.
@@ -104,8 +104,8 @@ impl fmt::Display for LineName {
     fn fmt<W: fmt::Write>(&self, f: &mut fmt::Formatter<W>) -> fmt::Result {
         match self {
             LineName::Named(name) => write!(f, "line {name:?}"),
-            LineName::Behind(0) => write!(f, "the first line"),
-            LineName::Behind(count) => write!(f, "the line behind {count} others"),
+            LineName::After(0) => write!(f, "the first line"),
+            LineName::After(count) => write!(f, "the line behind {count} others"),
         }
     }
 }

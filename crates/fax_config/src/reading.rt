@@ -2,7 +2,7 @@
 ghost use Rattle.std.specs.Prelude.{◌≡◌, ◌≤◌, ◌==◌, take, count_by, Some, All, codes, length, option_map, OnOk, IfOk, IfErr, string_bytes};
 ghost use Rattle.toml.specs.Data.{Members, array, get_member};
 ghost use Rattle.toml.specs.View.{array_view, table_view};
-ghost use Rattle.fax_control.specs.Words.{leg_text};
+ghost use Rattle.fax_gateway.specs.LegNames.{leg_text};
 ghost use Rattle.fax_config.specs.declared.keys.Level.TheVariants as levels;
 ghost use Rattle.fax_config.specs.Members.{HasKnownKeys, IsNumberAt, IsPathAt};
 ghost use Rattle.fax_config.specs.Configurations.{AreLines, AreLinesAt, AreUnlike, IsConfig, IsInRange, IsLeg, IsLegAt, IsLine, Tells, local_addresses, names_of};
@@ -159,16 +159,16 @@ fn lines_of_items(alloc: Global, items: &Array) -> Result<Vec<LineConfig>, Misfi
     Ok(lines)
 }
 
-/// The line that a table tells, behind so many.
-fn line_of(alloc: Global, table: &Table, behind: usize) -> Result<LineConfig, Misfit>
+/// The line that a table tells, after so many.
+fn line_of(alloc: Global, table: &Table, after: usize) -> Result<LineConfig, Misfit>
     ensures told { IfOk result (IsLine (table_view table.now)) }
-    ensures fault { IfErr result (HasMisfit behind (table_view table.now)) }
+    ensures fault { IfErr result (HasMisfit after (table_view table.now)) }
 {
-    let calling = leg_of_line(alloc, table, Leg::Calling, behind)?;
-    let called = leg_of_line(alloc, table, Leg::Called, behind)?;
+    let calling = leg_of_line(alloc, table, Leg::Calling, after)?;
+    let called = leg_of_line(alloc, table, Leg::Called, after)?;
     match settings_of(alloc, table, calling, called) {
         Ok(line) => Ok(line),
-        Err(flaw) => Err(Misfit::Line(name_to_tell(alloc, table, behind)?, flaw)),
+        Err(flaw) => Err(Misfit::Line(name_to_tell(alloc, table, after)?, flaw)),
     }
 }
 
@@ -214,15 +214,15 @@ fn settings_of(
 }
 
 /// A leg of the line that a table tells.
-fn leg_of_line(alloc: Global, table: &Table, leg: Leg, behind: usize) -> Result<LegConfig, Misfit>
+fn leg_of_line(alloc: Global, table: &Table, leg: Leg, after: usize) -> Result<LegConfig, Misfit>
     ensures told { IfOk result (IsLegAt (leg_text leg) (table_view table.now)) }
-    ensures fault { IfErr result (HasMisfit behind (table_view table.now)) }
+    ensures fault { IfErr result (HasMisfit after (table_view table.now)) }
 {
     match table_at(table, leg.name()) {
-        Err(flaw) => Err(Misfit::Line(name_to_tell(alloc, table, behind)?, flaw)),
+        Err(flaw) => Err(Misfit::Line(name_to_tell(alloc, table, after)?, flaw)),
         Ok(inner) => match leg_of(alloc, inner) {
             Ok(found) => Ok(found),
-            Err(flaw) => Err(Misfit::Leg(name_to_tell(alloc, table, behind)?, leg, flaw)),
+            Err(flaw) => Err(Misfit::Leg(name_to_tell(alloc, table, after)?, leg, flaw)),
         },
     }
 }
@@ -244,14 +244,14 @@ fn leg_of(alloc: Global, table: &Table) -> Result<LegConfig, Flaw>
 }
 
 /// How a line is told of in a fault.
-fn name_to_tell(alloc: Global, table: &Table, behind: usize) -> Result<LineName, AllocError>
-    ensures { IfOk result (IsToldAs behind (table_view table.now)) }
+fn name_to_tell(alloc: Global, table: &Table, after: usize) -> Result<LineName, AllocError>
+    ensures { IfOk result (IsToldAs after (table_view table.now)) }
 {
     let Some(value) = value_at(table, "name") else {
-        return Ok(LineName::Behind(behind));
+        return Ok(LineName::After(after));
     };
     match value.as_str() {
         Some(name) => Ok(LineName::Named(String::from_str(alloc, name)?)),
-        None => Ok(LineName::Behind(behind)),
+        None => Ok(LineName::After(after)),
     }
 }

@@ -84,5 +84,5 @@ fn last_leg_at(
         let name = String::from_str(alloc, line.name.as_str())?;
         return Ok((LineName::Named(name), leg));
     }
-    Ok((LineName::Behind(0), Leg::Calling))
+    Ok((LineName::After(0), Leg::Calling))
 }

@@ -8,13 +8,13 @@ use Rattle.std.specs.Net.Grammar.{IsSocketText}
 use Rattle.std.specs.Str.Parse.{AllDigits}
 use Rattle.std.specs.declared.net.socket_addr.SocketAddr.{SocketAddr}
 use Rattle.fax_control.specs.declared.word.Bounds.{Bounds}
-use Rattle.fax_control.specs.declared.word.Leg.{Leg}
-use Rattle.fax_control.specs.declared.word.Leg.TheVariants.{Calling, Called}
+use Rattle.fax_gateway.specs.declared.leg.Leg.{Leg}
+use Rattle.fax_gateway.specs.declared.leg.Leg.TheVariants.{Calling, Called}
 use Rattle.fax_control.specs.Options.{IsNoOption, IsOption, MayFollowNoTag, StartsOtherwise}
 use Rattle.fax_control.specs.Words.{BeginsWith, HasNoSpace, IsPeerText, IsRingTag, IsTag, IsWithin, bounds_led, led, moved_text, option_led, word_led}
 use Rattle.fax_control.proofs.SpaceLemmas.{heads, tails, has_space, cut_once, NoSpace-by_test, NoSpace-tail, NoSpace-head}
 
--- two texts of which neither has a space, one behind the other
+-- two texts of which neither has a space, one after the other
 pub NoSpace-append : (xs ys : List ℕ) → HasNoSpace xs → HasNoSpace ys → HasNoSpace (xs ++ ys)
 NoSpace-append [] ys p q k within = q k within
 NoSpace-append (x ∷ xs) ys p q zero within = NoSpace-head x xs p
@@ -26,11 +26,11 @@ NoSpace-decimal n small =
     not_in_digits own (decimal n) 32 (digits_decimal own n small) (λ within. omega (arith, within))
 
 -- there is one way to take the first word off
-pub led_once : (first other : List ℕ) (rest behind : Option (List ℕ)) → HasNoSpace first → HasNoSpace other → led first rest ≡ led other behind → (first ≡ other) × (rest ≡ behind)
+pub led_once : (first other : List ℕ) (rest after : Option (List ℕ)) → HasNoSpace first → HasNoSpace other → led first rest ≡ led other after → (first ≡ other) × (rest ≡ after)
 led_once first other None None p q e = (e, refl)
-led_once first other None (Some behind) p q e = absurd (has_space other behind (subst HasNoSpace e p))
+led_once first other None (Some after) p q e = absurd (has_space other after (subst HasNoSpace e p))
 led_once first other (Some rest) None p q e = absurd (has_space first rest (subst HasNoSpace (sym e) q))
-led_once first other (Some rest) (Some behind) p q e = let same = cut_once first rest other behind p q e in (same.0, ap Some same.1)
+led_once first other (Some rest) (Some after) p q e = let same = cut_once first rest other after p q e in (same.0, ap Some same.1)
 
 -- what the first word begins with, the text begins with
 pub led-append : (front back : List ℕ) (rest : Option (List ℕ)) → led (front ++ back) rest ≡ front ++ led back rest
@@ -44,27 +44,27 @@ peer_is Calling text found None other says is = absurd (other is)
 peer_is Called text found None other says is = absurd is
 
 -- a word that begins otherwise is no option of this name
-pub no_value : (name text first : List ℕ) (rest behind : Option (List ℕ)) (value : Option ℕ) (least most : ℕ) → most < 2 ^ 16 → text ≡ led first rest → HasNoSpace first → HasNoSpace name → IsWithin least most value
-    → ¬ (BeginsWith name first) → Some text ≡ option_led name value behind → (value ≡ None) × (behind ≡ Some text)
-no_value name text first rest behind None least most fits is none free small other e = (refl, sym e)
-no_value name text first rest behind (Some n) least most fits is none free small other e =
-    let same_text : text ≡ led (name ++ decimal n) behind = cc in
-    let same = led_once first (name ++ decimal n) rest behind none (NoSpace-append name (decimal n) free (NoSpace-decimal n (omega (arith, small.1, fits)))) (sym is ∙ same_text) in
+pub no_value : (name text first : List ℕ) (rest after : Option (List ℕ)) (value : Option ℕ) (least most : ℕ) → most < 2 ^ 16 → text ≡ led first rest → HasNoSpace first → HasNoSpace name → IsWithin least most value
+    → ¬ (BeginsWith name first) → Some text ≡ option_led name value after → (value ≡ None) × (after ≡ Some text)
+no_value name text first rest after None least most fits is none free small other e = (refl, sym e)
+no_value name text first rest after (Some n) least most fits is none free small other e =
+    let same_text : text ≡ led (name ++ decimal n) after = cc in
+    let same = led_once first (name ++ decimal n) rest after none (NoSpace-append name (decimal n) free (NoSpace-decimal n (omega (arith, small.1, fits)))) (sym is ∙ same_text) in
     absurd (other (decimal n, same.0))
 
--- one that begins so is: with the digits of its value behind its name
-pub a_value : (name text first digits : List ℕ) (rest behind : Option (List ℕ)) (value : Option ℕ) (least most : ℕ) → most < 2 ^ 16 → text ≡ led first rest → HasNoSpace first → HasNoSpace name → IsWithin least most value
-    → first ≡ name ++ digits → (value ≡ None → StartsOtherwise name behind) → Some text ≡ option_led name value behind
-    → (n : ℕ) × (value ≡ Some n) × (n < 2 ^ 16) × (digits ≡ decimal n) × (rest ≡ behind)
-a_value name text first digits rest behind None least most fits is none free small begins otherwise e =
+-- one that begins so is: with the digits of its value after its name
+pub a_value : (name text first digits : List ℕ) (rest after : Option (List ℕ)) (value : Option ℕ) (least most : ℕ) → most < 2 ^ 16 → text ≡ led first rest → HasNoSpace first → HasNoSpace name → IsWithin least most value
+    → first ≡ name ++ digits → (value ≡ None → StartsOtherwise name after) → Some text ≡ option_led name value after
+    → (n : ℕ) × (value ≡ Some n) × (n < 2 ^ 16) × (digits ≡ decimal n) × (rest ≡ after)
+a_value name text first digits rest after None least most fits is none free small begins otherwise e =
     let begun : text ≡ name ++ led digits rest = is ∙ ap (λ l. led l rest) begins ∙ led-append name digits rest in
     absurd (subst (StartsOtherwise name) (sym e) (otherwise refl) (led digits rest, begun))
-a_value name text first digits rest behind (Some n) least most fits is none free small begins otherwise e =
-    let same_text : text ≡ led (name ++ decimal n) behind = cc in
-    let same = led_once first (name ++ decimal n) rest behind none (NoSpace-append name (decimal n) free (NoSpace-decimal n (omega (arith, small.1, fits)))) (sym is ∙ same_text) in
+a_value name text first digits rest after (Some n) least most fits is none free small begins otherwise e =
+    let same_text : text ≡ led (name ++ decimal n) after = cc in
+    let same = led_once first (name ++ decimal n) rest after none (NoSpace-append name (decimal n) free (NoSpace-decimal n (omega (arith, small.1, fits)))) (sym is ∙ same_text) in
     (n, refl, omega (arith, small.1, fits), append_cancel_left name digits (decimal n) (sym begins ∙ same.0), same.1)
 
--- behind what is said of octets no option of the other name begins, if none does behind them
+-- after what is said of octets no option of the other name begins, if none does after them
 pub octets_start_otherwise : (octets : Option ℕ) (rest : Option (List ℕ)) → StartsOtherwise (codes "redundancy=") rest → StartsOtherwise (codes "redundancy=") (option_led (codes "octets=") octets rest)
 octets_start_otherwise None rest other = other
 octets_start_otherwise (Some n) rest other = λ (begun : BeginsWith (codes "redundancy=") (led (codes "octets=" ++ decimal n) rest)).
@@ -94,20 +94,20 @@ front_of_first (x ∷ front) [] (Some rest) free (back, e) = absurd (NoSpace-hea
 front_of_first (x ∷ front) (y ∷ first) None free (back, e) = (back, e)
 front_of_first (x ∷ front) (y ∷ first) (Some rest) free (back, e) =
     let alike : y ≡ x = heads y x (led first (Some rest)) (front ++ back) e in
-    let (behind, f) = front_of_first front first (Some rest) (NoSpace-tail x front free) (back, tails y x (led first (Some rest)) (front ++ back) e) in
-    (behind, cc)
+    let (after, f) = front_of_first front first (Some rest) (NoSpace-tail x front free) (back, tails y x (led first (Some rest)) (front ++ back) e) in
+    (after, cc)
 
 pub option_of_first : (first : List ℕ) (rest : Option (List ℕ)) → IsOption (led first rest) → IsOption first
 option_of_first first rest (inl begun) = inl (front_of_first (codes "redundancy=") first rest (NoSpace-by_test (codes "redundancy=") refl) begun)
 option_of_first first rest (inr begun) = inr (front_of_first (codes "octets=") first rest (NoSpace-by_test (codes "octets=") refl) begun)
 
 -- a word that begins as an option does is no tag
-pub no_tag : (text first : List ℕ) (rest behind tag : Option (List ℕ)) → text ≡ led first rest → HasNoSpace first → IsOption first → IfSome tag IsRingTag → Some text ≡ word_led tag behind
-    → (tag ≡ None) × (behind ≡ Some text)
-no_tag text first rest behind None is none begins fits e = (refl, sym e)
-no_tag text first rest behind (Some tag) is none begins fits e =
-    let same_text : text ≡ led tag behind = cc in
-    let same = led_once first tag rest behind none fits.0.2 (sym is ∙ same_text) in
+pub no_tag : (text first : List ℕ) (rest after tag : Option (List ℕ)) → text ≡ led first rest → HasNoSpace first → IsOption first → IfSome tag IsRingTag → Some text ≡ word_led tag after
+    → (tag ≡ None) × (after ≡ Some text)
+no_tag text first rest after None is none begins fits e = (refl, sym e)
+no_tag text first rest after (Some tag) is none begins fits e =
+    let same_text : text ≡ led tag after = cc in
+    let same = led_once first tag rest after none fits.0.2 (sym is ∙ same_text) in
     absurd (is_no_option tag (subst IsOption same.0 begins) fits)
   where
     is_no_option : (tag : List ℕ) → IsOption tag → IsRingTag tag → ⊥
@@ -115,11 +115,11 @@ no_tag text first rest behind (Some tag) is none begins fits e =
     is_no_option tag (inr begun) fits = fits.2 begun
 
 -- any other is one, if it can be
-pub a_tag : (text first : List ℕ) (rest behind tag : Option (List ℕ)) → text ≡ led first rest → HasNoSpace first → ¬ (IsOption first) → IfSome tag IsRingTag → (tag ≡ None → MayFollowNoTag behind)
-    → Some text ≡ word_led tag behind → (tag ≡ Some first) × IsTag first × (rest ≡ behind)
-a_tag text first rest behind None is none other fits follows e =
+pub a_tag : (text first : List ℕ) (rest after tag : Option (List ℕ)) → text ≡ led first rest → HasNoSpace first → ¬ (IsOption first) → IfSome tag IsRingTag → (tag ≡ None → MayFollowNoTag after)
+    → Some text ≡ word_led tag after → (tag ≡ Some first) × IsTag first × (rest ≡ after)
+a_tag text first rest after None is none other fits follows e =
     absurd (other (option_of_first first rest (subst IsOption is (subst MayFollowNoTag (sym e) (follows refl)))))
-a_tag text first rest behind (Some tag) is none other fits follows e =
-    let same_text : text ≡ led tag behind = cc in
-    let same = led_once first tag rest behind none fits.0.2 (sym is ∙ same_text) in
+a_tag text first rest after (Some tag) is none other fits follows e =
+    let same_text : text ≡ led tag after = cc in
+    let same = led_once first tag rest after none fits.0.2 (sym is ∙ same_text) in
     (ap Some (sym same.0), subst IsTag (sym same.0) fits.0, same.1)

@@ -25,13 +25,13 @@ has_space [] rest none = NoSpace-head 32 rest none refl
 has_space (x ∷ first) rest none = has_space first rest (NoSpace-tail x (spaced first rest) none)
 
 -- there is one way to cut a text at its first space
-pub cut_once : (first rest other behind : List ℕ) → HasNoSpace first → HasNoSpace other → spaced first rest ≡ spaced other behind → (first ≡ other) × (rest ≡ behind)
-cut_once [] rest [] behind p q e = (refl, tails 32 32 rest behind e)
-cut_once [] rest (y ∷ other) behind p q e = absurd (NoSpace-head y other q (sym (heads 32 y rest (spaced other behind) e)))
-cut_once (x ∷ first) rest [] behind p q e = absurd (NoSpace-head x first p (heads x 32 (spaced first rest) behind e))
-cut_once (x ∷ first) rest (y ∷ other) behind p q e =
-    let (same, left) = cut_once first rest other behind (NoSpace-tail x first p) (NoSpace-tail y other q) (tails x y (spaced first rest) (spaced other behind) e) in
-    let head : x ≡ y = heads x y (spaced first rest) (spaced other behind) e in
+pub cut_once : (first rest other after : List ℕ) → HasNoSpace first → HasNoSpace other → spaced first rest ≡ spaced other after → (first ≡ other) × (rest ≡ after)
+cut_once [] rest [] after p q e = (refl, tails 32 32 rest after e)
+cut_once [] rest (y ∷ other) after p q e = absurd (NoSpace-head y other q (sym (heads 32 y rest (spaced other after) e)))
+cut_once (x ∷ first) rest [] after p q e = absurd (NoSpace-head x first p (heads x 32 (spaced first rest) after e))
+cut_once (x ∷ first) rest (y ∷ other) after p q e =
+    let (same, left) = cut_once first rest other after (NoSpace-tail x first p) (NoSpace-tail y other q) (tails x y (spaced first rest) (spaced other after) e) in
+    let head : x ≡ y = heads x y (spaced first rest) (spaced other after) e in
     (cc, left)
 
 -- whether no octet of a text is a space

@@ -3,8 +3,9 @@ use Rattle.std.proofs.Common.{◌≡◌, ◌≢◌, ℕ, List, ◌∷◌, Bool, 
 use Rattle.std.proofs.lemmas.Bool.Decides.{nat_tests}
 use Rattle.std.specs.declared.net.socket_addr.SocketAddr.{SocketAddr}
 use Rattle.fax_control.specs.declared.word.Bounds.{Bounds}
-use Rattle.fax_control.specs.declared.word.Leg.{Leg}
-use Rattle.fax_control.specs.Words.{Order, Ring, Peer, HangUp, Refuse, Report, Status, Metrics, Events, Stop, HasNoSpace, IsCause, IsInRange, IsName, IsPeerText, IsRingTag, IsRungLine, Spells, bounds_led, led, leg_text, moved_text, rung_text, spaced, word_led}
+use Rattle.fax_gateway.specs.declared.leg.Leg.{Leg}
+use Rattle.fax_control.specs.Words.{Order, Ring, Peer, HangUp, Refuse, Report, Status, Metrics, Events, Stop, HasNoSpace, IsCause, IsInRange, IsName, IsPeerText, IsRingTag, IsRungLine, Spells, bounds_led, led, moved_text, rung_text, spaced, word_led}
+use Rattle.fax_gateway.specs.LegNames.{leg_text}
 use Rattle.fax_control.proofs.SpaceLemmas.{heads, tails, has_space, cut_once, NoSpace-by_test}
 
 -- two octets that differ do not begin one text

@@ -1,7 +1,7 @@
 -- The lines that a client's octets make (this project's profile).
 use Rattle.std.specs.Prelude.{◌≡◌, ◌≢◌, ℕ, ◌<◌, nat_le, List, ◌∷◌, ◌++◌, length, slice_index, Option, None, Some, if◌then◌else◌}
-use Rattle.fax_control.specs.declared.hearing.Heard.{Heard}
-use Rattle.fax_control.specs.declared.hearing.Heard.TheVariants.{Line, TooLong}
+use Rattle.fax_control.specs.declared.hearing.HeardLine.{HeardLine}
+use Rattle.fax_control.specs.declared.hearing.HeardLine.TheVariants.{Line, TooLong}
 
 -- no octet of the text is a line feed
 abbrev pub HasNoLineFeed : List ℕ → Type 0
@@ -12,7 +12,7 @@ abbrev pub fitting : List ℕ → Option (List ℕ)
 fitting line = if nat_le (length line) 256 then Some line else None
 
 -- the octets of a line that was heard, or none where it was too long
-abbrev pub octets_of_heard : Heard → Option (List ℕ)
+abbrev pub octets_of_heard : HeardLine → Option (List ℕ)
 octets_of_heard (Line octets) = Some octets.items
 octets_of_heard TooLong = None
 

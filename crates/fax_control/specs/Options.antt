@@ -1,4 +1,4 @@
--- Words that may be there, and what is known of those that stand behind a word that was looked for and is not there.
+-- Words that may be there, and what is known of those that stand after a word that was looked for and is not there.
 use Rattle.std.specs.Prelude.{ℕ, List, codes, ◌⊎◌, Option, option_map, IfSome}
 use Rattle.std.specs.Borrow.{Bor}
 use Rattle.fax_control.specs.Words.{BeginsWith}

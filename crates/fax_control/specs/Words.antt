@@ -4,8 +4,9 @@ use Rattle.std.specs.Str.{IsUtf8}
 use Rattle.std.specs.Net.Grammar.{IsSocketText}
 use Rattle.std.specs.declared.net.socket_addr.SocketAddr.{SocketAddr}
 use Rattle.fax_control.specs.declared.word.Bounds.{Bounds}
-use Rattle.fax_control.specs.declared.word.Leg.{Leg}
-use Rattle.fax_control.specs.declared.word.Leg.TheVariants.{Calling, Called}
+use Rattle.fax_gateway.specs.declared.leg.Leg.{Leg}
+use Rattle.fax_gateway.specs.LegNames.{leg_text}
+use Rattle.fax_gateway.specs.declared.leg.Leg.TheVariants.{Calling, Called}
 use Rattle.fax_control.specs.declared.word.Word.{Word}
 use Rattle.fax_control.specs.declared.word.Word.TheVariants as word
 
@@ -48,30 +49,26 @@ IsTag text = (0 < length text) × (length text ≤ 64) × HasNoSpace text
 abbrev pub IsCause : List ℕ → Type 0
 IsCause text = IsTag text
 
-abbrev pub leg_text : Leg → List ℕ
-leg_text Calling = codes "calling"
-leg_text Called = codes "called"
-
 -- a word, one space, and what follows it
 abbrev pub spaced : List ℕ → List ℕ → List ℕ
 spaced first rest = first ++ 32 ∷ rest
 
--- a word, and what follows it behind a space, if anything does
+-- a word, and what follows it after a space, if anything does
 abbrev pub led : List ℕ → Option (List ℕ) → List ℕ
 led first None = first
 led first (Some rest) = spaced first rest
 
--- what follows, behind a word where there is one
+-- what follows, after a word where there is one
 abbrev pub word_led : Option (List ℕ) → Option (List ℕ) → Option (List ℕ)
 word_led None rest = rest
 word_led (Some first) rest = Some (led first rest)
 
--- what follows, behind an option with its value where it has one
+-- what follows, after an option with its value where it has one
 abbrev pub option_led : List ℕ → Option ℕ → Option (List ℕ) → Option (List ℕ)
 option_led name None rest = rest
 option_led name (Some value) rest = Some (led (name ++ decimal value) rest)
 
--- what follows, behind what is said of bounds
+-- what follows, after what is said of bounds
 abbrev pub bounds_led : Bounds → Option (List ℕ) → Option (List ℕ)
 bounds_led bounds rest = option_led (codes "redundancy=") bounds.redundancy (option_led (codes "octets=") bounds.octets rest)
 

@@ -8,7 +8,7 @@ use std::marker::Model;
 
 /// A line that a client ended.
 #[derive(Drop)]
-pub enum Heard {
+pub enum HeardLine {
     /// Its octets, without the line feed.
     Line(ArrayVec<u8, MOST_OCTETS>),
     /// It has more than 256 octets. They were dropped.
@@ -21,7 +21,7 @@ pub struct ClientLines {
     waiting: Option<ArrayVec<u8, MOST_OCTETS>>,
 }
 
-/// Contracts see the octets behind the last line feed, or none where they are more than 256.
+/// Contracts see the octets after the last line feed, or none where they are more than 256.
 impl Model for ClientLines {
     ghost use Rattle.std.specs.Prelude.{ℕ, List, Option, option_map};
 
@@ -40,9 +40,9 @@ impl ClientLines {
         }
     }
 
-    /// Takes octets up to the end of the next line, and gives the line and the octets behind it.
+    /// Takes octets up to the end of the next line, and gives the line and the octets after it.
     /// Where no line ends in them it keeps them all.
-    pub fn hear<'a>(&mut self, octets: &'a [u8]) -> (Option<Heard>, &'a [u8])
+    pub fn hear<'a>(&mut self, octets: &'a [u8]) -> (Option<HeardLine>, &'a [u8])
         // No line ends in these octets: all of them are kept.
         ensures no_end { IfNone result.0 (HasNoLineFeed octets.now) }
         ensures no_rest { IfNone result.0 (result.1.now ≡ []) }
@@ -93,11 +93,11 @@ fn grown(kept: Option<ArrayVec<u8, MOST_OCTETS>>, more: &[u8]) -> Option<ArrayVe
 }
 
 /// The line that has come.
-fn line_heard(line: Option<ArrayVec<u8, MOST_OCTETS>>) -> Heard
+fn line_heard(line: Option<ArrayVec<u8, MOST_OCTETS>>) -> HeardLine
     ensures { octets_of_heard result ≡ option_map (λ octets. octets.items) line }
 {
     match line {
-        Some(octets) => Heard::Line(octets),
-        None => Heard::TooLong,
+        Some(octets) => HeardLine::Line(octets),
+        None => HeardLine::TooLong,
     }
 }

@@ -10,7 +10,8 @@ mod spaces;
 mod word;
 
 pub use answer::Answer;
-pub use hearing::{ClientLines, Heard};
+pub use fax_gateway::Leg;
+pub use hearing::{ClientLines, HeardLine};
 pub use reading::read_word;
 pub use refusal::Refusal;
-pub use word::{Bounds, Leg, MOST_OCTETS, MOST_TAG_OCTETS, PeerWord, RingWord, Word};
+pub use word::{Bounds, MOST_OCTETS, MOST_TAG_OCTETS, PeerWord, RingWord, Word};

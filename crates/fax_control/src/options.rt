@@ -1,4 +1,4 @@
-//! What stands behind the names of `ring` and `peer`: a tag, bounds, and whether a peer has moved. No words are `None`.
+//! What stands after the names of `ring` and `peer`: a tag, bounds, and whether a peer has moved. No words are `None`.
 ghost use Rattle.std.specs.Prelude.{◌≡◌, ◌≢◌, ℕ, ◌<◌, ◌^◌, ◌++◌, List, Bool, Option, None, Some, true, false, codes, decimal, IfSome, IfNone, IsSomeAnd};
 ghost use Rattle.fax_control.specs.declared.word.Bounds.{Bounds as BoundsShown};
 ghost use Rattle.fax_control.specs.Options.{IsNoOption, IsOption, MayFollowNoTag, StartsOtherwise, text_of};
@@ -62,7 +62,7 @@ fn is_option(word: &str) -> bool
     }
 }
 
-/// What a word has behind this front.
+/// What a word has after this front.
 fn value_of<'a>(front: &str, word: &'a str) -> Option<&'a str>
     ensures some { IfSome result (λ value. word.now ≡ front.now ++ value.now) }
     ensures none { IfNone result (BeginsWith front.now word.now → ⊥) }

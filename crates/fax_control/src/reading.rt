@@ -2,11 +2,13 @@
 ghost use Rattle.std.specs.Prelude.{◌≡◌, List, ℕ, Option, Some, codes, IfSome, IfNone, IsSomeAnd};
 ghost use Rattle.std.specs.declared.net.socket_addr.SocketAddr.{SocketAddr as SocketAddrShown};
 ghost use Rattle.fax_control.specs.Options.{text_of};
-ghost use Rattle.fax_control.specs.Words.{HasNoSpace, IsPeerText, IsRungLine, Order, Says, Spells, leg_text, order_of, rung_text, spaced};
+ghost use Rattle.fax_control.specs.Words.{HasNoSpace, IsPeerText, IsRungLine, Order, Says, Spells, order_of, rung_text, spaced};
+ghost use Rattle.fax_gateway.specs.LegNames.{leg_text};
 
 use crate::options::{bounds_of, is_tag, moved_of, tag_of};
 use crate::spaces::{cut, first_word};
-use crate::word::{Leg, MOST_OCTETS, PeerWord, RingWord, Word};
+use crate::word::{MOST_OCTETS, PeerWord, RingWord, Word};
+use fax_gateway::Leg;
 use std::net::SocketAddr;
 
 /// The word that the octets of a line say, its line feed aside; none where they say none.

@@ -1,7 +1,5 @@
 //! The control words.
-ghost use Rattle.std.specs.Prelude.{◌≡◌};
-ghost use Rattle.fax_control.specs.Words.{leg_text};
-
+use fax_gateway::Leg;
 use std::net::SocketAddr;
 
 /// The most octets of a line, its line feed aside.
@@ -9,27 +7,6 @@ pub const MOST_OCTETS: usize = 256;
 
 /// The most octets of a tag, and of the cause for which a call could not be placed.
 pub const MOST_TAG_OCTETS: usize = 64;
-
-/// A leg of a line.
-#[derive(Clone, Copy, PartialEq, Eq, Debug)]
-pub enum Leg {
-    /// It answers calls: its peer sends pages.
-    Calling,
-    /// It places calls: its peer receives pages.
-    Called,
-}
-
-impl Leg {
-    /// The leg's name: `calling` or `called`.
-    pub fn name(self) -> &'static str
-        ensures { result.now ≡ leg_text self }
-    {
-        match self {
-            Leg::Calling => "calling",
-            Leg::Called => "called",
-        }
-    }
-}
 
 /// What bounds the datagrams that a leg sends in a call. What is not said is as the line has it.
 #[derive(Clone, Copy, PartialEq, Eq, Debug, Default)]

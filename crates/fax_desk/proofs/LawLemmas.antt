@@ -2,14 +2,14 @@ use Rattle.std.proofs.Common.{◌≡◌, ℕ, Bool, true, false, List, [], ◌�
 use Rattle.fax_control.specs.declared.refusal.Refusal.{Refusal}
 use Rattle.fax_control.specs.declared.refusal.Refusal.TheVariants as refusal
 use Rattle.fax_control.specs.declared.word.Bounds.{Bounds}
-use Rattle.fax_gateway.specs.declared.side.Side.{Side}
-use Rattle.fax_gateway.specs.declared.side.Side.TheVariants as side
-use Rattle.fax_line.specs.declared.asked.Answered.{Answered}
+use Rattle.fax_gateway.specs.declared.leg.Leg.{Leg}
+use Rattle.fax_gateway.specs.declared.leg.Leg.TheVariants as legs
+use Rattle.fax_line.specs.declared.asked.LineAnswer.{LineAnswer}
 use Rattle.fax_desk.specs.declared.card.Card.{Card}
 use Rattle.fax_desk.specs.declared.desk.Desk.{Desk}
-use Rattle.fax_desk.specs.declared.desk.Done.{Done}
-use Rattle.fax_desk.specs.declared.desk.Looked.{Looked}
-use Rattle.fax_desk.specs.declared.desk.Looked.TheVariants as looked
+use Rattle.fax_desk.specs.declared.desk.OrderEnd.{OrderEnd}
+use Rattle.fax_desk.specs.declared.desk.LookOutcome.{LookOutcome}
+use Rattle.fax_desk.specs.declared.desk.LookOutcome.TheVariants as looked
 use Rattle.fax_desk.specs.declared.desk.Waits.{Waits}
 use Rattle.fax_desk.specs.declared.next.Ask.{Ask}
 use Rattle.fax_desk.specs.declared.next.Ask.TheVariants as ask
@@ -25,7 +25,7 @@ use Rattle.fax_desk.specs.declared.tag.Tag.{Tag}
 use Rattle.fax_desk.specs.declared.view.AskedView.{AskedView}
 use Rattle.fax_desk.specs.declared.view.LineView.{LineView}
 use Rattle.fax_desk.specs.Desks.{done_of, done_with, line_named, next_at, next_here, next_ring, next_there, question_at, ring_if}
-use Rattle.fax_desk.specs.Laws.{Passed, Passes, Said, Lapsed, Told, Gives, answered, answered_at_once, asked, who_is_told, who_waits}
+use Rattle.fax_desk.specs.Laws.{DeskEvent, Passes, Said, Lapsed, Told, Gives, answered, answered_at_once, asked, who_is_told, who_waits}
 use Rattle.fax_desk.specs.Said.{tag_said, unasked_if, waits_if}
 use Rattle.fax_desk.specs.Stops.{takes_rings}
 use Rattle.fax_desk.specs.Words.{called_peer, connect_order, hang_up_order, is_connected, is_on, job_asked, next_of, orders_if, peer_if, peer_of, peer_order, refusal_order, refuse_of, reply_to, ring_order, takes_peer}
@@ -40,22 +40,22 @@ came asker next.Status xs ys e = ap (λ l. asker ∷ l) e
 came asker next.Metrics xs ys e = ap (λ l. asker ∷ l) e
 came asker next.Events xs ys e = ap (λ l. asker ∷ l) e
 
-looks : (to : Looked) (xs ys : List ℕ) → xs ≡ ys → who_waits (unasked_if to) ++ xs ≡ ys
+looks : (to : LookOutcome) (xs ys : List ℕ) → xs ≡ ys → who_waits (unasked_if to) ++ xs ≡ ys
 looks looked.Nothing xs ys e = e
 looks (looked.Asks what) xs ys e = e
 looks (looked.Orders order) xs ys e = e
 
-ends : (cards : List Card) (before : Option Waits) (told : Option Answered) (xs ys : List ℕ) → who_waits before ++ xs ≡ ys → who_is_told (done_of cards before told) ++ xs ≡ ys
+ends : (cards : List Card) (before : Option Waits) (told : Option LineAnswer) (xs ys : List ℕ) → who_waits before ++ xs ≡ ys → who_is_told (done_of cards before told) ++ xs ≡ ys
 ends cards None told xs ys e = e
 ends cards (Some waits) told xs ys e = e
 
-pub once : (passed : List Passed) (waits : Option Waits) → Passes passed waits → who_waits waits ++ answered passed ≡ asked passed
+pub once : (passed : List DeskEvent) (waits : Option Waits) → Passes passed waits → who_waits waits ++ answered passed ≡ asked passed
 once [] waits p = rw p refl
 once (Said asker to ∷ earlier) waits (p, e) = rw e (came asker to (answered earlier) (asked earlier) (once earlier None p))
 once (Lapsed order ∷ earlier) waits (p, e) = rw e (looks (looked.Orders order) (answered earlier) (asked earlier) (once earlier None p))
 once (Told told _ ∷ earlier) waits (cards, before, p, d, e) = rw (e, d) (ends cards before told (answered earlier) (asked earlier) (once earlier before p))
 
--- ---- what is answered behind an order
+-- ---- what is answered after an order
 
 gave_word : (asker : ℕ) (to : Next) (waits : Waits) → waits_if asker to ≡ Some waits → Gives (Said asker to) waits.asker waits.order
 gave_word asker (next.Orders order) waits e = let w : record { asker = Some asker; order = order } ≡ waits = cc in rw (← w) (refl, refl)
@@ -68,24 +68,24 @@ gave_word asker next.Events waits e = cc
 gave_look : (order : Order) (waits : Waits) → unasked_if (looked.Orders order) ≡ Some waits → Gives (Lapsed order) waits.asker waits.order
 gave_look order waits e = let w : record { asker = None; order = order } ≡ waits = cc in rw (← w) refl
 
-gave : (earlier : List Passed) (waits : Waits) → Passes earlier (Some waits)
-    → (given : Passed) × (before : List Passed) × (earlier ≡ given ∷ before) × Gives given waits.asker waits.order
+gave : (earlier : List DeskEvent) (waits : Waits) → Passes earlier (Some waits)
+    → (given : DeskEvent) × (before : List DeskEvent) × (earlier ≡ given ∷ before) × Gives given waits.asker waits.order
 gave [] waits p = cc
 gave (Said asker to ∷ earlier) waits (p, e) = (Said asker to, earlier, refl, gave_word asker to waits (sym e))
 gave (Lapsed order ∷ earlier) waits (p, e) = (Lapsed order, earlier, refl, gave_look order waits (sym e))
 gave (Told told _ ∷ earlier) waits (cards, before, p, d, e) = cc
 
-done_by : (cards : List Card) (before : Option Waits) (told : Option Answered) (done : Done) (earlier : List Passed) → Passes earlier before → Some done ≡ done_of cards before told
-    → (given : Passed) × (before : List Passed) × (order : Order) × (earlier ≡ given ∷ before) × Gives given done.asker order × (done.line ≡ order.line) × (done.reply ≡ reply_to order told)
+done_by : (cards : List Card) (before : Option Waits) (told : Option LineAnswer) (done : OrderEnd) (earlier : List DeskEvent) → Passes earlier before → Some done ≡ done_of cards before told
+    → (given : DeskEvent) × (before : List DeskEvent) × (order : Order) × (earlier ≡ given ∷ before) × Gives given done.asker order × (done.line ≡ order.line) × (done.reply ≡ reply_to order told)
 done_by cards None told done earlier p e = cc
 done_by cards (Some waits) told done earlier p e =
     let is : done ≡ done_with cards waits told = cc in
     let (given, before, f, g) = gave earlier waits p in
     rw is (given, before, waits.order, f, g, refl, refl)
 
-pub done_behind : (told : Option Answered) (done : Done) (earlier : List Passed) (waits : Option Waits) → Passes (Told told (Some done) ∷ earlier) waits
-    → (given : Passed) × (before : List Passed) × (order : Order) × (earlier ≡ given ∷ before) × Gives given done.asker order × (done.line ≡ order.line) × (done.reply ≡ reply_to order told)
-done_behind told done earlier waits (cards, before, p, d, e) = done_by cards before told done earlier p d
+pub done_after : (told : Option LineAnswer) (done : OrderEnd) (earlier : List DeskEvent) (waits : Option Waits) → Passes (Told told (Some done) ∷ earlier) waits
+    → (given : DeskEvent) × (before : List DeskEvent) × (order : Order) × (earlier ≡ given ∷ before) × Gives given done.asker order × (done.line ≡ order.line) × (done.reply ≡ reply_to order told)
+done_after told done earlier waits (cards, before, p, d, e) = done_by cards before told done earlier p d
 
 -- ---- an order goes to the line that was named
 
@@ -106,15 +106,15 @@ of_refusal : (job : Option AskedView) (i : ℕ) (why : Cause) (got : Order) → 
 of_refusal None i why got e = cc
 of_refusal (Some job) i why got e = let q : refusal_order i why ≡ got = cc in ap (λ order. order.line) q
 
-of_side : (at : Side) (question : Option Question) (i : ℕ) (line : LineView) (peer : PeerAsk) (got : Order) → peer_of at question i line peer ≡ next.Orders got → i ≡ got.line
-of_side side.Calling question i line peer got e = given (takes_peer (is_some line.call) line.calling peer.is_moved) refusal.InCall (peer_order i peer) got e
-of_side side.Called question i line peer got e = of_called line.called.is_fixed (job_asked question line) i line peer got e
+of_leg : (at : Leg) (question : Option Question) (i : ℕ) (line : LineView) (peer : PeerAsk) (got : Order) → peer_of at question i line peer ≡ next.Orders got → i ≡ got.line
+of_leg legs.Calling question i line peer got e = given (takes_peer (is_some line.call) line.calling peer.is_moved) refusal.InCall (peer_order i peer) got e
+of_leg legs.Called question i line peer got e = of_called line.called.is_fixed (job_asked question line) i line peer got e
 
 of_line : (question : Option Question) (i : ℕ) (line : LineView) (said : Ask) (got : Order) → next_of question i line said ≡ next.Orders got → i ≡ got.line
 of_line question i line (ask.Ring rung) got e = given line.calling.has_peer refusal.NoPeer (ring_order i false rung.bounds (note.Ring rung.tag)) got e
-of_line question i line (ask.Peer peer) got e = of_side peer.side question i line peer got e
+of_line question i line (ask.Peer peer) got e = of_leg peer.leg question i line peer got e
 of_line question i line (ask.Refuse why) got e = of_refusal (job_asked question line) i (cause.Said why) got e
-of_line question i line (ask.HangUp gone) got e = given (is_on gone.side line) refusal.NoCall (hang_up_order i gone.side) got e
+of_line question i line (ask.HangUp gone) got e = given (is_on gone.leg line) refusal.NoCall (hang_up_order i gone.leg) got e
 of_line question i line ask.Report got e = cc
 
 of_there : (cards : List Card) (i : ℕ) (said : Ask) (line : Option LineView) (got : Order) → next_there cards i said line ≡ next.Orders got → i ≡ got.line
@@ -146,6 +146,6 @@ pub serving : (desk : Desk) (lines : ℕ → Option LineView) (has_failed : Bool
     → next_ring desk lines has_failed name tag bounds ≡ next.Orders got → takes_rings desk.stop ≡ true
 serving desk lines has_failed name tag bounds got e = takes (takes_rings desk.stop) has_failed desk lines name bounds (tag_said tag) got e
 
-pub keeping : (desk : Desk) (lines : ℕ → Option LineView) (has_failed : Bool) (name tag : Option (List ℕ)) (bounds : Bounds) (got : Order)
+pub storage : (desk : Desk) (lines : ℕ → Option LineView) (has_failed : Bool) (name tag : Option (List ℕ)) (bounds : Bounds) (got : Order)
     → next_ring desk lines has_failed name tag bounds ≡ next.Orders got → has_failed ≡ false
-keeping desk lines has_failed name tag bounds got e = keeps (takes_rings desk.stop) has_failed desk lines name bounds (tag_said tag) got e
+storage desk lines has_failed name tag bounds got e = keeps (takes_rings desk.stop) has_failed desk lines name bounds (tag_said tag) got e

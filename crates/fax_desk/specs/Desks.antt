@@ -8,16 +8,16 @@ use Rattle.fax_control.specs.declared.refusal.Refusal.TheVariants as refusal
 use Rattle.fax_control.specs.declared.word.Bounds.{Bounds as SaidBounds}
 use Rattle.fax_control.specs.declared.word.Word.{Word}
 use Rattle.fax_control.specs.declared.word.Word.TheVariants as word
-use Rattle.fax_line.specs.declared.asked.Answered.{Answered}
-use Rattle.fax_line.specs.declared.asked.Answered.TheVariants as answered
+use Rattle.fax_line.specs.declared.asked.LineAnswer.{LineAnswer}
+use Rattle.fax_line.specs.declared.asked.LineAnswer.TheVariants as answered
 use Rattle.fax_desk.specs.declared.card.Card.{Card}
 use Rattle.fax_desk.specs.declared.card.LineCounts.{LineCounts}
 use Rattle.fax_desk.specs.declared.card.ReportTexts.{ReportTexts}
 use Rattle.fax_desk.specs.declared.card.TagsOn.{TagsOn}
 use Rattle.fax_desk.specs.declared.desk.Desk.{Desk}
-use Rattle.fax_desk.specs.declared.desk.Done.{Done}
-use Rattle.fax_desk.specs.declared.desk.Looked.{Looked}
-use Rattle.fax_desk.specs.declared.desk.Looked.TheVariants as looked
+use Rattle.fax_desk.specs.declared.desk.OrderEnd.{OrderEnd}
+use Rattle.fax_desk.specs.declared.desk.LookOutcome.{LookOutcome}
+use Rattle.fax_desk.specs.declared.desk.LookOutcome.TheVariants as looked
 use Rattle.fax_desk.specs.declared.desk.Waits.{Waits}
 use Rattle.fax_desk.specs.declared.next.Ask.{Ask}
 use Rattle.fax_desk.specs.declared.next.Ask.TheVariants as ask
@@ -36,20 +36,20 @@ use Rattle.fax_desk.specs.declared.questions.Question.{Question}
 use Rattle.fax_desk.specs.declared.stop.Stop.{Stop}
 use Rattle.fax_desk.specs.declared.stop.Stop.TheVariants as stop
 use Rattle.fax_desk.specs.declared.tag.Tag.{Tag}
-use Rattle.fax_desk.specs.declared.told.Happened.{Happened}
-use Rattle.fax_desk.specs.declared.told.Happened.TheVariants as happened
+use Rattle.fax_desk.specs.declared.told.LineEvent.{LineEvent}
+use Rattle.fax_desk.specs.declared.told.LineEvent.TheVariants as happened
 use Rattle.fax_desk.specs.declared.told.LineState.{LineState}
-use Rattle.fax_desk.specs.declared.told.Told.{Told}
+use Rattle.fax_desk.specs.declared.told.TurnEvents.{TurnEvents}
 use Rattle.fax_desk.specs.declared.told.Turn.{Turn}
 use Rattle.fax_desk.specs.declared.view.AskedView.{AskedView}
 use Rattle.fax_desk.specs.declared.view.FirstJob.{FirstJob}
 use Rattle.fax_desk.specs.declared.view.LineView.{LineView}
-use Rattle.fax_desk.specs.Cards.{behind_done, report_texts, tag_of, tagged_job}
-use Rattle.fax_desk.specs.Questions.{heard_behind}
-use Rattle.fax_desk.specs.Said.{bounds_of, peer_said, rung_happened, side_of, tag_said}
+use Rattle.fax_desk.specs.Cards.{after_done, report_texts, tag_of, tagged_job}
+use Rattle.fax_desk.specs.Questions.{heard_after}
+use Rattle.fax_desk.specs.Said.{bounds_of, peer_said, rung_happened, tag_said}
 use Rattle.fax_desk.specs.Stops.{stop_after, takes_rings}
 use Rattle.fax_desk.specs.Tags.{tag_of_text}
-use Rattle.fax_desk.specs.Turns.{asked_happened, asking_card, card_behind, question_behind, state_of, tags_on, told_of}
+use Rattle.fax_desk.specs.Turns.{asked_happened, asking_card, card_after, question_after, state_of, tags_on, told_of}
 use Rattle.fax_desk.specs.Words.{next_of, refusal_order, refuses, reply_to, ring_order}
 
 -- nothing happened
@@ -142,7 +142,7 @@ refuse_next desk lines name (Some why) = next_at desk lines name (ask.Refuse why
 abbrev pub step_of : Desk → (ℕ → Option LineView) → (has_failed : Bool) → Word → Next
 step_of desk lines has_failed (word.Ring ring) = next_ring desk lines has_failed (option_map (λ text. text.now) ring.line) (option_map (λ text. text.now) ring.tag) ring.bounds
 step_of desk lines has_failed (word.Peer peer) = peer_next desk lines peer.line.now (peer_said peer.leg peer.address peer.bounds peer.is_moved)
-step_of desk lines has_failed (word.HangUp name leg) = next_at desk lines name.now (ask.HangUp (record { side = side_of leg }))
+step_of desk lines has_failed (word.HangUp name leg) = next_at desk lines name.now (ask.HangUp (record { leg = leg }))
 step_of desk lines has_failed (word.Refuse name why) = refuse_next desk lines name.now (tag_of_text why.now)
 step_of desk lines has_failed (word.Report name) = next_at desk lines name.now ask.Report
 step_of desk lines has_failed word.Status = next.Status
@@ -150,16 +150,16 @@ step_of desk lines has_failed word.Metrics = next.Metrics
 step_of desk lines has_failed word.Events = next.Events
 step_of desk lines has_failed word.Stop = next.Replies reply.Done
 
-abbrev pub stop_behind : Word → (now within : ℕ) → Stop → Stop
-stop_behind (word.Ring ring) now within before = before
-stop_behind (word.Peer peer) now within before = before
-stop_behind (word.HangUp name leg) now within before = before
-stop_behind (word.Refuse name why) now within before = before
-stop_behind (word.Report name) now within before = before
-stop_behind word.Status now within before = before
-stop_behind word.Metrics now within before = before
-stop_behind word.Events now within before = before
-stop_behind word.Stop now within before = stop_after before now within
+abbrev pub stop_then : Word → (now within : ℕ) → Stop → Stop
+stop_then (word.Ring ring) now within before = before
+stop_then (word.Peer peer) now within before = before
+stop_then (word.HangUp name leg) now within before = before
+stop_then (word.Refuse name why) now within before = before
+stop_then (word.Report name) now within before = before
+stop_then word.Status now within before = before
+stop_then word.Metrics now within before = before
+stop_then word.Events now within before = before
+stop_then word.Stop now within before = stop_after before now within
 
 -- ---- cards: what line i's becomes, where there is such a line; all others stay
 
@@ -169,7 +169,7 @@ changed_at cards i (Some card) = slice_set cards i card
 
 -- ---- THE END OF AN ORDER answers who asked for it, once, by what its line answered; and this happened on that line
 
-abbrev pub connected_happened : Option Card → Note → Option Happened
+abbrev pub connected_happened : Option Card → Note → Option LineEvent
 connected_happened None said = None
 connected_happened (Some card) (note.Connect job) = Some (happened.Connected (tagged_job card job.first job.call))
 connected_happened (Some card) note.Nothing = None
@@ -177,7 +177,7 @@ connected_happened (Some card) (note.Ring tag) = None
 connected_happened (Some card) (note.RingAny tag) = None
 connected_happened (Some card) (note.Refuse why) = None
 
-abbrev pub happened_of : List Card → Order → Option Answered → Option Happened
+abbrev pub happened_of : List Card → Order → Option LineAnswer → Option LineEvent
 happened_of cards order None = None
 happened_of cards order (Some (answered.Rung (Ok call))) = rung_happened order.note call
 happened_of cards order (Some (answered.Rung (Err fault))) = None
@@ -186,53 +186,53 @@ happened_of cards order (Some (answered.Placed (Err fault))) = None
 happened_of cards order (Some answered.NoRoute) = None
 happened_of cards order (Some answered.Done) = None
 
-abbrev pub done_with : List Card → Waits → Option Answered → Done
+abbrev pub done_with : List Card → Waits → Option LineAnswer → OrderEnd
 done_with cards waits told =
     record { asker = waits.asker; line = waits.order.line; reply = reply_to waits.order told; happened = happened_of cards waits.order told }
 
-abbrev pub done_of : List Card → Option Waits → Option Answered → Option Done
+abbrev pub done_of : List Card → Option Waits → Option LineAnswer → Option OrderEnd
 done_of cards None told = None
 done_of cards (Some waits) told = Some (done_with cards waits told)
 
-abbrev pub noted_at : List Card → Order → Option Answered → List Card
-noted_at cards order told = changed_at cards order.line (option_map (λ card. behind_done order.note told card) (slice_get cards order.line))
+abbrev pub noted_at : List Card → Order → Option LineAnswer → List Card
+noted_at cards order told = changed_at cards order.line (option_map (λ card. after_done order.note told card) (slice_get cards order.line))
 
-abbrev pub noted : List Card → Option Waits → Option Answered → List Card
+abbrev pub noted : List Card → Option Waits → Option LineAnswer → List Card
 noted cards None told = cards
 noted cards (Some waits) told = noted_at cards waits.order told
 
 -- ---- THE TURN OF LINE i is told of its card, and no other changes
 
-abbrev pub told_at : List Card → ℕ → Turn → Option Told
+abbrev pub told_at : List Card → ℕ → Turn → Option TurnEvents
 told_at cards i turn = option_map (λ card. told_of card turn) (slice_get cards i)
 
 abbrev pub turned_at : List Card → ℕ → Turn → List Card
-turned_at cards i turn = changed_at cards i (option_map (λ card. card_behind card turn) (slice_get cards i))
+turned_at cards i turn = changed_at cards i (option_map (λ card. card_after card turn) (slice_get cards i))
 
 -- ---- QUESTIONS: their time goes on only while a client hears events
 
 abbrev pub heard_until : ℕ → Bool → HeardTime → HeardTime
-heard_until now is_heard time = record { heard = heard_behind is_heard (now - time.last) time.heard; last = max time.last now }
+heard_until now is_heard time = record { heard = heard_after is_heard (now - time.last) time.heard; last = max time.last now }
 
 abbrev pub due_of : Option Question → ℕ → Bool → Bool
 due_of None heard asks = asks
 due_of (Some question) heard asks = nat_le question.until heard
 
 -- a question that nobody answered in its time is refused
-abbrev pub over_if : ℕ → Bool → Looked
+abbrev pub over_if : ℕ → Bool → LookOutcome
 over_if i true = looked.Orders (refusal_order i cause.Unanswered)
 over_if i false = looked.Nothing
 
 -- it is asked while a client hears events
-abbrev pub asks_if : Card → FirstJob → ℕ → AskedView → Bool → Looked
-asks_if card first heard job true = looked.Asks (asked_happened card first (question_behind card heard None) heard job)
+abbrev pub asks_if : Card → FirstJob → ℕ → AskedView → Bool → LookOutcome
+asks_if card first heard job true = looked.Asks (asked_happened card first (question_after card heard None) heard job)
 asks_if card first heard job false = looked.Nothing
 
-abbrev pub asks_now : Card → FirstJob → ℕ → AskedView → Option Question → Looked
+abbrev pub asks_now : Card → FirstJob → ℕ → AskedView → Option Question → LookOutcome
 asks_now card first heard job None = looked.Nothing
 asks_now card first heard job (Some question) = looked.Asks (asked_happened card first question heard job)
 
-abbrev pub looked_of : Card → FirstJob → ℕ → ℕ → Bool → Option Question → Option AskedView → Looked
+abbrev pub looked_of : Card → FirstJob → ℕ → ℕ → Bool → Option Question → Option AskedView → LookOutcome
 looked_of card first i heard is_heard question None = looked.Nothing
 looked_of card first i heard is_heard None (Some job) = asks_if card first heard job is_heard
 looked_of card first i heard is_heard (Some question) (Some job) = over_if i (nat_le question.until heard)
@@ -246,11 +246,11 @@ abbrev pub looked_card : ℕ → Bool → Option AskedView → Card → Card
 looked_card heard is_heard None card = record card { question = None }
 looked_card heard is_heard (Some job) card = asked_if heard is_heard card
 
-abbrev pub looked_if : Option Card → FirstJob → ℕ → ℕ → Bool → Option AskedView → Looked
+abbrev pub looked_if : Option Card → FirstJob → ℕ → ℕ → Bool → Option AskedView → LookOutcome
 looked_if None first i heard is_heard job = looked.Nothing
 looked_if (Some card) first i heard is_heard job = looked_of card first i heard is_heard card.question job
 
-abbrev pub looked_at : Desk → ℕ → LineView → Looked
+abbrev pub looked_at : Desk → ℕ → LineView → LookOutcome
 looked_at desk i line = looked_if (slice_get desk.cards.items i) line.first i desk.time.heard desk.is_heard line.asked
 
 abbrev pub looked_cards : Desk → ℕ → LineView → List Card

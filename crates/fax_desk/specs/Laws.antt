@@ -1,10 +1,10 @@
 -- Laws of what passes at a desk. Lists have the newest first. (This project's profile.)
 use Rattle.std.specs.Prelude.{◌≡◌, ℕ, Bool, true, false, List, [], ◌∷◌, ◌++◌, Option, Some, None}
-use Rattle.fax_line.specs.declared.asked.Answered.{Answered}
+use Rattle.fax_line.specs.declared.asked.LineAnswer.{LineAnswer}
 use Rattle.fax_desk.specs.declared.card.Card.{Card}
 use Rattle.fax_desk.specs.declared.desk.Desk.{Desk}
-use Rattle.fax_desk.specs.declared.desk.Done.{Done}
-use Rattle.fax_desk.specs.declared.desk.Looked.TheVariants as looked
+use Rattle.fax_desk.specs.declared.desk.OrderEnd.{OrderEnd}
+use Rattle.fax_desk.specs.declared.desk.LookOutcome.TheVariants as looked
 use Rattle.fax_desk.specs.declared.desk.Waits.{Waits}
 use Rattle.fax_desk.specs.declared.next.Ask.{Ask}
 use Rattle.fax_desk.specs.declared.next.Next.{Next}
@@ -19,13 +19,13 @@ use Rattle.fax_desk.specs.Words.{reply_to}
 
 -- A word of one who asked, that came to this; a question that nobody answered in its time, and its order; and what a line answered to
 -- the order that waited, which answered someone.
-pub data Passed : Type 0 where
-  Said : (asker : ℕ) → (came : Next) → Passed
-  Lapsed : (order : Order) → Passed
-  Told : (told : Option Answered) → (ended : Option Done) → Passed
+pub data DeskEvent : Type 0 where
+  Said : (asker : ℕ) → (came : Next) → DeskEvent
+  Lapsed : (order : Order) → DeskEvent
+  Told : (told : Option LineAnswer) → (ended : Option OrderEnd) → DeskEvent
 
 -- So it passed, by the contracts of `step`, `look` and `done`, from a desk at which no order waits to one at which this does.
-abbrev pub Passes : List Passed → Option Waits → Type 0
+abbrev pub Passes : List DeskEvent → Option Waits → Type 0
 Passes [] waits = waits ≡ None
 Passes (Said asker came ∷ earlier) waits = Passes earlier None × (waits ≡ waits_if asker came)
 Passes (Lapsed order ∷ earlier) waits = Passes earlier None × (waits ≡ unasked_if (looked.Orders order))
@@ -40,13 +40,13 @@ order_of next.Status = []
 order_of next.Metrics = []
 order_of next.Events = []
 
-abbrev pub orders_of : List Passed → List Order
+abbrev pub orders_of : List DeskEvent → List Order
 orders_of [] = []
 orders_of (Said asker came ∷ earlier) = order_of came ++ orders_of earlier
 orders_of (Lapsed order ∷ earlier) = order ∷ orders_of earlier
 orders_of (Told told _ ∷ earlier) = orders_of earlier
 
-abbrev pub told_of : List Passed → List (Option Answered)
+abbrev pub told_of : List DeskEvent → List (Option LineAnswer)
 told_of [] = []
 told_of (Said asker came ∷ earlier) = told_of earlier
 told_of (Lapsed order ∷ earlier) = told_of earlier
@@ -62,7 +62,7 @@ abbrev pub who_waits : Option Waits → List ℕ
 who_waits None = []
 who_waits (Some waits) = who waits.asker
 
-abbrev pub who_is_told : Option Done → List ℕ
+abbrev pub who_is_told : Option OrderEnd → List ℕ
 who_is_told None = []
 who_is_told (Some done) = who done.asker
 
@@ -74,13 +74,13 @@ answered_at_once asker next.Status = asker ∷ []
 answered_at_once asker next.Metrics = asker ∷ []
 answered_at_once asker next.Events = asker ∷ []
 
-abbrev pub asked : List Passed → List ℕ
+abbrev pub asked : List DeskEvent → List ℕ
 asked [] = []
 asked (Said asker came ∷ earlier) = asker ∷ asked earlier
 asked (Lapsed order ∷ earlier) = asked earlier
 asked (Told told _ ∷ earlier) = asked earlier
 
-abbrev pub answered : List Passed → List ℕ
+abbrev pub answered : List DeskEvent → List ℕ
 answered [] = []
 answered (Said asker came ∷ earlier) = answered_at_once asker came ++ answered earlier
 answered (Lapsed order ∷ earlier) = answered earlier
@@ -88,10 +88,10 @@ answered (Told told ended ∷ earlier) = who_is_told ended ++ answered earlier
 
 -- EACH WORD IS ANSWERED ONCE, IN THE ORDER IN WHICH THEY CAME, but for the one whose order waits.
 abbrev pub AnsweredOnce : Type 0
-AnsweredOnce = (passed : List Passed) (waits : Option Waits) → Passes passed waits → who_waits waits ++ answered passed ≡ asked passed
+AnsweredOnce = (passed : List DeskEvent) (waits : Option Waits) → Passes passed waits → who_waits waits ++ answered passed ≡ asked passed
 
 -- An order that was given: by a word of this asker, or by a question that nobody answered.
-abbrev pub Gives : Passed → Option ℕ → Order → Type 0
+abbrev pub Gives : DeskEvent → Option ℕ → Order → Type 0
 Gives (Said asker (next.Orders given)) (Some who_asked) order = (asker ≡ who_asked) × (given ≡ order)
 Gives (Said asker (next.Orders given)) None order = ⊥
 Gives (Said asker (next.Replies reply)) who_asked order = ⊥
@@ -103,12 +103,12 @@ Gives (Lapsed given) None order = given ≡ order
 Gives (Lapsed given) (Some who_asked) order = ⊥
 Gives (Told told _) who_asked order = ⊥
 
--- WHO IS ANSWERED BEHIND AN ORDER gave that order by the word just before, and the answer is what its line answered to it, told of
+-- WHO IS ANSWERED AFTER AN ORDER gave that order by the word just before, and the answer is what its line answered to it, told of
 -- that line: so what was answered `ok` was done.
 abbrev pub AnswersWhatWasDone : Type 0
-AnswersWhatWasDone = (told : Option Answered) (done : Done) (earlier : List Passed) (waits : Option Waits)
+AnswersWhatWasDone = (told : Option LineAnswer) (done : OrderEnd) (earlier : List DeskEvent) (waits : Option Waits)
     → Passes (Told told (Some done) ∷ earlier) waits
-    → (given : Passed) × (before : List Passed) × (order : Order) × (earlier ≡ given ∷ before) × Gives given done.asker order × (done.line ≡ order.line) × (done.reply ≡ reply_to order told)
+    → (given : DeskEvent) × (before : List DeskEvent) × (order : Order) × (earlier ≡ given ∷ before) × Gives given done.asker order × (done.line ≡ order.line) × (done.reply ≡ reply_to order told)
 
 -- AN ORDER GOES TO THE LINE THAT WAS NAMED.
 abbrev pub OrdersTheNamed : Type 0

@@ -5,9 +5,9 @@ use Rattle.fax_desk.specs.declared.questions.Cause.TheVariants as cause
 use Rattle.fax_desk.specs.Tags.{tag_text}
 
 -- Time goes on by so much: where a client hears events meanwhile, they are heard for so much longer.
-abbrev pub heard_behind : Bool → ℕ → ℕ → ℕ
-heard_behind true more heard = min (heard + more) (2 ^ 64 - 1)
-heard_behind false more heard = heard
+abbrev pub heard_after : Bool → ℕ → ℕ → ℕ
+heard_after true more heard = min (heard + more) (2 ^ 64 - 1)
+heard_after false more heard = heard
 
 -- A question that is asked when events were heard for so many milliseconds is open for so many seconds in which they are heard.
 abbrev pub open_until : ℕ → ℕ → ℕ

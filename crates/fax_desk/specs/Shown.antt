@@ -5,8 +5,8 @@ use Rattle.fax_events.specs.declared.event.What.{What}
 use Rattle.fax_events.specs.declared.event.What.TheVariants as what
 use Rattle.fax_desk.specs.declared.questions.Cause.{Cause}
 use Rattle.fax_desk.specs.declared.tag.Tag.{Tag}
-use Rattle.fax_desk.specs.declared.told.Happened.{Happened}
-use Rattle.fax_desk.specs.declared.told.Happened.TheVariants as happened
+use Rattle.fax_desk.specs.declared.told.LineEvent.{LineEvent}
+use Rattle.fax_desk.specs.declared.told.LineEvent.TheVariants as happened
 use Rattle.fax_desk.specs.Questions.{cause_text}
 use Rattle.fax_desk.specs.Tags.{tag_text}
 
@@ -19,7 +19,7 @@ abbrev pub CauseShows : Option Cause → Option (List ℕ) → Type 0
 CauseShows None shown = shown ≡ None
 CauseShows (Some why) shown = IsUtf8 (cause_text why) → shown ≡ Some (cause_text why)
 
-abbrev pub Shows : Happened → What → Type 0
+abbrev pub Shows : LineEvent → What → Type 0
 Shows (happened.Rung tagged) (what.Rung call tag) = (call ≡ tagged.call) × TagShows tagged.tag (option_map (λ text. text.now) tag)
 Shows (happened.Rung tagged) other = ⊥
 Shows (happened.NotKept tagged) (what.NotKept call tag) = (call ≡ tagged.call) × TagShows tagged.tag (option_map (λ text. text.now) tag)

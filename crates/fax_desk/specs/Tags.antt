@@ -2,7 +2,7 @@
 use Rattle.std.specs.Prelude.{ℕ, ◌-◌, min, nat_le, List, ◌++◌, length, take, replicate, Option, None, Some, if◌then◌else◌}
 use Rattle.fax_desk.specs.declared.tag.Tag.{Tag}
 
--- the text, with zeros behind it
+-- the text, with zeros after it
 abbrev pub tag_with : List ℕ → Tag
 tag_with text = record { octets = text ++ replicate (64 - length text) 0; length = length text }
 

@@ -4,11 +4,11 @@ use Rattle.fax_control.specs.declared.refusal.Refusal.{Refusal}
 use Rattle.fax_control.specs.declared.refusal.Refusal.TheVariants as refusal
 use Rattle.fax_gateway.specs.declared.fault.PlaceFault.TheVariants as place
 use Rattle.fax_gateway.specs.declared.fault.RingFault.TheVariants as ring
-use Rattle.fax_gateway.specs.declared.side.Side.{Side}
-use Rattle.fax_gateway.specs.declared.side.Side.TheVariants as side
-use Rattle.fax_line.specs.declared.asked.Answered.{Answered}
-use Rattle.fax_line.specs.declared.asked.Answered.TheVariants as answered
-use Rattle.fax_line.specs.declared.asked.Asked.TheVariants as asked
+use Rattle.fax_gateway.specs.declared.leg.Leg.{Leg}
+use Rattle.fax_gateway.specs.declared.leg.Leg.TheVariants as legs
+use Rattle.fax_line.specs.declared.asked.LineAnswer.{LineAnswer}
+use Rattle.fax_line.specs.declared.asked.LineAnswer.TheVariants as answered
+use Rattle.fax_line.specs.declared.asked.LineRequest.TheVariants as asked
 use Rattle.fax_repeat.specs.declared.peers.Bounds.{Bounds}
 use Rattle.fax_desk.specs.declared.next.Ask.{Ask}
 use Rattle.fax_desk.specs.declared.next.Ask.TheVariants as ask
@@ -42,7 +42,7 @@ abbrev pub ring_order : ℕ → Bool → Bounds → Note → Order
 ring_order i forgets bounds kept = record { line = i; what = asked.Ring (record { bounds = bounds; forgets_peer = forgets }); note = kept }
 
 abbrev pub peer_order : ℕ → PeerAsk → Order
-peer_order i said = record { line = i; what = asked.Peer (record { side = said.side; peer = said.peer }); note = note.Nothing }
+peer_order i said = record { line = i; what = asked.Peer (record { leg = said.leg; peer = said.peer }); note = note.Nothing }
 
 abbrev pub connect_order : ℕ → PeerAsk → FirstJob → AskedView → Order
 connect_order i said first job = record { line = i; what = asked.Connect (record { peer = said.peer }); note = note.Connect (record { call = job.call; first = first }) }
@@ -50,8 +50,8 @@ connect_order i said first job = record { line = i; what = asked.Connect (record
 abbrev pub refusal_order : ℕ → Cause → Order
 refusal_order i why = record { line = i; what = asked.NotConnected; note = note.Refuse why }
 
-abbrev pub hang_up_order : ℕ → Side → Order
-hang_up_order i leg = record { line = i; what = asked.HangUp (record { side = leg }); note = note.Nothing }
+abbrev pub hang_up_order : ℕ → Leg → Order
+hang_up_order i leg = record { line = i; what = asked.HangUp (record { leg = leg }); note = note.Nothing }
 
 -- ---- what a line is
 
@@ -60,9 +60,9 @@ abbrev pub is_connected : LineView → Bool
 is_connected line = is_some line.sending && line.called.has_peer
 
 -- the call of a leg is on
-abbrev pub is_on : Side → LineView → Bool
-is_on side.Calling line = is_some line.call
-is_on side.Called line = is_connected line
+abbrev pub is_on : Leg → LineView → Bool
+is_on legs.Calling line = is_some line.call
+is_on legs.Called line = is_connected line
 
 -- the job whose call the line asks for, where clients were told so
 abbrev pub job_asked : Option Question → LineView → Option AskedView
@@ -85,9 +85,9 @@ called_peer true job i line peer = refuses refusal.Fixed
 called_peer false (Some job) i line peer = next.Orders (connect_order i peer line.first job)
 called_peer false None i line peer = peer_if (is_connected line) i line peer
 
-abbrev pub peer_of : Side → Option Question → ℕ → LineView → PeerAsk → Next
-peer_of side.Calling question i line peer = orders_if (takes_peer (is_some line.call) line.calling peer.is_moved) refusal.InCall (peer_order i peer)
-peer_of side.Called question i line peer = called_peer line.called.is_fixed (job_asked question line) i line peer
+abbrev pub peer_of : Leg → Option Question → ℕ → LineView → PeerAsk → Next
+peer_of legs.Calling question i line peer = orders_if (takes_peer (is_some line.call) line.calling peer.is_moved) refusal.InCall (peer_order i peer)
+peer_of legs.Called question i line peer = called_peer line.called.is_fixed (job_asked question line) i line peer
 
 abbrev pub refuse_of : Option AskedView → ℕ → Cause → Next
 refuse_of None i why = refuses refusal.NoCall
@@ -95,9 +95,9 @@ refuse_of (Some job) i why = next.Orders (refusal_order i why)
 
 abbrev pub next_of : Option Question → ℕ → LineView → Ask → Next
 next_of question i line (ask.Ring rung) = orders_if line.calling.has_peer refusal.NoPeer (ring_order i false rung.bounds (note.Ring rung.tag))
-next_of question i line (ask.Peer peer) = peer_of peer.side question i line peer
+next_of question i line (ask.Peer peer) = peer_of peer.leg question i line peer
 next_of question i line (ask.Refuse why) = refuse_of (job_asked question line) i (cause.Said why)
-next_of question i line (ask.HangUp gone) = orders_if (is_on gone.side line) refusal.NoCall (hang_up_order i gone.side)
+next_of question i line (ask.HangUp gone) = orders_if (is_on gone.leg line) refusal.NoCall (hang_up_order i gone.leg)
 next_of question i line ask.Report = next.Reports i
 
 -- ---- HOW A WORD IS ANSWERED whose order its line answered so; none: there is no such line
@@ -112,7 +112,7 @@ rung_reply (note.Refuse why) line call = reply.Rung call
 abbrev pub refused : Refusal → Reply
 refused why = reply.Refused (record { why = why })
 
-abbrev pub reply_to : Order → Option Answered → Reply
+abbrev pub reply_to : Order → Option LineAnswer → Reply
 reply_to order None = refused refusal.NoLine
 reply_to order (Some (answered.Rung (Ok call))) = rung_reply order.note order.line call
 reply_to order (Some (answered.Rung (Err ring.Busy))) = refused refusal.Busy

@@ -2,12 +2,12 @@
 ghost use Rattle.std.specs.Prelude.{◌≡◌};
 ghost use Rattle.fax_desk.specs.Words.{called_peer, hang_up_order, is_connected, is_on, job_asked, next_of, orders_if, peer_order, refusal_order, refuse_of, refuses, reply_to, ring_order, rung_reply, takes_peer};
 
-use crate::next::{Ask, ConnectNote, Next, Note, Order, PeerAsk, Refused, Reply, RungOn};
+use crate::next::{Ask, ConnectNote, Next, Note, Order, PeerAsk, RefusedWord, Reply, RungOn};
 use crate::questions::{Cause, Question};
 use crate::view::{AskedView, LegView, LineView};
 use fax_control::Refusal;
-use fax_gateway::{PlaceFault, RingFault, Side};
-use fax_line::{Answered, Asked, Connecting, HangingUp, Peering, Ringing};
+use fax_gateway::{Leg, PlaceFault, RingFault};
+use fax_line::{ConnectRequest, HangingUp, LineAnswer, LineRequest, PeerRequest, RingRequest};
 use fax_repeat::Bounds;
 
 /// What it comes to that this is asked of line i, which is so, where this question of it is open.
@@ -20,19 +20,19 @@ pub fn next_of(question: Option<Question>, i: usize, line: LineView, ask: Ask) -
             Refusal::NoPeer,
             ring_order(i, false, ring.bounds, Note::Ring(ring.tag)),
         ),
-        Ask::Peer(peer) => match peer.side {
-            Side::Calling => orders_if(
+        Ask::Peer(peer) => match peer.leg {
+            Leg::Calling => orders_if(
                 takes_peer(line.call.is_some(), line.calling, peer.is_moved),
                 Refusal::InCall,
                 peer_order(i, peer),
             ),
-            Side::Called => called_peer(question, i, line, peer),
+            Leg::Called => called_peer(question, i, line, peer),
         },
         Ask::Refuse(cause) => refuse_of(job_asked(question, line), i, Cause::Said(cause)),
         Ask::HangUp(hang_up) => orders_if(
-            is_on(hang_up.side, line),
+            is_on(hang_up.leg, line),
             Refusal::NoCall,
-            hang_up_order(i, hang_up.side),
+            hang_up_order(i, hang_up.leg),
         ),
         Ask::Report => Next::Reports(i),
     }
@@ -53,7 +53,7 @@ fn orders_if(holds: bool, why: Refusal, order: Order) -> Next
 pub(crate) fn refuses(why: Refusal) -> Next
     ensures { result ≡ refuses why }
 {
-    Next::Replies(Reply::Refused(Refused { why }))
+    Next::Replies(Reply::Refused(RefusedWord { why }))
 }
 
 /// Whether a leg takes a peer: its call is not on, or was not heard, or its peer has moved.
@@ -69,7 +69,7 @@ pub(crate) fn ring_order(i: usize, forgets_peer: bool, bounds: Bounds, note: Not
 {
     Order {
         line: i,
-        what: Asked::Ring(Ringing {
+        what: LineRequest::Ring(RingRequest {
             bounds,
             forgets_peer,
         }),
@@ -78,12 +78,12 @@ pub(crate) fn ring_order(i: usize, forgets_peer: bool, bounds: Bounds, note: Not
 }
 
 /// The order by which the peer's call on a leg of line i is gone.
-fn hang_up_order(i: usize, side: Side) -> Order
-    ensures { result ≡ hang_up_order i side }
+fn hang_up_order(i: usize, leg: Leg) -> Order
+    ensures { result ≡ hang_up_order i leg }
 {
     Order {
         line: i,
-        what: Asked::HangUp(HangingUp { side }),
+        what: LineRequest::HangUp(HangingUp { leg }),
         note: Note::Nothing,
     }
 }
@@ -94,8 +94,8 @@ fn peer_order(i: usize, ask: PeerAsk) -> Order
 {
     Order {
         line: i,
-        what: Asked::Peer(Peering {
-            side: ask.side,
+        what: LineRequest::Peer(PeerRequest {
+            leg: ask.leg,
             peer: ask.peer,
         }),
         note: Note::Nothing,
@@ -103,12 +103,12 @@ fn peer_order(i: usize, ask: PeerAsk) -> Order
 }
 
 /// Whether the call of a leg is on.
-fn is_on(side: Side, line: LineView) -> bool
-    ensures { result ≡ is_on side line }
+fn is_on(leg: Leg, line: LineView) -> bool
+    ensures { result ≡ is_on leg line }
 {
-    match side {
-        Side::Calling => line.call.is_some(),
-        Side::Called => is_connected(line),
+    match leg {
+        Leg::Calling => line.call.is_some(),
+        Leg::Called => is_connected(line),
     }
 }
 
@@ -138,7 +138,7 @@ fn called_peer(question: Option<Question>, i: usize, line: LineView, ask: PeerAs
         return refuses(Refusal::Fixed);
     }
     if let Some(asked) = job_asked(question, line) {
-        let what = Asked::Connect(Connecting { peer: ask.peer });
+        let what = LineRequest::Connect(ConnectRequest { peer: ask.peer });
         let first = line.first;
         let note = Note::Connect(ConnectNote {
             call: asked.call,
@@ -174,27 +174,27 @@ pub(crate) fn refusal_order(i: usize, cause: Cause) -> Order
 {
     Order {
         line: i,
-        what: Asked::NotConnected,
+        what: LineRequest::NotConnected,
         note: Note::Refuse(cause),
     }
 }
 
 /// How a word is answered whose order the line of it answered so. `None`: there is no such line.
-pub(crate) fn reply_to(order: Order, answered: Option<Answered>) -> Reply
+pub(crate) fn reply_to(order: Order, answered: Option<LineAnswer>) -> Reply
     ensures { result ≡ reply_to order answered }
 {
     let why = match answered {
-        Some(Answered::Rung(Ok(call))) => return rung_reply(order, call),
-        Some(Answered::Placed(Ok(()))) | Some(Answered::Done) => return Reply::Done,
+        Some(LineAnswer::Rung(Ok(call))) => return rung_reply(order, call),
+        Some(LineAnswer::Placed(Ok(()))) | Some(LineAnswer::Done) => return Reply::Done,
         None => Refusal::NoLine,
-        Some(Answered::NoRoute) => Refusal::NoRoute,
-        Some(Answered::Rung(Err(RingFault::Busy))) => Refusal::Busy,
-        Some(Answered::Rung(Err(RingFault::NoNumber))) => Refusal::NoNumber,
-        Some(Answered::Rung(Err(RingFault::NoMemory))) => Refusal::NoMemory,
-        Some(Answered::Placed(Err(PlaceFault::NotAsked))) => Refusal::NoCall,
-        Some(Answered::Placed(Err(PlaceFault::NoMemory))) => Refusal::NoMemory,
+        Some(LineAnswer::NoRoute) => Refusal::NoRoute,
+        Some(LineAnswer::Rung(Err(RingFault::Busy))) => Refusal::Busy,
+        Some(LineAnswer::Rung(Err(RingFault::NoNumber))) => Refusal::NoNumber,
+        Some(LineAnswer::Rung(Err(RingFault::NoMemory))) => Refusal::NoMemory,
+        Some(LineAnswer::Placed(Err(PlaceFault::NotAsked))) => Refusal::NoCall,
+        Some(LineAnswer::Placed(Err(PlaceFault::NoMemory))) => Refusal::NoMemory,
     };
-    Reply::Refused(Refused { why })
+    Reply::Refused(RefusedWord { why })
 }
 
 /// The line rang, for this call.

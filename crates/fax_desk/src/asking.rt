@@ -5,9 +5,9 @@ ghost use Rattle.fax_desk.specs.Turns.{asked_happened, asked_told, asking_card, 
 
 use crate::answer::refusal_order;
 use crate::card::{Card, TagsOn};
-use crate::desk::Looked;
+use crate::desk::LookOutcome;
 use crate::questions::{Cause, Question};
-use crate::told::{Happened, LineState};
+use crate::told::{LineEvent, LineState};
 use crate::view::{AskedView, FirstJob, LineView};
 use fax_events::AskedJob;
 
@@ -17,13 +17,19 @@ const FIRST_TRY: u32 = 1;
 impl Card {
     /// The question of line i, which is so, is looked at when events were heard for so many milliseconds, and a client hears them now,
     /// or none does.
-    pub(crate) fn look(&mut self, i: usize, line: LineView, heard: u64, is_heard: bool) -> Looked
+    pub(crate) fn look(
+        &mut self,
+        i: usize,
+        line: LineView,
+        heard: u64,
+        is_heard: bool,
+    ) -> LookOutcome
         ensures looked { result ≡ looked_of self.old line.first i heard is_heard self.old.question line.asked }
         ensures card { self.new ≡ looked_card heard is_heard line.asked self.old }
     {
         let Some(job) = line.asked else {
             self.question = None;
-            return Looked::Nothing;
+            return LookOutcome::Nothing;
         };
         let before = self.question;
         if is_heard {
@@ -54,12 +60,12 @@ impl Card {
     }
 
     /// Clients are asked, where the question is open.
-    fn asks_if(&self, first: FirstJob, job: AskedView, heard: u64) -> Looked
+    fn asks_if(&self, first: FirstJob, job: AskedView, heard: u64) -> LookOutcome
         ensures { result ≡ asks_now self.now first heard job self.now.question }
     {
         match self.question {
-            Some(question) => Looked::Asks(self.asked_happened(first, question, job, heard)),
-            None => Looked::Nothing,
+            Some(question) => LookOutcome::Asks(self.asked_happened(first, question, job, heard)),
+            None => LookOutcome::Nothing,
         }
     }
 
@@ -70,7 +76,7 @@ impl Card {
         question: Question,
         job: AskedView,
         heard: u64,
-    ) -> Happened
+    ) -> LineEvent
         ensures { result ≡ asked_happened self.now first question heard job }
     {
         let asked = AskedJob {
@@ -79,7 +85,7 @@ impl Card {
             pages: job.pages,
             seconds: question.seconds_left(heard),
         };
-        Happened::Asked(asked, self.job_tag(first, job.call))
+        LineEvent::Asked(asked, self.job_tag(first, job.call))
     }
 
     /// What is on, where this is what its line is, when events were heard for so many milliseconds.
@@ -92,17 +98,17 @@ impl Card {
         }
     }
 
-    fn rung_told(&self, call: Option<u32>) -> Option<Happened>
+    fn rung_told(&self, call: Option<u32>) -> Option<LineEvent>
         ensures { result ≡ rung_told self.now call }
     {
         match call {
-            Some(call) => Some(Happened::Rung(self.tagged(call))),
+            Some(call) => Some(LineEvent::Rung(self.tagged(call))),
             None => None,
         }
     }
 
     /// The job whose call is on, with a peer, or the one whose call clients are asked for.
-    fn job_on(&self, line: LineView, heard: u64) -> Option<Happened>
+    fn job_on(&self, line: LineView, heard: u64) -> Option<LineEvent>
         ensures { result ≡ job_on self.now line heard line.sending }
     {
         match line.sending {
@@ -111,17 +117,17 @@ impl Card {
         }
     }
 
-    fn connected_told(&self, first: FirstJob, has_peer: bool, call: u32) -> Option<Happened>
+    fn connected_told(&self, first: FirstJob, has_peer: bool, call: u32) -> Option<LineEvent>
         ensures { result ≡ connected_told self.now first has_peer call }
     {
         if has_peer {
-            Some(Happened::Connected(self.tagged_job(first, call)))
+            Some(LineEvent::Connected(self.tagged_job(first, call)))
         } else {
             None
         }
     }
 
-    fn asked_told(&self, first: FirstJob, job: Option<AskedView>, heard: u64) -> Option<Happened>
+    fn asked_told(&self, first: FirstJob, job: Option<AskedView>, heard: u64) -> Option<LineEvent>
         ensures { result ≡ asked_told self.now first heard self.now.question job }
     {
         let Some(question) = self.question else {
@@ -151,12 +157,12 @@ impl Card {
 }
 
 /// A question whose time is over is refused.
-fn over_if(i: usize, is_over: bool) -> Looked
+fn over_if(i: usize, is_over: bool) -> LookOutcome
     ensures { result ≡ over_if i is_over }
 {
     if is_over {
-        Looked::Orders(refusal_order(i, Cause::Unanswered))
+        LookOutcome::Orders(refusal_order(i, Cause::Unanswered))
     } else {
-        Looked::Nothing
+        LookOutcome::Nothing
     }
 }

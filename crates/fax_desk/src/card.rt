@@ -1,15 +1,15 @@
 //! What a desk knows of a line beside what the line is.
 ghost use Rattle.std.specs.Prelude.{◌≡◌, IfOk, find, nat_eq};
-ghost use Rattle.fax_desk.specs.Cards.{behind_done, behind_job, behind_page, behind_placing, behind_refusal, behind_ring, card_new, cause_of, job_tag, report_texts, rung_card, tag_of, tagged_job, tagged_of};
+ghost use Rattle.fax_desk.specs.Cards.{after_done, after_job, after_page, after_placing, after_refusal, after_ring, card_new, cause_of, job_tag, report_texts, rung_card, tag_of, tagged_job, tagged_of};
 
 use crate::next::{Note, Order};
 use crate::questions::{Cause, Question};
-use crate::tag::{Tag, Tagged};
+use crate::tag::{Tag, TaggedCall};
 use crate::view::FirstJob;
 use circular_buffer::HeapCircularBuffer;
 use fax_gateway::Kept;
 use fax_jobs::Report;
-use fax_line::Answered;
+use fax_line::LineAnswer;
 use std::alloc::{AllocError, Global};
 
 /// The most tags that are kept of a line: the newest.
@@ -50,7 +50,7 @@ pub struct LineCounts {
 #[derive(Drop)]
 pub struct Card {
     /// The tags of the last calls, the newest first.
-    pub tags: HeapCircularBuffer<Tagged>,
+    pub tags: HeapCircularBuffer<TaggedCall>,
     pub counts: LineCounts,
     /// Pages that were confirmed in the last call, and whether the last of them was said to be the last.
     pub pages_in_call: u32,
@@ -96,7 +96,7 @@ impl Card {
     }
 
     /// The same with its call, where it is kept.
-    fn found(&self, call: u32) -> Option<Tagged>
+    fn found(&self, call: u32) -> Option<TaggedCall>
         ensures { result ≡ find (λ tagged. nat_eq tagged.call call) self.now.tags.items }
     {
         self.tags.iter().copied().find(|tagged| tagged.call == call)
@@ -113,7 +113,7 @@ impl Card {
         }
     }
 
-    /// For what cause the call of the job behind so many that ended could not be placed.
+    /// For what cause the call of the job after so many that ended could not be placed.
     pub fn cause(&self, job: usize) -> Option<Cause>
         ensures { result ≡ cause_of self.now job }
     {
@@ -134,20 +134,20 @@ impl Card {
     }
 
     /// A call of this life, with its tag.
-    pub(crate) fn tagged(&self, call: u32) -> Tagged
+    pub(crate) fn tagged(&self, call: u32) -> TaggedCall
         ensures { result ≡ tagged_of self.now call }
     {
-        Tagged {
+        TaggedCall {
             call,
             tag: self.tag(call),
         }
     }
 
     /// The same job, with its tag.
-    pub(crate) fn tagged_job(&self, first: FirstJob, call: u32) -> Tagged
+    pub(crate) fn tagged_job(&self, first: FirstJob, call: u32) -> TaggedCall
         ensures { result ≡ tagged_job self.now first call }
     {
-        Tagged {
+        TaggedCall {
             call,
             tag: self.job_tag(first, call),
         }
@@ -161,13 +161,13 @@ impl Card {
         self.pages_in_call = 0;
         self.is_closed = false;
         if tag.is_some() {
-            let _ = self.tags.push_front(Tagged { call, tag });
+            let _ = self.tags.push_front(TaggedCall { call, tag });
         }
     }
 
     /// The call of the job that is first in turn could not be placed, for this cause.
     fn refuse(&mut self, cause: Cause)
-        ensures { self.new ≡ behind_refusal cause self.old }
+        ensures { self.new ≡ after_refusal cause self.old }
     {
         self.question = None;
         let job = self.jobs;
@@ -175,19 +175,19 @@ impl Card {
     }
 
     /// The line answered this to an order.
-    pub(crate) fn note(&mut self, order: Order, answered: Option<Answered>)
-        ensures { self.new ≡ behind_done order.note answered self.old }
+    pub(crate) fn note(&mut self, order: Order, answered: Option<LineAnswer>)
+        ensures { self.new ≡ after_done order.note answered self.old }
     {
         match answered {
-            Some(Answered::Rung(Ok(call))) => self.note_ring(order.note, call),
-            Some(Answered::Placed(Ok(()))) => self.note_placing(order.note),
+            Some(LineAnswer::Rung(Ok(call))) => self.note_ring(order.note, call),
+            Some(LineAnswer::Placed(Ok(()))) => self.note_placing(order.note),
             _ => {}
         }
     }
 
     /// The same of a ring, by which this call began.
     fn note_ring(&mut self, note: Note, call: u32)
-        ensures { self.new ≡ behind_ring note call self.old }
+        ensures { self.new ≡ after_ring note call self.old }
     {
         match note {
             Note::Ring(tag) | Note::RingAny(tag) => self.ring(call, tag),
@@ -197,7 +197,7 @@ impl Card {
 
     /// The same of a call that was placed, or could not be.
     fn note_placing(&mut self, note: Note)
-        ensures { self.new ≡ behind_placing note self.old }
+        ensures { self.new ≡ after_placing note self.old }
     {
         match note {
             Note::Refuse(cause) => self.refuse(cause),
@@ -206,11 +206,11 @@ impl Card {
     }
 
     /// This page was confirmed, and was kept or not.
-    pub(crate) fn keep_page(&mut self, is_kept: bool, kept: Option<Kept>)
-        ensures { self.new ≡ behind_page is_kept kept self.old }
+    pub(crate) fn keep_page(&mut self, is_stored: bool, kept: Option<Kept>)
+        ensures { self.new ≡ after_page is_stored kept self.old }
     {
         if let Some(kept) = kept {
-            if is_kept {
+            if is_stored {
                 self.counts.pages = self.counts.pages.saturating_add(1);
             }
             self.pages_in_call = self.pages_in_call.saturating_add(1);
@@ -220,7 +220,7 @@ impl Card {
 
     /// This job ended, which was the first in turn.
     pub(crate) fn end_job(&mut self, first: FirstJob, report: Option<Report>)
-        ensures { self.new ≡ behind_job first.is_restored report self.old }
+        ensures { self.new ≡ after_job first.is_restored report self.old }
     {
         if report.is_some() {
             self.jobs = self.jobs.saturating_add(1);
@@ -235,15 +235,15 @@ impl Card {
     pub fn report_texts(&self, k: usize, kept: usize, call: u32) -> ReportTexts
         ensures { result ≡ report_texts k kept call self.now }
     {
-        let behind = kept.saturating_sub(k);
-        let job = self.jobs.saturating_sub(behind);
+        let after = kept.saturating_sub(k);
+        let job = self.jobs.saturating_sub(after);
         ReportTexts {
             tag: if job < self.restored_jobs {
                 None
             } else {
                 self.tag(call)
             },
-            cause: if self.jobs < behind {
+            cause: if self.jobs < after {
                 None
             } else {
                 self.cause(job)

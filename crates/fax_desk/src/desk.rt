@@ -1,7 +1,7 @@
 //! The desk.
 ghost use Rattle.std.specs.Prelude.{◌≡◌, ◌↔◌, IsTrue, None, Some, is_some, length, not, option_map, slice_get};
-ghost use Rattle.fax_desk.specs.Desks.{asked_cards, connected_happened, desk_new, done_of, due_of, free_line, happened_of, heard_until, line_named, looked_at, looked_cards, name_at, next_any, next_at, next_ring, noted, noted_at, peer_next, question_at, refuse_next, step_of, stop_behind, told_at, turned_at};
-ghost use Rattle.fax_desk.specs.Said.{any_behind, peer_said, unasked_if, waits_if};
+ghost use Rattle.fax_desk.specs.Desks.{asked_cards, connected_happened, desk_new, done_of, due_of, free_line, happened_of, heard_until, line_named, looked_at, looked_cards, name_at, next_any, next_at, next_ring, noted, noted_at, peer_next, question_at, refuse_next, step_of, stop_then, told_at, turned_at};
+ghost use Rattle.fax_desk.specs.Said.{any_after, peer_said, unasked_if, waits_if};
 ghost use Rattle.fax_desk.specs.Spools.{are_at_rest, end_of, failed_after, is_news, run_is_over};
 ghost use Rattle.fax_desk.specs.Stops.{stop_after, takes_rings};
 ghost use Rattle.fax_desk.specs.Tags.{tag_of_text};
@@ -11,17 +11,16 @@ use crate::card::Card;
 use crate::next::{Ask, HangUpAsk, Next, Note, Order, Reply, RingAsk};
 use crate::questions::{HeardTime, Question};
 use crate::said::{
-    any_behind, bounds_of, first_free, peer_of, rung_happened, side_of, tag_said, unasked_if,
-    waits_if,
+    any_after, bounds_of, first_free, peer_of, rung_happened, tag_said, unasked_if, waits_if,
 };
-use crate::spool::{Damage, Failed, RunEnd, end_of, failed_after, is_drained};
+use crate::spool::{Damage, RunEnd, SpoolFailure, end_of, failed_after, is_drained};
 use crate::stop::Stop;
 use crate::tag::Tag;
-use crate::told::{Happened, Told, Turn};
+use crate::told::{LineEvent, Turn, TurnEvents};
 use crate::view::{LineView, View};
 use fax_clients::Asker;
 use fax_control::{PeerWord, Refusal, RingWord, Word};
-use fax_line::Answered;
+use fax_line::LineAnswer;
 
 /// An order that was given and not told back, and who is answered by its end.
 #[derive(Drop)]
@@ -32,19 +31,19 @@ pub struct Waits {
 
 /// The end of an order: who is answered what, and what happened on its line.
 #[derive(Drop)]
-pub struct Done {
+pub struct OrderEnd {
     pub asker: Option<Asker>,
     pub line: usize,
     pub reply: Reply,
-    pub happened: Option<Happened>,
+    pub happened: Option<LineEvent>,
 }
 
 /// What a look at a line's question comes to.
 #[derive(Clone, Copy)]
-pub enum Looked {
+pub enum LookOutcome {
     Nothing,
     /// Clients are asked.
-    Asks(Happened),
+    Asks(LineEvent),
     /// Nobody answered in its time.
     Orders(Order),
 }
@@ -61,7 +60,7 @@ pub struct Desk {
     /// What the start found in the spool that cannot be read.
     pub damage: Damage,
     /// When the run ends since the spool has failed; none: it has not.
-    pub failed: Option<Failed>,
+    pub failed: Option<SpoolFailure>,
     /// The time of questions, and whether a client hears events.
     pub time: HeardTime,
     pub is_heard: bool,
@@ -122,15 +121,15 @@ impl Desk {
         requires { self.old.waits ≡ None }
         ensures next { result ≡ step_of self.old (V.line view.now) (V.failed view.now) word.entry }
         ensures waits { self.new.waits ≡ waits_if asker result }
-        ensures stop { self.new.stop ≡ stop_behind word.entry now self.old.stop_ms self.old.stop }
-        ensures any { self.new.any_from ≡ any_behind self.old.any_from result }
+        ensures stop { self.new.stop ≡ stop_then word.entry now self.old.stop_ms self.old.stop }
+        ensures any { self.new.any_from ≡ any_after self.old.any_from result }
         ensures same { self.new ≡ record self.old { waits = self.new.waits; stop = self.new.stop; any_from = self.new.any_from } }
     {
         let next = self.next(word, view);
         if let Word::Stop = word {
             self.stop(now);
         }
-        self.any_from = any_behind(self.any_from, next);
+        self.any_from = any_after(self.any_from, next);
         self.waits = waits_if(asker, next);
         next
     }
@@ -142,10 +141,7 @@ impl Desk {
         match word {
             Word::Ring(ring) => self.ring(ring, view),
             Word::Peer(peer) => self.say_peer(peer, view),
-            Word::HangUp(name, leg) => {
-                let side = side_of(leg);
-                self.ask(name, Ask::HangUp(HangUpAsk { side }), view)
-            }
+            Word::HangUp(name, leg) => self.ask(name, Ask::HangUp(HangUpAsk { leg }), view),
             Word::Refuse(name, cause) => self.refuse(name, cause, view),
             Word::Report(name) => self.ask(name, Ask::Report, view),
             Word::Status => Next::Status,
@@ -201,7 +197,7 @@ impl Desk {
         }
     }
 
-    /// The first line that can be rung without its peer, from the one behind that which was taken last.
+    /// The first line that can be rung without its peer, from the one after that which was taken last.
     fn free_line<V: View>(&self, view: &V) -> Option<usize>
         ensures { result ≡ free_line self.now.any_from (length self.now.names.items) (V.line view.now) }
     {
@@ -242,7 +238,7 @@ impl Desk {
     }
 
     /// The line answered this to the order that waits, or there is no such line. It answers who is answered what, and what happened.
-    pub fn done(&mut self, answered: Option<Answered>) -> Option<Done>
+    pub fn done(&mut self, answered: Option<LineAnswer>) -> Option<OrderEnd>
         ensures done { result ≡ done_of self.old.cards.items self.old.waits answered }
         ensures cards { self.new.cards.items ≡ noted self.old.cards.items self.old.waits answered }
         ensures same { self.new ≡ record self.old { waits = None; cards = self.new.cards } }
@@ -253,7 +249,7 @@ impl Desk {
         let Waits { asker, order } = waits;
         let happened = self.happened(order, answered);
         self.note(order, answered);
-        Some(Done {
+        Some(OrderEnd {
             asker,
             line: order.line,
             reply: reply_to(order, answered),
@@ -262,31 +258,31 @@ impl Desk {
     }
 
     /// What happened where a line answered this to an order: a call was rung, or the call of a job began.
-    fn happened(&self, order: Order, answered: Option<Answered>) -> Option<Happened>
+    fn happened(&self, order: Order, answered: Option<LineAnswer>) -> Option<LineEvent>
         ensures { result ≡ happened_of self.now.cards.items order answered }
     {
         match answered {
-            Some(Answered::Rung(Ok(call))) => rung_happened(order.note, call),
-            Some(Answered::Placed(Ok(()))) => self.connected(order),
+            Some(LineAnswer::Rung(Ok(call))) => rung_happened(order.note, call),
+            Some(LineAnswer::Placed(Ok(()))) => self.connected(order),
             _ => None,
         }
     }
 
     /// The same where the call of a job was placed, or could not be.
-    fn connected(&self, order: Order) -> Option<Happened>
+    fn connected(&self, order: Order) -> Option<LineEvent>
         ensures { result ≡ connected_happened (slice_get self.now.cards.items order.line) order.note }
     {
         let Note::Connect(job) = order.note else {
             return None;
         };
         match self.cards.get(order.line) {
-            Some(card) => Some(Happened::Connected(card.tagged_job(job.first, job.call))),
+            Some(card) => Some(LineEvent::Connected(card.tagged_job(job.first, job.call))),
             None => None,
         }
     }
 
     /// The card of the order's line notes what that answered.
-    fn note(&mut self, order: Order, answered: Option<Answered>)
+    fn note(&mut self, order: Order, answered: Option<LineAnswer>)
         ensures cards { self.new.cards.items ≡ noted_at self.old.cards.items order answered }
         ensures same { self.new ≡ record self.old { cards = self.new.cards } }
     {
@@ -297,7 +293,7 @@ impl Desk {
     }
 
     /// Line i had a turn. It answers what is told of that.
-    pub fn turn(&mut self, i: usize, turn: Turn) -> Option<Told>
+    pub fn turn(&mut self, i: usize, turn: Turn) -> Option<TurnEvents>
         ensures told { result ≡ told_at self.old.cards.items i turn }
         ensures cards { self.new.cards.items ≡ turned_at self.old.cards.items i turn }
         ensures same { self.new ≡ record self.old { cards = self.new.cards } }
@@ -329,7 +325,7 @@ impl Desk {
 
     /// The question of line i, which is so, is looked at, while no order waits: clients are asked where one hears events, a question
     /// whose time is over is refused, and one of a call that is asked for no more is closed.
-    pub fn look(&mut self, i: usize, line: LineView) -> Looked
+    pub fn look(&mut self, i: usize, line: LineView) -> LookOutcome
         requires { self.old.waits ≡ None }
         ensures looked { result ≡ looked_at self.old i line }
         ensures cards { self.new.cards.items ≡ looked_cards self.old i line }
@@ -341,7 +337,7 @@ impl Desk {
             self.waits = unasked_if(looked);
             looked
         } else {
-            Looked::Nothing
+            LookOutcome::Nothing
         }
     }
 

@@ -6,7 +6,7 @@ pub fn words_are_answered_once()
     ensures { AnsweredOnce }
 {}
 
-/// Who is answered behind an order gave it by the word just before, and is answered what its line answered to it.
+/// Who is answered after an order gave it by the word just before, and is answered what its line answered to it.
 pub fn answers_are_what_was_done()
     ensures { AnswersWhatWasDone }
 {}

@@ -22,14 +22,14 @@ mod view;
 
 pub use answer::next_of;
 pub use card::{Card, LineCounts, RefusedJob, ReportTexts, TagsOn};
-pub use desk::{Desk, Done, Looked, Waits};
+pub use desk::{Desk, LookOutcome, OrderEnd, Waits};
 pub use next::{
-    Ask, ConnectNote, HangUpAsk, Next, Note, Order, PeerAsk, Refused, Reply, RingAsk, RungOn,
+    Ask, ConnectNote, HangUpAsk, Next, Note, Order, PeerAsk, RefusedWord, Reply, RingAsk, RungOn,
 };
 pub use questions::{Cause, HeardTime, Question};
-pub use spool::{Damage, Failed, RunEnd, SpoolTold, unserved_reply};
+pub use spool::{Damage, RunEnd, SpoolFailure, SpoolTold, unserved_reply};
 pub use stop::Stop;
-pub use tag::{Tag, Tagged};
+pub use tag::{Tag, TaggedCall};
 pub use telling::{Listener, tell_at, tell_turn};
-pub use told::{Happened, LineState, Told, Turn, ending};
+pub use told::{LineEvent, LineState, Turn, TurnEvents, ending};
 pub use view::{AskedView, FirstJob, LegView, LineView, View};

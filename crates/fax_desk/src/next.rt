@@ -3,8 +3,8 @@ use crate::questions::Cause;
 use crate::tag::Tag;
 use crate::view::FirstJob;
 use fax_control::Refusal;
-use fax_gateway::Side;
-use fax_line::Asked;
+use fax_gateway::Leg;
+use fax_line::LineRequest;
 use fax_repeat::{Bounds, Peer};
 
 /// A ring, with this tag, of a call that is bounded so.
@@ -17,7 +17,7 @@ pub struct RingAsk {
 /// A peer of a leg. A peer that was heard in the call that is on gives way only where it has moved.
 #[derive(Clone, Copy)]
 pub struct PeerAsk {
-    pub side: Side,
+    pub leg: Leg,
     pub peer: Peer,
     pub is_moved: bool,
 }
@@ -25,7 +25,7 @@ pub struct PeerAsk {
 /// The peer's call on a leg is gone.
 #[derive(Clone, Copy)]
 pub struct HangUpAsk {
-    pub side: Side,
+    pub leg: Leg,
 }
 
 /// What is asked of a line.
@@ -63,13 +63,13 @@ pub enum Note {
 #[derive(Clone, Copy)]
 pub struct Order {
     pub line: usize,
-    pub what: Asked,
+    pub what: LineRequest,
     pub note: Note,
 }
 
 /// A word is refused.
 #[derive(Clone, Copy)]
-pub struct Refused {
+pub struct RefusedWord {
     pub why: Refusal,
 }
 
@@ -86,7 +86,7 @@ pub enum Reply {
     Done,
     Rung(u32),
     RungOn(RungOn),
-    Refused(Refused),
+    Refused(RefusedWord),
 }
 
 /// What a word comes to: it is answered, or gives an order by whose end it is answered, or a text answers it.

@@ -1,7 +1,7 @@
 //! Calls of jobs that clients are asked for.
 ghost use Rattle.std.specs.Prelude.{◌≡◌, ◌-◌, max, nat_le};
 ghost use Rattle.std.specs.Str.{IsUtf8};
-ghost use Rattle.fax_desk.specs.Questions.{cause_text, heard_behind, open_until, seconds_left};
+ghost use Rattle.fax_desk.specs.Questions.{cause_text, heard_after, open_until, seconds_left};
 
 use crate::tag::Tag;
 
@@ -27,7 +27,7 @@ impl HeardTime {
 
     /// Time goes on to this moment, and a client hears events meanwhile, or none does.
     pub fn go_on(&mut self, now: u64, is_heard: bool)
-        ensures heard { self.new.heard ≡ heard_behind is_heard (now - self.old.last) self.old.heard }
+        ensures heard { self.new.heard ≡ heard_after is_heard (now - self.old.last) self.old.heard }
         ensures last { self.new.last ≡ max self.old.last now }
     {
         if is_heard {

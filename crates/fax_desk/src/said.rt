@@ -1,27 +1,17 @@
 //! What is said in a word.
 ghost use Rattle.std.specs.Prelude.{◌≡◌, option_map};
 ghost use Rattle.fax_desk.specs.Desks.{first_free, is_free_line};
-ghost use Rattle.fax_desk.specs.Said.{any_behind, bounds_of, peer_said, rung_happened, side_of, tag_said, unasked_if, waits_if};
+ghost use Rattle.fax_desk.specs.Said.{any_after, bounds_of, peer_said, rung_happened, tag_said, unasked_if, waits_if};
 
-use crate::desk::{Looked, Waits};
+use crate::desk::{LookOutcome, Waits};
 use crate::next::{Next, Note, PeerAsk};
-use crate::tag::{Tag, Tagged};
-use crate::told::Happened;
+use crate::tag::{Tag, TaggedCall};
+use crate::told::LineEvent;
 use crate::view::{LineView, View};
 use fax_clients::Asker;
-use fax_control::{Leg, PeerWord};
-use fax_gateway::Side;
+use fax_control::PeerWord;
+use fax_gateway::Leg;
 use fax_repeat::{Bounds, Peer};
-
-/// The side of a leg.
-pub(crate) fn side_of(leg: Leg) -> Side
-    ensures { result ≡ side_of leg }
-{
-    match leg {
-        Leg::Calling => Side::Calling,
-        Leg::Called => Side::Called,
-    }
-}
 
 /// What bounds the datagrams of a leg.
 pub(crate) fn bounds_of(bounds: fax_control::Bounds) -> Bounds
@@ -58,7 +48,7 @@ pub(crate) fn peer_of(word: PeerWord<'_>) -> Option<PeerAsk>
         return None;
     }
     Some(PeerAsk {
-        side: side_of(word.leg),
+        leg: word.leg,
         peer: Peer {
             address: word.address,
             bounds: bounds_of(word.bounds),
@@ -81,18 +71,18 @@ pub(crate) fn waits_if(asker: Asker, next: Next) -> Option<Waits>
 }
 
 /// Where this gives an order, nobody waits for its end.
-pub(crate) fn unasked_if(looked: Looked) -> Option<Waits>
+pub(crate) fn unasked_if(looked: LookOutcome) -> Option<Waits>
     ensures { result ≡ unasked_if looked }
 {
     match looked {
-        Looked::Orders(order) => Some(Waits { asker: None, order }),
+        LookOutcome::Orders(order) => Some(Waits { asker: None, order }),
         _ => None,
     }
 }
 
-/// The line from which on any is looked for, behind this.
-pub(crate) fn any_behind(from: usize, next: Next) -> usize
-    ensures { result ≡ any_behind from next }
+/// The line from which on any is looked for, after this.
+pub(crate) fn any_after(from: usize, next: Next) -> usize
+    ensures { result ≡ any_after from next }
 {
     match next {
         Next::Orders(order) => match order.note {
@@ -104,12 +94,12 @@ pub(crate) fn any_behind(from: usize, next: Next) -> usize
 }
 
 /// A call was rung, with the tag that was said.
-pub(crate) fn rung_happened(note: Note, call: u32) -> Option<Happened>
+pub(crate) fn rung_happened(note: Note, call: u32) -> Option<LineEvent>
     ensures { result ≡ rung_happened note call }
 {
     match note {
-        Note::Ring(tag) | Note::RingAny(tag) => Some(Happened::Rung(Tagged { call, tag })),
-        _ => Some(Happened::Rung(Tagged { call, tag: None })),
+        Note::Ring(tag) | Note::RingAny(tag) => Some(LineEvent::Rung(TaggedCall { call, tag })),
+        _ => Some(LineEvent::Rung(TaggedCall { call, tag: None })),
     }
 }
 

@@ -2,12 +2,12 @@
 ghost use Rattle.std.specs.Prelude.{◌≡◌};
 ghost use Rattle.fax_desk.specs.Spools.{damage_told, end_of, failed_after, failure_told, is_drained, unserved_reply};
 
-use crate::next::{Refused, Reply};
+use crate::next::{RefusedWord, Reply};
 use crate::stop::Stop;
 use fax_control::{Refusal, Word};
 use fax_events::What;
 
-/// The spool is opened anew so many milliseconds behind a failure, at the earliest.
+/// The spool is opened anew so many milliseconds after a failure, at the earliest.
 const BETWEEN_OPENINGS_MS: u64 = 10_000;
 
 /// What a start found in the spool that cannot be read: so many damaged records, and so many octets that were passed over.
@@ -32,7 +32,7 @@ impl Damage {
 
 /// The spool has failed: its run is over, so that the next one opens it anew, not before one moment, and at another one at the latest.
 #[derive(Clone, Copy)]
-pub struct Failed {
+pub struct SpoolFailure {
     pub first: u64,
     pub last: u64,
 }
@@ -56,16 +56,16 @@ pub enum RunEnd {
 /// When the run ends, where the spool has failed at this moment or not, and this was known of it; a stop takes so many milliseconds at
 /// most.
 pub(crate) fn failed_after(
-    failed: Option<Failed>,
+    failed: Option<SpoolFailure>,
     has_failed: bool,
     now: u64,
     within_ms: u64,
-) -> Option<Failed>
+) -> Option<SpoolFailure>
     ensures { result ≡ failed_after failed has_failed now within_ms }
 {
     match failed {
         Some(failed) => Some(failed),
-        None if has_failed => Some(Failed {
+        None if has_failed => Some(SpoolFailure {
             first: now.saturating_add(BETWEEN_OPENINGS_MS),
             last: now.saturating_add(within_ms),
         }),
@@ -74,7 +74,7 @@ pub(crate) fn failed_after(
 }
 
 /// Whether a run whose spool has failed is over at this moment, where no line has a call, or one has.
-pub(crate) fn is_drained(failed: Option<Failed>, now: u64, are_calm: bool) -> bool
+pub(crate) fn is_drained(failed: Option<SpoolFailure>, now: u64, are_calm: bool) -> bool
     ensures { result ≡ is_drained failed now are_calm }
 {
     match failed {
@@ -84,7 +84,7 @@ pub(crate) fn is_drained(failed: Option<Failed>, now: u64, are_calm: bool) -> bo
 }
 
 /// How a run ends that was told to stop, or not, and whose spool has failed, or not.
-pub(crate) fn end_of(stop: Stop, failed: Option<Failed>) -> RunEnd
+pub(crate) fn end_of(stop: Stop, failed: Option<SpoolFailure>) -> RunEnd
     ensures { result ≡ end_of stop failed }
 {
     match (stop, failed) {
@@ -94,7 +94,7 @@ pub(crate) fn end_of(stop: Stop, failed: Option<Failed>) -> RunEnd
 }
 
 /// What is told of a failure.
-pub(crate) fn failure_told(failed: Option<Failed>) -> Option<What<'static>>
+pub(crate) fn failure_told(failed: Option<SpoolFailure>) -> Option<What<'static>>
     ensures { result ≡ failure_told failed }
 {
     match failed {
@@ -109,7 +109,7 @@ pub fn unserved_reply(word: Word<'_>) -> Reply
 {
     match word {
         Word::Stop => Reply::Done,
-        _ => Reply::Refused(Refused {
+        _ => Reply::Refused(RefusedWord {
             why: Refusal::NoSpool,
         }),
     }

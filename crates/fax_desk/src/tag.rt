@@ -8,7 +8,7 @@ use fax_control::MOST_TAG_OCTETS;
 /// The tag of a call, or the cause for which one could not be placed: a text of at most 64 octets, by value.
 #[derive(Clone, Copy)]
 pub struct Tag {
-    /// The text, and zeros behind it.
+    /// The text, and zeros after it.
     pub octets: [u8; 64],
     /// How many octets the text has.
     pub length: u8,
@@ -45,7 +45,7 @@ impl Tag {
 
 /// A call, and its tag.
 #[derive(Clone, Copy)]
-pub struct Tagged {
+pub struct TaggedCall {
     pub call: u32,
     pub tag: Option<Tag>,
 }

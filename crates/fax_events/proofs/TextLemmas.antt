@@ -1,11 +1,11 @@
--- Texts and tokens that are written one behind the other.
+-- Texts and tokens that are written one after the other.
 use Rattle.std.proofs.Common.{◌≡◌, ℕ, List, ◌++◌, Result, Ok, Err, refl, sym, ◌∙◌, ap, append_assoc}
 use Rattle.std.specs.Result.{OnOk}
 use Rattle.json.specs.Token.{Token}
 use Rattle.json.specs.Written.{Written}
 use Rattle.fax_events.specs.Events.{Adds}
 
--- a text behind what was written behind the old one
+-- a text after what was written after the old one
 pub then_text : (old mid new s t : List ℕ) → mid ≡ old ++ s → new ≡ mid ++ t → new ≡ old ++ (s ++ t)
 then_text old mid new s t e f = f ∙ ap (λ u. u ++ t) e ∙ append_assoc old s t
 
@@ -14,7 +14,7 @@ pub last_text : {T E : Type 0} (r : Result T E) (old mid new s t : List ℕ) →
 last_text (Ok done) old mid new s t e f = then_text old mid new s t e f
 last_text (Err fault) old mid new s t e f = tt
 
--- tokens behind others
+-- tokens after others
 pub Adds-then : (old mid new : Written) (s t : List Token) → Adds old mid s → Adds mid new t → Adds old new (s ++ t)
 Adds-then old mid new s t a b = record {
   before = b.before ∙ a.before;

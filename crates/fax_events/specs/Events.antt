@@ -12,7 +12,7 @@ use Rattle.fax_pagestore.specs.declared.fault.PageFault.TheVariants as page
 use Rattle.fax_pagestore.specs.FaultNumbers.{page_fault_number}
 use Rattle.fax_answer.specs.declared.refusal.Refusal.{Refusal}
 use Rattle.fax_answer.specs.declared.refusal.Refusal.TheVariants.{Fault, NotWhole, GapBehind, SeveralImages, NoImage, Untrained}
-use Rattle.fax_control.specs.Words.{leg_text}
+use Rattle.fax_gateway.specs.LegNames.{leg_text}
 use Rattle.fax_events.specs.declared.event.Direction.{Direction}
 use Rattle.fax_events.specs.declared.event.Direction.TheVariants.{Receives, Sends}
 use Rattle.fax_events.specs.declared.event.Ending.{Ending}
@@ -90,7 +90,7 @@ tag_member tag = key (codes "tag") ∷ tag_value tag ∷ []
 abbrev pub format_members : Format → List Token
 format_members format = number_member (codes "width") (elements_of format.width) ++ text_member (codes "resolution") (resolution_name format.fine)
 
--- the number of a fault of a page, and behind how many rows it is met where it is a line
+-- the number of a fault of a page, and after how many rows it is met where it is a line
 abbrev pub row_members : PageFault → List Token
 row_members (page.BadLine n) = number_member (codes "row") n
 row_members fault = []
@@ -154,7 +154,7 @@ event_tokens event =
 abbrev pub event_line : Event → List ℕ
 event_line event = print (event_tokens event) ++ 10 ∷ []
 
--- Some tokens were written behind those before.
+-- Some tokens were written after those before.
 pub record Adds (old new : Written) (tokens : List Token) : Type 0 where
   pub before : new.before ≡ old.before
   pub added : new.tokens ≡ old.tokens ++ tokens

@@ -33,7 +33,7 @@ pub struct Counters {
     pub skipped_ms: u64,
     /// Puts into the spool: one for all pages of a slot's turn.
     pub puts: u64,
-    /// Pages that could not be kept.
+    /// Pages that could not be stored.
     pub put_failures: u64,
     /// How long all puts took, in microseconds.
     pub put_micros: u64,

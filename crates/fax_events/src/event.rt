@@ -35,7 +35,7 @@ pub enum Ending {
     HungUp,
     /// The gateway gave the call up: the peer said nothing for too long, or nothing that it could take.
     GivenUp,
-    /// A page of the call could not be kept, so that nothing was said behind it.
+    /// A page of the call could not be kept, so that nothing was said after it.
     NotKept,
 }
 
@@ -53,7 +53,7 @@ impl Ending {
     }
 }
 
-/// Why a page that was kept in an earlier life is not sent.
+/// Why a page that was stored in an earlier life is not sent.
 #[derive(Clone, Copy, PartialEq, Eq, Debug)]
 pub enum WhyAside {
     /// Its text means no page.
@@ -77,7 +77,7 @@ impl WhyAside {
     }
 }
 
-/// A page that was kept in an earlier life, and is not sent.
+/// A page that was stored in an earlier life, and is not sent.
 #[derive(Clone, Copy, PartialEq, Eq, Debug)]
 pub struct PageAside {
     /// The number of that life.
@@ -91,7 +91,7 @@ pub struct PageAside {
 
 /// A page that was confirmed.
 #[derive(Clone, Copy, PartialEq, Eq, Debug)]
-pub struct PageKept {
+pub struct PageConfirmed {
     /// The number of its call.
     pub call: u32,
     /// Its number in the call, from 1 on.
@@ -120,7 +120,7 @@ pub enum What<'a> {
     /// The calling leg was rung: the number of the call, and its tag.
     Rung(u32, Option<&'a str>),
     /// A page was confirmed, in the call of this tag.
-    Page(PageKept, Option<&'a str>),
+    Page(PageConfirmed, Option<&'a str>),
     /// A page was refused (RTN): the number of its call, the tag of that, and why.
     RefusedPage(u32, Option<&'a str>, Refusal),
     /// A call ended: its number, its tag, and how.
@@ -141,12 +141,12 @@ pub enum What<'a> {
     /// A page was confirmed and could not be kept on the disk: the number of its call, and the tag of that. Nothing is said on
     /// the call's leg any more.
     NotKept(u32, Option<&'a str>),
-    /// A page that was kept in an earlier life is not sent; the tag is that of its call.
+    /// A page that was stored in an earlier life is not sent; the tag is that of its call.
     SetAside(PageAside, Option<&'a str>),
     /// The start found so many damaged records in the spool, and passed so many octets over in which nothing could be read. It is told
     /// of no line.
     Damaged(u64, u64),
-    /// A call of the spool's disk failed: no page is kept from now on, until the spool is opened anew. It is told of no line.
+    /// A call of the spool's disk failed: no page is stored from now on, until the spool is opened anew. It is told of no line.
     SpoolFailed,
 }
 

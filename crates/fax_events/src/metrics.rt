@@ -145,7 +145,7 @@ fn put_wire_counts(text: &mut String, counters: &Counters) -> Result<(), AllocEr
     )
 }
 
-/// Writes the counts of pages that are kept on a disk.
+/// Writes the counts of pages that are stored on a disk.
 fn put_spool_counts(text: &mut String, counters: &Counters) -> Result<(), AllocError>
     ensures { OnOk result (string_bytes text.new ≡ string_bytes text.old ++ spool_counts counters.now) }
 {

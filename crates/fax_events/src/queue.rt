@@ -13,13 +13,13 @@ pub const MOST_WAITING: usize = 1024;
 pub struct Due {
     /// So many lines were lost right here.
     pub lost: u64,
-    /// The line behind them; none where no more wait.
+    /// The line after them; none where no more wait.
     pub line: Option<Vec<u8>>,
 }
 
 /// A line that waits, and how many were lost right before it.
 #[derive(Drop)]
-pub struct Waiting {
+pub struct WaitingLine {
     lost: u64,
     line: Vec<u8>,
 }
@@ -28,7 +28,7 @@ pub struct Waiting {
 /// the reader is told at its place how many were.
 #[derive(Drop)]
 pub struct EventQueue {
-    waiting: HeapCircularBuffer<Waiting>,
+    waiting: HeapCircularBuffer<WaitingLine>,
     lost: u64,
     ghost room: { waiting.capacity ≡ 1024 },
 }
@@ -47,11 +47,11 @@ impl EventQueue {
         })
     }
 
-    /// A line comes: it waits behind the others, or is lost where 1,024 wait.
+    /// A line comes: it waits after the others, or is lost where 1,024 wait.
     pub fn push(&mut self, line: Vec<u8>)
         ensures { due_of self.new ≡ after_line (due_of self.old) line.items }
     {
-        let waiting = Waiting {
+        let waiting = WaitingLine {
             lost: self.lost,
             line,
         };
@@ -68,7 +68,7 @@ impl EventQueue {
         ensures some { IfSome result (λ due. 0 < length (tellings_of due)) }
     {
         match self.waiting.pop_front() {
-            Some(Waiting { lost, line }) => Some(Due {
+            Some(WaitingLine { lost, line }) => Some(Due {
                 lost,
                 line: Some(line),
             }),

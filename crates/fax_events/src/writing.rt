@@ -3,7 +3,7 @@ ghost use Rattle.std.specs.Prelude.{◌≡◌, option_map, IfOk, OnOk};
 ghost use Rattle.fax_jobs.specs.ReportTexts.{resolution_name};
 ghost use Rattle.fax_events.specs.Events.{Adds, cause_members, detail_members, event_line, fault_members, fault_name, format_members, line_members, refusal_members, refusal_name, row_members, number_member, tag_member, text_member, what_members};
 
-use crate::event::{AskedJob, Direction, Ending, Event, PageAside, PageKept, What};
+use crate::event::{AskedJob, Direction, Ending, Event, PageAside, PageConfirmed, What};
 use fax_answer::Refusal;
 use fax_bits::NoMemory;
 use fax_control::Leg;
@@ -108,7 +108,7 @@ fn name_of_refusal(why: Refusal) -> &'static str
     }
 }
 
-/// Writes behind how many rows a fault is met, where it is a line.
+/// Writes after how many rows a fault is met, where it is a line.
 fn put_row(writer: &mut Writer, fault: PageFault) -> Result<(), AllocError>
     ensures { OnOk result (Adds writer.old writer.new (row_members fault)) }
 {
@@ -159,7 +159,7 @@ fn put_refused_page(
 }
 
 /// Writes what is told of a page that was confirmed.
-fn put_page(writer: &mut Writer, page: PageKept, tag: Option<&str>) -> Result<(), AllocError>
+fn put_page(writer: &mut Writer, page: PageConfirmed, tag: Option<&str>) -> Result<(), AllocError>
     ensures { OnOk result (Adds writer.old writer.new (what_members (What.Page page tag.entry))) }
 {
     put_number(writer, "call", u64::from(page.call))?;

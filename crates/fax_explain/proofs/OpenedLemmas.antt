@@ -20,43 +20,43 @@ use Rattle.fax_explain.specs.FrameEnds.{AreEnds, frames_in}
 use Rattle.fax_ifp.specs.Pieces.{Piece, Gap, pieces}
 use Rattle.fax_ifp.specs.declared.piece.Piece as code_pieces
 use Rattle.fax_ifp.specs.Shown.{piece_of, pieces_shown}
-use Rattle.fax_ifp.specs.Tracked.{Tracked, IsTracked, Tracks, Gives, TracksRun, GivesRun, lost_slots}
-use Rattle.fax_telling.specs.declared.lane.Lane.{Lane}
-use Rattle.fax_telling.specs.Tales.{last_with}
-use Rattle.fax_telling.specs.Tellings.{Telling}
-use Rattle.fax_telling.specs.Words.{frame_text, kind_name, numbers_text, wholeness_text}
+use Rattle.fax_ifp.specs.Tracked.{TrackState, IsTracked, Tracks, Gives, TracksRun, GivesRun, lost_slots}
+use Rattle.fax_descriptions.specs.declared.lane.Lane.{Lane}
+use Rattle.fax_descriptions.specs.Tales.{last_with}
+use Rattle.fax_descriptions.specs.Tellings.{Description}
+use Rattle.fax_descriptions.specs.Words.{frame_text, kind_name, numbers_text, wholeness_text}
 use Rattle.fax_explain.specs.declared.listener.Due.{Due}
 use Rattle.fax_explain.specs.declared.listener.Due.TheVariants.{Nothing, Check, Page}
 use Rattle.fax_explain.specs.declared.listener.Listener.{Listener}
-use Rattle.fax_explain.specs.Listening.{is_same, signal_name, verdict_name, words_behind}
+use Rattle.fax_explain.specs.Listening.{is_same, signal_name, verdict_name, words_after}
 use Rattle.fax_explain.specs.Openings.{Opening, back_openings, check_opening, datagram_openings, decided_openings, end_opening, frame_opening, head_openings, image_text, late_openings, line_if, lost_openings, octets_counted, packet_openings, packets_openings, piece_openings, pieces_openings, slots_openings, start_opening, tail_openings, unread_opening}
 use Rattle.fax_explain.specs.Heard.{AddsLine, Adds, AreOpened, BeginsAsOneOf, HasHeard, Hears, IsHearing, Stays, TellsDatagram, arrived_with}
 
 -- these words, in this lane
-abbrev pub line_of : Lane → List ℕ → Telling
+abbrev pub line_of : Lane → List ℕ → Description
 line_of lane words = record { lane = lane; words = words }
 
-pub opened_both : (lane : Lane) (xs ys : List Opening) (a b : List Telling) → AreOpened lane xs a → AreOpened lane ys b → AreOpened lane (xs ++ ys) (a ++ b)
+pub opened_both : (lane : Lane) (xs ys : List Opening) (a b : List Description) → AreOpened lane xs a → AreOpened lane ys b → AreOpened lane (xs ++ ys) (a ++ b)
 opened_both lane [] ys [] b p q = q
 opened_both lane [] ys (t ∷ a) b p q = absurd p
 opened_both lane (x ∷ xs) ys [] b p q = absurd p
 opened_both lane (x ∷ xs) ys (t ∷ a) b p q = (p.0, opened_both lane xs ys a b p.1 q)
 
--- lines behind lines
-pub adds_both : (lane : Lane) (xs ys : List Opening) (old mid new : List Telling) → Adds lane xs old mid → Adds lane ys mid new → Adds lane (xs ++ ys) old new
+-- lines after lines
+pub adds_both : (lane : Lane) (xs ys : List Opening) (old mid new : List Description) → Adds lane xs old mid → Adds lane ys mid new → Adds lane (xs ++ ys) old new
 adds_both lane xs ys old mid new p q = record {
   own = p.own ++ q.own;
   opened = opened_both lane xs ys p.own q.own p.opened q.opened;
-  is = q.is ∙ ap (λ (t : List Telling). t ++ q.own) p.is ∙ append_assoc old p.own q.own;
+  is = q.is ∙ ap (λ (t : List Description). t ++ q.own) p.is ∙ append_assoc old p.own q.own;
 }
 
-pub adds_none : (lane : Lane) (old new : List Telling) → new ≡ old → Adds lane [] old new
+pub adds_none : (lane : Lane) (old new : List Description) → new ≡ old → Adds lane [] old new
 adds_none lane old new same = record { own = []; opened = tt; is = same ∙ sym (append-nil old) }
 
 -- one line, whose words go on from a text with what begins as the opening says
-pub adds_line : (lane : Lane) (opening : Opening) (words : List ℕ) (old new : List Telling) → BeginsAsOneOf opening words → AddsLine lane words old new → Adds lane (opening ∷ []) old new
+pub adds_line : (lane : Lane) (opening : Opening) (words : List ℕ) (old new : List Description) → BeginsAsOneOf opening words → AddsLine lane words old new → Adds lane (opening ∷ []) old new
 adds_line lane opening words old new b l =
-    let telling : Telling = record { lane = lane; words = words ++ l.more } in
+    let telling : Description = record { lane = lane; words = words ++ l.more } in
     record {
       own = telling ∷ [];
       opened = ((refl, record { text = b.text; is_one = b.is_one; more = b.more ++ l.more; words_are = ap (λ (w : List ℕ). w ++ l.more) b.words_are ∙ append_assoc b.text b.more l.more }), tt);
@@ -64,31 +64,31 @@ adds_line lane opening words old new b l =
     }
 
 -- so many lines
-pub opened_length : (lane : Lane) (xs : List Opening) (a : List Telling) → AreOpened lane xs a → length a ≡ length xs
+pub opened_length : (lane : Lane) (xs : List Opening) (a : List Description) → AreOpened lane xs a → length a ≡ length xs
 opened_length lane [] [] p = refl
 opened_length lane [] (t ∷ a) p = absurd p
 opened_length lane (x ∷ xs) [] p = absurd p
 opened_length lane (x ∷ xs) (t ∷ a) p = grind (arith, opened_length lane xs a p.1)
 
-pub adds_length : (lane : Lane) (xs : List Opening) (old new : List Telling) → Adds lane xs old new → length new ≡ length old + length xs
+pub adds_length : (lane : Lane) (xs : List Opening) (old new : List Description) → Adds lane xs old new → length new ≡ length old + length xs
 adds_length lane xs old new h = ap length h.is ∙ length-append old h.own ∙ ap (λ (n : ℕ). length old + n) (opened_length lane xs h.own h.opened)
 
 -- the last of the lines goes on
-goes_on : (more : List ℕ) (old : List Telling) (t : Telling) (own : List Telling) → last_with more (old ++ t ∷ own) ≡ old ++ last_with more (t ∷ own)
+goes_on : (more : List ℕ) (old : List Description) (t : Description) (own : List Description) → last_with more (old ++ t ∷ own) ≡ old ++ last_with more (t ∷ own)
 goes_on more [] t own = refl
 goes_on more (x ∷ []) t own = refl
-goes_on more (x ∷ y ∷ old) t own = ap (λ (l : List Telling). x ∷ l) (goes_on more (y ∷ old) t own)
+goes_on more (x ∷ y ∷ old) t own = ap (λ (l : List Description). x ∷ l) (goes_on more (y ∷ old) t own)
 
-opened_on : (lane : Lane) (xs : List Opening) (more : List ℕ) (t : Telling) (own : List Telling) → AreOpened lane xs (t ∷ own) → AreOpened lane xs (last_with more (t ∷ own))
+opened_on : (lane : Lane) (xs : List Opening) (more : List ℕ) (t : Description) (own : List Description) → AreOpened lane xs (t ∷ own) → AreOpened lane xs (last_with more (t ∷ own))
 opened_on lane [] more t own p = absurd p
 opened_on lane (x ∷ xs) more t [] p =
     ((p.0.0, record { text = p.0.1.text; is_one = p.0.1.is_one; more = p.0.1.more ++ more; words_are = ap (λ (w : List ℕ). w ++ more) p.0.1.words_are ∙ append_assoc p.0.1.text p.0.1.more more }), p.1)
 opened_on lane (x ∷ xs) more t (u ∷ own) p = (p.0, opened_on lane xs more u own p.1)
 
-pub adds_on : (lane : Lane) (x : Opening) (xs : List Opening) (more : List ℕ) (old mid new : List Telling) → Adds lane (x ∷ xs) old mid → new ≡ last_with more mid → Adds lane (x ∷ xs) old new
+pub adds_on : (lane : Lane) (x : Opening) (xs : List Opening) (more : List ℕ) (old mid new : List Description) → Adds lane (x ∷ xs) old mid → new ≡ last_with more mid → Adds lane (x ∷ xs) old new
 adds_on lane x xs more old mid new h is = adds_own lane x xs more old mid new h.own h.opened h.is is
   where
-    adds_own : (lane : Lane) (x : Opening) (xs : List Opening) (more : List ℕ) (old mid new own : List Telling) → AreOpened lane (x ∷ xs) own → mid ≡ old ++ own → new ≡ last_with more mid → Adds lane (x ∷ xs) old new
+    adds_own : (lane : Lane) (x : Opening) (xs : List Opening) (more : List ℕ) (old mid new own : List Description) → AreOpened lane (x ∷ xs) own → mid ≡ old ++ own → new ≡ last_with more mid → Adds lane (x ∷ xs) old new
     adds_own lane x xs more old mid new [] p e is = absurd p
     adds_own lane x xs more old mid new (t ∷ own) p e is = record {
       own = last_with more (t ∷ own);
@@ -98,7 +98,7 @@ adds_on lane x xs more old mid new h is = adds_own lane x xs more old mid new h.
 
 -- ---- what is heard
 
-pub hears_both : (xs ys : List Opening) (a b c : Listener) (old mid new : List Telling) → Hears xs a b old mid → Hears ys b c mid new → Hears (xs ++ ys) a c old new
+pub hears_both : (xs ys : List Opening) (a b c : Listener) (old mid new : List Description) → Hears xs a b old mid → Hears ys b c mid new → Hears (xs ++ ys) a c old new
 hears_both xs ys a b c old mid new p q = record {
   adds = adds_both a.lane xs ys old mid new p.adds (let f : Adds b.lane ys mid new = q.adds in rw p.lane at f);
   lane = q.lane ∙ p.lane;
@@ -107,7 +107,7 @@ hears_both xs ys a b c old mid new p q = record {
 }
 
 -- nothing is told, and no frame heard
-pub hears_none : (a b : Listener) (old new : List Telling) → b.lane ≡ a.lane → b.receiver ≡ a.receiver → b.frames.items ≡ a.frames.items → new ≡ old → Hears [] a b old new
+pub hears_none : (a b : Listener) (old new : List Description) → b.lane ≡ a.lane → b.receiver ≡ a.receiver → b.frames.items ≡ a.frames.items → new ≡ old → Hears [] a b old new
 hears_none a b old new lane receiver frames same = record {
   adds = adds_none a.lane old new same;
   lane = lane;
@@ -116,7 +116,7 @@ hears_none a b old new lane receiver frames same = record {
 }
 
 -- a line, and at most one frame
-pub hears_line : (opening : Opening) (words : List ℕ) (a b : Listener) (old new : List Telling) → b.lane ≡ a.lane → b.receiver ≡ a.receiver
+pub hears_line : (opening : Opening) (words : List ℕ) (a b : Listener) (old new : List Description) → b.lane ≡ a.lane → b.receiver ≡ a.receiver
     → length b.frames.items ≤ length a.frames.items + 1 → BeginsAsOneOf opening words → AddsLine a.lane words old new → Hears (opening ∷ []) a b old new
 hears_line opening words a b old new lane receiver frames begins line = record {
   adds = adds_line a.lane opening words old new begins line;
@@ -126,7 +126,7 @@ hears_line opening words a b old new lane receiver frames begins line = record {
 }
 
 -- a line, and no frame
-pub hears_told : (opening : Opening) (words : List ℕ) (a b : Listener) (old new : List Telling) → b.lane ≡ a.lane → b.receiver ≡ a.receiver
+pub hears_told : (opening : Opening) (words : List ℕ) (a b : Listener) (old new : List Description) → b.lane ≡ a.lane → b.receiver ≡ a.receiver
     → b.frames.items ≡ a.frames.items → BeginsAsOneOf opening words → AddsLine a.lane words old new → Hears (opening ∷ []) a b old new
 hears_told opening words a b old new lane receiver frames begins line =
     let few : length b.frames.items ≤ length a.frames.items + 1 = omega (arith, ap length frames) in
@@ -154,16 +154,16 @@ ok_both (Err e) p q f = tt
 -- ---- lines of a direction
 
 -- a line goes on
-pub line_on : (lane : Lane) (text more : List ℕ) (old mid new : List Telling) → AddsLine lane text old mid → new ≡ last_with more mid → AddsLine lane text old new
+pub line_on : (lane : Lane) (text more : List ℕ) (old mid new : List Description) → AddsLine lane text old mid → new ≡ last_with more mid → AddsLine lane text old new
 line_on lane text more old mid new l is =
-    let telling : Telling = record { lane = lane; words = text ++ l.more } in
+    let telling : Description = record { lane = lane; words = text ++ l.more } in
     record {
       more = l.more ++ more;
       is = is ∙ ap (last_with more) l.is ∙ goes_on more old telling []
-          ∙ ap (λ (w : List ℕ). let t : Telling = record { lane = lane; words = w } in old ++ t ∷ []) (append_assoc text l.more more);
+          ∙ ap (λ (w : List ℕ). let t : Description = record { lane = lane; words = w } in old ++ t ∷ []) (append_assoc text l.more more);
     }
 
-pub line_told : (lane : Lane) (text : List ℕ) (old new : List Telling) → new ≡ old ++ line_of lane text ∷ [] → AddsLine lane text old new
+pub line_told : (lane : Lane) (text : List ℕ) (old new : List Description) → new ≡ old ++ line_of lane text ∷ [] → AddsLine lane text old new
 line_told lane text old new is =
     record { more = []; is = is ∙ ap (λ (w : List ℕ). old ++ line_of lane w ∷ []) (sym (append-nil text)) }
 
@@ -222,7 +222,7 @@ begins_more opening words more new b is = record {
 }
 
 -- a frame
-pub frame_heard : (last : Option Offer) (octets : List ℕ) (frame : Option Frame) (words : List ℕ) → words ≡ words_behind last octets frame → BeginsAsOneOf (frame_opening octets frame) words
+pub frame_heard : (last : Option Offer) (octets : List ℕ) (frame : Option Frame) (words : List ℕ) → words ≡ words_after last octets frame → BeginsAsOneOf (frame_opening octets frame) words
 frame_heard last octets None words is = begins_as _ _ words is
 frame_heard last octets (Some (Dis dis)) words is = dis_heard (is_same last dis) octets words is
   where
@@ -258,10 +258,10 @@ lost_counted count slots is =
     ∙ ap octets_counted (reverse-append (pieces slots) (replicate count Gap) ∙ ap (λ (g : List Piece). g ++ reverse (pieces slots)) (gaps_reversed count))
     ∙ ap (λ (os : List ℕ). min (length os) (2 ^ 64 - 1)) (gaps_uncounted count (reverse (pieces slots)))
 
-pub lost_heard : (count : ℕ) (slots : List Slot) (signals : Tracked) (old new : Listener) → TracksRun (lost_slots count) old.signals signals → GivesRun (lost_slots count) old.signals (replicate count Gap)
+pub lost_heard : (count : ℕ) (slots : List Slot) (signals : TrackState) (old new : Listener) → TracksRun (lost_slots count) old.signals signals → GivesRun (lost_slots count) old.signals (replicate count Gap)
     → new.signals ≡ signals → new.image.octets ≡ old.image.octets → HasHeard slots old → HasHeard (lost_slots count ++ slots) new
 lost_heard count slots signals old new tracks gives is octets h = record {
-  tracked = subst (λ (t : Tracked). IsTracked (lost_slots count ++ slots) t) (sym is) (tracks slots h.tracked);
+  tracked = subst (λ (t : TrackState). IsTracked (lost_slots count ++ slots) t) (sym is) (tracks slots h.tracked);
   counted = octets ∙ h.counted ∙ sym (lost_counted count slots (gives slots h.tracked));
 }
 
@@ -325,7 +325,7 @@ pub one_more : {T : Type 0} (xs ys : List T) (x : T) → ys ≡ xs ++ x ∷ [] �
 one_more xs ys x is = omega (arith, ap length is, length-append xs (x ∷ []))
 
 -- the same lines, told of a listener that is in the same lane
-pub hears_from : (xs : List Opening) (a m b : Listener) (old new : List Telling) → m.lane ≡ a.lane → m.receiver ≡ a.receiver → m.frames.items ≡ a.frames.items
+pub hears_from : (xs : List Opening) (a m b : Listener) (old new : List Description) → m.lane ≡ a.lane → m.receiver ≡ a.receiver → m.frames.items ≡ a.frames.items
     → Hears xs m b old new → Hears xs a b old new
 hears_from xs a m b old new lane receiver frames h = record {
   adds = subst (λ (l : Lane). Adds l xs old new) lane h.adds;
@@ -351,8 +351,8 @@ tail_told (Ok packet) ends given lacking are is =
 tail_told (Err fault) ends given lacking are is =
     sym (ap₂ tail_lines (is ∙ ap (λ (n : ℕ). n - frames_in given) are.0 ∙ nothing_less (frames_in given)) are.1)
 
--- what a packet brings is told: before its pieces, its pieces, and behind them
-pub packet_heard : (slots : List Slot) (number : ℕ) (packet : List ℕ) (given : List Piece) (ends : FrameEnds) (lacking : ℕ) (a b m c : Listener) (t u v w : List Telling)
+-- what a packet brings is told: before its pieces, its pieces, and after them
+pub packet_heard : (slots : List Slot) (number : ℕ) (packet : List ℕ) (given : List Piece) (ends : FrameEnds) (lacking : ℕ) (a b m c : Listener) (t u v w : List Description)
     → Hears (head_openings number (packet_of packet)) a b t u → Stays a b → HasHeard slots a → Gives (Some packet) b.signals given
     → m.lane ≡ b.lane → m.receiver ≡ b.receiver → m.frames.items ≡ b.frames.items
     → ((before : List Piece) → b.image.octets ≡ octets_counted before → Hears (pieces_openings before given) m c u v)
@@ -361,22 +361,22 @@ pub packet_heard : (slots : List Slot) (number : ℕ) (packet : List ℕ) (given
 packet_heard slots number packet given ends lacking a b m c t u v w head stays h gives lane receiver frames body are lacks tail =
     let front = head_openings number (packet_of packet) in
     let mid = pieces_openings (reverse (pieces slots)) given in
-    let behind = tail_openings (packet_of packet) given in
-    let tracked : IsTracked slots b.signals = subst (λ (s : Tracked). IsTracked slots s) (sym stays.0) h.tracked in
+    let after = tail_openings (packet_of packet) given in
+    let tracked : IsTracked slots b.signals = subst (λ (s : TrackState). IsTracked slots s) (sym stays.0) h.tracked in
     let one : Hears mid b c u v = hears_from mid b m c u v lane receiver frames (body (reverse (pieces slots)) (stays.1 ∙ h.counted)) in
-    let two : Hears behind c c v w = subst (λ (os : List Opening). Hears os c c v w) (sym (tail_told (packet_of packet) ends given lacking are lacks)) tail in
+    let two : Hears after c c v w = subst (λ (os : List Opening). Hears os c c v w) (sym (tail_told (packet_of packet) ends given lacking are lacks)) tail in
     subst (λ (os : List Opening). Hears os a c t w) (sym (packet_told slots number packet given (gives slots tracked)))
-    (hears_both front (mid ++ behind) a b c t u w head (hears_both mid behind b c c u v w one two))
+    (hears_both front (mid ++ after) a b c t u w head (hears_both mid after b c c u v w one two))
 
 -- and it is heard
-pub packet_kept : (slots : List Slot) (packet : List ℕ) (given : List Piece) (signals : Tracked) (a b c : Listener)
+pub packet_kept : (slots : List Slot) (packet : List ℕ) (given : List Piece) (signals : TrackState) (a b c : Listener)
     → Stays a b → HasHeard slots a → Tracks (Some packet) b.signals signals → Gives (Some packet) b.signals given → c.signals ≡ signals
     → ((before : List Piece) → b.image.octets ≡ octets_counted before → c.image.octets ≡ octets_counted (reverse given ++ before))
     → HasHeard (Some packet ∷ slots) c
 packet_kept slots packet given signals a b c stays h tracks gives is counted =
-    let tracked : IsTracked slots b.signals = subst (λ (s : Tracked). IsTracked slots s) (sym stays.0) h.tracked in
+    let tracked : IsTracked slots b.signals = subst (λ (s : TrackState). IsTracked slots s) (sym stays.0) h.tracked in
     record {
-      tracked = subst (λ (s : Tracked). IsTracked (Some packet ∷ slots) s) (sym is) (tracks slots tracked);
+      tracked = subst (λ (s : TrackState). IsTracked (Some packet ∷ slots) s) (sym is) (tracks slots tracked);
       counted = counted (reverse (pieces slots)) (stays.1 ∙ h.counted)
           ∙ ap octets_counted (sym (ap (λ (ps : List Piece). reverse ps) (gives slots tracked) ∙ reverse-append (pieces slots) given));
     }
@@ -432,7 +432,7 @@ slots_decided : (before : List Slot) (number : ℕ) (decided : DecidedValue) (sl
 slots_decided before number decided [] some = absurd (some refl)
 slots_decided before number decided (slot ∷ slots) some = refl
 
-pub decided_told : (slots : List Slot) (number : ℕ) (decided : DecidedValue) (from lost : ℕ) (a b c : Listener) (t u v w : List Telling) → (slots_in decided ≡ [] → ⊥) → from ≡ decided.from → lost ≡ decided.lost
+pub decided_told : (slots : List Slot) (number : ℕ) (decided : DecidedValue) (from lost : ℕ) (a b c : Listener) (t u v w : List Description) → (slots_in decided ≡ [] → ⊥) → from ≡ decided.from → lost ≡ decided.lost
     → Hears (lost_openings from lost) a b t u → Hears (back_openings ((from + lost) % 65536) number) b b u v
     → Hears (packets_openings (lost_slots lost ++ slots) ((from + lost) % 65536) decided.packets) b c v w → Hears (datagram_openings slots number decided) a c t w
 decided_told slots number decided from lost a b c t u v w some from_is lost_is p q r =
@@ -444,7 +444,7 @@ decided_told slots number decided from lost a b c t u v w some from_is lost_is p
     ∙ ap₂ (λ (f l : ℕ). lost_openings f l ++ (back_openings ((f + l) % 65536) number ++ packets_openings (lost_slots l ++ slots) ((f + l) % 65536) decided.packets)) (sym from_is) (sym lost_is) in
     subst (λ (os : List Opening). Hears os a c t w) (sym same) (hears_both xs (ys ++ zs) a b c t u w p (hears_both ys zs b b c u v w q r))
 
-pub late_told : (slots : List Slot) (number : ℕ) (decided : DecidedValue) (from : ℕ) (a : Listener) (t u : List Telling) → slots_in decided ≡ [] → from ≡ decided.from
+pub late_told : (slots : List Slot) (number : ℕ) (decided : DecidedValue) (from : ℕ) (a : Listener) (t u : List Description) → slots_in decided ≡ [] → from ≡ decided.from
     → Hears (late_openings number from) a a t u → Hears (datagram_openings slots number decided) a a t u
 late_told slots number decided from a t u none from_is p =
     subst (λ (os : List Opening). Hears os a a t u) (ap (late_openings number) from_is ∙ sym (ap (slots_openings slots number decided) none)) p
@@ -453,7 +453,7 @@ pub late_kept : (decided : DecidedValue) (slots : List Slot) (c : Listener) → 
 late_kept decided slots c none h = subst (λ (s : List Slot). HasHeard (reverse s ++ slots) c) (sym none) h
 
 -- octets that came are told
-pub datagram_told : (arrived : List DatagramValue) (octets : List ℕ) (number : ℕ) (old new : Option ℕ) (decided : DecidedValue) (lane : Lane) (datagram : DatagramValue) (a b : List Telling)
+pub datagram_told : (arrived : List DatagramValue) (octets : List ℕ) (number : ℕ) (old new : Option ℕ) (decided : DecidedValue) (lane : Lane) (datagram : DatagramValue) (a b : List Description)
     → IsAfter arrived old → (t : Takes octets old new decided) → datagram_of octets ≡ Ok datagram → number ≡ datagram.number
     → Adds lane (datagram_openings (newest_slots arrived) number decided) a b → TellsDatagram arrived (datagram_of octets) lane a b
 datagram_told arrived octets number old new decided lane datagram a b after t is numbered told =
@@ -474,7 +474,7 @@ datagram_kept arrived octets old decided c after t h =
     (record { after = t.after arrived after; heard = subst (λ (s : List Slot). HasHeard s c) (sym (newest_more arrived t.datagram decided (t.decides arrived after))) h })
 
 -- octets that are no datagram
-pub unread_told : (arrived : List DatagramValue) (octets : List ℕ) (fault : UdptlFault) (lane : Lane) (a b : List Telling) → datagram_of octets ≡ Err fault
+pub unread_told : (arrived : List DatagramValue) (octets : List ℕ) (fault : UdptlFault) (lane : Lane) (a b : List Description) → datagram_of octets ≡ Err fault
     → Adds lane (unread_opening ∷ []) a b → TellsDatagram arrived (datagram_of octets) lane a b
 unread_told arrived octets fault lane a b is told = subst (λ (r : Result DatagramValue UdptlFault). TellsDatagram arrived r lane a b) (sym is) told
 

@@ -6,14 +6,14 @@ use Rattle.fax_gateway.specs.declared.settings.Settings.{Settings}
 use Rattle.fax_gateway.specs.Setups.{AreSet, Setup}
 use Rattle.fax_gateway.specs.Traces.{IsTrace}
 use Rattle.fax_trace.specs.declared.event.ScriptEvent.{ScriptEvent}
-use Rattle.fax_trace.specs.Playing.{Played, nothing_played}
+use Rattle.fax_trace.specs.Playing.{PlayedScript, nothing_played}
 use Rattle.fax_trace.specs.Scripts.{TellEvents}
 use Rattle.fax_trace.specs.Answers.{Outcome, Ends, status_of, fault_lines}
 use Rattle.fax_explain.specs.Ladders.{TellAll}
 
 -- A new gateway answers the events by a trace, where this function gives the texts of pages, and lines tell them and its answers.
 pub record AreExplained (setup : Setup) (writes : Writing) (events : List ScriptEvent) (lines : List (List ℕ)) : Type 0 where
-  pub played : Played
+  pub played : PlayedScript
   pub told : TellAll setup writes nothing_played events played lines
   pub is_trace : IsTrace setup writes played.trace
 

@@ -2,31 +2,31 @@
 use Rattle.std.specs.Prelude.{◌≡◌, ◌⊎◌, ℕ, List, [], ◌∷◌, ◌++◌, Option, None, Some}
 use Rattle.fax_udptl.specs.Datagrams.{DatagramValue, datagram_of}
 use Rattle.fax_explain.specs.Heard.{TellsDatagram, arrived_with}
-use Rattle.fax_telling.specs.declared.exchange.Exchange.{Exchange}
-use Rattle.fax_telling.specs.declared.lane.Lane.{Lane}
-use Rattle.fax_telling.specs.Reasons.{given_up_text}
-use Rattle.fax_telling.specs.Tales.{inside, last_with}
-use Rattle.fax_telling.specs.Tellings.{Telling}
+use Rattle.fax_descriptions.specs.declared.exchange.Exchange.{Exchange}
+use Rattle.fax_descriptions.specs.declared.lane.Lane.{Lane}
+use Rattle.fax_descriptions.specs.Reasons.{given_up_text}
+use Rattle.fax_descriptions.specs.Tales.{inside, last_with}
+use Rattle.fax_descriptions.specs.Tellings.{Description}
 
 -- a line goes on with more words, or nothing is told
-abbrev pub GoesOnInLine : (old new : List Telling) → Type 0
+abbrev pub GoesOnInLine : (old new : List Description) → Type 0
 GoesOnInLine old new = (more : List ℕ) × ((new ≡ old) ⊎ (new ≡ last_with more old))
 
 -- a datagram, where one is given, is told as one that came
-abbrev pub arrived_behind : List DatagramValue → Option (List ℕ) → List DatagramValue
-arrived_behind arrived None = arrived
-arrived_behind arrived (Some octets) = arrived_with arrived (datagram_of octets)
+abbrev pub arrived_after : List DatagramValue → Option (List ℕ) → List DatagramValue
+arrived_after arrived None = arrived
+arrived_after arrived (Some octets) = arrived_with arrived (datagram_of octets)
 
-abbrev pub TellsGiven : List DatagramValue → Option (List ℕ) → Lane → (old new : List Telling) → Type 0
+abbrev pub TellsGiven : List DatagramValue → Option (List ℕ) → Lane → (old new : List Description) → Type 0
 TellsGiven arrived None lane old new = new ≡ old
 TellsGiven arrived (Some octets) lane old new = TellsDatagram arrived (datagram_of octets) lane old new
 
--- behind the timer by which a call is given up, where it is
-abbrev pub timer_lines : Option ℕ → Exchange → List Telling
+-- after the timer by which a call is given up, where it is
+abbrev pub timer_lines : Option ℕ → Exchange → List Description
 timer_lines None exchange = []
 timer_lines (Some call) exchange = inside (given_up_text exchange) ∷ []
 
-abbrev pub TellsTimed : List DatagramValue → Option (List ℕ) → (gave_up : Option ℕ) → Lane → (old new : List Telling) → Type 0
+abbrev pub TellsTimed : List DatagramValue → Option (List ℕ) → (gave_up : Option ℕ) → Lane → (old new : List Description) → Type 0
 TellsTimed arrived None gave_up lane old new = new ≡ old
 TellsTimed arrived (Some octets) gave_up lane old new =
     (exchange : Exchange) × TellsDatagram arrived (datagram_of octets) lane (old ++ timer_lines gave_up exchange) new

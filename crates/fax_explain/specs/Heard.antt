@@ -9,8 +9,8 @@ use Rattle.fax_ifp.specs.Pieces.{pieces}
 use Rattle.fax_ifp.specs.Tracked.{IsTracked}
 use Rattle.fax_explain.specs.declared.listener.Listener.{Listener}
 use Rattle.fax_explain.specs.Openings.{Opening, datagram_openings, octets_counted, unread_opening}
-use Rattle.fax_telling.specs.declared.lane.Lane.{Lane}
-use Rattle.fax_telling.specs.Tellings.{Telling}
+use Rattle.fax_descriptions.specs.declared.lane.Lane.{Lane}
+use Rattle.fax_descriptions.specs.Tellings.{Description}
 
 -- ---- lines
 
@@ -22,29 +22,29 @@ pub record BeginsAsOneOf (opening : Opening) (words : List ℕ) : Type 0 where
   pub words_are : words ≡ text ++ more
 
 -- a line in this lane begins so
-abbrev pub Opens : Lane → Opening → Telling → Type 0
+abbrev pub Opens : Lane → Opening → Description → Type 0
 Opens lane opening telling = (telling.lane ≡ lane) × BeginsAsOneOf opening telling.words
 
 -- these lines begin so, one for each
-abbrev pub AreOpened : Lane → List Opening → List Telling → Type 0
+abbrev pub AreOpened : Lane → List Opening → List Description → Type 0
 AreOpened lane [] [] = Unit {0}
 AreOpened lane [] (telling ∷ told) = ⊥
 AreOpened lane (opening ∷ openings) [] = ⊥
 AreOpened lane (opening ∷ openings) (telling ∷ told) = Opens lane opening telling × AreOpened lane openings told
 
--- behind what was told such lines are told, and no others
-pub record Adds (lane : Lane) (openings : List Opening) (old new : List Telling) : Type 0 where
-  pub own : List Telling
+-- after what was told such lines are told, and no others
+pub record Adds (lane : Lane) (openings : List Opening) (old new : List Description) : Type 0 where
+  pub own : List Description
   pub opened : AreOpened lane openings own
   pub is : new ≡ old ++ own
 
 -- a line more in this lane, whose words begin so
-pub record AddsLine (lane : Lane) (text : List ℕ) (old new : List Telling) : Type 0 where
+pub record AddsLine (lane : Lane) (text : List ℕ) (old new : List Description) : Type 0 where
   pub more : List ℕ
   pub is : new ≡ old ++ record { lane = lane; words = text ++ more } ∷ []
 
 -- Such lines are told in the lane of a listener, which hears on: each frame that it hears more has a line.
-pub record Hears (openings : List Opening) (old new : Listener) (told now_told : List Telling) : Type 0 where
+pub record Hears (openings : List Opening) (old new : Listener) (told now_told : List Description) : Type 0 where
   pub adds : Adds old.lane openings told now_told
   pub lane : new.lane ≡ old.lane
   pub receiver : new.receiver ≡ old.receiver
@@ -73,8 +73,8 @@ abbrev pub arrived_with : List DatagramValue → Result DatagramValue UdptlFault
 arrived_with arrived (Ok datagram) = datagram ∷ arrived
 arrived_with arrived (Err fault) = arrived
 
--- Behind these datagrams octets come in a lane: what they bring is told.
-abbrev pub TellsDatagram : List DatagramValue → Result DatagramValue UdptlFault → Lane → (old new : List Telling) → Type 0
+-- After these datagrams octets come in a lane: what they bring is told.
+abbrev pub TellsDatagram : List DatagramValue → Result DatagramValue UdptlFault → Lane → (old new : List Description) → Type 0
 TellsDatagram arrived (Ok datagram) lane old new =
     (decided : DecidedValue) × Decides arrived datagram decided × Adds lane (datagram_openings (newest_slots arrived) datagram.number decided) old new
 TellsDatagram arrived (Err fault) lane old new = Adds lane (unread_opening ∷ []) old new

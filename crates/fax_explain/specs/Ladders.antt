@@ -4,43 +4,43 @@ use Rattle.fax_jobs.specs.declared.report.Report.{Report}
 use Rattle.fax_jobs.specs.Jobs.{JobValue}
 use Rattle.fax_jobs.specs.ReportTexts.{report_text}
 use Rattle.fax_call.specs.Writings.{Writing}
-use Rattle.fax_gateway.specs.Asking.{asked_behind}
-use Rattle.fax_gateway.specs.declared.given.Refused.{Refused}
+use Rattle.fax_gateway.specs.Asking.{asked_after}
+use Rattle.fax_gateway.specs.declared.given.RefusedPage.{RefusedPage}
 use Rattle.fax_gateway.specs.CallingLegs.{calling_leg}
 use Rattle.fax_gateway.specs.Events.{Event, Ring, FromCalling, FromCalled, Tick, Placed, clock}
 use Rattle.fax_gateway.specs.Setups.{Setup}
 use Rattle.fax_gateway.specs.Turns.{IsRefusedAt}
 use Rattle.fax_trace.specs.declared.event.ScriptEvent.{ScriptEvent}
-use Rattle.fax_trace.specs.Playing.{Played, Accepts, Refuses, newly_asked}
-use Rattle.fax_telling.specs.declared.command.Command.{Command}
-use Rattle.fax_telling.specs.declared.lane.Lane.{Lane}
-use Rattle.fax_telling.specs.declared.lane.Lane.TheVariants.{ToCalled}
-use Rattle.fax_telling.specs.Reasons.{ended_text, refusal_text}
-use Rattle.fax_telling.specs.Tales.{inside, line_text}
-use Rattle.fax_telling.specs.Tellings.{Telling}
-use Rattle.fax_telling.specs.Words.{format_text}
+use Rattle.fax_trace.specs.Playing.{PlayedScript, Accepts, Refuses, newly_asked}
+use Rattle.fax_descriptions.specs.declared.command.Command.{Command}
+use Rattle.fax_descriptions.specs.declared.lane.Lane.{Lane}
+use Rattle.fax_descriptions.specs.declared.lane.Lane.TheVariants.{ToCalled}
+use Rattle.fax_descriptions.specs.Reasons.{ended_text, refusal_text}
+use Rattle.fax_descriptions.specs.Tales.{inside, line_text}
+use Rattle.fax_descriptions.specs.Tellings.{Description}
+use Rattle.fax_descriptions.specs.Words.{format_text}
 
--- where a job ended, its report is told last, in the gateway itself, and behind it why it ended so: with the command that had
+-- where a job ended, its report is told last, in the gateway itself, and after it why it ended so: with the command that had
 -- no answer, where one waited for it
-abbrev pub EndsWithReport : Option Report → List Telling → Type 0
+abbrev pub EndsWithReport : Option Report → List Description → Type 0
 EndsWithReport None told = Unit {0}
 EndsWithReport (Some report) told =
-    (front : List Telling) × (unanswered : Option Command) × (told ≡ front ++ inside (report_text report ++ ended_text report.outcome unanswered) ∷ [])
+    (front : List Description) × (unanswered : Option Command) × (told ≡ front ++ inside (report_text report ++ ended_text report.outcome unanswered) ∷ [])
 
 -- words go on with why a page is refused
-abbrev pub with_why : Lane → List ℕ → Refused → Telling
+abbrev pub with_why : Lane → List ℕ → RefusedPage → Description
 with_why lane words refused = record { lane = lane; words = words ++ (codes ": " ++ refusal_text refused.why) }
 
 -- where a page was refused, a line ends with why
-abbrev pub TellsRefusal : Option Refused → List Telling → Type 0
+abbrev pub TellsRefusal : Option RefusedPage → List Description → Type 0
 TellsRefusal None told = Unit {0}
 TellsRefusal (Some refused) told =
-    (front : List Telling) × (lane : Lane) × (words : List ℕ) × (rest : List Telling) × (told ≡ front ++ with_why lane words refused ∷ rest)
+    (front : List Description) × (lane : Lane) × (words : List ℕ) × (rest : List Description) × (told ≡ front ++ with_why lane words refused ∷ rest)
 
--- a tick behind these events: where it refuses a page, for a reason that is right, that is told
-abbrev pub SaysWhy : Setup → (earlier : List Event) → (now : ℕ) → List Telling → Type 0
+-- a tick after these events: where it refuses a page, for a reason that is right, that is told
+abbrev pub SaysWhy : Setup → (earlier : List Event) → (now : ℕ) → List Description → Type 0
 SaysWhy setup earlier now told =
-    (refused : Option Refused) × IsRefusedAt (calling_leg setup earlier) (max now (clock earlier)) refused × TellsRefusal refused told
+    (refused : Option RefusedPage) × IsRefusedAt (calling_leg setup earlier) (max now (clock earlier)) refused × TellsRefusal refused told
 
 -- where the call of a job begins, that is told in the gateway itself: with the number of the call that its pages came in, the format
 -- of the first, and how many there are
@@ -48,52 +48,52 @@ abbrev pub begun_text : JobValue → List ℕ
 begun_text job =
     codes "the job of call " ++ (decimal job.call ++ (codes " is sent on: " ++ (format_text job.format ++ (codes ", pages: " ++ decimal (length job.pages)))))
 
-abbrev pub begun_tellings : Option JobValue → List Telling
+abbrev pub begun_tellings : Option JobValue → List Description
 begun_tellings None = []
 begun_tellings (Some job) = inside (begun_text job) ∷ []
 
 -- the call of a job is placed, which is told on the called leg, and begins; or it could not be placed
-abbrev pub on_called : List ℕ → Telling
+abbrev pub on_called : List ℕ → Description
 on_called words = record { lane = ToCalled; words = words }
 
-abbrev pub placed_tellings : (connected : Bool) → JobValue → List Telling
+abbrev pub placed_tellings : (connected : Bool) → JobValue → List Description
 placed_tellings true job = on_called (codes "the call is placed: it has answered") ∷ inside (begun_text job) ∷ []
 placed_tellings false job = on_called (codes "the call could not be placed") ∷ []
 
--- what is told of an event that is accepted behind these has the gateway's answer: a ring its call's number; a tick why a page is
+-- what is told of an event that is accepted after these has the gateway's answer: a ring its call's number; a tick why a page is
 -- refused in it, and the report of the job that ended in it; and a call that is placed or not the job that was asked for
-abbrev pub HasAnswer : Setup → Writing → (earlier : List Event) → Event → List Telling → Type 0
+abbrev pub HasAnswer : Setup → Writing → (earlier : List Event) → Event → List Description → Type 0
 HasAnswer setup writes earlier (Ring now number) told = told ≡ inside (codes "ring " ++ decimal number) ∷ []
 HasAnswer setup writes earlier (FromCalling octets now decided read) told = Unit {0}
 HasAnswer setup writes earlier (FromCalled octets now decided) told = Unit {0}
 HasAnswer setup writes earlier (Tick now given) told = SaysWhy setup earlier now told × EndsWithReport given.report told
-HasAnswer setup writes earlier (Placed now connected) told = (job : JobValue) × (asked_behind setup writes earlier ≡ Some job) × (told ≡ placed_tellings connected job)
+HasAnswer setup writes earlier (Placed now connected) told = (job : JobValue) × (asked_after setup writes earlier ≡ Some job) × (told ≡ placed_tellings connected job)
 
 -- the call of a job is asked for
-abbrev pub asked_tellings : Option ℕ → List Telling
+abbrev pub asked_tellings : Option ℕ → List Description
 asked_tellings None = []
 asked_tellings (Some call) = inside (codes "asks " ++ (decimal call ++ (codes ": a call is to be placed for the job of call " ++ decimal call))) ∷ []
 
--- the gateway accepts an event, and its answer is told, and behind it the call that it asks for from then on
-pub record TellsAccepted (setup : Setup) (writes : Writing) (old : Played) (event : ScriptEvent) (new : Played) (told : List Telling) : Type 0 where
+-- the gateway accepts an event, and its answer is told, and after it the call that it asks for from then on
+pub record TellsAccepted (setup : Setup) (writes : Writing) (old : PlayedScript) (event : ScriptEvent) (new : PlayedScript) (told : List Description) : Type 0 where
   pub accepts : Accepts setup writes old event new
-  pub own : List Telling
+  pub own : List Description
   pub answer : HasAnswer setup writes old.trace accepts.accepted own
   pub told_is : told ≡ own ++ asked_tellings (newly_asked setup writes old.trace accepts.accepted)
 
 -- or it refuses an event, and why is told as `faxgate trace` tells it
-pub record TellsRefused (setup : Setup) (writes : Writing) (old : Played) (event : ScriptEvent) (new : Played) (told : List Telling) : Type 0 where
+pub record TellsRefused (setup : Setup) (writes : Writing) (old : PlayedScript) (event : ScriptEvent) (new : PlayedScript) (told : List Description) : Type 0 where
   pub refuses : Refuses setup writes old event new
   pub why : List ℕ
   pub told_is : told ≡ inside (refuses.line ++ why) ∷ []
 
-abbrev pub TellsPlay : Setup → Writing → Played → ScriptEvent → Played → List Telling → Type 0
+abbrev pub TellsPlay : Setup → Writing → PlayedScript → ScriptEvent → PlayedScript → List Description → Type 0
 TellsPlay setup writes old event new told = TellsAccepted setup writes old event new told ⊎ TellsRefused setup writes old event new told
 
 -- Events are played on a gateway, and lines tell them: a line for each thing that is told of an event, at its moment, those of
 -- each event together, in the order of the events.
-abbrev pub TellAll : Setup → Writing → Played → List ScriptEvent → Played → List (List ℕ) → Type 0
+abbrev pub TellAll : Setup → Writing → PlayedScript → List ScriptEvent → PlayedScript → List (List ℕ) → Type 0
 TellAll setup writes old [] new lines = (new ≡ old) × (lines ≡ [])
 TellAll setup writes old (event ∷ events) new lines =
-    (next : Played) × (told : List Telling) × (rest : List (List ℕ)) × TellsPlay setup writes old event next told
+    (next : PlayedScript) × (told : List Description) × (rest : List (List ℕ)) × TellsPlay setup writes old event next told
     × (lines ≡ map (line_text next.moment) told ++ rest) × TellAll setup writes next events new rest

@@ -4,13 +4,13 @@ use Rattle.std.specs.Prelude.{ℕ, ◌==◌, Bool, true, false, List, Option, So
 use Rattle.fax_frames.specs.declared.dis.Dis.{Dis as Offer}
 use Rattle.fax_frames.specs.declared.frame.Frame.{Frame}
 use Rattle.fax_frames.specs.declared.frame.Frame.TheVariants.{Dis, Csi, Nsf, Tsi, Eom, Mps, Eop, Crp, Other}
-use Rattle.fax_telling.specs.Words.{frame_text}
+use Rattle.fax_descriptions.specs.Words.{frame_text}
 use Rattle.fax_explain.specs.declared.listener.Attention.{Attention}
 use Rattle.fax_explain.specs.declared.listener.Attention.TheVariants.{Hears, Waits}
 use Rattle.fax_explain.specs.declared.listener.Due.{Due}
 use Rattle.fax_explain.specs.declared.listener.Due.TheVariants.{Nothing, Check, Page}
 
--- the commands behind a page
+-- the commands after a page
 abbrev pub is_command : Frame → Bool
 is_command Mps = true
 is_command Eom = true
@@ -31,28 +31,28 @@ abbrev pub attention_while : (waits : Bool) → Attention
 attention_while true = Waits
 attention_while false = Hears
 
--- behind CFR a page is due where a training check was
-abbrev pub due_behind_cfr : Due → Due
-due_behind_cfr (Check dcs) = Page dcs
-due_behind_cfr due = due
+-- after CFR a page is due where a training check was
+abbrev pub due_after_cfr : Due → Due
+due_after_cfr (Check dcs) = Page dcs
+due_after_cfr due = due
 
 abbrev pub is_page_due : Due → Bool
 is_page_due (Page dcs) = true
 is_page_due due = false
 
--- the last DIS, behind a frame
-abbrev pub dis_behind : Option Offer → Option Frame → Option Offer
-dis_behind last (Some (Dis dis)) = Some dis
-dis_behind last frame = last
+-- the last DIS, after a frame
+abbrev pub dis_after : Option Offer → Option Frame → Option Offer
+dis_after last (Some (Dis dis)) = Some dis
+dis_after last frame = last
 
 abbrev pub is_same : Option Offer → Offer → Bool
 is_same None dis = false
 is_same (Some last) dis = last.caps.0 == dis.caps.0
 
 -- what a frame says: a DIS like the last one is told as such
-abbrev pub words_behind : Option Offer → (octets : List ℕ) → Option Frame → List ℕ
-words_behind last octets (Some (Dis dis)) = if is_same last dis then codes "DIS as before" else frame_text octets
-words_behind last octets frame = frame_text octets
+abbrev pub words_after : Option Offer → (octets : List ℕ) → Option Frame → List ℕ
+words_after last octets (Some (Dis dis)) = if is_same last dis then codes "DIS as before" else frame_text octets
+words_after last octets frame = frame_text octets
 
 -- what a signal is called that is due, and what a training check was
 abbrev pub signal_name : Due → List ℕ

@@ -15,7 +15,7 @@ use Rattle.fax_ifp.specs.ImageOctets.{octets_since}
 use Rattle.fax_ifp.specs.Packets.{Packet, Indicator, Message, packet_of}
 use Rattle.fax_ifp.specs.Pieces.{Piece, Frame as FramePiece, Start, Octets, End, Gap, pieces}
 use Rattle.fax_ifp.specs.Tracked.{lost_slots}
-use Rattle.fax_telling.specs.Words.{frame_text, kind_name, numbers_text}
+use Rattle.fax_descriptions.specs.Words.{frame_text, kind_name, numbers_text}
 use Rattle.fax_explain.specs.FrameEnds.{ends_in, ends_rightly, ends_wrongly, frames_in}
 
 -- the texts of which a line begins with one
@@ -84,7 +84,7 @@ head_openings number (Ok (Indicator code)) = tone_openings (indicator_at code)
 head_openings number (Ok (Message kind fields)) = []
 head_openings number (Err fault) = ((codes "packet " ++ (decimal number ++ codes " cannot be read: ")) ∷ []) ∷ []
 
--- and behind its pieces: that frames end in it of which something is missing, or whose check sequence is wrong
+-- and after its pieces: that frames end in it of which something is missing, or whose check sequence is wrong
 abbrev pub tail_openings : Result Packet IfpFault → List Piece → List Opening
 tail_openings (Ok packet) given =
     line_if (nat_lt 0 (ends_in ends_rightly packet - frames_in given)) (codes "a frame in which something is missing, passed over" ∷ [])
@@ -92,12 +92,12 @@ tail_openings (Ok packet) given =
 tail_openings (Err fault) given = []
 
 -- the pieces that a packet gives
-abbrev pub pieces_behind : (before : List Slot) → List ℕ → List Piece
-pieces_behind before packet = drop (length (pieces before)) (pieces (Some packet ∷ before))
+abbrev pub pieces_after : (before : List Slot) → List ℕ → List Piece
+pieces_after before packet = drop (length (pieces before)) (pieces (Some packet ∷ before))
 
 abbrev pub packet_openings : (before : List Slot) → (number : ℕ) → List ℕ → List Opening
 packet_openings before number packet =
-    let given = pieces_behind before packet in
+    let given = pieces_after before packet in
     head_openings number (packet_of packet) ++ (pieces_openings (reverse (pieces before)) given ++ tail_openings (packet_of packet) given)
 
 abbrev pub packets_openings : (before : List Slot) → (number : ℕ) → List (List ℕ) → List Opening

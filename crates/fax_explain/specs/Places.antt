@@ -2,24 +2,24 @@
 use Rattle.std.specs.Prelude.{ℕ, ◌+◌, ◌-◌, ◌^◌, min, List, ◌++◌, Option, None, Some, codes, decimal, option_map, unwrap_or}
 use Rattle.fax_pagestore.specs.Pages.{PageValue}
 use Rattle.fax_gateway.specs.declared.given.Kept.{Kept}
-use Rattle.fax_gateway.specs.declared.side.Side.TheVariants as side
+use Rattle.fax_gateway.specs.declared.leg.Leg.TheVariants as legs
 use Rattle.fax_explain.specs.declared.called.CalledLeg.{CalledLeg}
 use Rattle.fax_explain.specs.declared.calling.CallingLeg.{CallingLeg}
-use Rattle.fax_explain.specs.declared.keeper.Place.{Place}
+use Rattle.fax_explain.specs.declared.store.Place.{Place}
 use Rattle.fax_explain.specs.declared.stage.FoundPage.{FoundPage}
-use Rattle.fax_telling.specs.Words.{format_text}
+use Rattle.fax_descriptions.specs.Words.{format_text}
 
--- the number behind this one; the greatest stays
+-- the number after this one; the greatest stays
 abbrev pub next_number : ℕ → ℕ
 next_number n = min (n + 1) (2 ^ 32 - 1)
 
--- a page that is sent: in the call that it came in, behind those that were sent before and those that were delivered
+-- a page that is sent: in the call that it came in, after those that were sent before and those that were delivered
 abbrev pub sent_place : CalledLeg → Place
-sent_place leg = record { side = side.Called; call = unwrap_or leg.call 0; page = next_number (min (leg.before + leg.delivered) (2 ^ 32 - 1)) }
+sent_place leg = record { leg = legs.Called; call = unwrap_or leg.call 0; page = next_number (min (leg.before + leg.delivered) (2 ^ 32 - 1)) }
 
--- a page that is confirmed: in its call, behind those that were confirmed
+-- a page that is confirmed: in its call, after those that were confirmed
 abbrev pub confirmed_place : Kept → CallingLeg → Place
-confirmed_place kept leg = record { side = side.Calling; call = kept.call; page = next_number leg.pages }
+confirmed_place kept leg = record { leg = legs.Calling; call = kept.call; page = next_number leg.pages }
 
 -- a page, where there is one, at its place
 abbrev pub found_at : Place → Option PageValue → Option FoundPage
@@ -34,7 +34,7 @@ abbrev pub confirmed_page : (given : Option (List ℕ)) → Option Kept → Call
 confirmed_page None kept leg = None
 confirmed_page (Some octets) kept leg = page_of kept leg
 
--- what is told of it behind its MCF
+-- what is told of it after its MCF
 abbrev pub confirmed_text : Kept → (page : ℕ) → List ℕ
 confirmed_text kept page =
     codes " page " ++ (decimal page ++ (codes " of call " ++ (decimal kept.call ++ (codes ": " ++ (format_text kept.format ++ (codes ", rows: " ++ decimal kept.rows))))))

@@ -2,7 +2,7 @@
 ghost use Rattle.std.specs.Prelude.{ℕ, ◌≡◌, ◌++◌, List, [], IfOk, OnOk, OnErr};
 ghost use Rattle.fax_gateway.specs.declared.settings.Settings.{Settings as GatewaySettings};
 ghost use Rattle.fax_gateway.specs.Setups.{AreAllowed};
-ghost use Rattle.fax_trace.specs.Kept.{status_of_answer, text_of_answer};
+ghost use Rattle.fax_trace.specs.Rep.{status_of_answer, text_of_answer};
 ghost use Rattle.fax_trace.specs.Playing.{moment_at};
 ghost use Rattle.fax_explain.specs.Explained.{Explains, HasTold};
 ghost use Rattle.fax_explain.specs.Staged.{IsNew, TellsOn};
@@ -35,7 +35,7 @@ pub(crate) fn explain(alloc: Global, script: &[u8], settings: Settings) -> Expla
     }
 }
 
-/// The answer where playing ended so, behind this text.
+/// The answer where playing ended so, after this text.
 fn answer_of(alloc: Global, outcome: Result<(), ScriptFault>, mut text: Vec<u8>) -> Answer
     ensures { (set : GatewaySettings) (script : List ℕ) → HasTold set script outcome text.items
         → Explains set script (status_of_answer result) (text_of_answer result) }
@@ -81,7 +81,7 @@ fn explain_lines(
     let mut rest = script;
     let mut number = 0;
     let mut moment = 0;
-    while let Some((line, behind)) = first_line(rest) {
+    while let Some((line, after)) = first_line(rest) {
         number += 1;
         let Some(event) = event_of_line(alloc, line)? else {
             return Err(ScriptFault::Line(number));
@@ -89,7 +89,7 @@ fn explain_lines(
         moment = moment_of(&event, moment);
         let own = explain_event(alloc, stage, &event, moment, pages)?;
         add(text, own.as_slice())?;
-        rest = behind;
+        rest = after;
     }
     Ok(())
 }

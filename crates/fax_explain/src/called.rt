@@ -1,17 +1,17 @@
 //! What is heard on the called leg.
 ghost use Rattle.std.specs.Prelude.{◌≡◌, ◌≢◌, ◌+◌, ◌-◌, ◌^◌, min, List, None, Some, OnOk};
 ghost use Rattle.fax_udptl.specs.Datagrams.{DatagramValue, datagram_of};
-ghost use Rattle.fax_explain.specs.Given.{GoesOnInLine, TellsGiven, arrived_behind};
+ghost use Rattle.fax_explain.specs.Given.{GoesOnInLine, TellsGiven, arrived_after};
 ghost use Rattle.fax_explain.specs.Heard.{IsHearing, TellsDatagram, arrived_with};
 ghost use Rattle.fax_explain.specs.Places.{found_at, sent_place};
 
-use crate::keeper::Place;
 use crate::listener::Listener;
 use crate::stage::FoundPage;
+use crate::store::Place;
 use fax_bits::NoMemory;
+use fax_descriptions::{Command, Lane, Tale};
 use fax_frames::Frame;
-use fax_gateway::{Given, Side};
-use fax_telling::{Command, Lane, Tale};
+use fax_gateway::{Given, Leg};
 use std::alloc::Global;
 
 /// What is heard on the called leg.
@@ -148,7 +148,7 @@ impl CalledLeg {
         ensures told { OnOk result ((arrived : List DatagramValue) → IsHearing arrived self.old.ours
             → TellsGiven arrived given.now.called self.old.ours.lane tale.old tale.new) }
         ensures hearing { OnOk result ((arrived : List DatagramValue) → IsHearing arrived self.old.ours
-            → IsHearing (arrived_behind arrived given.now.called) self.new.ours) }
+            → IsHearing (arrived_after arrived given.now.called) self.new.ours) }
         ensures lane { OnOk result ((arrived : List DatagramValue) → IsHearing arrived self.old.ours → self.new.ours.lane ≡ self.old.ours.lane) }
         ensures place { sent_place self.new ≡ sent_place self.old }
     {
@@ -185,7 +185,7 @@ impl CalledLeg {
     {
         let page = self.ours.take_page()?;
         let place = Place {
-            side: Side::Called,
+            leg: Leg::Called,
             call: self.call.unwrap_or(0),
             page: self.before.saturating_add(self.delivered).saturating_add(1),
         };

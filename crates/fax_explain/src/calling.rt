@@ -1,18 +1,18 @@
 //! What is heard on the calling leg.
 ghost use Rattle.std.specs.Prelude.{◌≡◌, ◌++◌, List, IfOk, OnOk};
 ghost use Rattle.fax_udptl.specs.Datagrams.{DatagramValue, datagram_of};
-ghost use Rattle.fax_telling.specs.Tales.{last_with};
-ghost use Rattle.fax_explain.specs.Given.{GoesOnInLine, TellsTimed, arrived_behind, timer_lines};
+ghost use Rattle.fax_descriptions.specs.Tales.{last_with};
+ghost use Rattle.fax_explain.specs.Given.{GoesOnInLine, TellsTimed, arrived_after, timer_lines};
 ghost use Rattle.fax_explain.specs.Heard.{IsHearing, TellsDatagram, arrived_with};
 ghost use Rattle.fax_explain.specs.Places.{confirmed_page, confirmed_text, next_number, page_of};
 
-use crate::keeper::Place;
 use crate::listener::Listener;
 use crate::stage::FoundPage;
+use crate::store::Place;
 use fax_bits::NoMemory;
+use fax_descriptions::{Exchange, Lane, Tale, words_of_format};
 use fax_frames::Frame;
-use fax_gateway::{Given, Kept, Side};
-use fax_telling::{Exchange, Lane, Tale, words_of_format};
+use fax_gateway::{Given, Kept, Leg};
 use std::alloc::Global;
 
 /// What is heard on the calling leg in one call.
@@ -74,7 +74,7 @@ impl CallingLeg {
         self.theirs.hear(octets, tale)
     }
 
-    /// What a tick gives on this leg is told, behind the timer by which the call is given up, where it is. It answers the page
+    /// What a tick gives on this leg is told, after the timer by which the call is given up, where it is. It answers the page
     /// that it confirms.
     pub(crate) fn give(
         &mut self,
@@ -84,7 +84,7 @@ impl CallingLeg {
         ensures told { OnOk result ((arrived : List DatagramValue) → IsHearing arrived self.old.ours
             → TellsTimed arrived given.now.calling given.now.gave_up self.old.ours.lane tale.old tale.new) }
         ensures hearing { OnOk result ((arrived : List DatagramValue) → IsHearing arrived self.old.ours
-            → IsHearing (arrived_behind arrived given.now.calling) self.new.ours) }
+            → IsHearing (arrived_after arrived given.now.calling) self.new.ours) }
         ensures lane { OnOk result ((arrived : List DatagramValue) → IsHearing arrived self.old.ours → self.new.ours.lane ≡ self.old.ours.lane) }
         ensures found { IfOk result (λ found. found ≡ confirmed_page given.now.calling given.now.kept self.old) }
     {
@@ -157,7 +157,7 @@ impl CallingLeg {
         Ok(())
     }
 
-    /// The page that MCF confirms is told behind it.
+    /// The page that MCF confirms is told after it.
     fn tell_confirmed(&self, kept: Kept, tale: &mut Tale) -> Result<(), NoMemory>
         ensures { OnOk result (tale.new ≡ last_with (confirmed_text kept (next_number self.now.pages)) tale.old) }
     {
@@ -176,7 +176,7 @@ impl CallingLeg {
         self.pages = self.pages.saturating_add(1);
         let page = self.theirs.take_page()?;
         let place = Place {
-            side: Side::Calling,
+            leg: Leg::Calling,
             call,
             page: self.pages,
         };

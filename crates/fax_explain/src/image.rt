@@ -1,11 +1,11 @@
 //! An image signal, as far as it has come.
 ghost use Rattle.std.specs.Prelude.{◌≡◌, ◌+◌, ◌-◌, ◌^◌, ◌++◌, ◌∷◌, [], length, min, is_some, IfOk, OnOk, string_bytes};
-ghost use Rattle.fax_telling.specs.Words.{wholeness_text};
+ghost use Rattle.fax_descriptions.specs.Words.{wholeness_text};
 
 use fax_bits::NoMemory;
+use fax_descriptions::words_of_wholeness;
 use fax_frames::Dcs;
 use fax_pagestore::{PackedRows, Page, PageFault, PageReader};
-use fax_telling::words_of_wholeness;
 use std::alloc::Global;
 
 /// An image signal, as far as it has come: a training check or a page (ITU-T T.30, 5.3.6.2).

@@ -9,10 +9,10 @@ mod called;
 mod calling;
 mod frame_ends;
 mod image;
-mod keeper;
 mod listener;
 mod run;
 mod stage;
+mod store;
 
-pub use keeper::{KeepFault, NoPages, PageKeeper, Place};
 pub use run::run_explain;
+pub use store::{NoPages, PageStore, Place, StoreFault};

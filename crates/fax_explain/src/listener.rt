@@ -10,16 +10,16 @@ ghost use Rattle.fax_ifp.specs.Shown.{piece_of, pieces_shown};
 ghost use Rattle.fax_ifp.specs.Tracked.{lost_slots};
 ghost use Rattle.fax_explain.specs.FrameEnds.{AreEnds};
 ghost use Rattle.fax_explain.specs.Heard.{AddsLine, BeginsAsOneOf, HasHeard, Hears, IsHearing, Stays, TellsDatagram, arrived_with};
-ghost use Rattle.fax_explain.specs.Listening.{attention_while, dis_behind, due_behind_cfr, is_command, is_heard, is_page_due, signal_name, verdict_name, words_behind};
+ghost use Rattle.fax_explain.specs.Listening.{attention_while, dis_after, due_after_cfr, is_command, is_heard, is_page_due, signal_name, verdict_name, words_after};
 ghost use Rattle.fax_explain.specs.Openings.{back_openings, check_opening, datagram_openings, end_opening, frame_opening, head_openings, late_openings, line_if, lost_openings, octets_counted, packet_openings, packets_openings, piece_openings, pieces_openings, start_opening, tone_openings};
 
 use crate::frame_ends::FrameEnds;
 use crate::image::Image;
 use fax_bits::NoMemory;
+use fax_descriptions::{Lane, Tale, name_of_kind, words_of_frame, words_of_numbers};
 use fax_frames::{Dcs, Dis, Frame};
 use fax_ifp::{Head, Ifp, IfpFault, Indicator, Piece, Signals, Slot};
 use fax_pagestore::{PackedRows, Page, PageFault, RowStore};
-use fax_telling::{Lane, Tale, name_of_kind, words_of_frame, words_of_numbers};
 use fax_udptl::{Decided, Packets, Receiver, read};
 use std::alloc::Global;
 
@@ -28,9 +28,9 @@ use std::alloc::Global;
 enum Due {
     /// None: no DCS came.
     Nothing,
-    /// The training check behind a DCS.
+    /// The training check after a DCS.
     Check(Dcs),
-    /// A page under this DCS, behind CFR.
+    /// A page under this DCS, after CFR.
     Page(Dcs),
 }
 
@@ -220,7 +220,7 @@ impl Listener {
 
     /// CFR was given: what follows is a page.
     pub(crate) fn confirm_training(&mut self)
-        ensures { self.new ≡ record self.old { due = due_behind_cfr self.old.due } }
+        ensures { self.new ≡ record self.old { due = due_after_cfr self.old.due } }
     {
         if let Due::Check(dcs) = self.due {
             self.due = Due::Page(dcs);
@@ -445,8 +445,8 @@ impl Listener {
 
     /// What a frame says. A DIS like the one before is not told again.
     fn words_of(&mut self, octets: &[u8]) -> Result<String, NoMemory>
-        ensures words { IfOk result (λ words. string_bytes words ≡ words_behind self.old.dis octets.now (frame_of octets.now)) }
-        ensures dis { self.new ≡ record self.old { dis = dis_behind self.old.dis (frame_of octets.now) } }
+        ensures words { IfOk result (λ words. string_bytes words ≡ words_after self.old.dis octets.now (frame_of octets.now)) }
+        ensures dis { self.new ≡ record self.old { dis = dis_after self.old.dis (frame_of octets.now) } }
     {
         let Some(Frame::Dis(dis)) = Frame::read(octets) else {
             return words_of_frame(self.alloc, octets);
@@ -567,14 +567,14 @@ impl Listener {
         let wholeness = self.image.wholeness(whole)?;
         let is_good = self.is_check(whole, longest, wanted);
         let verdict = verdict_of(is_good);
-        let behind = if whole && self.is_missing {
+        let after = if whole && self.is_missing {
             ", something missing since the DCS"
         } else {
             ""
         };
         self.judge_check(is_good, dcs);
         Ok(format!(in self.alloc;
-            "training check {verdict}: {longest} zero octets in a row of {wanted} wanted, {wholeness}{behind}"
+            "training check {verdict}: {longest} zero octets in a row of {wanted} wanted, {wholeness}{after}"
         )?)
     }
 
@@ -585,7 +585,7 @@ impl Listener {
         whole && !self.is_missing && longest >= u64::from(wanted)
     }
 
-    /// Behind a good training check pages are due, behind a bad one another DCS.
+    /// After a good training check pages are due, after a bad one another DCS.
     fn judge_check(&mut self, is_good: bool, dcs: Dcs)
         ensures { self.new ≡ record self.old { attention = self.new.attention; due = self.new.due } }
     {
@@ -622,7 +622,7 @@ fn verdict_of(is_good: bool) -> &'static str
     if is_good { "good" } else { "bad" }
 }
 
-/// Whether a frame is a command behind a page.
+/// Whether a frame is a command after a page.
 fn is_command(frame: Frame) -> bool
     ensures { result ≡ is_command frame }
 {

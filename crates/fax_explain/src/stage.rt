@@ -5,17 +5,17 @@ ghost use Rattle.fax_gateway.specs.Setups.{AreAllowed, Setup};
 ghost use Rattle.fax_gateway.specs.Reached.{IsReachedBy};
 ghost use Rattle.fax_gateway.specs.Turns.{call_if_new};
 ghost use Rattle.fax_trace.specs.declared.event.ScriptEvent.TheVariants as script;
-ghost use Rattle.fax_trace.specs.Playing.{Played, moment_at};
+ghost use Rattle.fax_trace.specs.Playing.{PlayedScript, moment_at};
 ghost use Rattle.fax_explain.specs.Ladders.{EndsWithReport, TellsRefusal, asked_tellings, begun_tellings};
 ghost use Rattle.fax_explain.specs.Staged.{GoesOn, HasAnswered, IsNew, PlaysOn};
 
 use crate::called::CalledLeg;
 use crate::calling::CallingLeg;
-use crate::keeper::Place;
+use crate::store::Place;
 use fax_bits::NoMemory;
+use fax_descriptions::{Lane, Tale, why_ended, why_refused, words_of_format};
 use fax_gateway::{Gateway, Given, PlaceFault, RingFault, Settings};
 use fax_pagestore::{PackedRows, Page};
-use fax_telling::{Lane, Tale, why_ended, why_refused, words_of_format};
 use fax_trace::ScriptEvent;
 use std::alloc::Global;
 
@@ -72,7 +72,7 @@ impl Stage {
 
     /// Plays an event at a moment, and tells what happened.
     pub(crate) fn play(&mut self, event: &ScriptEvent, moment: u64) -> Result<Scene, NoMemory>
-        ensures { IfOk result (λ scene. (setup : Setup) (writes : Writing) (old : Played) → IsWriting writes → moment ≡ moment_at event.now old.moment
+        ensures { IfOk result (λ scene. (setup : Setup) (writes : Writing) (old : PlayedScript) → IsWriting writes → moment ≡ moment_at event.now old.moment
             → IsReachedBy setup writes old.trace self.old.gateway → PlaysOn setup writes old event.now scene.tale self.new.gateway) }
     {
         let was_asked = self.gateway.asked();
@@ -85,7 +85,7 @@ impl Stage {
     /// Hands an event at a moment to the gateway, of which nothing was told, and tells what it answers.
     fn act(&mut self, event: &ScriptEvent, moment: u64, scene: &mut Scene) -> Result<(), NoMemory>
         requires { scene.old.tale ≡ [] }
-        ensures { OnOk result ((setup : Setup) (writes : Writing) (old : Played) → IsWriting writes → moment ≡ moment_at event.now old.moment
+        ensures { OnOk result ((setup : Setup) (writes : Writing) (old : PlayedScript) → IsWriting writes → moment ≡ moment_at event.now old.moment
             → IsReachedBy setup writes old.trace self.old.gateway → HasAnswered setup writes old event.now scene.new.tale self.new.gateway) }
     {
         match event {
@@ -105,7 +105,7 @@ impl Stage {
     /// It rings.
     fn ring(&mut self, moment: u64, tale: &mut Tale) -> Result<(), NoMemory>
         requires { tale.old ≡ [] }
-        ensures { OnOk result ((setup : Setup) (writes : Writing) (old : Played) → moment ≡ old.moment → IsReachedBy setup writes old.trace self.old.gateway
+        ensures { OnOk result ((setup : Setup) (writes : Writing) (old : PlayedScript) → moment ≡ old.moment → IsReachedBy setup writes old.trace self.old.gateway
             → HasAnswered setup writes old script.Ring tale.new self.new.gateway) }
     {
         match self.gateway.ring(moment) {
@@ -122,7 +122,7 @@ impl Stage {
 
     /// A datagram comes on the calling leg.
     fn hear_calling(&mut self, octets: &[u8], moment: u64, tale: &mut Tale) -> Result<(), NoMemory>
-        ensures { OnOk result ((setup : Setup) (writes : Writing) (old : Played) → moment ≡ old.moment → IsReachedBy setup writes old.trace self.old.gateway
+        ensures { OnOk result ((setup : Setup) (writes : Writing) (old : PlayedScript) → moment ≡ old.moment → IsReachedBy setup writes old.trace self.old.gateway
             → HasAnswered setup writes old (script.FromCalling octets.now) tale.new self.new.gateway) }
     {
         let call = self.gateway.call();
@@ -136,7 +136,7 @@ impl Stage {
 
     /// A datagram comes on the called leg.
     fn hear_called(&mut self, octets: &[u8], moment: u64, tale: &mut Tale) -> Result<(), NoMemory>
-        ensures { OnOk result ((setup : Setup) (writes : Writing) (old : Played) → moment ≡ old.moment → IsReachedBy setup writes old.trace self.old.gateway
+        ensures { OnOk result ((setup : Setup) (writes : Writing) (old : PlayedScript) → moment ≡ old.moment → IsReachedBy setup writes old.trace self.old.gateway
             → HasAnswered setup writes old (script.FromCalled octets.now) tale.new self.new.gateway) }
     {
         let is_on = self.gateway.sending().is_some();
@@ -150,7 +150,7 @@ impl Stage {
 
     /// Time goes on to a moment.
     fn tick(&mut self, moment: u64, scene: &mut Scene) -> Result<(), NoMemory>
-        ensures { OnOk result ((setup : Setup) (writes : Writing) (old : Played) → IsWriting writes → IsReachedBy setup writes old.trace self.old.gateway
+        ensures { OnOk result ((setup : Setup) (writes : Writing) (old : PlayedScript) → IsWriting writes → IsReachedBy setup writes old.trace self.old.gateway
             → HasAnswered setup writes old (script.Tick moment) scene.new.tale self.new.gateway) }
     {
         let call = self.gateway.call();
@@ -166,7 +166,7 @@ impl Stage {
     /// The call of the job that is asked for is placed at a moment.
     fn connect(&mut self, moment: u64, tale: &mut Tale) -> Result<(), NoMemory>
         requires { tale.old ≡ [] }
-        ensures { OnOk result ((setup : Setup) (writes : Writing) (old : Played) → IsReachedBy setup writes old.trace self.old.gateway
+        ensures { OnOk result ((setup : Setup) (writes : Writing) (old : PlayedScript) → IsReachedBy setup writes old.trace self.old.gateway
             → HasAnswered setup writes old (script.Connected moment) tale.new self.new.gateway) }
     {
         match self.gateway.connect(moment) {
@@ -185,7 +185,7 @@ impl Stage {
     /// It could not be placed, at a moment.
     fn not_connected(&mut self, moment: u64, tale: &mut Tale) -> Result<(), NoMemory>
         requires { tale.old ≡ [] }
-        ensures { OnOk result ((setup : Setup) (writes : Writing) (old : Played) → IsReachedBy setup writes old.trace self.old.gateway
+        ensures { OnOk result ((setup : Setup) (writes : Writing) (old : PlayedScript) → IsReachedBy setup writes old.trace self.old.gateway
             → HasAnswered setup writes old (script.NotConnected moment) tale.new self.new.gateway) }
     {
         match self.gateway.not_connected(moment) {
@@ -201,7 +201,7 @@ impl Stage {
         }
     }
 
-    /// What a tick gives on the calling leg is told, and why it refuses a page, where it does: behind the RTN.
+    /// What a tick gives on the calling leg is told, and why it refuses a page, where it does: after the RTN.
     fn give_calling(&mut self, given: &Given, scene: &mut Scene) -> Result<(), NoMemory>
         ensures gateway { self.new.gateway ≡ self.old.gateway }
         ensures refused { OnOk result (TellsRefusal given.now.refused scene.new.tale) }
@@ -216,10 +216,10 @@ impl Stage {
         ensures gateway { self.new.gateway ≡ self.old.gateway }
         ensures goes_on { OnOk result (GoesOn scene.old.tale scene.new.tale) }
     {
-        let mut behind = Tale::new(self.alloc);
-        self.called.give(given, &mut behind)?;
+        let mut after = Tale::new(self.alloc);
+        self.called.give(given, &mut after)?;
         keep_found(&mut scene.pages, self.called.take_page())?;
-        scene.tale.append(behind)
+        scene.tale.append(after)
     }
 
     /// The end of this call of the calling leg is told, where one was on and is over.
@@ -318,7 +318,7 @@ fn keep_found(pages: &mut Vec<FoundPage>, found: Option<FoundPage>) -> Result<()
     Ok(())
 }
 
-/// Why a tick refuses a page is told, where it does: behind what was told last, which is its RTN.
+/// Why a tick refuses a page is told, where it does: after what was told last, which is its RTN.
 fn tell_refusal(alloc: Global, given: &Given, tale: &mut Tale) -> Result<(), NoMemory>
     ensures { OnOk result (TellsRefusal given.now.refused tale.new) }
 {

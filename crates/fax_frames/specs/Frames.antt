@@ -57,7 +57,7 @@ abbrev pub frame_by : ℕ → List ℕ → Frame
 frame_by field info = unwrap_or (look_up (exact_fields info) field) (unwrap_or (look_up (fields info) (field % 128)) frames.Other)
 
 -- the frame that octets are: the address FF (5.3.4), the control C0 or C8 (5.3.5), the facsimile
--- control field, and the information field behind it
+-- control field, and the information field after it
 abbrev pub frame_of : List ℕ → Option Frame
 frame_of (address ∷ control ∷ field ∷ info) =
     if (address == 0xFF) && ((control == 0xC0) || (control == 0xC8)) then Some (frame_by field info) else None

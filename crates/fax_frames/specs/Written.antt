@@ -13,8 +13,8 @@ abbrev pub front : ℕ → List ℕ
 front field = 0xFF ∷ 0xC8 ∷ field ∷ []
 
 -- The control fields of frames with no information field (5.3.6.1). The first bit is 1 where the sender
--- got a DIS: it is 0 in CFR, FTT, MCF and RTN, which the called side writes, and 1 in EOM, MPS and EOP,
--- which the calling side writes. Both sides write DCN.
+-- got a DIS: it is 0 in CFR, FTT, MCF and RTN, which the answerer writes, and 1 in EOM, MPS and EOP,
+-- which the caller writes. Both write DCN.
 abbrev pub field_of : Plain → Bool → ℕ
 field_of Cfr got_dis = 0x21
 field_of Ftt got_dis = 0x22
@@ -29,7 +29,7 @@ field_of Dcn got_dis = if got_dis then 0xDF else 0x5F
 abbrev pub written_plain : Plain → Bool → List ℕ
 written_plain plain got_dis = front (field_of plain got_dis)
 
--- a DIS: its control field has the first bit 0, and bits 1 to 24 stand behind it
+-- a DIS: its control field has the first bit 0, and bits 1 to 24 stand after it
 abbrev pub written_dis : Dis → List ℕ
 written_dis dis = front 0x01 ++ octets_of dis.caps.0
 
@@ -44,6 +44,6 @@ dcs_bits dcs =
     + put_at 20 (length_code dcs.length)
     + put_at 23 (time_code dcs.scan_ms)
 
--- a DCS, as the calling side writes it: its control field has the first bit 1
+-- a DCS, as the caller writes it: its control field has the first bit 1
 abbrev pub written_dcs : Dcs → List ℕ
 written_dcs dcs = front 0xC1 ++ octets_of (dcs_bits dcs)

@@ -51,7 +51,7 @@ impl Frame {
     ghost use Rattle.fax_frames.specs.Frames.{frame_of};
 
     /// The frame that octets are: `FF`, the control `C0` or `C8`, the facsimile control field, and the
-    /// information field behind it. `None` for fewer than three octets, and for another address or control.
+    /// information field after it. `None` for fewer than three octets, and for another address or control.
     ///
     /// The first bit of the facsimile control field tells who sends, and is not looked at, but for DIS, CSI
     /// and NSF, whose first bit is 0. Of a DCS its length of a page is not read: it is A4.

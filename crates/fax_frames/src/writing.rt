@@ -49,7 +49,7 @@ pub fn write_dis(dis: &Dis) -> FrameBytes
     frame_of_octets(&[0xFF, 0xC8, 0x01, first, second, third])
 }
 
-/// The octets of a DCS, as the calling side writes it. Its least time of a line is 0, 5, 10, 20 or 40
+/// The octets of a DCS, as the caller writes it. Its least time of a line is 0, 5, 10, 20 or 40
 /// milliseconds.
 pub fn write_dcs(dcs: &Dcs) -> FrameBytes
     requires { IsScanTime dcs.now.scan_ms }

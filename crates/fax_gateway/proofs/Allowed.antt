@@ -6,14 +6,14 @@ use Rattle.fax_ifp.specs.Packets.{packet_of}
 use Rattle.fax_jobs.specs.Jobs.{JobValue, IsJob}
 use Rattle.fax_call.specs.Writings.{Writing, IsWriting}
 use Rattle.fax_call.specs.Replies.{Packet, written}
-use Rattle.fax_call.specs.Calls.{Calling, Ticks, after_events, started, ticked}
+use Rattle.fax_call.specs.Calls.{CallerCore, Ticks, after_events, started, ticked}
 use Rattle.fax_call.specs.Emission.{Emission, Mark, Gave, emitted_at, elements_given, gave_all, marks_given, marks_after, frame_at, is_command, Reply, Unasked, Asked, Answered, reply_given, reply_or, replied, IsPageOf, IsAnswered, EmitsBy, Emits}
 use Rattle.fax_call.specs.Refusals.{Allows, EndsImage, dis_taken}
 use Rattle.fax_call.proofs.Lacking.{none_is_lacking}
 use Rattle.fax_gateway.specs.Setups.{Setup}
 use Rattle.fax_gateway.specs.Events.{Tick, Given, clock}
 use Rattle.fax_gateway.specs.CalledLegs.{CalledLeg, begun_core, core_of, calls, told_by, told_called}
-use Rattle.fax_gateway.specs.Sides.{Sides, book_of, in_tick}
+use Rattle.fax_gateway.specs.BothLegs.{BothLegs, book_of, in_tick}
 use Rattle.fax_gateway.specs.Told.{elements_told, leg_marks, marks_before, IfEmits, EachEmission}
 use Rattle.fax_gateway.specs.Forwards.{WasConfirmed}
 use Rattle.fax_gateway.specs.Lacking.{IsAllowed, NoneIsLacking}
@@ -32,12 +32,12 @@ abbrev IsUnanswered : Reply → Type 0
 IsUnanswered (Answered good) = ⊥
 IsUnanswered r = Unit {0}
 
-given_keeps : (command behind : Bool) (r : Reply) → IsUnanswered r → IsUnanswered (reply_given command behind r)
+given_keeps : (command after : Bool) (r : Reply) → IsUnanswered r → IsUnanswered (reply_given command after r)
 given_keeps true true r h = tt
 given_keeps true false r h = tt
-given_keeps false behind Unasked h = tt
-given_keeps false behind Asked h = tt
-given_keeps false behind (Answered good) h = absurd h
+given_keeps false after Unasked h = tt
+given_keeps false after Asked h = tt
+given_keeps false after (Answered good) h = absurd h
 
 or_keeps : (o : Option Emission) (r : Reply) → IsUnanswered r → IsUnanswered (reply_or o r)
 or_keeps None r h = h
@@ -52,7 +52,7 @@ asked_anew : (o : Option Emission) (x : Emission) (r : Reply) → o ≡ Some x �
 asked_anew None x r e = cc
 asked_anew (Some y) x r e = tt
 
--- behind an image that nothing answered no other one is emitted
+-- after an image that nothing answered no other one is emitted
 record StaysLast (job : JobValue) (end : Option ℕ) (marks : List Mark) : Type 0 where
   last : Option ℕ
   emitted : Emits job marks last
@@ -113,16 +113,16 @@ packet_allowed writes l now old packet w is given =
     let after : List Mark = marks_after writes l.job old (begun_core l) (Ticks now ∷ l.events) in
     let placed : l.placed ≡ true = gives_placed writes l now packet given in
     let begun_gives : (ticked writes l.job (after_events writes l.job (started l.before l.job l.begun) l.events) now).given ≡ Some packet =
-    from_begun (λ (a : Calling). (ticked writes l.job (after_events writes l.job a l.events) now).given ≡ Some packet) l placed given in
+    from_begun (λ (a : CallerCore). (ticked writes l.job (after_events writes l.job a l.events) now).given ≡ Some packet) l placed given in
     let e = emits_in writes l old (Ticks now ∷ l.events) placed w is in
     let here : after ≡ gave_all es marks = ap (λ (o : Option Packet). marks_given o marks) given in
     each_emission (IsLast l.job e.0 (EndsImage es marks)) (IsAllowed writes (Some l)) marks es
     (λ ms x k.
     let r = none_is_lacking writes l.job old l.before l.begun l.events now packet k.n w is begun_gives
-    (from_begun (λ (a : Calling). EndsImage es (marks_after writes l.job old a l.events)) l placed k.ends)
-    (from_begun (λ (a : Calling). Emits l.job (marks_after writes l.job old a (Ticks now ∷ l.events)) (Some k.n)) l placed (subst (λ (o : Option ℕ). Emits l.job after o) k.is_last e.1)) in
+    (from_begun (λ (a : CallerCore). EndsImage es (marks_after writes l.job old a l.events)) l placed k.ends)
+    (from_begun (λ (a : CallerCore). Emits l.job (marks_after writes l.job old a (Ticks now ∷ l.events)) (Some k.n)) l placed (subst (λ (o : Option ℕ). Emits l.job after o) k.is_last e.1)) in
     let same : r.0 ≡ k.is_page.page = same_page l.job.pages k.n r.0 k.is_page.page r.1 k.is_page.is_page in
-    record { l = l; is_leg = refl; n = k.n; is_page = k.is_page; dis = r.2; taken = as_begun (λ (a : Calling). dis_taken writes l.job a l.events ≡ Some r.2) l placed r.3; allows = subst (λ (p : PageValue). Allows r.2 p.format) same r.4 })
+    record { l = l; is_leg = refl; n = k.n; is_page = k.is_page; dis = r.2; taken = as_begun (λ (a : CallerCore). dis_taken writes l.job a l.events ≡ Some r.2) l placed r.3; allows = subst (λ (p : PageValue). Allows r.2 p.format) same r.4 })
     (each_is_last l.job e.0 (EndsImage es marks) es marks (λ k. k) (subst (λ (ms : List Mark). Emits l.job ms e.0) here e.1))
 
 in_call_allowed : (setup : Setup) (writes : Writing) (l : CalledLeg) (now : ℕ) (sending : Option JobValue) (marks : List Mark) → IsWriting writes → IsJob l.job → InCall writes l sending marks →
@@ -148,7 +148,7 @@ by_leg setup writes now (Some l) sending P marks w h i = by l.entered i.sends
 pub none_lacking : NoneIsLacking
 none_lacking setup writes earlier at given w t =
     let now : ℕ = max at (clock earlier) in
-    let z : Sides = in_tick setup writes earlier at in
+    let z : BothLegs = in_tick setup writes earlier at in
     let old : List Mark = leg_marks setup writes earlier in
     let marks : List Mark = marks_before setup writes earlier at old in
     subst (λ (told : Option (List ℕ)). EachEmission (IsAllowed writes z.leg) marks (elements_told told)) (sym (ap (λ (g : Given). g.on_called) t.0))

@@ -9,7 +9,7 @@ use Rattle.fax_pagestore.specs.Pages.{PageValue}
 use Rattle.fax_jobs.specs.Jobs.{JobValue}
 use Rattle.fax_call.specs.Writings.{Writing, IsWriting}
 use Rattle.fax_call.specs.Replies.{Packet, written}
-use Rattle.fax_call.specs.Calls.{Calling, started, ticked, CallEvent, Comes, after_events}
+use Rattle.fax_call.specs.Calls.{CallerCore, started, ticked, CallEvent, Comes, after_events}
 use Rattle.fax_call.specs.Delivery.{is_over}
 use Rattle.fax_call.specs.Given as call
 use Rattle.fax_call.proofs.ClosedPackets.{gives_closed_packets}
@@ -19,7 +19,7 @@ use Rattle.fax_gateway.specs.Legs.{new_pieces}
 use Rattle.fax_gateway.specs.CallingLegs.{calling_leg}
 use Rattle.fax_gateway.specs.CalledLegs.{CalledLeg, begun_core, core_of, core_left, calls, packets_given, with_tick, leg_ticked, comes_to, leg_with, hears}
 use Rattle.fax_gateway.specs.Forwards.{WasConfirmed}
-use Rattle.fax_gateway.specs.Sides.{Sides, begins_next, book_of, heard_in_tick, leg_of, sends, sends_if, sides, in_tick}
+use Rattle.fax_gateway.specs.BothLegs.{BothLegs, begins_next, book_of, heard_in_tick, leg_of, sends, sends_if, both_legs, in_tick}
 use Rattle.fax_gateway.specs.Traces.{IsTrace}
 use Rattle.fax_gateway.specs.Chain.{ChainsHear}
 use Rattle.fax_gateway.proofs.Confirmed.{was_later, steps_hold, tick_holds}
@@ -41,14 +41,14 @@ abbrev IfKept : Writing → (ℕ → PageValue → Type 0) → Option CalledLeg 
 IfKept writes P None = Unit {0}
 IfKept writes P (Some l) = KeptLeg writes P l
 
-begins : (connected : Bool) (writes : Writing) (P : ℕ → PageValue → Type 0) (o : Option JobValue) (leg : Option CalledLeg) (before : Calling) (now : ℕ) → IfHolds P o → IfKept writes P leg → IfKept writes P (leg_of connected o before now leg)
+begins : (connected : Bool) (writes : Writing) (P : ℕ → PageValue → Type 0) (o : Option JobValue) (leg : Option CalledLeg) (before : CallerCore) (now : ℕ) → IfHolds P o → IfKept writes P leg → IfKept writes P (leg_of connected o before now leg)
 begins connected writes P None leg before now h c = c
 begins connected writes P (Some job) leg before now h c = record { holds = h; given_is = refl; closed = tt }
 
-sends_kept : (setup : Setup) (P : ℕ → PageValue → Type 0) (writes : Writing) (now : ℕ) (s : Sides) → IfHolds P (book_of (sends_if setup writes now s)).sending → IfKept writes P s.leg → IfKept writes P (sends_if setup writes now s).leg
+sends_kept : (setup : Setup) (P : ℕ → PageValue → Type 0) (writes : Writing) (now : ℕ) (s : BothLegs) → IfHolds P (book_of (sends_if setup writes now s)).sending → IfKept writes P s.leg → IfKept writes P (sends_if setup writes now s).leg
 sends_kept setup P writes now s h c = by (begins_next setup s.leg) h
   where
-    by : (b : Bool) → IfHolds P (book_of (if◌then◌else◌ {A = Sides} b (sends true setup writes now s) s)).sending → IfKept writes P (if◌then◌else◌ {A = Sides} b (sends true setup writes now s) s).leg
+    by : (b : Bool) → IfHolds P (book_of (if◌then◌else◌ {A = BothLegs} b (sends true setup writes now s) s)).sending → IfKept writes P (if◌then◌else◌ {A = BothLegs} b (sends true setup writes now s) s).leg
     by true k = begins true writes P (book_of (sends true setup writes now s)).sending s.leg (core_left setup writes s.leg) now k c
     by false k = c
 
@@ -57,7 +57,7 @@ one_closed writes l now None P w c e = c.closed
 one_closed writes l now (Some packet) P w c e =
     let is : begun_core l ≡ started l.before l.job l.begun = begun_placed l (gives_placed writes l now packet e) in
     let given : (ticked writes l.job (after_events writes l.job (started l.before l.job l.begun) l.events) now).given ≡ Some packet =
-    subst (λ (a : Calling). (ticked writes l.job (after_events writes l.job a l.events) now).given ≡ Some packet) is e in
+    subst (λ (a : CallerCore). (ticked writes l.job (after_events writes l.job a l.events) now).given ≡ Some packet) is e in
     (gives_closed_packets writes l.job l.before l.begun now l.events packet w c.holds.is_job given, c.closed)
 
 one_given : (o : Option Packet) (given : List (List ℕ)) (packets : List Packet) → given ≡ map written packets → packets_given o given ≡ map written (call.packets_with o packets)
@@ -81,7 +81,7 @@ serves_kept P writes None now w c = tt
 serves_kept P writes (Some l) now w c = ticked_kept P writes l now w c
 
 -- pieces that come give nothing
-comes_given : (writes : Writing) (job : JobValue) (a : Calling) (ps : List Piece) (now : ℕ) (events : List CallEvent) → call.packets_given writes job a events ≡ call.packets_given writes job a (comes_to ps now events)
+comes_given : (writes : Writing) (job : JobValue) (a : CallerCore) (ps : List Piece) (now : ℕ) (events : List CallEvent) → call.packets_given writes job a events ≡ call.packets_given writes job a (comes_to ps now events)
 comes_given writes job a [] now events = refl
 comes_given writes job a (p ∷ ps) now events = comes_given writes job a ps now (Comes p now ∷ events)
 
@@ -116,29 +116,29 @@ later_kept writes P Q (Some l) f c =
       closed = c.closed;
     }
 
-if_kept : (setup : Setup) (writes : Writing) (trace : List Event) → IsWriting writes → IsTrace setup writes trace → IfKept writes (WasConfirmed setup trace) (sides setup writes trace).leg
+if_kept : (setup : Setup) (writes : Writing) (trace : List Event) → IsWriting writes → IsTrace setup writes trace → IfKept writes (WasConfirmed setup trace) (both_legs setup writes trace).leg
 if_kept setup writes [] w t = tt
-if_kept setup writes (e ∷ earlier) w t = by e t (later_kept writes (WasConfirmed setup earlier) (WasConfirmed setup (e ∷ earlier)) (sides setup writes earlier).leg (was_later setup e earlier) (if_kept setup writes earlier w t.1))
+if_kept setup writes (e ∷ earlier) w t = by e t (later_kept writes (WasConfirmed setup earlier) (WasConfirmed setup (e ∷ earlier)) (both_legs setup writes earlier).leg (was_later setup e earlier) (if_kept setup writes earlier w t.1))
   where
-    by : (e : Event) → IsTrace setup writes (e ∷ earlier) → IfKept writes (WasConfirmed setup (e ∷ earlier)) (sides setup writes earlier).leg → IfKept writes (WasConfirmed setup (e ∷ earlier)) (sides setup writes (e ∷ earlier)).leg
+    by : (e : Event) → IsTrace setup writes (e ∷ earlier) → IfKept writes (WasConfirmed setup (e ∷ earlier)) (both_legs setup writes earlier).leg → IfKept writes (WasConfirmed setup (e ∷ earlier)) (both_legs setup writes (e ∷ earlier)).leg
     by (Ring at n) t c = c
     by (FromCalling octets at decided read) t c = c
-    by (FromCalled octets at decided) t c = hears_kept (WasConfirmed setup (FromCalled octets at decided ∷ earlier)) writes (sides setup writes earlier).leg octets (clock (FromCalled octets at decided ∷ earlier)) c
+    by (FromCalled octets at decided) t c = hears_kept (WasConfirmed setup (FromCalled octets at decided ∷ earlier)) writes (both_legs setup writes earlier).leg octets (clock (FromCalled octets at decided ∷ earlier)) c
     by (Placed at connected) t c =
         let trace : List Event = Placed at connected ∷ earlier in
-        let s : Sides = sides setup writes earlier in
+        let s : BothLegs = both_legs setup writes earlier in
         let P : ℕ → PageValue → Type 0 = WasConfirmed setup trace in
-        let h : BookHolds P (book_of (sides setup writes trace)) = held P (sides setup writes trace).steps (steps_hold setup writes trace t) in
-        begins connected writes P (book_of (sides setup writes trace)).sending s.leg (core_left setup writes s.leg) (clock trace) h.sending c
+        let h : BookHolds P (book_of (both_legs setup writes trace)) = held P (both_legs setup writes trace).steps (steps_hold setup writes trace t) in
+        begins connected writes P (book_of (both_legs setup writes trace)).sending s.leg (core_left setup writes s.leg) (clock trace) h.sending c
     by (Tick at given) t c =
         let now : ℕ = max at (clock earlier) in
-        let s : Sides = sides setup writes earlier in
-        let z : Sides = record s { steps = heard_in_tick (calling_leg setup earlier) now s.steps } in
+        let s : BothLegs = both_legs setup writes earlier in
+        let z : BothLegs = record s { steps = heard_in_tick (calling_leg setup earlier) now s.steps } in
         let P : ℕ → PageValue → Type 0 = WasConfirmed setup (Tick at given ∷ earlier) in
         let h : BookHolds P (book_of (in_tick setup writes earlier at)) = held P (in_tick setup writes earlier at).steps (tick_holds setup writes earlier at given t) in
         serves_kept P writes (in_tick setup writes earlier at).leg now w (sends_kept setup P writes now z h.sending c)
 
-pub kept_leg : (setup : Setup) (writes : Writing) (trace : List Event) (l : CalledLeg) → IsWriting writes → IsTrace setup writes trace → (sides setup writes trace).leg ≡ Some l → KeptLeg writes (WasConfirmed setup trace) l
+pub kept_leg : (setup : Setup) (writes : Writing) (trace : List Event) (l : CalledLeg) → IsWriting writes → IsTrace setup writes trace → (both_legs setup writes trace).leg ≡ Some l → KeptLeg writes (WasConfirmed setup trace) l
 kept_leg setup writes trace l w t is = subst (IfKept writes (WasConfirmed setup trace)) is (if_kept setup writes trace w t)
 
 turned : (xs ys : List (List ℕ)) → AreClosed xs → AreClosed ys → AreClosed (reverse_aux xs ys)

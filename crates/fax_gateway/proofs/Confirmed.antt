@@ -8,14 +8,14 @@ use Rattle.fax_pagestore.specs.PageRows.{AreRows}
 use Rattle.fax_pagestore.specs.PageTexts.{MeansPage}
 use Rattle.fax_jobs.specs.declared.outcome.Outcome.{Outcome}
 use Rattle.fax_jobs.specs.Pasts.{Step}
-use Rattle.fax_answer.specs.Replies.{ConfirmedPage, Waiting, mcf_packet}
+use Rattle.fax_answer.specs.Replies.{ConfirmedPage, WaitingPacket, mcf_packet}
 use Rattle.fax_answer.proofs.Confirmations.{gives_confirmations}
 use Rattle.fax_call.specs.Writings.{Writing}
 use Rattle.fax_gateway.specs.Setups.{Setup}
 use Rattle.fax_gateway.specs.Events.{Event, Ring, FromCalling, FromCalled, Tick, Placed, Given, clock}
 use Rattle.fax_gateway.specs.CallingLegs.{CallingLeg, core_of, calling_leg, idle_after, answers, told_calling, confirmed_by}
 use Rattle.fax_gateway.specs.CalledLegs.{outcome_told, delivered_told}
-use Rattle.fax_gateway.specs.Sides.{Sides, begins_next, confirms_if, ends_if, heard_in_tick, sends, sends_if, enters, sides, in_tick}
+use Rattle.fax_gateway.specs.BothLegs.{BothLegs, begins_next, confirms_if, ends_if, heard_in_tick, sends, sends_if, enters, both_legs, in_tick}
 use Rattle.fax_gateway.specs.Traces.{IsTrace}
 use Rattle.fax_gateway.specs.Told.{gives_mcf}
 use Rattle.fax_gateway.specs.Restored.{pages_restored}
@@ -49,11 +49,11 @@ was_later setup e trace call page w =
     or_map (pages_restored setup.restored) call page (WasConfirmedIn setup trace call page) (WasConfirmedIn setup (e ∷ trace) call page) (later_in setup e trace call page) w
 
 -- a tick that gives a confirmed page
-pub given_with : (o : Option Waiting) (c : ConfirmedPage) → confirmed_by o ≡ Some c → (w : Waiting) × (o ≡ Some w) × (w.confirmed ≡ Some c)
+pub given_with : (o : Option WaitingPacket) (c : ConfirmedPage) → confirmed_by o ≡ Some c → (w : WaitingPacket) × (o ≡ Some w) × (w.confirmed ≡ Some c)
 given_with None c h = cc
 given_with (Some w) c h = (w, refl, h)
 
-told_in : (setup : Setup) (l : CallingLeg) (now : ℕ) (w : Waiting) → IfNeat (Some l) → (answers l now).given ≡ Some w → w.packet ≡ mcf_packet → gives_mcf (told_calling setup (Some l) now) ≡ true
+told_in : (setup : Setup) (l : CallingLeg) (now : ℕ) (w : WaitingPacket) → IfNeat (Some l) → (answers l now).given ≡ Some w → w.packet ≡ mcf_packet → gives_mcf (told_calling setup (Some l) now) ≡ true
 told_in setup l now w n is e = told_mcf setup l.given (answers l now).given w n.short (ticked_neat (core_of l) now n.core).given is e
 
 pub confirmed_now : (setup : Setup) (writes : Writing) (earlier : List Event) (at : ℕ) (given : Given) (l : CallingLeg) (c : ConfirmedPage) → IsTrace setup writes (Tick at given ∷ earlier) →
@@ -107,10 +107,10 @@ tick_hold setup writes earlier at given (Some l) steps t is h =
     (λ c e. let w : WasConfirmedIn setup trace l.number c.page = confirmed_now setup writes earlier at given l c t is e in
     (or_own (pages_restored setup.restored) l.number c.page (WasConfirmedIn setup trace l.number c.page) w, page_is setup trace l.number c.page w)) h)
 
-sends_hold : (setup : Setup) (P : ℕ → PageValue → Type 0) (writes : Writing) (now : ℕ) (s : Sides) → StepsHold P s.steps → StepsHold P (sends_if setup writes now s).steps
+sends_hold : (setup : Setup) (P : ℕ → PageValue → Type 0) (writes : Writing) (now : ℕ) (s : BothLegs) → StepsHold P s.steps → StepsHold P (sends_if setup writes now s).steps
 sends_hold setup P writes now s h = by (begins_next setup s.leg)
   where
-    by : (b : Bool) → StepsHold P (if◌then◌else◌ {A = Sides} b (sends true setup writes now s) s).steps
+    by : (b : Bool) → StepsHold P (if◌then◌else◌ {A = BothLegs} b (sends true setup writes now s) s).steps
     by true = h
     by false = h
 
@@ -118,37 +118,37 @@ enters_hold : (P : ℕ → PageValue → Type 0) (delivered : ℕ) (o : Option O
 enters_hold P delivered None steps h = h
 enters_hold P delivered (Some outcome) steps h = h
 
-pub tick_holds_from : (setup : Setup) (writes : Writing) (earlier : List Event) (at : ℕ) (given : Given) → IsTrace setup writes (Tick at given ∷ earlier) → StepsHold (WasConfirmed setup (Tick at given ∷ earlier)) (sides setup writes earlier).steps →
+pub tick_holds_from : (setup : Setup) (writes : Writing) (earlier : List Event) (at : ℕ) (given : Given) → IsTrace setup writes (Tick at given ∷ earlier) → StepsHold (WasConfirmed setup (Tick at given ∷ earlier)) (both_legs setup writes earlier).steps →
     StepsHold (WasConfirmed setup (Tick at given ∷ earlier)) (in_tick setup writes earlier at).steps
 tick_holds_from setup writes earlier at given t h =
     let P : ℕ → PageValue → Type 0 = WasConfirmed setup (Tick at given ∷ earlier) in
     let now : ℕ = max at (clock earlier) in
-    let s : Sides = sides setup writes earlier in
+    let s : BothLegs = both_legs setup writes earlier in
     sends_hold setup P writes now (record s { steps = heard_in_tick (calling_leg setup earlier) now s.steps })
     (tick_hold setup writes earlier at given (calling_leg setup earlier) s.steps t refl h)
 
-event_holds : (setup : Setup) (writes : Writing) (e : Event) (earlier : List Event) → IsTrace setup writes (e ∷ earlier) → StepsHold (WasConfirmed setup (e ∷ earlier)) (sides setup writes earlier).steps →
-    StepsHold (WasConfirmed setup (e ∷ earlier)) (sides setup writes (e ∷ earlier)).steps
+event_holds : (setup : Setup) (writes : Writing) (e : Event) (earlier : List Event) → IsTrace setup writes (e ∷ earlier) → StepsHold (WasConfirmed setup (e ∷ earlier)) (both_legs setup writes earlier).steps →
+    StepsHold (WasConfirmed setup (e ∷ earlier)) (both_legs setup writes (e ∷ earlier)).steps
 event_holds setup writes (Ring at n) earlier t h = h
 event_holds setup writes (FromCalling octets at decided read) earlier t h =
-    ends_hold (WasConfirmed setup (FromCalling octets at decided read ∷ earlier)) (not (idle_after (calling_leg setup earlier)) && idle_after (calling_leg setup (FromCalling octets at decided read ∷ earlier))) (sides setup writes earlier).steps h
+    ends_hold (WasConfirmed setup (FromCalling octets at decided read ∷ earlier)) (not (idle_after (calling_leg setup earlier)) && idle_after (calling_leg setup (FromCalling octets at decided read ∷ earlier))) (both_legs setup writes earlier).steps h
 event_holds setup writes (FromCalled octets at decided) earlier t h = h
 event_holds setup writes (Placed at connected) earlier t h = h
 event_holds setup writes (Tick at given) earlier t h =
     let P : ℕ → PageValue → Type 0 = WasConfirmed setup (Tick at given ∷ earlier) in
     let now : ℕ = max at (clock earlier) in
-    let z : Sides = in_tick setup writes earlier at in
+    let z : BothLegs = in_tick setup writes earlier at in
     enters_hold P (delivered_told writes z.leg now) (outcome_told writes z.leg now) z.steps (tick_holds_from setup writes earlier at given t h)
 
-pub steps_hold : (setup : Setup) (writes : Writing) (trace : List Event) → IsTrace setup writes trace → StepsHold (WasConfirmed setup trace) (sides setup writes trace).steps
+pub steps_hold : (setup : Setup) (writes : Writing) (trace : List Event) → IsTrace setup writes trace → StepsHold (WasConfirmed setup trace) (both_legs setup writes trace).steps
 steps_hold setup writes [] t =
     restored_hold (WasConfirmed setup []) setup.restored [] (each_restored (WasConfirmedIn setup []) (pages_restored setup.restored)) setup.are_pages tt
 steps_hold setup writes (e ∷ earlier) t =
     event_holds setup writes e earlier t
-    (steps_map (WasConfirmed setup earlier) (WasConfirmed setup (e ∷ earlier)) (sides setup writes earlier).steps (λ call page w. was_later setup e earlier call page w) (steps_hold setup writes earlier t.1))
+    (steps_map (WasConfirmed setup earlier) (WasConfirmed setup (e ∷ earlier)) (both_legs setup writes earlier).steps (λ call page w. was_later setup e earlier call page w) (steps_hold setup writes earlier t.1))
 
 -- the same in a tick, when the called leg is served
 pub tick_holds : (setup : Setup) (writes : Writing) (earlier : List Event) (at : ℕ) (given : Given) → IsTrace setup writes (Tick at given ∷ earlier) → StepsHold (WasConfirmed setup (Tick at given ∷ earlier)) (in_tick setup writes earlier at).steps
 tick_holds setup writes earlier at given t =
     tick_holds_from setup writes earlier at given t
-    (steps_map (WasConfirmed setup earlier) (WasConfirmed setup (Tick at given ∷ earlier)) (sides setup writes earlier).steps (λ call page w. was_later setup (Tick at given) earlier call page w) (steps_hold setup writes earlier t.1))
+    (steps_map (WasConfirmed setup earlier) (WasConfirmed setup (Tick at given ∷ earlier)) (both_legs setup writes earlier).steps (λ call page w. was_later setup (Tick at given) earlier call page w) (steps_hold setup writes earlier t.1))

@@ -9,14 +9,14 @@ use Rattle.fax_jobs.specs.Cuts.{Confirmation, confirmations, AreInCall, IsCutOf,
 use Rattle.fax_jobs.proofs.CallCuts.{cuts_each_call, keeps_jobs}
 use Rattle.fax_answer.specs.Table.{Reading}
 use Rattle.fax_answer.specs.Replies.{ConfirmedPage}
-use Rattle.fax_answer.specs.Calls.{Answering, Ticked}
+use Rattle.fax_answer.specs.Calls.{AnswererCore, TickResult}
 use Rattle.fax_call.specs.Writings.{Writing}
 use Rattle.fax_gateway.specs.Restored.{RestoredCall}
 use Rattle.fax_gateway.specs.Setups.{Setup}
 use Rattle.fax_gateway.specs.Events.{Event, Ring, FromCalling, FromCalled, Tick, Placed, Given, clock, rings}
 use Rattle.fax_gateway.specs.CallingLegs.{CallingLeg, core_of, is_idle, idle_after, leg_with, calling_after, calling_leg, answers, confirmed_by}
 use Rattle.fax_gateway.specs.CalledLegs.{outcome_told, delivered_told}
-use Rattle.fax_gateway.specs.Sides.{Sides, begins_next, past_of, confirms_if, ends_if, heard_in_tick, sends, sends_if, enters, sides, in_tick}
+use Rattle.fax_gateway.specs.BothLegs.{BothLegs, begins_next, past_of, confirms_if, ends_if, heard_in_tick, sends, sends_if, enters, both_legs, in_tick}
 use Rattle.fax_gateway.specs.Traces.{IsTrace}
 use Rattle.fax_gateway.specs.Cuts.{confirmed_at, with_confirmed, calls_of, AreCutsOfRestored, AreCutsOf, IsBookOf, JobsAreCut}
 use Rattle.fax_gateway.proofs.IdleLegs.{IfRests, rests_of, idle_tick, busy_tick}
@@ -38,7 +38,7 @@ So rs false calls past number = AreCutsOf rs calls (jobs_of past) × (past.book.
 So rs true [] past number = ⊥
 So rs true (cs ∷ calls) past number = Since rs calls number cs past
 
--- steps of the called side
+-- steps of the answerer
 sends_so : (rs : List RestoredCall) (on : Bool) (calls : List (List Confirmation)) (past : Past) (number : ℕ) → So rs on calls past number → So rs on calls (after_step past Sends) number
 sends_so rs false calls past number s =
     let k = keeps_jobs past (Sends ∷ []) s.1 tt in (subst (AreCutsOf rs calls) (sym k.0) s.0, k.1)
@@ -87,17 +87,17 @@ confirms_so rs (Some c) (cs ∷ calls) steps number s =
     }
 
 -- a tick of the calling leg
-abbrev heard_of : ℕ → Ticked → List Step → List Step
+abbrev heard_of : ℕ → TickResult → List Step → List Step
 heard_of number t steps = ends_if t.ended (confirms_if number (confirmed_by t.given) steps)
 
-abbrev TickSo : List RestoredCall → List (List Confirmation) → List Step → ℕ → Ticked → Type 0
+abbrev TickSo : List RestoredCall → List (List Confirmation) → List Step → ℕ → TickResult → Type 0
 TickSo rs calls steps number t = So rs (not (is_idle t.core.state)) (with_confirmed (confirmed_by t.given) calls) (after_steps new_past (heard_of number t steps)) number
 
 tick_so : (rs : List RestoredCall) (l : CallingLeg) (now : ℕ) (calls : List (List Confirmation)) (steps : List Step) → IfRests (Some l) → So rs (not (is_idle (core_of l).state)) calls (after_steps new_past steps) l.number →
     TickSo rs calls steps l.number (answers l now)
 tick_so rs l now calls steps r s = by (is_idle (core_of l).state) refl s
   where
-    a : Answering
+    a : AnswererCore
     a = core_of l
 
     by : (b : Bool) → is_idle (core_of l).state ≡ b → So rs (not b) calls (after_steps new_past steps) l.number → TickSo rs calls steps l.number (answers l now)
@@ -105,7 +105,7 @@ tick_so rs l now calls steps r s = by (is_idle (core_of l).state) refl s
         subst (TickSo rs calls steps l.number) (sym (idle_tick (core_of l) now e r))
         (subst (λ (b : Bool). So rs (not b) calls (after_steps new_past steps) l.number) (sym e) s)
     by false e s =
-        let t : Ticked = answers l now in
+        let t : TickResult = answers l now in
         subst (λ (b : Bool). So rs (not b) (with_confirmed (confirmed_by t.given) calls) (after_steps new_past (heard_of l.number t steps)) l.number) (sym (busy_tick (core_of l) now e))
         (ends_so rs t.ended (with_confirmed (confirmed_by t.given) calls) (confirms_if l.number (confirmed_by t.given) steps) l.number
         (confirms_so rs (confirmed_by t.given) calls steps l.number s))
@@ -119,10 +119,10 @@ heard_so : (setup : Setup) (o : Option CallingLeg) (now at : ℕ) (given : Given
 heard_so setup None now at given calls steps r s = s
 heard_so setup (Some l) now at given calls steps r s = tick_so setup.restored l now calls steps r s
 
-if_sends_so : (setup : Setup) (writes : Writing) (now : ℕ) (s : Sides) (on : Bool) (calls : List (List Confirmation)) (number : ℕ) → So setup.restored on calls (past_of s) number → So setup.restored on calls (past_of (sends_if setup writes now s)) number
+if_sends_so : (setup : Setup) (writes : Writing) (now : ℕ) (s : BothLegs) (on : Bool) (calls : List (List Confirmation)) (number : ℕ) → So setup.restored on calls (past_of s) number → So setup.restored on calls (past_of (sends_if setup writes now s)) number
 if_sends_so setup writes now s on calls number k = by (begins_next setup s.leg)
   where
-    by : (b : Bool) → So setup.restored on calls (past_of (if◌then◌else◌ {A = Sides} b (sends true setup writes now s) s)) number
+    by : (b : Bool) → So setup.restored on calls (past_of (if◌then◌else◌ {A = BothLegs} b (sends true setup writes now s) s)) number
     by true = sends_so setup.restored on calls (past_of s) number k
     by false = k
 
@@ -174,36 +174,36 @@ begun_so setup None now at number calls past e s =
 begun_so setup (Some l) now at number calls past e s =
     record { old = past; since = []; past_is = refl; in_call = tt; same = refl; none_open = s.1; before = s.0; number_is = e }
 
-book_so : (setup : Setup) (writes : Writing) (trace : List Event) → IsTrace setup writes trace → So setup.restored (not (idle_after (calling_leg setup trace))) (calls_of setup trace) (past_of (sides setup writes trace)) (number_of (calling_leg setup trace))
+book_so : (setup : Setup) (writes : Writing) (trace : List Event) → IsTrace setup writes trace → So setup.restored (not (idle_after (calling_leg setup trace))) (calls_of setup trace) (past_of (both_legs setup writes trace)) (number_of (calling_leg setup trace))
 book_so setup writes [] t =
-    let c : AreCut setup.restored new_past (past_of (sides setup writes [])) = restored_cut setup.restored [] refl in
+    let c : AreCut setup.restored new_past (past_of (both_legs setup writes [])) = restored_cut setup.restored [] refl in
     (subst (AreCutsOfRestored setup.restored) (sym c.jobs_are) c.cut, c.none_open)
 book_so setup writes (Ring at n ∷ earlier) t =
     let o : Option CallingLeg = calling_leg setup earlier in
-    begun_so setup o (clock (Ring at n ∷ earlier)) at n (calls_of setup earlier) (past_of (sides setup writes earlier)) (t.0.0 ∙ rings_are setup earlier)
-    (subst (λ (b : Bool). So setup.restored (not b) (calls_of setup earlier) (past_of (sides setup writes earlier)) (number_of o)) t.0.2 (book_so setup writes earlier t.1))
+    begun_so setup o (clock (Ring at n ∷ earlier)) at n (calls_of setup earlier) (past_of (both_legs setup writes earlier)) (t.0.0 ∙ rings_are setup earlier)
+    (subst (λ (b : Bool). So setup.restored (not b) (calls_of setup earlier) (past_of (both_legs setup writes earlier)) (number_of o)) t.0.2 (book_so setup writes earlier t.1))
 book_so setup writes (FromCalling octets at decided read ∷ earlier) t =
-    came_so setup (calling_leg setup earlier) (clock (FromCalling octets at decided read ∷ earlier)) octets at decided read (calls_of setup earlier) (sides setup writes earlier).steps (book_so setup writes earlier t.1)
+    came_so setup (calling_leg setup earlier) (clock (FromCalling octets at decided read ∷ earlier)) octets at decided read (calls_of setup earlier) (both_legs setup writes earlier).steps (book_so setup writes earlier t.1)
 book_so setup writes (FromCalled octets at decided ∷ earlier) t = by (calling_leg setup earlier) (book_so setup writes earlier t.1)
   where
-    by : (o : Option CallingLeg) → So setup.restored (not (idle_after o)) (calls_of setup earlier) (past_of (sides setup writes earlier)) (number_of o) →
+    by : (o : Option CallingLeg) → So setup.restored (not (idle_after o)) (calls_of setup earlier) (past_of (both_legs setup writes earlier)) (number_of o) →
         let new : Option CallingLeg = calling_after setup o (clock (FromCalled octets at decided ∷ earlier)) (FromCalled octets at decided) in
-        So setup.restored (not (idle_after new)) (calls_of setup earlier) (past_of (sides setup writes earlier)) (number_of new)
+        So setup.restored (not (idle_after new)) (calls_of setup earlier) (past_of (both_legs setup writes earlier)) (number_of new)
     by None s = s
     by (Some l) s = s
 book_so setup writes (Placed at connected ∷ earlier) t = by (calling_leg setup earlier) (book_so setup writes earlier t.1)
   where
-    by : (o : Option CallingLeg) → So setup.restored (not (idle_after o)) (calls_of setup earlier) (past_of (sides setup writes earlier)) (number_of o) →
+    by : (o : Option CallingLeg) → So setup.restored (not (idle_after o)) (calls_of setup earlier) (past_of (both_legs setup writes earlier)) (number_of o) →
         let new : Option CallingLeg = calling_after setup o (clock (Placed at connected ∷ earlier)) (Placed at connected) in
-        So setup.restored (not (idle_after new)) (calls_of setup earlier) (past_of (sides setup writes (Placed at connected ∷ earlier))) (number_of new)
-    by None s = sends_so setup.restored false (calls_of setup earlier) (past_of (sides setup writes earlier)) 0 s
-    by (Some l) s = sends_so setup.restored (not (idle_after (Some l))) (calls_of setup earlier) (past_of (sides setup writes earlier)) l.number s
+        So setup.restored (not (idle_after new)) (calls_of setup earlier) (past_of (both_legs setup writes (Placed at connected ∷ earlier))) (number_of new)
+    by None s = sends_so setup.restored false (calls_of setup earlier) (past_of (both_legs setup writes earlier)) 0 s
+    by (Some l) s = sends_so setup.restored (not (idle_after (Some l))) (calls_of setup earlier) (past_of (both_legs setup writes earlier)) l.number s
 book_so setup writes (Tick at given ∷ earlier) t =
     let now : ℕ = max at (clock earlier) in
     let o : Option CallingLeg = calling_leg setup earlier in
     let new : Option CallingLeg = calling_leg setup (Tick at given ∷ earlier) in
-    let s : Sides = sides setup writes earlier in
-    let z : Sides = in_tick setup writes earlier at in
+    let s : BothLegs = both_legs setup writes earlier in
+    let z : BothLegs = in_tick setup writes earlier at in
     let calls : List (List Confirmation) = with_confirmed (confirmed_at o now) (calls_of setup earlier) in
     enters_so setup.restored (delivered_told writes z.leg now) (outcome_told writes z.leg now) z.steps (not (idle_after new)) calls (number_of new)
     (if_sends_so setup writes now (record s { steps = heard_in_tick o now s.steps }) (not (idle_after new)) calls (number_of new)
@@ -227,4 +227,4 @@ book_is rs true (cs ∷ calls) past number s =
 
 pub jobs_are_cut : JobsAreCut
 jobs_are_cut setup writes trace t =
-    book_is setup.restored (not (idle_after (calling_leg setup trace))) (calls_of setup trace) (past_of (sides setup writes trace)) (number_of (calling_leg setup trace)) (book_so setup writes trace t)
+    book_is setup.restored (not (idle_after (calling_leg setup trace))) (calls_of setup trace) (past_of (both_legs setup writes trace)) (number_of (calling_leg setup trace)) (book_so setup writes trace t)

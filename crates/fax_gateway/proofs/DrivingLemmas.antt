@@ -12,8 +12,8 @@ use Rattle.std.proofs.lemmas.List.Sums.{sum_by-append, sum_by-cons, count_by-le-
 use Rattle.std.proofs.lemmas.Grind.{flat_map-append}
 use Rattle.std.proofs.Math.Seq.{take-append_seam}
 use Rattle.fax_bits.specs.declared.memory.NoMemory.{NoMemory}
-use Rattle.fax_gateway.specs.declared.side.Side.{Side}
-use Rattle.fax_gateway.specs.declared.side.Side.TheVariants as side
+use Rattle.fax_gateway.specs.declared.leg.Leg.{Leg}
+use Rattle.fax_gateway.specs.declared.leg.Leg.TheVariants as legs
 use Rattle.fax_gateway.specs.declared.wire.WireFault.{WireFault}
 use Rattle.fax_gateway.specs.declared.fault.RingFault.{RingFault}
 use Rattle.fax_gateway.specs.declared.fault.RingFault.TheVariants as ring_faults
@@ -22,10 +22,10 @@ use Rattle.fax_call.specs.Writings.{Writing}
 use Rattle.fax_gateway.specs.Reached.{GatewayValue}
 use Rattle.fax_gateway.specs.CallingLegs.{calling_leg, decided_calling, idle_after}
 use Rattle.fax_gateway.specs.CalledLegs.{decided_called}
-use Rattle.fax_gateway.specs.Sides.{sides}
+use Rattle.fax_gateway.specs.BothLegs.{both_legs}
 use Rattle.fax_gateway.specs.Reached.{HearsFrom, IsReachedBy}
-use Rattle.fax_gateway.specs.Wires.{Known, Came, Nothing, Failed, Grows, buffer_octets, greatest_count, failures_after, receipt_of}
-use Rattle.fax_gateway.specs.Driving.{Entry, AreWanting, IsWanting, Accepts, BringsNone, moment_of, AreReceives, AreRounds, HasFailed, IsRing, IsRingIf, IsRingRefused, IsRound, IsTick, IsTurn, RefusesRing, Tells, log_of, is_refused_ring, RefusesDatagram, RefusesTick, ReceivesNothing, FailsToReceive, Sends, DriverValue, Carries, Happens, HasMade, Steps, WireGoes, GoesBy, GoesByEvent, Comes, IsHanded, IsSent, counted, events, events_in, failed_in_a_row, most_failed, receipts, receipts_in, sent, sent_in, is_failed_receive, is_failed_send, is_refused_event}
+use Rattle.fax_gateway.specs.Wires.{KnownWire, Came, Nothing, Failed, Grows, buffer_octets, greatest_count, failures_after, receipt_of}
+use Rattle.fax_gateway.specs.Driving.{Entry, AreWanting, IsWanting, Accepts, GivesNoDatagram, moment_of, AreReceives, AreRounds, HasFailed, IsRing, IsRingIf, IsRingRefused, IsRound, IsTick, IsTurn, RefusesRing, Tells, log_of, is_refused_ring, RefusesDatagram, RefusesTick, ReceivesNothing, FailsToReceive, Sends, DriverValue, Carries, Happens, HasMade, Steps, WireGoes, GoesBy, GoesByEvent, Comes, IsHanded, IsSent, counted, events, events_in, failed_in_a_row, most_failed, receipts, receipts_in, sent, sent_in, is_failed_receive, is_failed_send, is_refused_event}
 
 pub grows_more : {A : Type 0} (older newer : List A) (a b c : Option (List A)) → Grows older a b → Grows newer b c → Grows (newer ++ older) a c
 grows_more older newer a b None first second = tt
@@ -62,7 +62,7 @@ rises g a b c m n first second low =
     let f = first (omega arith) in
     omega arith
 
-pub carries_more : (older newer : List Entry) (a b c : Known) → Carries older a b → Carries newer b c → Carries (newer ++ older) a c
+pub carries_more : (older newer : List Entry) (a b c : KnownWire) → Carries older a b → Carries newer b c → Carries (newer ++ older) a c
 carries_more older newer a b c first second = record {
   received = grows_as (receipts newer ++ receipts older) (receipts (newer ++ older)) a.received c.received (sym (flat_map-append receipts_in newer older)) (grows_more (receipts older) (receipts newer) a.received b.received c.received first.received second.received);
   sent = grows_as (sent newer ++ sent older) (sent (newer ++ older)) a.sent c.sent (sym (flat_map-append sent_in newer older)) (grows_more (sent older) (sent newer) a.sent b.sent c.sent first.sent second.sent);
@@ -85,7 +85,7 @@ wanting_more setup writes older (e ∷ newer) trace first second = (
 )
 
 pub happens_more :
-    (setup : Setup) (writes : Writing) (older newer : List Entry) (trace : List Event) (g h : GatewayValue) (a b c : Known)
+    (setup : Setup) (writes : Writing) (older newer : List Entry) (trace : List Event) (g h : GatewayValue) (a b c : KnownWire)
     → Happens setup writes older trace g a b → Happens setup writes newer (events older ++ trace) h b c → Happens setup writes (newer ++ older) trace h a c
 happens_more setup writes older newer trace g h a b c first second = record {
   reached = reached_more setup writes older newer trace h second.reached;
@@ -94,7 +94,7 @@ happens_more setup writes older newer trace g h a b c first second = record {
 }
 
 pub steps_more :
-    (setup : Setup) (writes : Writing) (older newer : List Entry) (trace : List Event) (earlier : List Entry) (g h : GatewayValue) (a b c : Known) (d e : DriverValue)
+    (setup : Setup) (writes : Writing) (older newer : List Entry) (trace : List Event) (earlier : List Entry) (g h : GatewayValue) (a b c : KnownWire) (d e : DriverValue)
     → Steps setup writes older trace earlier g a b d → Steps setup writes newer (events older ++ trace) (older ++ earlier) h b c e
     → Steps setup writes (newer ++ older) trace earlier h a c e
 steps_more setup writes older newer trace earlier g h a b c d e first second = record {
@@ -104,42 +104,42 @@ steps_more setup writes older newer trace earlier g h a b c d e first second = r
 
 -- ---- what the wire goes through
 
-pub wire_more : {W : Type 0} (receives : Side → W → W → Type 0) (sends : Side → List ℕ → Bool → W → W → Type 0) (older newer : List Entry) (a b c : W)
+pub wire_more : {W : Type 0} (receives : Leg → W → W → Type 0) (sends : Leg → List ℕ → Bool → W → W → Type 0) (older newer : List Entry) (a b c : W)
     → WireGoes receives sends older a b → WireGoes receives sends newer b c → WireGoes receives sends (newer ++ older) a c
 wire_more receives sends older [] a b c first second = subst (λ w. WireGoes receives sends older a w) (sym second) first
 wire_more receives sends older (e ∷ newer) a b c first second = (second.0, wire_more receives sends older newer a b second.0 first second.1, second.2)
 
-pub wire_by : {W : Type 0} (receives : Side → W → W → Type 0) (sends : Side → List ℕ → Bool → W → W → Type 0) (e : Entry) (a b : W)
+pub wire_by : {W : Type 0} (receives : Leg → W → W → Type 0) (sends : Leg → List ℕ → Bool → W → W → Type 0) (e : Entry) (a b : W)
     → GoesBy receives sends e a b → WireGoes receives sends (e ∷ []) a b
 wire_by receives sends e a b by = (a, refl, by)
 
 -- a datagram that came was received on its leg
-pub wire_came : {W : Type 0} (receives : Side → W → W → Type 0) (sends : Side → List ℕ → Bool → W → W → Type 0) (at : Side) (now : ℕ) (e : Entry) (a b : W)
+pub wire_came : {W : Type 0} (receives : Leg → W → W → Type 0) (sends : Leg → List ℕ → Bool → W → W → Type 0) (at : Leg) (now : ℕ) (e : Entry) (a b : W)
     → Comes at now e → receives at a b → WireGoes receives sends (e ∷ []) a b
 wire_came receives sends at now (Accepts (Ring moment number)) a b comes by = absurd comes
-wire_came receives sends at now (Accepts (FromCalling octets moment decided read)) a b comes by = (a, refl, subst (λ (s : Side). receives s a b) comes.0 by)
-wire_came receives sends at now (Accepts (FromCalled octets moment decided)) a b comes by = (a, refl, subst (λ (s : Side). receives s a b) comes.0 by)
+wire_came receives sends at now (Accepts (FromCalling octets moment decided read)) a b comes by = (a, refl, subst (λ (s : Leg). receives s a b) comes.0 by)
+wire_came receives sends at now (Accepts (FromCalled octets moment decided)) a b comes by = (a, refl, subst (λ (s : Leg). receives s a b) comes.0 by)
 wire_came receives sends at now (Accepts (Placed moment connected)) a b comes by = absurd comes
 wire_came receives sends at now (Accepts (Tick moment given)) a b comes by = absurd comes
 wire_came receives sends at now (RefusesRing fault) a b comes by = absurd comes
-wire_came receives sends at now (RefusesDatagram on octets) a b comes by = (a, refl, subst (λ (s : Side). receives s a b) (sym comes) by)
+wire_came receives sends at now (RefusesDatagram on octets) a b comes by = (a, refl, subst (λ (s : Leg). receives s a b) (sym comes) by)
 wire_came receives sends at now (RefusesTick moment) a b comes by = absurd comes
 wire_came receives sends at now (ReceivesNothing on) a b comes by = absurd comes
 wire_came receives sends at now (FailsToReceive on) a b comes by = absurd comes
 wire_came receives sends at now (Sends on octets fails) a b comes by = absurd comes
 
 -- what is shown of a wire goes so too, where each of its calls does
-by_event_shown : {W V : Type 0} (shown : W → V) (receives : Side → W → W → Type 0) (receives' : Side → V → V → Type 0) (event : Event) (a b : W)
-    → ((at : Side) (old new : W) → receives at old new → receives' at (shown old) (shown new)) → GoesByEvent receives event a b → GoesByEvent receives' event (shown a) (shown b)
+by_event_shown : {W V : Type 0} (shown : W → V) (receives : Leg → W → W → Type 0) (receives' : Leg → V → V → Type 0) (event : Event) (a b : W)
+    → ((at : Leg) (old new : W) → receives at old new → receives' at (shown old) (shown new)) → GoesByEvent receives event a b → GoesByEvent receives' event (shown a) (shown b)
 by_event_shown shown receives receives' (Ring now number) a b on_receive by = ap shown by
-by_event_shown shown receives receives' (FromCalling octets now decided read) a b on_receive by = on_receive side.Calling a b by
-by_event_shown shown receives receives' (FromCalled octets now decided) a b on_receive by = on_receive side.Called a b by
+by_event_shown shown receives receives' (FromCalling octets now decided read) a b on_receive by = on_receive legs.Calling a b by
+by_event_shown shown receives receives' (FromCalled octets now decided) a b on_receive by = on_receive legs.Called a b by
 by_event_shown shown receives receives' (Placed now connected) a b on_receive by = ap shown by
 by_event_shown shown receives receives' (Tick now given) a b on_receive by = ap shown by
 
-by_shown : {W V : Type 0} (shown : W → V) (receives : Side → W → W → Type 0) (sends : Side → List ℕ → Bool → W → W → Type 0) (receives' : Side → V → V → Type 0) (sends' : Side → List ℕ → Bool → V → V → Type 0)
-    (e : Entry) (a b : W) → ((at : Side) (old new : W) → receives at old new → receives' at (shown old) (shown new))
-    → ((at : Side) (octets : List ℕ) (is_sent : Bool) (old new : W) → sends at octets is_sent old new → sends' at octets is_sent (shown old) (shown new))
+by_shown : {W V : Type 0} (shown : W → V) (receives : Leg → W → W → Type 0) (sends : Leg → List ℕ → Bool → W → W → Type 0) (receives' : Leg → V → V → Type 0) (sends' : Leg → List ℕ → Bool → V → V → Type 0)
+    (e : Entry) (a b : W) → ((at : Leg) (old new : W) → receives at old new → receives' at (shown old) (shown new))
+    → ((at : Leg) (octets : List ℕ) (is_sent : Bool) (old new : W) → sends at octets is_sent old new → sends' at octets is_sent (shown old) (shown new))
     → GoesBy receives sends e a b → GoesBy receives' sends' e (shown a) (shown b)
 by_shown shown receives sends receives' sends' (Accepts event) a b on_receive on_send by = by_event_shown shown receives receives' event a b on_receive by
 by_shown shown receives sends receives' sends' (RefusesRing fault) a b on_receive on_send by = ap shown by
@@ -149,9 +149,9 @@ by_shown shown receives sends receives' sends' (ReceivesNothing at) a b on_recei
 by_shown shown receives sends receives' sends' (FailsToReceive at) a b on_receive on_send by = on_receive at a b by
 by_shown shown receives sends receives' sends' (Sends at octets fails) a b on_receive on_send by = on_send at octets (not fails) a b by
 
-pub wire_shown : {W V : Type 0} (shown : W → V) (receives : Side → W → W → Type 0) (sends : Side → List ℕ → Bool → W → W → Type 0) (receives' : Side → V → V → Type 0) (sends' : Side → List ℕ → Bool → V → V → Type 0)
-    (log : List Entry) (a b : W) → ((at : Side) (old new : W) → receives at old new → receives' at (shown old) (shown new))
-    → ((at : Side) (octets : List ℕ) (is_sent : Bool) (old new : W) → sends at octets is_sent old new → sends' at octets is_sent (shown old) (shown new))
+pub wire_shown : {W V : Type 0} (shown : W → V) (receives : Leg → W → W → Type 0) (sends : Leg → List ℕ → Bool → W → W → Type 0) (receives' : Leg → V → V → Type 0) (sends' : Leg → List ℕ → Bool → V → V → Type 0)
+    (log : List Entry) (a b : W) → ((at : Leg) (old new : W) → receives at old new → receives' at (shown old) (shown new))
+    → ((at : Leg) (octets : List ℕ) (is_sent : Bool) (old new : W) → sends at octets is_sent old new → sends' at octets is_sent (shown old) (shown new))
     → WireGoes receives sends log a b → WireGoes receives' sends' log (shown a) (shown b)
 wire_shown shown receives sends receives' sends' [] a b on_receive on_send goes = ap shown goes
 wire_shown shown receives sends receives' sends' (e ∷ earlier) a b on_receive on_send goes = (
@@ -162,15 +162,15 @@ wire_shown shown receives sends receives' sends' (e ∷ earlier) a b on_receive 
 
 -- ---- one entry
 
-pub carries_none : (a : Known) → Carries [] a a
+pub carries_none : (a : KnownWire) → Carries [] a a
 carries_none a = record { received = grows_none a.received; sent = grows_none a.sent; failures = λ _. omega arith }
 
-pub steps_none : (setup : Setup) (writes : Writing) (trace : List Event) (earlier : List Entry) (g : GatewayValue) (a : Known) (d : DriverValue)
+pub steps_none : (setup : Setup) (writes : Writing) (trace : List Event) (earlier : List Entry) (g : GatewayValue) (a : KnownWire) (d : DriverValue)
     → IsReachedBy setup writes trace g → HasMade earlier d → Steps setup writes [] trace earlier g a a d
 steps_none setup writes trace earlier g a d reached made = record { happens = record { reached = reached; wanting = tt; carried = carries_none a }; made = made }
 
 -- an entry that the wire does not see
-pub carries_unseen : (e : Entry) (a : Known) → receipts_in e ≡ [] → sent_in e ≡ [] → is_failed_receive e ≡ false → is_failed_send e ≡ false → Carries (e ∷ []) a a
+pub carries_unseen : (e : Entry) (a : KnownWire) → receipts_in e ≡ [] → sent_in e ≡ [] → is_failed_receive e ≡ false → is_failed_send e ≡ false → Carries (e ∷ []) a a
 carries_unseen e a r s f n = record {
   received = grows_as [] (receipts (e ∷ [])) a.received a.received (ap (λ l. l ++ []) (sym r)) (grows_none a.received);
   sent = grows_as [] (sent (e ∷ [])) a.sent a.sent (ap (λ l. l ++ []) (sym s)) (grows_none a.sent);
@@ -179,7 +179,7 @@ carries_unseen e a r s f n = record {
 
 -- a receive, by what it answered
 pub carries_datagram :
-    (at : Side) (buffer octets : List ℕ) (count : ℕ) (e : Entry) (a b : Known) (r : Result (Option ℕ) WireFault)
+    (at : Leg) (buffer octets : List ℕ) (count : ℕ) (e : Entry) (a b : KnownWire) (r : Result (Option ℕ) WireFault)
     → r ≡ Ok (Some count) → length buffer ≡ buffer_octets → octets ≡ take count buffer → (accepted : Bool) → IsHanded accepted at octets e
     → b.failures ≡ failures_after a.failures r → Grows (receipt_of at buffer r ∷ []) a.received b.received → Grows [] a.sent b.sent → Carries (e ∷ []) a b
 carries_datagram at buffer octets count e a b r is room same accepted h failures received sent_on = record {
@@ -193,7 +193,7 @@ carries_datagram at buffer octets count e a b r is room same accepted h failures
 }
 
 pub carries_nothing :
-    (at : Side) (buffer : List ℕ) (a b : Known) (r : Result (Option ℕ) WireFault) → r ≡ Ok None → length buffer ≡ buffer_octets
+    (at : Leg) (buffer : List ℕ) (a b : KnownWire) (r : Result (Option ℕ) WireFault) → r ≡ Ok None → length buffer ≡ buffer_octets
     → b.failures ≡ failures_after a.failures r → Grows (receipt_of at buffer r ∷ []) a.received b.received → Grows [] a.sent b.sent → Carries (ReceivesNothing at ∷ []) a b
 carries_nothing at buffer a b r is room failures received sent = record {
   received = grows_as (receipt_of at buffer r ∷ []) (receipts (ReceivesNothing at ∷ [])) a.received b.received (ap (λ x. receipt_of at buffer x ∷ []) is ∙ ap (λ n. Nothing at n ∷ []) room) received;
@@ -205,7 +205,7 @@ pub rises_by_one : (g a b : ℕ) → b ≡ min (a + 1) g → b < g → b ≡ a +
 rises_by_one g a b = omega arith
 
 pub carries_failure :
-    (at : Side) (buffer : List ℕ) (a b : Known) (r : Result (Option ℕ) WireFault) (fault : WireFault) → r ≡ Err fault → length buffer ≡ buffer_octets
+    (at : Leg) (buffer : List ℕ) (a b : KnownWire) (r : Result (Option ℕ) WireFault) (fault : WireFault) → r ≡ Err fault → length buffer ≡ buffer_octets
     → b.failures ≡ failures_after a.failures r → Grows (receipt_of at buffer r ∷ []) a.received b.received → Grows [] a.sent b.sent → Carries (FailsToReceive at ∷ []) a b
 carries_failure at buffer a b r fault is room failures received sent = record {
   received = grows_as (receipt_of at buffer r ∷ []) (receipts (FailsToReceive at ∷ [])) a.received b.received (ap (λ x. receipt_of at buffer x ∷ []) is ∙ ap (λ n. Failed at n ∷ []) room) received;
@@ -215,8 +215,8 @@ carries_failure at buffer a b r fault is room failures received sent = record {
 
 -- a send, by whether it failed
 pub carries_send :
-    (at : Side) (octets : List ℕ) (a b : Known) (fails : Bool)
-    → b.failures ≡ cond fails (min (a.failures + 1) greatest_count) a.failures → Grows [] a.received b.received → Grows (record { side = at; octets = octets } ∷ []) a.sent b.sent
+    (at : Leg) (octets : List ℕ) (a b : KnownWire) (fails : Bool)
+    → b.failures ≡ cond fails (min (a.failures + 1) greatest_count) a.failures → Grows [] a.received b.received → Grows (record { leg = at; octets = octets } ∷ []) a.sent b.sent
     → Carries (Sends at octets fails ∷ []) a b
 carries_send at octets a b true failures received sent = record {
   received = received;
@@ -231,7 +231,7 @@ carries_send at octets a b false failures received sent = record {
 
 -- ---- what a driver keeps of an entry
 
-pub made_nothing : (log : List Entry) (at : Side) (d : DriverValue) → HasMade log d
+pub made_nothing : (log : List Entry) (at : Leg) (d : DriverValue) → HasMade log d
     → HasMade (ReceivesNothing at ∷ log) (record { failed_in_a_row = 0; events_refused = d.events_refused; receives_failed = d.receives_failed; sends_failed = d.sends_failed })
 made_nothing log at d made = record {
   row = refl;
@@ -258,7 +258,7 @@ made_refused_tick now log d k is made = record {
   sends_failed = made.sends_failed ∙ ap counted (sym (count_none is_failed_send (RefusesTick now) log refl));
 }
 
-pub made_failed_send : (log : List Entry) (at : Side) (octets : List ℕ) (d : DriverValue) (k : ℕ) → k ≡ min (d.sends_failed + 1) greatest_count → HasMade log d
+pub made_failed_send : (log : List Entry) (at : Leg) (octets : List ℕ) (d : DriverValue) (k : ℕ) → k ≡ min (d.sends_failed + 1) greatest_count → HasMade log d
     → HasMade (Sends at octets true ∷ log) (record { failed_in_a_row = d.failed_in_a_row; events_refused = d.events_refused; receives_failed = d.receives_failed; sends_failed = k })
 made_failed_send log at octets d k is made = record {
   row = made.row;
@@ -274,47 +274,47 @@ pub must_decide : (decides : Bool) (r : Result Bool NoMemory) (fault : NoMemory)
 must_decide true r fault is sure = refl
 must_decide false r fault is sure = let e : r ≡ Ok false = sure refl in cc
 
-abbrev pub HandsOn : Setup → Writing → List Event → Side → List ℕ → ℕ → Bool → GatewayValue → Type 0
+abbrev pub HandsOn : Setup → Writing → List Event → Leg → List ℕ → ℕ → Bool → GatewayValue → Type 0
 HandsOn setup writes trace at octets now accepted g = (e : Entry) × Comes at now e × IsHanded accepted at octets e × IsWanting setup writes trace e × IsReachedBy setup writes (events (e ∷ []) ++ trace) g
 
 pub hands_on_calling :
     (setup : Setup) (writes : Writing) (trace : List Event) (octets : List ℕ) (now : ℕ) (old new : GatewayValue) (r : Result Bool NoMemory)
     → IfOk r (λ decided. (setup : Setup) (writes : Writing) (trace : List Event) → IsReachedBy setup writes trace old → HearsFrom setup writes trace octets now decided new)
     → ((setup : Setup) (writes : Writing) (trace : List Event) → IsReachedBy setup writes trace old → decided_calling (calling_leg setup trace) octets ≡ false → r ≡ Ok false)
-    → OnErr r (new ≡ old) → IsReachedBy setup writes trace old → HandsOn setup writes trace side.Calling octets now (is_ok r) new
+    → OnErr r (new ≡ old) → IsReachedBy setup writes trace old → HandsOn setup writes trace legs.Calling octets now (is_ok r) new
 hands_on_calling setup writes trace octets now old new (Ok decided) heard memory err reached =
     let h = heard setup writes trace reached in
     (Accepts (FromCalling octets now decided h.read), (refl, refl), record { receipt = refl; refused = refl; none_sent = refl; received = refl; sends_none = refl }, tt, h.reached)
 hands_on_calling setup writes trace octets now old new (Err fault) heard memory err reached =
-    (RefusesDatagram side.Calling octets, refl, record { receipt = refl; refused = refl; none_sent = refl; received = refl; sends_none = refl }, must_decide _ (Err fault) fault refl (memory setup writes trace reached), subst (λ (g : GatewayValue). IsReachedBy setup writes trace g) (sym err) reached)
+    (RefusesDatagram legs.Calling octets, refl, record { receipt = refl; refused = refl; none_sent = refl; received = refl; sends_none = refl }, must_decide _ (Err fault) fault refl (memory setup writes trace reached), subst (λ (g : GatewayValue). IsReachedBy setup writes trace g) (sym err) reached)
 
 pub hands_on_called :
     (setup : Setup) (writes : Writing) (trace : List Event) (octets : List ℕ) (now : ℕ) (old new : GatewayValue) (r : Result Bool NoMemory)
     → IfOk r (λ decided. (setup : Setup) (writes : Writing) (trace : List Event) → IsReachedBy setup writes trace old → IsReachedBy setup writes (FromCalled octets now decided ∷ trace) new)
-    → ((setup : Setup) (writes : Writing) (trace : List Event) → IsReachedBy setup writes trace old → decided_called writes (sides setup writes trace).leg octets ≡ false → r ≡ Ok false)
-    → OnErr r (new ≡ old) → IsReachedBy setup writes trace old → HandsOn setup writes trace side.Called octets now (is_ok r) new
+    → ((setup : Setup) (writes : Writing) (trace : List Event) → IsReachedBy setup writes trace old → decided_called writes (both_legs setup writes trace).leg octets ≡ false → r ≡ Ok false)
+    → OnErr r (new ≡ old) → IsReachedBy setup writes trace old → HandsOn setup writes trace legs.Called octets now (is_ok r) new
 hands_on_called setup writes trace octets now old new (Ok decided) heard memory err reached =
     (Accepts (FromCalled octets now decided), (refl, refl), record { receipt = refl; refused = refl; none_sent = refl; received = refl; sends_none = refl }, tt, heard setup writes trace reached)
 hands_on_called setup writes trace octets now old new (Err fault) heard memory err reached =
-    (RefusesDatagram side.Called octets, refl, record { receipt = refl; refused = refl; none_sent = refl; received = refl; sends_none = refl }, must_decide _ (Err fault) fault refl (memory setup writes trace reached), subst (λ (g : GatewayValue). IsReachedBy setup writes trace g) (sym err) reached)
+    (RefusesDatagram legs.Called octets, refl, record { receipt = refl; refused = refl; none_sent = refl; received = refl; sends_none = refl }, must_decide _ (Err fault) fault refl (memory setup writes trace reached), subst (λ (g : GatewayValue). IsReachedBy setup writes trace g) (sym err) reached)
 
 -- ---- sends
 
 -- sends are no events
-pub sends_no_event : (at : Side) (given : Option (List ℕ)) (log : List Entry) → IsSent at given log → events log ≡ []
+pub sends_no_event : (at : Leg) (given : Option (List ℕ)) (log : List Entry) → IsSent at given log → events log ≡ []
 sends_no_event at None log is = ap events is
 sends_no_event at (Some octets) log (fails, is) = ap events is
 
-pub sends_want_nothing : (setup : Setup) (writes : Writing) (trace : List Event) (at : Side) (given : Option (List ℕ)) (log : List Entry) → IsSent at given log → AreWanting setup writes trace log
+pub sends_want_nothing : (setup : Setup) (writes : Writing) (trace : List Event) (at : Leg) (given : Option (List ℕ)) (log : List Entry) → IsSent at given log → AreWanting setup writes trace log
 sends_want_nothing setup writes trace at None log is = subst (λ (l : List Entry). AreWanting setup writes trace l) (sym is) tt
 sends_want_nothing setup writes trace at (Some octets) log (fails, is) = subst (λ (l : List Entry). AreWanting setup writes trace l) (sym is) (tt, tt)
 
-pub is_sent : (at : Side) (given : Option (List ℕ)) (o octets : List ℕ) (fails : Bool) → given ≡ Some o → octets ≡ o → IsSent at given (Sends at octets fails ∷ [])
+pub is_sent : (at : Leg) (given : Option (List ℕ)) (o octets : List ℕ) (fails : Bool) → given ≡ Some o → octets ≡ o → IsSent at given (Sends at octets fails ∷ [])
 is_sent at given o octets fails is same =
     subst (λ (x : Option (List ℕ)). IsSent at x (Sends at octets fails ∷ [])) (sym is) (fails, ap (λ (y : List ℕ). Sends at y fails ∷ []) same)
 
 pub steps_send :
-    (setup : Setup) (writes : Writing) (at : Side) (given : Option (List ℕ)) (log : List Entry) (trace : List Event) (earlier : List Entry) (g : GatewayValue) (a b : Known) (d : DriverValue)
+    (setup : Setup) (writes : Writing) (at : Leg) (given : Option (List ℕ)) (log : List Entry) (trace : List Event) (earlier : List Entry) (g : GatewayValue) (a b : KnownWire) (d : DriverValue)
     → IsSent at given log → Carries log a b → HasMade (log ++ earlier) d → IsReachedBy setup writes trace g → Steps setup writes log trace earlier g a b d
 steps_send setup writes at given log trace earlier g a b d is carried made reached = record {
   happens = record {
@@ -325,17 +325,17 @@ steps_send setup writes at given log trace earlier g a b d is carried made reach
   made = made;
 }
 
--- what a buffer has in front, where the rest of its memory lies behind it
+-- what a buffer has in front, where the rest of its memory lies after it
 pub take_front : (count len : ℕ) (front rest : List ℕ) → length front ≡ len → take count (take len (front ++ rest)) ≡ take count front
 take_front count len front rest is = ap (λ (n : ℕ). take count (take n (front ++ rest))) (sym is) ∙ ap (take count) (take-append_seam front rest)
 
 -- ---- a run
 
-pub receives_are_few : (at : Side) (now : ℕ) (log : List Entry) → AreReceives at now log → length log ≤ 16
+pub receives_are_few : (at : Leg) (now : ℕ) (log : List Entry) → AreReceives at now log → length log ≤ 16
 receives_are_few at now log (inl (each, many)) = omega arith
 receives_are_few at now log (inr (came, last, is, each, low, none)) = let e = ap length is in omega arith
 
-pub sent_is_short : (at : Side) (given : Option (List ℕ)) (log : List Entry) → IsSent at given log → length log ≤ 1
+pub sent_is_short : (at : Leg) (given : Option (List ℕ)) (log : List Entry) → IsSent at given log → length log ≤ 1
 sent_is_short at None log is = let e = ap length is in omega arith
 sent_is_short at (Some octets) log (fails, is) = let e = ap length is in omega arith
 
@@ -343,15 +343,15 @@ pub tick_is_short : (now : ℕ) (log : List Entry) → IsTick now log → length
 tick_is_short now log (inl (given, calling, called, first, second, is)) =
     let e = ap length is ∙ length-append called (calling ++ Accepts (Tick now given) ∷ []) in
     let f = length-append calling (Accepts (Tick now given) ∷ []) in
-    let k = sent_is_short side.Calling given.on_calling calling first in
-    let l = sent_is_short side.Called given.on_called called second in
+    let k = sent_is_short legs.Calling given.on_calling calling first in
+    let l = sent_is_short legs.Called given.on_called called second in
     omega arith
 tick_is_short now log (inr is) = let e = ap length is in omega arith
 
 pub turn_is_short : (now : ℕ) (log : List Entry) → IsTurn now log → length log ≤ 35
 turn_is_short now log t =
-    let a = receives_are_few side.Calling now t.calling t.on_calling in
-    let b = receives_are_few side.Called now t.called t.on_called in
+    let a = receives_are_few legs.Calling now t.calling t.on_calling in
+    let b = receives_are_few legs.Called now t.called t.on_called in
     let k = tick_is_short now t.tick t.ticks in
     let e = ap length t.log_is ∙ length-append t.tick (t.called ++ t.calling) in
     let f = length-append t.called t.calling in
@@ -386,7 +386,7 @@ counts_whole p start rings rounds all few =
 
 -- a ring is not seen by the wire, nor by the driver
 pub steps_ring :
-    (setup : Setup) (writes : Writing) (due : Bool) (now : ℕ) (log : List Entry) (trace : List Event) (earlier : List Entry) (g : GatewayValue) (a : Known) (d : DriverValue)
+    (setup : Setup) (writes : Writing) (due : Bool) (now : ℕ) (log : List Entry) (trace : List Event) (earlier : List Entry) (g : GatewayValue) (a : KnownWire) (d : DriverValue)
     → IsRingIf due now log → AreWanting setup writes trace log → IsReachedBy setup writes (events log ++ trace) g → HasMade earlier d → Steps setup writes log trace earlier g a a d
 steps_ring setup writes false now log trace earlier g a d is wanting reached made = record {
   happens = record { reached = reached; wanting = wanting; carried = subst (λ (l : List Entry). Carries l a a) (sym is) (carries_none a) };
@@ -456,7 +456,7 @@ tells wanted start rings rounds d refused stopped all made same stops whole most
 
 -- ---- a turn rings not
 
-pub comes_no_ring : (at : Side) (now : ℕ) (e : Entry) → Comes at now e → is_refused_ring e ≡ false
+pub comes_no_ring : (at : Leg) (now : ℕ) (e : Entry) → Comes at now e → is_refused_ring e ≡ false
 comes_no_ring at now (Accepts event) h = refl
 comes_no_ring at now (RefusesRing fault) h = absurd h
 comes_no_ring at now (RefusesDatagram on octets) h = refl
@@ -465,21 +465,21 @@ comes_no_ring at now (ReceivesNothing on) h = refl
 comes_no_ring at now (FailsToReceive on) h = refl
 comes_no_ring at now (Sends on octets fails) h = refl
 
-pub all_come_no_ring : (at : Side) (now : ℕ) (log : List Entry) → All (Comes at now) log → count_by is_refused_ring log ≡ 0
+pub all_come_no_ring : (at : Leg) (now : ℕ) (log : List Entry) → All (Comes at now) log → count_by is_refused_ring log ≡ 0
 all_come_no_ring at now [] all = refl
 all_come_no_ring at now (e ∷ log) all =
     count_none is_refused_ring e log (comes_no_ring at now e (All-head (Comes at now) e log all)) ∙ all_come_no_ring at now log (All-tail (Comes at now) e log all)
 
-pub brings_no_ring : (at : Side) (e : Entry) → BringsNone at e → is_refused_ring e ≡ false
-brings_no_ring at e (inl is) = ap is_refused_ring is
-brings_no_ring at e (inr is) = ap is_refused_ring is
+pub gives_no_ring : (at : Leg) (e : Entry) → GivesNoDatagram at e → is_refused_ring e ≡ false
+gives_no_ring at e (inl is) = ap is_refused_ring is
+gives_no_ring at e (inr is) = ap is_refused_ring is
 
-pub receives_no_ring : (at : Side) (now : ℕ) (log : List Entry) → AreReceives at now log → count_by is_refused_ring log ≡ 0
+pub receives_no_ring : (at : Leg) (now : ℕ) (log : List Entry) → AreReceives at now log → count_by is_refused_ring log ≡ 0
 receives_no_ring at now log (inl (each, many)) = all_come_no_ring at now log each
 receives_no_ring at now log (inr (came, last, is, each, low, none)) =
-    ap (λ (l : List Entry). count_by is_refused_ring l) is ∙ count_none is_refused_ring last came (brings_no_ring at last none) ∙ all_come_no_ring at now came each
+    ap (λ (l : List Entry). count_by is_refused_ring l) is ∙ count_none is_refused_ring last came (gives_no_ring at last none) ∙ all_come_no_ring at now came each
 
-pub sends_no_ring : (at : Side) (given : Option (List ℕ)) (log : List Entry) → IsSent at given log → count_by is_refused_ring log ≡ 0
+pub sends_no_ring : (at : Leg) (given : Option (List ℕ)) (log : List Entry) → IsSent at given log → count_by is_refused_ring log ≡ 0
 sends_no_ring at None log is = ap (λ (l : List Entry). count_by is_refused_ring l) is
 sends_no_ring at (Some octets) log (fails, is) = ap (λ (l : List Entry). count_by is_refused_ring l) is
 
@@ -488,8 +488,8 @@ tick_no_ring now log (inl (given, calling, called, first, second, is)) =
     let tick : List Entry = Accepts (Tick now given) ∷ [] in
     let e = ap (λ (l : List Entry). count_by is_refused_ring l) is ∙ count_by-append is_refused_ring called (calling ++ tick) in
     let f = count_by-append is_refused_ring calling tick in
-    let a = sends_no_ring side.Calling given.on_calling calling first in
-    let b = sends_no_ring side.Called given.on_called called second in
+    let a = sends_no_ring legs.Calling given.on_calling calling first in
+    let b = sends_no_ring legs.Called given.on_called called second in
     let t : count_by is_refused_ring tick ≡ 0 = refl in
     omega arith
 tick_no_ring now log (inr is) = ap (λ (l : List Entry). count_by is_refused_ring l) is
@@ -498,8 +498,8 @@ pub turn_no_ring : (now : ℕ) (log : List Entry) → IsTurn now log → count_b
 turn_no_ring now log t =
     let e = ap (λ (l : List Entry). count_by is_refused_ring l) t.log_is ∙ count_by-append is_refused_ring t.tick (t.called ++ t.calling) in
     let f = count_by-append is_refused_ring t.called t.calling in
-    let a = receives_no_ring side.Calling now t.calling t.on_calling in
-    let b = receives_no_ring side.Called now t.called t.on_called in
+    let a = receives_no_ring legs.Calling now t.calling t.on_calling in
+    let b = receives_no_ring legs.Called now t.called t.on_called in
     let k = tick_no_ring now t.tick t.ticks in
     omega arith
 
@@ -516,7 +516,7 @@ byte_is false = refl
 
 -- ---- a round
 
-pub record Rounds (setup : Setup) (writes : Writing) (start : ℕ) (rings : List ℕ) (rounds : List (List Entry)) (trace : List Event) (g : GatewayValue) (a b : Known) (d : DriverValue) (refused : ℕ) : Type 0 where
+pub record Rounds (setup : Setup) (writes : Writing) (start : ℕ) (rings : List ℕ) (rounds : List (List Entry)) (trace : List Event) (g : GatewayValue) (a b : KnownWire) (d : DriverValue) (refused : ℕ) : Type 0 where
   pub are : AreRounds start rings rounds
   pub happens : Happens setup writes (log_of rounds) trace g a b
   pub made : HasMade (log_of rounds) d
@@ -524,7 +524,7 @@ pub record Rounds (setup : Setup) (writes : Writing) (start : ℕ) (rings : List
 
 pub round_more :
     (setup : Setup) (writes : Writing) (start turn_number now : ℕ) (rings : List ℕ) (due : Bool) (rounds : List (List Entry)) (ring turn : List Entry) (trace : List Event)
-    (g h i : GatewayValue) (a b c : Known) (d e : DriverValue) (refused k : ℕ)
+    (g h i : GatewayValue) (a b c : KnownWire) (d e : DriverValue) (refused k : ℕ)
     → AreRounds start rings rounds → length rounds ≡ turn_number → failed_in_a_row (receipts (log_of rounds)) < most_failed
     → Happens setup writes (log_of rounds) trace g a b → HasMade (log_of rounds) d → refused ≡ count_by is_refused_ring (log_of rounds)
     → now ≡ moment_of start turn_number → due ≡ list_any (λ t. nat_eq t turn_number) rings
@@ -545,7 +545,7 @@ round_more setup writes start turn_number now rings due rounds ring turn trace g
       refused_is = round_counts now ring turn log refused k turned counted_ring same;
     }
 
-pub ring_made : (setup : Setup) (writes : Writing) (due : Bool) (now : ℕ) (ring log : List Entry) (trace : List Event) (g : GatewayValue) (a : Known) (d : DriverValue)
+pub ring_made : (setup : Setup) (writes : Writing) (due : Bool) (now : ℕ) (ring log : List Entry) (trace : List Event) (g : GatewayValue) (a : KnownWire) (d : DriverValue)
     → IsRingIf due now ring → AreWanting setup writes trace ring → IsReachedBy setup writes (events ring ++ trace) g → HasMade log d → HasMade (ring ++ log) d
 ring_made setup writes due now ring log trace g a d rung wanting reached made = (steps_ring setup writes due now ring trace log g a d rung wanting reached made).made
 
@@ -578,7 +578,7 @@ tells_whole wanted start rings rounds d refused driven is many all made same goe
     (tells wanted start rings rounds d refused false all made same (λ (e : false ≡ true). absurd (false≢true e), λ (f : HasFailed (log_of rounds)). absurd (omega arith)) (λ _. many) low few)
 
 -- the failures that a run tells are those that the wire counts
-pub failures_told : (wanted : ℕ) (rounds : List (List Entry)) (driven : Driven) (a b : Known) → Carries (log_of rounds) a b → Tells wanted rounds driven
+pub failures_told : (wanted : ℕ) (rounds : List (List Entry)) (driven : Driven) (a b : KnownWire) → Carries (log_of rounds) a b → Tells wanted rounds driven
     → b.failures < greatest_count → b.failures ≡ a.failures + (driven.sends_failed + driven.receives_failed)
 failures_told wanted rounds driven a b carried t low =
     let e = carried.failures low in

@@ -7,7 +7,7 @@ use Rattle.fax_udptl.specs.Datagrams.{datagram_of, packet_at, packets_at, length
 use Rattle.fax_ifp.specs.Elements.{Field}
 use Rattle.fax_ifp.specs.Packets as packets
 use Rattle.fax_ifp.specs.Packets.{packet_of, fields_at}
-use Rattle.fax_ifp.specs.WrittenPackets.{written_behind}
+use Rattle.fax_ifp.specs.WrittenPackets.{written_after}
 use Rattle.fax_call.specs.Writings.{Writing, IsWriting}
 use Rattle.fax_call.proofs.Texts.{pages_have_texts}
 use Rattle.fax_gateway.specs.Setups.{Setup}
@@ -19,7 +19,7 @@ use Rattle.fax_gateway.specs.Apart.{HasPreamble, IsApart, last_given}
 gives : Option (List ℕ) → Given
 gives on_calling = record { on_calling = on_calling; on_called = None; report = None }
 
--- CED, the preamble behind it, and our DIS, each with the packets before it
+-- CED, the preamble after it, and our DIS, each with the packets before it
 ced : List ℕ
 ced = 0x00 ∷ 0x00 ∷ 0x01 ∷ 0x04 ∷ 0x00 ∷ 0x00 ∷ []
 
@@ -40,7 +40,7 @@ abbrev pub usual : Setup
 usual = record { redundancy = 3; few = omega arith; pause = 40; is_pause = (omega arith, omega arith); asks = false; restored = []; are_pages = tt }
 
 is_trace : (writes : Writing) → IsTrace usual writes identifies
-unfolding identifies rung ced preamble dis gives written_datagram written_packet written_length written_behind
+unfolding identifies rung ced preamble dis gives written_datagram written_packet written_length written_after
 is_trace writes = (refl, (refl, (refl, (refl, ((refl, lit< tt, refl), tt)))))
 
 -- so the premises of the laws are met
@@ -49,15 +49,15 @@ premises = (pages_have_texts.0, pages_have_texts.1, is_trace pages_have_texts.0)
 
 -- the DIS is read back from what was given
 tells_dis : elements_told (Some dis) ≡ Field 0 0 (0xFF ∷ 0xC8 ∷ 0x01 ∷ 0x00 ∷ 0x77 ∷ 0x5E ∷ []) ∷ Field 0 4 [] ∷ []
-unfolding dis datagram_of packet_at packets_at length_at secondaries_at packet_of fields_at bits.bit packets.fields_behind packets.field_at packets.octets_at
+unfolding dis datagram_of packet_at packets_at length_at secondaries_at packet_of fields_at bits.bit packets.fields_after packets.field_at packets.octets_at
 tells_dis = refl
 
--- a gateway that gives nothing has no trace behind a ring
+-- a gateway that gives nothing has no trace after a ring
 gives_nothing : (setup : Setup) (writes : Writing) → IsTrace setup writes (Tick 0 (gives None) ∷ rung) → ⊥
 unfolding rung gives
 gives_nothing setup writes t = let e = ap (λ (g : Given). g.on_calling) t.0 in cc
 
--- THREE BAD GATEWAYS, for which 1,000 ms are set behind a preamble: each gives its next datagram too soon for the law.
+-- THREE BAD GATEWAYS, for which 1,000 ms are set after a preamble: each gives its next datagram too soon for the law.
 slow : Setup
 slow = record { redundancy = 3; few = omega arith; pause = 1000; is_pause = (omega arith, omega arith); asks = false; restored = []; are_pages = tt }
 

@@ -11,12 +11,12 @@ use Rattle.fax_udptl.specs.Sending.{AreShort, datagram_for}
 use Rattle.fax_udptl.proofs.WrittenLemmas.{datagram_back}
 use Rattle.fax_ifp.specs.Elements as elements
 use Rattle.fax_ifp.specs.Packets.{packet_of}
-use Rattle.fax_ifp.specs.WrittenPackets.{written_behind}
+use Rattle.fax_ifp.specs.WrittenPackets.{written_after}
 use Rattle.fax_jobs.specs.Jobs.{JobValue}
 use Rattle.fax_call.specs.Writings.{Writing}
-use Rattle.fax_call.specs.Replies.{Packet, Part, written, Due, One, Text, parts_of, part_length, training_check, command_behind, command}
+use Rattle.fax_call.specs.Replies.{Packet, Part, written, Due, One, Text, parts_of, part_length, training_check, command_after, command}
 use Rattle.fax_call.specs.Table.{Move, Stays, Trains, Sends, AsksAgain, Turns, Closes, HangsUp}
-use Rattle.fax_call.specs.Calls.{Calling, moved, Taken, taken, taken_text, text_at, after_giving, given_first, paced, timed, Ticked, ticked}
+use Rattle.fax_call.specs.Calls.{CallerCore, moved, TakenPart, taken, taken_text, text_at, after_giving, given_first, paced, timed, TickResult, ticked}
 use Rattle.fax_call.specs.Emission.{Mark, marks_given, gave_all}
 use Rattle.fax_gateway.specs.Setups.{Setup}
 use Rattle.fax_gateway.specs.Legs.{sent}
@@ -48,7 +48,7 @@ AllFit [] = Unit {0}
 AllFit (d ∷ due) = IsFit d × AllFit due
 
 part_fits : (kind : ℕ) (last : Bool) (octets : List ℕ) → length octets ≤ 1000 → length (written (Part kind last octets)) ≤ 16383
-unfolding written_behind
+unfolding written_after
 part_fits kind last octets h = let e : length (octets ++ []) ≡ length octets = ap length (append-nil octets) in omega arith
 
 le_if : (m n : ℕ) → nat_le m n ≡ true → m ≤ n
@@ -81,15 +81,15 @@ unfolding training_check
 check_fits dcs = parts_fit _ (kind_of dcs.rate) (part_length dcs) _ (small dcs.rate)
 
 command_fits : (plain : Plain) → AllFit (command plain)
-unfolding written_behind
+unfolding written_after
 command_fits plain = (omega arith, (omega arith, tt))
 
-pub moved_fits : (a : Calling) (m : Move) → AllFit a.waiting → AllFit (moved a m).waiting
-unfolding written_behind
+pub moved_fits : (a : CallerCore) (m : Move) → AllFit a.waiting → AllFit (moved a m).waiting
+unfolding written_after
 moved_fits a Stays h = h
 moved_fits a (Trains dis dcs c) h = (omega arith, (omega arith, (omega arith, check_fits dcs)))
-moved_fits a (Sends dis dcs c) h = (omega arith, (tt, command_fits (command_behind a.formats a.pages c.page)))
-moved_fits a (AsksAgain c) h = command_fits (command_behind a.formats a.pages c.page)
+moved_fits a (Sends dis dcs c) h = (omega arith, (tt, command_fits (command_after a.formats a.pages c.page)))
+moved_fits a (AsksAgain c) h = command_fits (command_after a.formats a.pages c.page)
 moved_fits a (Turns format t1 c) h = tt
 moved_fits a (Closes outcome c) h = (omega arith, (omega arith, tt))
 moved_fits a HangsUp h = tt
@@ -98,11 +98,11 @@ abbrev pub FitGiven : Option Packet → Type 0
 FitGiven None = Unit {0}
 FitGiven (Some packet) = length (written packet) ≤ 16383
 
-pub record FitTick (t : Ticked) : Type 0 where
+pub record FitTick (t : TickResult) : Type 0 where
   pub core : AllFit t.core.waiting
   pub given : FitGiven t.given
 
-record FitTaken (t : Taken) : Type 0 where
+record FitTaken (t : TakenPart) : Type 0 where
   packet : length (written t.packet) ≤ 16383
   rest : AllFit t.rest
 
@@ -110,7 +110,7 @@ text_fits : (page : ℕ) (dcs : Dcs) (from : ℕ) (text : List ℕ) (due : List 
 text_fits page dcs from text due h = by (nat_le (length (drop from text)) (part_length dcs)) refl
   where
     by : (t : Bool) → nat_le (length (drop from text)) (part_length dcs) ≡ t →
-        FitTaken (if◌then◌else◌ {A = Taken} t (record { packet = Part (kind_of dcs.rate) true (drop from text); rest = due }) (record { packet = Part (kind_of dcs.rate) false (take (part_length dcs) (drop from text)); rest = Text page dcs (from + part_length dcs) ∷ due }))
+        FitTaken (if◌then◌else◌ {A = TakenPart} t (record { packet = Part (kind_of dcs.rate) true (drop from text); rest = due }) (record { packet = Part (kind_of dcs.rate) false (take (part_length dcs) (drop from text)); rest = Text page dcs (from + part_length dcs) ∷ due }))
     by true e =
         let l : length (drop from text) ≤ part_length dcs = le_if (length (drop from text)) (part_length dcs) e in
         let k : part_length dcs ≤ 1000 = small dcs.rate in
@@ -121,24 +121,24 @@ taken_fits : (writes : Writing) (job : JobValue) (d : Due) (due : List Due) → 
 taken_fits writes job (One p) due h k = record { packet = h; rest = k }
 taken_fits writes job (Text n dcs from) due h k = text_fits n dcs from (text_at writes job n dcs) due k
 
-after_fits : (a : Calling) (now : ℕ) (packet : Packet) (due : List Due) → AllFit due → AllFit (after_giving a now packet due).waiting
+after_fits : (a : CallerCore) (now : ℕ) (packet : Packet) (due : List Due) → AllFit due → AllFit (after_giving a now packet due).waiting
 after_fits a now packet [] h = tt
 after_fits a now packet (d ∷ due) h = h
 
-first_fits : (writes : Writing) (job : JobValue) (a : Calling) (now : ℕ) (due : List Due) → AllFit a.waiting → AllFit due → FitTick (given_first writes job a now due)
+first_fits : (writes : Writing) (job : JobValue) (a : CallerCore) (now : ℕ) (due : List Due) → AllFit a.waiting → AllFit due → FitTick (given_first writes job a now due)
 first_fits writes job a now [] g h = record { core = g; given = tt }
 first_fits writes job a now (d ∷ due) g h =
     let t : FitTaken (taken writes job d due) = taken_fits writes job d due h.0 h.1 in
     record { core = after_fits a now (taken writes job d due).packet (taken writes job d due).rest t.rest; given = t.packet }
 
-paced_fits : (writes : Writing) (job : JobValue) (a : Calling) (now : ℕ) → AllFit a.waiting → FitTick (paced writes job a now)
+paced_fits : (writes : Writing) (job : JobValue) (a : CallerCore) (now : ℕ) → AllFit a.waiting → FitTick (paced writes job a now)
 paced_fits writes job a now h = by (pace_allows a.pace.last now)
   where
-    by : (t : Bool) → FitTick (if◌then◌else◌ {A = Ticked} t (given_first writes job a now a.waiting) (record { core = a; given = None }))
+    by : (t : Bool) → FitTick (if◌then◌else◌ {A = TickResult} t (given_first writes job a now a.waiting) (record { core = a; given = None }))
     by true = first_fits writes job a now a.waiting h h
     by false = record { core = h; given = tt }
 
-pub ticked_fits : (writes : Writing) (job : JobValue) (a : Calling) (now : ℕ) → AllFit a.waiting → FitTick (ticked writes job a now)
+pub ticked_fits : (writes : Writing) (job : JobValue) (a : CallerCore) (now : ℕ) → AllFit a.waiting → FitTick (ticked writes job a now)
 ticked_fits writes job a now h = paced_fits writes job (timed a now) now (moved_fits a _ h)
 
 pub short_given : (o : Option Packet) (given : List (List ℕ)) → FitGiven o → AreShort given → AreShort (packets_given o given)

@@ -11,14 +11,14 @@ use Rattle.fax_jobs.specs.Jobs.{JobValue, IsJob}
 use Rattle.fax_jobs.specs.Books.{Book}
 use Rattle.fax_call.specs.Writings.{Writing, IsWriting}
 use Rattle.fax_call.specs.Replies.{Packet, Signals, written, calling_tone}
-use Rattle.fax_call.specs.Calls.{Calling, started, Ticked, given_first, Ticks}
+use Rattle.fax_call.specs.Calls.{CallerCore, started, TickResult, given_first, Ticks}
 use Rattle.fax_call.specs.Emission.{Emission, Mark, Gave, emitted_at, elements_given, gave_all, marks_given, marks_after, IsPageOf, IsAnswered, replied, EmitsBy, Emits}
 use Rattle.fax_gateway.specs.Setups.{Setup}
 use Rattle.fax_gateway.specs.Events.{Event, Given, clock}
 use Rattle.fax_gateway.specs.Legs.{sent}
 use Rattle.fax_gateway.specs.CallingLegs.{calling_leg}
 use Rattle.fax_gateway.specs.CalledLegs.{CalledLeg, begun_core, core_of, is_free, core_left, begun_leg, calls, told_by, told_called}
-use Rattle.fax_gateway.specs.Sides.{Sides, begins_next, book_of, heard_in_tick, leg_of, sends, sends_if, sides, in_tick}
+use Rattle.fax_gateway.specs.BothLegs.{BothLegs, begins_next, book_of, heard_in_tick, leg_of, sends, sends_if, both_legs, in_tick}
 use Rattle.fax_gateway.specs.Told.{elements_told, leg_marks, begun_if, marks_before, IfEmits, EachEmission}
 use Rattle.fax_gateway.specs.Forwards.{WasConfirmed, IsForwarded, ForwardsWhatItConfirmed}
 use Rattle.fax_gateway.proofs.Fitting.{FitTick, ticked_fits, marks_back, told_back}
@@ -68,7 +68,7 @@ in_order setup writes l now sending marks w is i = by l.placed refl
   where
     by : (b : Bool) → l.placed ≡ b → EachEmission (IsSent l.job) marks (elements_told (told_by setup l.given (calls writes l now).given))
     by true placed =
-        let t : Ticked = calls writes l now in
+        let t : TickResult = calls writes l now in
         let f : FitTick t = ticked_fits writes l.job (core_of writes l) now i.fits in
         let same : gave_all (elements_told (told_by setup l.given t.given)) marks ≡ marks_given t.given (marks_after writes l.job i.old (begun_core l) l.events) =
         marks_back setup l.given t.given marks i.short f.given ∙ ap (marks_given t.given) i.marks_are in
@@ -107,17 +107,17 @@ still setup writes earlier now (Some l) book marks w h i = by l.entered i.sends
 
 -- a call that begins gives the tone of a calling terminal at most
 tone_back : (setup : Setup) → elements_told (Some (sent setup [] (written (Signals (indicator_code Cng))))) ≡ elements.Signal (indicator_code Cng) ∷ []
-unfolding packet_of bits.bit packets.fields_behind
+unfolding packet_of bits.bit packets.fields_after
 tone_back setup = told_back setup [] (written (Signals (indicator_code Cng))) tt (omega arith)
 
-begins_none : (setup : Setup) (P : List Mark → Emission → Type 0) (writes : Writing) (job : JobValue) (before : Calling) (now : ℕ) (marks : List Mark) →
+begins_none : (setup : Setup) (P : List Mark → Emission → Type 0) (writes : Writing) (job : JobValue) (before : CallerCore) (now : ℕ) (marks : List Mark) →
     EachEmission P marks (elements_told (told_called setup writes (Some (begun_leg job before now)) now))
 begins_none setup P writes job before now marks = by (pace_allows before.pace.last now)
   where
-    core : Calling
+    core : CallerCore
     core = started before job now
 
-    by : (t : Bool) → EachEmission P marks (elements_told (told_by setup [] (if◌then◌else◌ {A = Ticked} t (given_first writes job core now calling_tone) (record { core = core; given = None })).given))
+    by : (t : Bool) → EachEmission P marks (elements_told (told_by setup [] (if◌then◌else◌ {A = TickResult} t (given_first writes job core now calling_tone) (record { core = core; given = None })).given))
     by true = subst (EachEmission P marks) (sym (tone_back setup)) (tt, tt)
     by false = tt
 
@@ -129,13 +129,13 @@ free_none setup P writes (Some l) None now marks f =
     subst (λ (b : Bool). EachEmission P marks (elements_told (if◌then◌else◌ {A = Option (List ℕ)} b None (told_by setup l.given (calls writes l now).given)))) (sym f) tt
 
 -- a tick
-at_tick : (setup : Setup) (writes : Writing) (earlier : List Event) (now : ℕ) (s : Sides) (old : List Mark) → IsWriting writes →
+at_tick : (setup : Setup) (writes : Writing) (earlier : List Event) (now : ℕ) (s : BothLegs) (old : List Mark) → IsWriting writes →
     IfHolds (WasConfirmed setup earlier) (book_of s).sending → IfInCall writes s.leg (book_of s).sending old →
     EachEmission (IsForwarded setup earlier (book_of (sends_if setup writes now s))) (begun_if (begins_next setup s.leg) (book_of (sends_if setup writes now s)).sending old) (elements_told (told_called setup writes (sends_if setup writes now s).leg now))
 at_tick setup writes earlier now s old w h i = by (begins_next setup s.leg) refl
   where
     by : (b : Bool) → begins_next setup s.leg ≡ b →
-        let z : Sides = if◌then◌else◌ {A = Sides} b (sends true setup writes now s) s in
+        let z : BothLegs = if◌then◌else◌ {A = BothLegs} b (sends true setup writes now s) s in
         EachEmission (IsForwarded setup earlier (book_of z)) (begun_if b (book_of z).sending old) (elements_told (told_called setup writes z.leg now))
     by true e = free_none setup (IsForwarded setup earlier (book_of (sends true setup writes now s))) writes s.leg (book_of (sends true setup writes now s)).sending now (begun_if true (book_of (sends true setup writes now s)).sending old)
         (begins_free setup.asks (is_free s.leg) e)
@@ -144,8 +144,8 @@ at_tick setup writes earlier now s old w h i = by (begins_next setup s.leg) refl
 pub forwards : ForwardsWhatItConfirmed
 forwards setup writes earlier at given w t =
     let now : ℕ = max at (clock earlier) in
-    let s : Sides = sides setup writes earlier in
-    let z : Sides = record s { steps = heard_in_tick (calling_leg setup earlier) now s.steps } in
+    let s : BothLegs = both_legs setup writes earlier in
+    let z : BothLegs = record s { steps = heard_in_tick (calling_leg setup earlier) now s.steps } in
     let old : List Mark = leg_marks setup writes earlier in
     let same : (book_of z).sending ≡ (book_of s).sending = heard_sends (calling_leg setup earlier) now s.steps in
     subst (λ (told : Option (List ℕ)). EachEmission (IsForwarded setup earlier (book_of (in_tick setup writes earlier at))) (marks_before setup writes earlier at old) (elements_told told)) (sym (ap (λ (g : Given). g.on_called) t.0))

@@ -4,7 +4,7 @@ use Rattle.std.proofs.lemmas.List.Elements.{All-nil, All-cons}
 use Rattle.fax_pagestore.specs.Pages.{PageValue, IsPage}
 use Rattle.fax_jobs.specs.declared.outcome.Outcome.{Outcome}
 use Rattle.fax_jobs.specs.Jobs.{JobValue, IsJob, most_pages}
-use Rattle.fax_jobs.specs.Books.{Book, job_of, longer, takes_page, joins, joined, added, opened, closed, behind, first_of, with_page}
+use Rattle.fax_jobs.specs.Books.{Book, job_of, longer, takes_page, joins, joined, added, opened, closed, after, first_of, with_page}
 use Rattle.fax_jobs.specs.Pasts.{Step, Confirms, CallEnds, Sends, Ends, Past, new_past, sent_if, ended_if, after_steps}
 use Rattle.fax_jobs.proofs.FirstFormat.{grown}
 use Rattle.fax_jobs.proofs.TakenPages.{taken_page}
@@ -67,13 +67,13 @@ joined_holds : (P : ℕ → PageValue → Type 0) (o : Option JobValue) (call : 
 joined_holds P None call page t h is k = tt
 joined_holds P (Some job) call page t h is k = grows P job call page t h is k
 
-behind_holds : (P : ℕ → PageValue → Type 0) (jobs : List JobValue) (o : Option JobValue) → AllHold P jobs → IfHolds P o → AllHold P (behind jobs o)
-behind_holds P jobs None a h = a
-behind_holds P [] (Some job) a h = (h, tt)
-behind_holds P (j ∷ jobs) (Some job) a h = (a.0, behind_holds P jobs (Some job) a.1 h)
+after_holds : (P : ℕ → PageValue → Type 0) (jobs : List JobValue) (o : Option JobValue) → AllHold P jobs → IfHolds P o → AllHold P (after jobs o)
+after_holds P jobs None a h = a
+after_holds P [] (Some job) a h = (h, tt)
+after_holds P (j ∷ jobs) (Some job) a h = (a.0, after_holds P jobs (Some job) a.1 h)
 
 closed_holds : (P : ℕ → PageValue → Type 0) (book : Book) → BookHolds P book → BookHolds P (closed book)
-closed_holds P book b = record { open_job = tt; waiting = behind_holds P book.waiting book.open_job b.waiting b.open_job; sending = b.sending }
+closed_holds P book b = record { open_job = tt; waiting = after_holds P book.waiting book.open_job b.waiting b.open_job; sending = b.sending }
 
 page_holds : (P : ℕ → PageValue → Type 0) (book : Book) (call : ℕ) (page : PageValue) → P call page → IsPage page → BookHolds P book → BookHolds P (with_page book call page)
 page_holds P book call page h is b = by (joins book.open_job call) refl

@@ -9,7 +9,7 @@ use Rattle.fax_udptl.specs.Slots.{slots, newest_slots}
 use Rattle.fax_udptl.specs.Schedules.{Arrival, IsSentAt, IsHonest, BeginsAtFirst, datagrams}
 use Rattle.fax_ifp.specs.Packets as packets
 use Rattle.fax_ifp.specs.Packets.{packet_of, fields_at}
-use Rattle.fax_ifp.specs.WrittenPackets.{written_behind}
+use Rattle.fax_ifp.specs.WrittenPackets.{written_after}
 use Rattle.fax_answer.specs.Orders.{order_of}
 use Rattle.fax_answer.specs.Sent.{pages_accepted}
 use Rattle.fax_gateway.specs.Legs.{new_pieces, decides}
@@ -83,9 +83,9 @@ begins = refl
 
 -- they are the datagrams that came in the usual setup, and a page is accepted
 arrive : option_map (λ (l : CallingLeg). l.arrived) (calling_leg usual (reverse script)) ≡ Some (datagrams arrivals)
-unfolding script comes tick blank new_pieces decides newest_slots slots datagram_of packet_at packets_at length_at secondaries_at packet_of fields_at order_of bits.bit packets.fields_behind packets.field_at packets.octets_at written_datagram written_packet written_length written_behind
+unfolding script comes tick blank new_pieces decides newest_slots slots datagram_of packet_at packets_at length_at secondaries_at packet_of fields_at order_of bits.bit packets.fields_after packets.field_at packets.octets_at written_datagram written_packet written_length written_after
 arrive = refl
 
 accepts : option_map (λ (l : CallingLeg). pages_accepted (core_of l).history) (calling_leg usual (reverse script)) ≡ Some (record { format = record { width = W1728; fine = false }; rows = [] } ∷ [])
-unfolding script comes tick blank new_pieces decides newest_slots slots datagram_of packet_at packets_at length_at secondaries_at packet_of fields_at order_of bits.bit packets.fields_behind packets.field_at packets.octets_at written_datagram written_packet written_length written_behind
+unfolding script comes tick blank new_pieces decides newest_slots slots datagram_of packet_at packets_at length_at secondaries_at packet_of fields_at order_of bits.bit packets.fields_after packets.field_at packets.octets_at written_datagram written_packet written_length written_after
 accepts = refl

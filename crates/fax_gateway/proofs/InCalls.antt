@@ -11,7 +11,7 @@ use Rattle.fax_jobs.specs.Pasts.{Step, Sends, Past, new_past, ended_if, after_st
 use Rattle.fax_pagestore.specs.Pages.{PageValue}
 use Rattle.fax_answer.specs.Replies.{ConfirmedPage}
 use Rattle.fax_call.specs.Writings.{Writing}
-use Rattle.fax_call.specs.Calls.{Calling, heard, Ticked, CallEvent, Comes, after_events}
+use Rattle.fax_call.specs.Calls.{CallerCore, heard, TickResult, CallEvent, Comes, after_events}
 use Rattle.fax_call.specs.Delivery.{is_over}
 use Rattle.fax_call.specs.Emission.{Mark, gave_all, marks_heard, marks_given, marks_after}
 use Rattle.fax_gateway.specs.Setups.{Setup}
@@ -19,7 +19,7 @@ use Rattle.fax_gateway.specs.Events.{Event, Ring, FromCalling, FromCalled, Tick,
 use Rattle.fax_gateway.specs.Legs.{new_pieces}
 use Rattle.fax_gateway.specs.CallingLegs.{CallingLeg, calling_leg, idle_after, answers, confirmed_by}
 use Rattle.fax_gateway.specs.CalledLegs.{CalledLeg, begun_core, core_of, is_free, core_left, placed_leg, calls, outcome_of, with_tick, leg_ticked, comes_to, leg_with, hears, told_by, told_called, outcome_told, delivered_told}
-use Rattle.fax_gateway.specs.Sides.{Sides, begins_next, book_of, confirms_if, ends_if, heard_in_tick, job_asked, leg_of, sends, sends_if, enters, serves, sides, in_tick}
+use Rattle.fax_gateway.specs.BothLegs.{BothLegs, begins_next, book_of, confirms_if, ends_if, heard_in_tick, job_asked, leg_of, sends, sends_if, enters, serves, both_legs, in_tick}
 use Rattle.fax_gateway.specs.Traces.{IsTrace}
 use Rattle.fax_gateway.specs.Told.{elements_told, heard_all, heard_with, heard_by, begun_if, marks_before, leg_marks}
 use Rattle.fax_gateway.proofs.Restoring.{restored_sends}
@@ -99,12 +99,12 @@ asked_sends true book h = by book.sending h
     by None k = refl
     by (Some job) k = cc
 
-pub sends_call : (setup : Setup) (writes : Writing) (now : ℕ) (s : Sides) (marks : List Mark) → IfInCall writes s.leg (book_of s).sending marks →
+pub sends_call : (setup : Setup) (writes : Writing) (now : ℕ) (s : BothLegs) (marks : List Mark) → IfInCall writes s.leg (book_of s).sending marks →
     IfInCall writes (sends_if setup writes now s).leg (book_of (sends_if setup writes now s)).sending (begun_if (begins_next setup s.leg) (book_of (sends_if setup writes now s)).sending marks)
 sends_call setup writes now s marks i = by (begins_next setup s.leg) refl
   where
     by : (b : Bool) → begins_next setup s.leg ≡ b →
-        IfInCall writes (if◌then◌else◌ {A = Sides} b (sends true setup writes now s) s).leg (book_of (if◌then◌else◌ {A = Sides} b (sends true setup writes now s) s)).sending (begun_if b (book_of (if◌then◌else◌ {A = Sides} b (sends true setup writes now s) s)).sending marks)
+        IfInCall writes (if◌then◌else◌ {A = BothLegs} b (sends true setup writes now s) s).leg (book_of (if◌then◌else◌ {A = BothLegs} b (sends true setup writes now s) s)).sending (begun_if b (book_of (if◌then◌else◌ {A = BothLegs} b (sends true setup writes now s) s)).sending marks)
     by true e =
         begins_call true setup writes s.leg (sending_of (Sends ∷ s.steps)) now marks
         (subst (λ (o : Option JobValue). IfInCall writes s.leg o marks) (free_sends writes s.leg (book_of s).sending marks (begins_free setup.asks (is_free s.leg) e) i) i)
@@ -132,7 +132,7 @@ serves_call setup writes l now steps marks i = by l.entered i.sends
         (gave_all (elements_told (if◌then◌else◌ {A = Option (List ℕ)} b None (told_by setup l.given (calls writes l now).given))) marks)
     by true e = i
     by false e =
-        let t : Ticked = calls writes l now in
+        let t : TickResult = calls writes l now in
         let f : FitTick t = ticked_fits writes l.job (core_of writes l) now i.fits in
         record {
           sends = enters_sends l.job (delivered_told writes (Some l) now) (outcome_of t.core) steps e;
@@ -148,15 +148,15 @@ serves_if setup writes None now steps marks i = i
 serves_if setup writes (Some l) now steps marks i = serves_call setup writes l now steps marks i
 
 -- a datagram comes
-record Hears (writes : Writing) (job : JobValue) (old : List Mark) (a : Calling) (events : List CallEvent) (marks : List Mark) : Type 0 where
+record Hears (writes : Writing) (job : JobValue) (old : List Mark) (a : CallerCore) (events : List CallEvent) (marks : List Mark) : Type 0 where
   marks_are : marks ≡ marks_after writes job old a events
   fits : AllFit (after_events writes job a events).waiting
 
-pieces_call : (writes : Writing) (job : JobValue) (old : List Mark) (a : Calling) (ps : List Piece) (now : ℕ) (events : List CallEvent) (marks : List Mark) →
+pieces_call : (writes : Writing) (job : JobValue) (old : List Mark) (a : CallerCore) (ps : List Piece) (now : ℕ) (events : List CallEvent) (marks : List Mark) →
     Hears writes job old a events marks → Hears writes job old a (comes_to ps now events) (heard_all ps marks)
 pieces_call writes job old a [] now events marks h = h
 pieces_call writes job old a (p ∷ ps) now events marks h =
-    let c : Calling = after_events writes job a events in
+    let c : CallerCore = after_events writes job a events in
     pieces_call writes job old a ps now (Comes p now ∷ events) (marks_heard p marks)
     (record { marks_are = ap (marks_heard p) h.marks_are; fits = moved_fits c (heard c p now) h.fits })
 
@@ -178,31 +178,31 @@ hears_call writes (Some l) now octets sending marks i = by (is_over (core_of wri
     by false = with_call writes l now (datagram_of octets) sending marks i
 
 -- over a trace
-pub before_call : (setup : Setup) (writes : Writing) (earlier : List Event) (at : ℕ) (marks : List Mark) → IfInCall writes (sides setup writes earlier).leg (book_of (sides setup writes earlier)).sending marks →
+pub before_call : (setup : Setup) (writes : Writing) (earlier : List Event) (at : ℕ) (marks : List Mark) → IfInCall writes (both_legs setup writes earlier).leg (book_of (both_legs setup writes earlier)).sending marks →
     IfInCall writes (in_tick setup writes earlier at).leg (book_of (in_tick setup writes earlier at)).sending (marks_before setup writes earlier at marks)
 before_call setup writes earlier at marks i =
     let now : ℕ = max at (clock earlier) in
-    let s : Sides = sides setup writes earlier in
-    let z : Sides = record s { steps = heard_in_tick (calling_leg setup earlier) now s.steps } in
+    let s : BothLegs = both_legs setup writes earlier in
+    let z : BothLegs = record s { steps = heard_in_tick (calling_leg setup earlier) now s.steps } in
     sends_call setup writes now z marks (same_sending writes s.leg (book_of z).sending (book_of s).sending marks (heard_sends (calling_leg setup earlier) now s.steps) i)
 
-pub in_call : (setup : Setup) (writes : Writing) (trace : List Event) → IsTrace setup writes trace → IfInCall writes (sides setup writes trace).leg (book_of (sides setup writes trace)).sending (leg_marks setup writes trace)
+pub in_call : (setup : Setup) (writes : Writing) (trace : List Event) → IsTrace setup writes trace → IfInCall writes (both_legs setup writes trace).leg (book_of (both_legs setup writes trace)).sending (leg_marks setup writes trace)
 in_call setup writes [] t = restored_sends setup.restored []
 in_call setup writes (Ring at n ∷ earlier) t = in_call setup writes earlier t.1
 in_call setup writes (FromCalling octets at decided read ∷ earlier) t =
-    let s : Sides = sides setup writes earlier in
+    let s : BothLegs = both_legs setup writes earlier in
     same_sending writes s.leg _ (book_of s).sending (leg_marks setup writes earlier)
     (ends_sends (not (idle_after (calling_leg setup earlier)) && idle_after (calling_leg setup (FromCalling octets at decided read ∷ earlier))) s.steps) (in_call setup writes earlier t.1)
 in_call setup writes (FromCalled octets at decided ∷ earlier) t =
-    let s : Sides = sides setup writes earlier in hears_call writes s.leg (clock (FromCalled octets at decided ∷ earlier)) octets (book_of s).sending (leg_marks setup writes earlier) (in_call setup writes earlier t.1)
+    let s : BothLegs = both_legs setup writes earlier in hears_call writes s.leg (clock (FromCalled octets at decided ∷ earlier)) octets (book_of s).sending (leg_marks setup writes earlier) (in_call setup writes earlier t.1)
 in_call setup writes (Placed at connected ∷ earlier) t =
-    let s : Sides = sides setup writes earlier in
+    let s : BothLegs = both_legs setup writes earlier in
     let marks : List Mark = leg_marks setup writes earlier in
     begins_call connected setup writes s.leg (sending_of (Sends ∷ s.steps)) (clock (Placed at connected ∷ earlier)) marks
     (subst (λ (o : Option JobValue). IfInCall writes s.leg o marks) (asked_sends setup.asks (book_of s) t.0) (in_call setup writes earlier t.1))
 in_call setup writes (Tick at given ∷ earlier) t =
     let now : ℕ = max at (clock earlier) in
-    let z : Sides = in_tick setup writes earlier at in
+    let z : BothLegs = in_tick setup writes earlier at in
     let marks : List Mark = marks_before setup writes earlier at (leg_marks setup writes earlier) in
     subst (λ (told : Option (List ℕ)). IfInCall writes (serves writes now z).leg (book_of (serves writes now z)).sending (gave_all (elements_told told) marks)) (sym (ap (λ (g : Given). g.on_called) t.0))
     (serves_if setup writes z.leg now z.steps marks (before_call setup writes earlier at (leg_marks setup writes earlier) (in_call setup writes earlier t.1)))

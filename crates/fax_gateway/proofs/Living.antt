@@ -11,7 +11,7 @@ use Rattle.fax_gateway.specs.Setups.{Setup}
 use Rattle.fax_gateway.specs.Events.{Event, Ring, FromCalling, FromCalled, Tick, Placed, Given, clock}
 use Rattle.fax_gateway.specs.CallingLegs.{CallingLeg, calling_leg, idle_after, answers, confirmed_by}
 use Rattle.fax_gateway.specs.CalledLegs.{outcome_told, delivered_told}
-use Rattle.fax_gateway.specs.Sides.{Sides, past_of, book_of, confirms_if, heard_in_tick, sides, in_tick}
+use Rattle.fax_gateway.specs.BothLegs.{BothLegs, past_of, book_of, confirms_if, heard_in_tick, both_legs, in_tick}
 use Rattle.fax_gateway.specs.Traces.{IsTrace}
 use Rattle.fax_gateway.specs.Told.{elements_told, leg_marks, marks_before}
 use Rattle.fax_gateway.specs.Forwards.{OrRestored, WasConfirmedIn, IsForwarded, IsForwardedBy}
@@ -100,17 +100,17 @@ heard_told (Some l) now steps =
     ends_told (answers l now).ended (confirms_if l.number (confirmed_by (answers l now).given) steps)
     ∙ confirms_told l.number (confirmed_by (answers l now).given) steps
 
-told_are : (setup : Setup) (writes : Writing) (trace : List Event) → confirmed_told (sides setup writes trace).steps ≡ pages_restored setup.restored ++ pages_confirmed setup trace
+told_are : (setup : Setup) (writes : Writing) (trace : List Event) → confirmed_told (both_legs setup writes trace).steps ≡ pages_restored setup.restored ++ pages_confirmed setup trace
 told_are setup writes [] = restored_first setup.restored [] ∙ sym (append-nil (pages_restored setup.restored))
 told_are setup writes (Ring at number ∷ earlier) = told_are setup writes earlier
 told_are setup writes (FromCalling octets at decided read ∷ earlier) =
-    ends_told (not (idle_after (calling_leg setup earlier)) && idle_after (calling_leg setup (FromCalling octets at decided read ∷ earlier))) (sides setup writes earlier).steps ∙ told_are setup writes earlier
+    ends_told (not (idle_after (calling_leg setup earlier)) && idle_after (calling_leg setup (FromCalling octets at decided read ∷ earlier))) (both_legs setup writes earlier).steps ∙ told_are setup writes earlier
 told_are setup writes (FromCalled octets at decided ∷ earlier) = told_are setup writes earlier
 told_are setup writes (Placed at connected ∷ earlier) = told_are setup writes earlier
 told_are setup writes (Tick at given ∷ earlier) =
     let now : ℕ = max at (clock earlier) in
-    let s : Sides = sides setup writes earlier in
-    let z : Sides = in_tick setup writes earlier at in
+    let s : BothLegs = both_legs setup writes earlier in
+    let z : BothLegs = in_tick setup writes earlier at in
     let o : Option CallingLeg = calling_leg setup earlier in
     enters_told (delivered_told writes z.leg now) (outcome_told writes z.leg now) z.steps
     ∙ sends_told setup writes now (record s { steps = heard_in_tick o now s.steps })
@@ -123,8 +123,8 @@ none_is_lost writes [] a = refl
 none_is_lost writes (life ∷ earlier) a =
     let own : List CallPage = pages_confirmed life.setup life.trace in
     let front : List CallPage = all_ended writes earlier in
-    let steps : List Step = (sides life.setup writes life.trace).steps in
-    let past : Past = past_of (sides life.setup writes life.trace) in
+    let steps : List Step = (both_legs life.setup writes life.trace).steps in
+    let past : Past = past_of (both_legs life.setup writes life.trace) in
     ap (λ (x : List CallPage). x ++ own) (none_is_lost writes earlier a.2)
     ∙ append_assoc front (pages_left writes earlier) own
     ∙ ap (λ (x : List CallPage). front ++ (x ++ own)) (sym a.1)

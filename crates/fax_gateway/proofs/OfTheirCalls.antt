@@ -6,7 +6,7 @@ use Rattle.fax_jobs.specs.Jobs.{JobValue}
 use Rattle.fax_jobs.specs.Pasts.{Step, Confirms, CallEnds, Sends, Ends, Past, new_past, ended_if, after_steps, as_list, jobs_of}
 use Rattle.fax_gateway.specs.Setups.{Setup}
 use Rattle.fax_gateway.specs.Events.{Event}
-use Rattle.fax_gateway.specs.Sides.{past_of, sides}
+use Rattle.fax_gateway.specs.BothLegs.{both_legs, past_of}
 use Rattle.fax_gateway.specs.Forwards.{WasConfirmed}
 use Rattle.fax_gateway.specs.Origins.{AreConfirmed, AreOfTheirCalls, JobsAreOfTheirCalls}
 use Rattle.fax_gateway.proofs.Held.{EachPage, IfHolds, AllHold, BookHolds, StepsHold, held}
@@ -45,8 +45,8 @@ jobs_are setup trace (job ∷ jobs) a = (record { is_job = a.0.is_job; confirmed
 pub of_their_calls : JobsAreOfTheirCalls
 of_their_calls setup writes trace t =
     let P : ℕ → PageValue → Type 0 = WasConfirmed setup trace in
-    let steps : List Step = (sides setup writes trace).steps in
-    let past : Past = past_of (sides setup writes trace) in
+    let steps : List Step = (both_legs setup writes trace).steps in
+    let past : Past = past_of (both_legs setup writes trace) in
     let h : StepsHold P steps = steps_hold setup writes trace t in
     let b : BookHolds P past.book = held P steps h in (
       jobs_are setup trace (jobs_of past) (both_hold P past.ended (as_list past.book.sending ++ past.book.waiting) (all_ended P steps h)

@@ -4,10 +4,10 @@ use Rattle.std.proofs.lemmas.List.{append-nil}
 use Rattle.fax_pagestore.specs.Pages.{PageValue}
 use Rattle.fax_jobs.specs.declared.outcome.Outcome.{Outcome}
 use Rattle.fax_jobs.specs.Jobs.{JobValue, most_pages}
-use Rattle.fax_jobs.specs.Books.{Book, joins, joined, added, opened, closed, behind, first_of, with_page}
+use Rattle.fax_jobs.specs.Books.{Book, joins, joined, added, opened, closed, after, first_of, with_page}
 use Rattle.fax_jobs.specs.Pasts.{Step, Confirms, CallEnds, Sends, Ends, Past, new_past, as_list, sent_if, ended_if, after_steps}
 use Rattle.fax_jobs.specs.Cuts.{Confirmation, pages_of}
-use Rattle.fax_answer.specs.Replies.{ConfirmedPage, Waiting, mcf_packet}
+use Rattle.fax_answer.specs.Replies.{ConfirmedPage, WaitingPacket, mcf_packet}
 use Rattle.fax_answer.proofs.Confirmations.{gives_confirmations}
 use Rattle.fax_call.specs.Writings.{Writing, IsWriting}
 use Rattle.fax_call.specs.Emission.{Emission, Mark, IsPageOf}
@@ -16,7 +16,7 @@ use Rattle.fax_gateway.specs.Setups.{Setup}
 use Rattle.fax_gateway.specs.Events.{Event, Ring, FromCalling, FromCalled, Tick, Placed, Given, clock}
 use Rattle.fax_gateway.specs.CallingLegs.{CallingLeg, core_of, calling_leg, idle_after, answers, told_calling, confirmed_by}
 use Rattle.fax_gateway.specs.CalledLegs.{is_free, core_left, told_called, outcome_told, delivered_told}
-use Rattle.fax_gateway.specs.Sides.{Sides, begins_next, past_of, book_of, confirms_if, ends_if, heard_in_tick, leg_of, sends, sends_if, enters, sides, in_tick}
+use Rattle.fax_gateway.specs.BothLegs.{BothLegs, begins_next, past_of, book_of, confirms_if, ends_if, heard_in_tick, leg_of, sends, sends_if, enters, both_legs, in_tick}
 use Rattle.fax_gateway.specs.Traces.{IsTrace}
 use Rattle.fax_gateway.specs.Told.{gives_mcf, elements_told, leg_marks, marks_before, EachEmission}
 use Rattle.fax_gateway.specs.Forwards.{WasConfirmedIn, IsForwarded}
@@ -28,7 +28,7 @@ use Rattle.fax_gateway.proofs.Forwarding.{each_emission, free_none, forwards}
 use Rattle.fax_gateway.proofs.InCalls.{begins_free, heard_sends}
 use Rattle.fax_gateway.proofs.LegsRead.{leg_is_read}
 use Rattle.fax_gateway.proofs.Replied.{IfNeat, neat_of, ticked_neat, told_mcf}
-use Rattle.fax_gateway.proofs.Restoring.{EachAt, each_number, number_behind, number_map}
+use Rattle.fax_gateway.proofs.Restoring.{EachAt, each_number, number_after, number_map}
 
 -- A PAGE WITH THE CALL THAT IT CAME IN: those of a job, of jobs, and those that steps confirm, in their order
 abbrev pub Told : Type 0
@@ -60,12 +60,12 @@ pages-append call [] page = refl
 pages-append call (p ∷ ps) page = ap (λ (x : List Told). told_of call p ∷ x) (pages-append call ps page)
 
 -- a job is closed
-behind_told : (js : List JobValue) (o : Option JobValue) → pages_of_jobs (behind js o) ++ [] ≡ pages_of_jobs js ++ pages_of_jobs (as_list o)
-behind_told js None = refl
-behind_told js (Some job) = append-nil (pages_of_jobs (js ++ job ∷ [])) ∙ told-append js (job ∷ [])
+after_told : (js : List JobValue) (o : Option JobValue) → pages_of_jobs (after js o) ++ [] ≡ pages_of_jobs js ++ pages_of_jobs (as_list o)
+after_told js None = refl
+after_told js (Some job) = append-nil (pages_of_jobs (js ++ job ∷ [])) ∙ told-append js (job ∷ [])
 
 closed_told : (book : Book) → waiting_told (closed book) ≡ waiting_told book
-closed_told book = behind_told book.waiting book.open_job
+closed_told book = after_told book.waiting book.open_job
 
 -- a page joins, or opens a job
 both : (a b : Bool) → (a && b) ≡ true → a ≡ true
@@ -90,7 +90,7 @@ page_told book call page = by (joins book.open_job call) refl
   where
     by : (t : Bool) → joins book.open_job call ≡ t → waiting_told (if◌then◌else◌ {A = Book} t (added book page) (opened (closed book) call page)) ≡ waiting_told book ++ told_of call page ∷ []
     by true e = joined_told (pages_of_jobs book.waiting) book.open_job call page e
-    by false e = ap (λ (x : List Told). x ++ told_of call page ∷ []) (sym (append-nil (pages_of_jobs (behind book.waiting book.open_job))) ∙ behind_told book.waiting book.open_job)
+    by false e = ap (λ (x : List Told). x ++ told_of call page ∷ []) (sym (append-nil (pages_of_jobs (after book.waiting book.open_job))) ∙ after_told book.waiting book.open_job)
 
 command_told : (closes : Bool) (book : Book) → waiting_told (if◌then◌else◌ {A = Book} closes (closed book) book) ≡ waiting_told book
 command_told true book = closed_told book
@@ -151,10 +151,10 @@ all_told (Ends outcome delivered ∷ before) =
     ended_told past.book.sending past outcome delivered refl ∙ all_told before
 
 -- PLACES
-get_behind : (xs ys : List Told) (n : ℕ) → slice_get (xs ++ ys) (length xs + n) ≡ slice_get ys n
-get_behind [] ys n = ap (slice_get ys) (let e : 0 + n ≡ n = omega arith in e)
-get_behind (x ∷ xs) ys n =
-    ap (slice_get (x ∷ (xs ++ ys))) (let e : length (x ∷ xs) + n ≡ suc (length xs + n) = omega arith in e) ∙ get_behind xs ys n
+get_after : (xs ys : List Told) (n : ℕ) → slice_get (xs ++ ys) (length xs + n) ≡ slice_get ys n
+get_after [] ys n = ap (slice_get ys) (let e : 0 + n ≡ n = omega arith in e)
+get_after (x ∷ xs) ys n =
+    ap (slice_get (x ∷ (xs ++ ys))) (let e : length (x ∷ xs) + n ≡ suc (length xs + n) = omega arith in e) ∙ get_after xs ys n
 
 get_page : (call : ℕ) (ps : List PageValue) (more : List Told) (n : ℕ) (page : PageValue) → slice_get ps n ≡ Some page → slice_get (pages_in call ps ++ more) n ≡ Some (told_of call page)
 get_page call [] more n page h = cc
@@ -194,7 +194,7 @@ place_of steps job n page is h =
     ap (λ (k : ℕ). slice_get (confirmed_told steps) (k + n)) (sym (jobs_length past.ended))
     ∙ ap (λ (xs : List Told). slice_get xs (length front + n)) (sym (all_told steps))
     ∙ ap (λ (o : Option JobValue). slice_get (front ++ (pages_of_jobs (as_list o) ++ rest)) (length front + n)) is
-    ∙ get_behind front ((pages_in job.call job.pages ++ []) ++ rest) n
+    ∙ get_after front ((pages_in job.call job.pages ++ []) ++ rest) n
     ∙ ap (λ (xs : List Told). slice_get xs n) (append_assoc (pages_in job.call job.pages) [] rest)
     ∙ get_page job.call job.pages ([] ++ rest) n page h
 
@@ -268,10 +268,10 @@ pub ends_told : (b : Bool) (steps : List Step) → confirmed_told (ends_if b ste
 ends_told true steps = refl
 ends_told false steps = refl
 
-pub sends_told : (setup : Setup) (writes : Writing) (now : ℕ) (s : Sides) → confirmed_told (sends_if setup writes now s).steps ≡ confirmed_told s.steps
+pub sends_told : (setup : Setup) (writes : Writing) (now : ℕ) (s : BothLegs) → confirmed_told (sends_if setup writes now s).steps ≡ confirmed_told s.steps
 sends_told setup writes now s = by (begins_next setup s.leg)
   where
-    by : (b : Bool) → confirmed_told (if◌then◌else◌ {A = Sides} b (sends true setup writes now s) s).steps ≡ confirmed_told s.steps
+    by : (b : Bool) → confirmed_told (if◌then◌else◌ {A = BothLegs} b (sends true setup writes now s) s).steps ≡ confirmed_told s.steps
     by true = refl
     by false = refl
 
@@ -291,19 +291,19 @@ heard_length (Some l) now steps =
     ap (λ (x : List Told). length x) (ends_told (answers l now).ended (confirms_if l.number (confirmed_by (answers l now).given) steps))
     ∙ confirms_length l.number (confirmed_by (answers l now).given) steps
 
-count_is : (setup : Setup) (writes : Writing) (trace : List Event) → length (confirmed_told (sides setup writes trace).steps) ≡ length (pages_restored setup.restored) + confirmations_in setup trace
+count_is : (setup : Setup) (writes : Writing) (trace : List Event) → length (confirmed_told (both_legs setup writes trace).steps) ≡ length (pages_restored setup.restored) + confirmations_in setup trace
 count_is setup writes [] =
     ap (λ (x : List Told). length x) (restored_first setup.restored [])
     ∙ (let e : length (pages_restored setup.restored) ≡ length (pages_restored setup.restored) + 0 = omega arith in e)
 count_is setup writes (Ring at number ∷ earlier) = count_is setup writes earlier
 count_is setup writes (FromCalling octets at decided read ∷ earlier) =
-    ap (λ (x : List Told). length x) (ends_told (not (idle_after (calling_leg setup earlier)) && idle_after (calling_leg setup (FromCalling octets at decided read ∷ earlier))) (sides setup writes earlier).steps) ∙ count_is setup writes earlier
+    ap (λ (x : List Told). length x) (ends_told (not (idle_after (calling_leg setup earlier)) && idle_after (calling_leg setup (FromCalling octets at decided read ∷ earlier))) (both_legs setup writes earlier).steps) ∙ count_is setup writes earlier
 count_is setup writes (FromCalled octets at decided ∷ earlier) = count_is setup writes earlier
 count_is setup writes (Placed at connected ∷ earlier) = count_is setup writes earlier
 count_is setup writes (Tick at given ∷ earlier) =
     let now : ℕ = max at (clock earlier) in
-    let s : Sides = sides setup writes earlier in
-    let z : Sides = in_tick setup writes earlier at in
+    let s : BothLegs = both_legs setup writes earlier in
+    let z : BothLegs = in_tick setup writes earlier at in
     let o : Option CallingLeg = calling_leg setup earlier in
     ap (λ (x : List Told). length x) (enters_told (delivered_told writes z.leg now) (outcome_told writes z.leg now) z.steps ∙ sends_told setup writes now (record s { steps = heard_in_tick o now s.steps }))
     ∙ heard_length o now s.steps ∙ ap (λ (k : ℕ). k + one_if_some (confirmed_at o now)) (count_is setup writes earlier)
@@ -342,7 +342,7 @@ number_later : (setup : Setup) (e : Event) (trace : List Event) (k call : ℕ) (
 number_later setup e trace k call page h =
     number_map (pages_restored setup.restored) k call page (IsNumber setup trace call page) (IsNumber setup (e ∷ trace) call page) (λ n i. own_later setup e trace n call page i) h
 
-told_in : (setup : Setup) (l : CallingLeg) (now : ℕ) (w : Waiting) → IfNeat (Some l) → (answers l now).given ≡ Some w → w.packet ≡ mcf_packet → gives_mcf (told_calling setup (Some l) now) ≡ true
+told_in : (setup : Setup) (l : CallingLeg) (now : ℕ) (w : WaitingPacket) → IfNeat (Some l) → (answers l now).given ≡ Some w → w.packet ≡ mcf_packet → gives_mcf (told_calling setup (Some l) now) ≡ true
 told_in setup l now w n is e = told_mcf setup l.given (answers l now).given w n.short (ticked_neat (core_of l) now n.core).given is e
 
 own_now : (setup : Setup) (writes : Writing) (earlier : List Event) (at : ℕ) (given : Given) (l : CallingLeg) (c : ConfirmedPage) → IsTrace setup writes (Tick at given ∷ earlier) →
@@ -372,10 +372,10 @@ own_now setup writes earlier at given l c t is h =
     }
 
 number_now : (setup : Setup) (writes : Writing) (earlier : List Event) (at : ℕ) (given : Given) (l : CallingLeg) (c : ConfirmedPage) → IsTrace setup writes (Tick at given ∷ earlier) →
-    calling_leg setup earlier ≡ Some l → confirmed_by (answers l (max at (clock earlier))).given ≡ Some c → NumberOf setup (Tick at given ∷ earlier) (length (confirmed_told (sides setup writes earlier).steps)) l.number c.page
+    calling_leg setup earlier ≡ Some l → confirmed_by (answers l (max at (clock earlier))).given ≡ Some c → NumberOf setup (Tick at given ∷ earlier) (length (confirmed_told (both_legs setup writes earlier).steps)) l.number c.page
 number_now setup writes earlier at given l c t is h =
     subst (λ (k : ℕ). NumberOf setup (Tick at given ∷ earlier) k l.number c.page) (sym (count_is setup writes earlier))
-    (number_behind (pages_restored setup.restored) (confirmations_in setup earlier) l.number c.page (IsNumber setup (Tick at given ∷ earlier) l.number c.page) (own_now setup writes earlier at given l c t is h))
+    (number_after (pages_restored setup.restored) (confirmations_in setup earlier) l.number c.page (IsNumber setup (Tick at given ∷ earlier) l.number c.page) (own_now setup writes earlier at given l c t is h))
 
 -- so each confirmation among the book's steps has its number in the trace
 ends_number : (P : ℕ → ℕ → PageValue → Type 0) (b : Bool) (steps : List Step) → Numbered P steps → Numbered P (ends_if b steps)
@@ -388,20 +388,20 @@ confirms_number P number (Some c) steps f h = (f c refl, h)
 
 heard_number : (setup : Setup) (writes : Writing) (earlier : List Event) (at : ℕ) (given : Given) (o : Option CallingLeg) → IsTrace setup writes (Tick at given ∷ earlier) → calling_leg setup earlier ≡ o →
     let P : ℕ → ℕ → PageValue → Type 0 = NumberOf setup (Tick at given ∷ earlier) in
-    let steps : List Step = (sides setup writes earlier).steps in
+    let steps : List Step = (both_legs setup writes earlier).steps in
     Numbered P steps → Numbered P (heard_in_tick o (max at (clock earlier)) steps)
 heard_number setup writes earlier at given None t is h = h
 heard_number setup writes earlier at given (Some l) t is h =
     let P : ℕ → ℕ → PageValue → Type 0 = NumberOf setup (Tick at given ∷ earlier) in
-    let steps : List Step = (sides setup writes earlier).steps in
+    let steps : List Step = (both_legs setup writes earlier).steps in
     let a = answers l (max at (clock earlier)) in
     ends_number P a.ended (confirms_if l.number (confirmed_by a.given) steps)
     (confirms_number P l.number (confirmed_by a.given) steps (λ c e. number_now setup writes earlier at given l c t is e) h)
 
-sends_number : (setup : Setup) (P : ℕ → ℕ → PageValue → Type 0) (writes : Writing) (now : ℕ) (s : Sides) → Numbered P s.steps → Numbered P (sends_if setup writes now s).steps
+sends_number : (setup : Setup) (P : ℕ → ℕ → PageValue → Type 0) (writes : Writing) (now : ℕ) (s : BothLegs) → Numbered P s.steps → Numbered P (sends_if setup writes now s).steps
 sends_number setup P writes now s h = by (begins_next setup s.leg)
   where
-    by : (b : Bool) → Numbered P (if◌then◌else◌ {A = Sides} b (sends true setup writes now s) s).steps
+    by : (b : Bool) → Numbered P (if◌then◌else◌ {A = BothLegs} b (sends true setup writes now s) s).steps
     by true = h
     by false = h
 
@@ -411,59 +411,59 @@ enters_number P delivered (Some outcome) steps h = h
 
 event_number : (setup : Setup) (writes : Writing) (e : Event) (earlier : List Event) → IsTrace setup writes (e ∷ earlier) →
     let P : ℕ → ℕ → PageValue → Type 0 = NumberOf setup (e ∷ earlier) in
-    Numbered P (sides setup writes earlier).steps → Numbered P (sides setup writes (e ∷ earlier)).steps
+    Numbered P (both_legs setup writes earlier).steps → Numbered P (both_legs setup writes (e ∷ earlier)).steps
 event_number setup writes (Ring at n) earlier t h = h
 event_number setup writes (FromCalling octets at decided read) earlier t h =
-    ends_number (NumberOf setup (FromCalling octets at decided read ∷ earlier)) (not (idle_after (calling_leg setup earlier)) && idle_after (calling_leg setup (FromCalling octets at decided read ∷ earlier))) (sides setup writes earlier).steps h
+    ends_number (NumberOf setup (FromCalling octets at decided read ∷ earlier)) (not (idle_after (calling_leg setup earlier)) && idle_after (calling_leg setup (FromCalling octets at decided read ∷ earlier))) (both_legs setup writes earlier).steps h
 event_number setup writes (FromCalled octets at decided) earlier t h = h
 event_number setup writes (Placed at connected) earlier t h = h
 event_number setup writes (Tick at given) earlier t h =
     let P : ℕ → ℕ → PageValue → Type 0 = NumberOf setup (Tick at given ∷ earlier) in
     let now : ℕ = max at (clock earlier) in
-    let s : Sides = sides setup writes earlier in
-    let z : Sides = in_tick setup writes earlier at in
+    let s : BothLegs = both_legs setup writes earlier in
+    let z : BothLegs = in_tick setup writes earlier at in
     enters_number P (delivered_told writes z.leg now) (outcome_told writes z.leg now) z.steps
     (sends_number setup P writes now (record s { steps = heard_in_tick (calling_leg setup earlier) now s.steps })
     (heard_number setup writes earlier at given (calling_leg setup earlier) t refl h))
 
-numbered : (setup : Setup) (writes : Writing) (trace : List Event) → IsTrace setup writes trace → Numbered (NumberOf setup trace) (sides setup writes trace).steps
+numbered : (setup : Setup) (writes : Writing) (trace : List Event) → IsTrace setup writes trace → Numbered (NumberOf setup trace) (both_legs setup writes trace).steps
 numbered setup writes [] t =
     numbers_restored (NumberOf setup []) setup.restored 0 []
     (record { at = refl; these = tt; others = each_number (λ call page. IsNumber setup [] call page) (pages_restored setup.restored) })
 numbered setup writes (e ∷ earlier) t =
     event_number setup writes e earlier t
-    (numbered_map (NumberOf setup earlier) (NumberOf setup (e ∷ earlier)) (sides setup writes earlier).steps (λ k call page i. number_later setup e earlier k call page i) (numbered setup writes earlier t.1))
+    (numbered_map (NumberOf setup earlier) (NumberOf setup (e ∷ earlier)) (both_legs setup writes earlier).steps (λ k call page i. number_later setup e earlier k call page i) (numbered setup writes earlier t.1))
 
 -- THE LAW
 own_of : (setup : Setup) (writes : Writing) (earlier : List Event) (marks : List Mark) (emission : Emission) (job : JobValue) (n : ℕ) → IsTrace setup writes earlier →
-    (past_of (sides setup writes earlier)).book.sending ≡ Some job → IsPageOf job n emission → HasItsOwn setup writes earlier marks emission
+    (past_of (both_legs setup writes earlier)).book.sending ≡ Some job → IsPageOf job n emission → HasItsOwn setup writes earlier marks emission
 own_of setup writes earlier marks emission job n t is p =
-    let steps : List Step = (sides setup writes earlier).steps in
+    let steps : List Step = (both_legs setup writes earlier).steps in
     let k : ℕ = length (pages_of (after_steps new_past steps).ended) + n in
     let i : NumberOf setup earlier k job.call p.page = at_place (NumberOf setup earlier) steps k (told_of job.call p.page) (numbered setup writes earlier t) (place_of steps job n p.page is p.is_page) in
     record { job = job; is_sending = is; n = n; is_page = p; confirmed = i }
 
-at_tick : (setup : Setup) (writes : Writing) (earlier : List Event) (at : ℕ) (given : Given) → IsWriting writes → IsTrace setup writes (Tick at given ∷ earlier) → (begins : Bool) → begins_next setup (sides setup writes earlier).leg ≡ begins →
+at_tick : (setup : Setup) (writes : Writing) (earlier : List Event) (at : ℕ) (given : Given) → IsWriting writes → IsTrace setup writes (Tick at given ∷ earlier) → (begins : Bool) → begins_next setup (both_legs setup writes earlier).leg ≡ begins →
     EachEmission (HasItsOwn setup writes earlier) (marks_before setup writes earlier at (leg_marks setup writes earlier)) (elements_told given.on_called)
 at_tick setup writes earlier at given w t true e =
     let now : ℕ = max at (clock earlier) in
-    let s : Sides = sides setup writes earlier in
-    let z : Sides = record s { steps = heard_in_tick (calling_leg setup earlier) now s.steps } in
+    let s : BothLegs = both_legs setup writes earlier in
+    let z : BothLegs = record s { steps = heard_in_tick (calling_leg setup earlier) now s.steps } in
     let marks : List Mark = marks_before setup writes earlier at (leg_marks setup writes earlier) in
     let o : Option JobValue = (book_of (sends true setup writes now z)).sending in
     let told : given.on_called ≡ told_called setup writes (leg_of true o (core_left setup writes s.leg) now s.leg) now =
-    ap (λ (g : Given). g.on_called) t.0 ∙ ap (λ (b : Bool). told_called setup writes (if◌then◌else◌ {A = Sides} b (sends true setup writes now z) z).leg now) e in
+    ap (λ (g : Given). g.on_called) t.0 ∙ ap (λ (b : Bool). told_called setup writes (if◌then◌else◌ {A = BothLegs} b (sends true setup writes now z) z).leg now) e in
     subst (λ (x : Option (List ℕ)). EachEmission (HasItsOwn setup writes earlier) marks (elements_told x)) (sym told)
     (free_none setup (HasItsOwn setup writes earlier) writes s.leg o now marks (begins_free setup.asks (is_free s.leg) e))
 at_tick setup writes earlier at given w t false e =
     let now : ℕ = max at (clock earlier) in
-    let s : Sides = sides setup writes earlier in
-    let z : Sides = record s { steps = heard_in_tick (calling_leg setup earlier) now s.steps } in
+    let s : BothLegs = both_legs setup writes earlier in
+    let z : BothLegs = record s { steps = heard_in_tick (calling_leg setup earlier) now s.steps } in
     let marks : List Mark = marks_before setup writes earlier at (leg_marks setup writes earlier) in
     let same : (book_of (in_tick setup writes earlier at)).sending ≡ (book_of s).sending =
-    ap (λ (b : Bool). (book_of (if◌then◌else◌ {A = Sides} b (sends true setup writes now z) z)).sending) e ∙ heard_sends (calling_leg setup earlier) now s.steps in
+    ap (λ (b : Bool). (book_of (if◌then◌else◌ {A = BothLegs} b (sends true setup writes now z) z)).sending) e ∙ heard_sends (calling_leg setup earlier) now s.steps in
     each_emission (IsForwarded setup earlier (book_of (in_tick setup writes earlier at))) (HasItsOwn setup writes earlier) marks (elements_told given.on_called)
     (λ ms x p. own_of setup writes earlier ms x p.job p.n t.1 (sym same ∙ p.is_sending) p.is_page) (forwards setup writes earlier at given w t)
 
 pub has_its_own : EachPageHasItsOwnConfirmation
-has_its_own setup writes earlier at given w t = at_tick setup writes earlier at given w t (begins_next setup (sides setup writes earlier).leg) refl
+has_its_own setup writes earlier at given w t = at_tick setup writes earlier at given w t (begins_next setup (both_legs setup writes earlier).leg) refl

@@ -10,7 +10,7 @@ use Rattle.fax_jobs.specs.Books.{Book, report_of}
 use Rattle.fax_call.specs.declared.state.State.{State}
 use Rattle.fax_call.specs.declared.state.State.TheVariants.{Idle, AwaitDis, Closing}
 use Rattle.fax_call.specs.Writings.{Writing}
-use Rattle.fax_call.specs.Calls.{Calling, CallEvent, Comes, Ticks, after_events}
+use Rattle.fax_call.specs.Calls.{CallerCore, CallEvent, Comes, Ticks, after_events}
 use Rattle.fax_call.specs.Delivery.{is_over}
 use Rattle.fax_call.specs.Table as table
 use Rattle.fax_call.specs.Emission.{Mark}
@@ -18,10 +18,10 @@ use Rattle.fax_call.proofs.Refusals.{ends_by_refusal}
 use Rattle.fax_gateway.specs.Setups.{Setup}
 use Rattle.fax_gateway.specs.Events.{Event, Tick, Given, clock}
 use Rattle.fax_gateway.specs.CalledLegs.{CalledLeg, begun_core, calls, outcome_of, report_by, told_report}
-use Rattle.fax_gateway.specs.Sides.{Sides, book_of, in_tick}
+use Rattle.fax_gateway.specs.BothLegs.{BothLegs, book_of, in_tick}
 use Rattle.fax_gateway.specs.Told.{leg_marks, marks_before}
 use Rattle.fax_gateway.specs.Forwards.{WasConfirmed}
-use Rattle.fax_gateway.specs.Refused.{Refused, ReportsTheRefusal}
+use Rattle.fax_gateway.specs.Refused.{LeavesNoChoice, ReportsTheRefusal}
 use Rattle.fax_gateway.proofs.Held.{IfHolds, held}
 use Rattle.fax_gateway.proofs.Confirmed.{tick_holds}
 use Rattle.fax_gateway.proofs.InCalls.{InCall, IfInCall, before_call, in_call}
@@ -37,23 +37,23 @@ end_is state o wanted outcome (inr idle) e =
     let p : o ≡ Some outcome = subst (λ (s : State). ended_so s o ≡ Some outcome) idle.0 e in
     let q : Some outcome ≡ Some wanted = sym p ∙ idle.1 in cc
 
-call_refused : (writes : Writing) (l : CalledLeg) (now : ℕ) (refusal : Refusal) (outcome : Outcome) → IsJob l.job → Refused writes l refusal → outcome_of (calls writes l now).core ≡ Some outcome → outcome ≡ table.outcome_of refusal
+call_refused : (writes : Writing) (l : CalledLeg) (now : ℕ) (refusal : Refusal) (outcome : Outcome) → IsJob l.job → LeavesNoChoice writes l refusal → outcome_of (calls writes l now).core ≡ Some outcome → outcome ≡ table.outcome_of refusal
 call_refused writes l now refusal outcome is r e =
-    let behind : List CallEvent → Calling = λ es. after_events writes l.job (begun_core l) (Ticks now ∷ es) in
+    let after : List CallEvent → CallerCore = λ es. after_events writes l.job (begun_core l) (Ticks now ∷ es) in
     let placed : l.placed ≡ true = awaits_placed writes l r.events r.awaits in
-    let at : List CallEvent → Calling → Calling = λ es a. after_events writes l.job a es in
+    let at : List CallEvent → CallerCore → CallerCore = λ es a. after_events writes l.job a es in
     let begun = ends_by_refusal writes l.job l.before l.begun (Ticks now ∷ r.later) r.events r.now r.octets r.dis r.page refusal is
-    (from_begun (λ (a : Calling). (at r.events a).state ≡ AwaitDis) l placed r.awaits)
-    (from_begun (λ (a : Calling). (at r.events a).waiting ≡ []) l placed r.waits_not) r.frame
-    (from_begun (λ (a : Calling). slice_get l.job.pages (at r.events a).counts.page ≡ Some r.page) l placed r.due) r.none in
+    (from_begun (λ (a : CallerCore). (at r.events a).state ≡ AwaitDis) l placed r.awaits)
+    (from_begun (λ (a : CallerCore). (at r.events a).waiting ≡ []) l placed r.waits_not) r.frame
+    (from_begun (λ (a : CallerCore). slice_get l.job.pages (at r.events a).counts.page ≡ Some r.page) l placed r.due) r.none in
     let over : List CallEvent = Ticks now ∷ (r.later ++ Comes (pieces.Frame r.octets) r.now ∷ r.events) in
-    let ends = as_begun (λ (a : Calling). ((at over a).state ≡ Closing (table.outcome_of refusal)) ⊎ (((at over a).state ≡ Idle) × ((at over a).outcome ≡ Some (table.outcome_of refusal)))) l placed begun in
-    let here : ((behind l.events).state ≡ Closing (table.outcome_of refusal)) ⊎ (((behind l.events).state ≡ Idle) × ((behind l.events).outcome ≡ Some (table.outcome_of refusal))) =
-    subst (λ (es : List CallEvent). ((behind es).state ≡ Closing (table.outcome_of refusal)) ⊎ (((behind es).state ≡ Idle) × ((behind es).outcome ≡ Some (table.outcome_of refusal)))) (sym r.split) ends in
-    end_is (behind l.events).state (behind l.events).outcome (table.outcome_of refusal) outcome here e
+    let ends = as_begun (λ (a : CallerCore). ((at over a).state ≡ Closing (table.outcome_of refusal)) ⊎ (((at over a).state ≡ Idle) × ((at over a).outcome ≡ Some (table.outcome_of refusal)))) l placed begun in
+    let here : ((after l.events).state ≡ Closing (table.outcome_of refusal)) ⊎ (((after l.events).state ≡ Idle) × ((after l.events).outcome ≡ Some (table.outcome_of refusal))) =
+    subst (λ (es : List CallEvent). ((after es).state ≡ Closing (table.outcome_of refusal)) ⊎ (((after es).state ≡ Idle) × ((after es).outcome ≡ Some (table.outcome_of refusal)))) (sym r.split) ends in
+    end_is (after l.events).state (after l.events).outcome (table.outcome_of refusal) outcome here e
 
 report_refused : (writes : Writing) (now : ℕ) (l : CalledLeg) (book : Book) (P : ℕ → PageValue → Type 0) (marks : List Mark) (refusal : Refusal) (report : Report) → IfHolds P book.sending → InCall writes l book.sending marks →
-    Refused writes l refusal → told_report writes (Some l) now ≡ Some report → report.outcome ≡ table.outcome_of refusal
+    LeavesNoChoice writes l refusal → told_report writes (Some l) now ≡ Some report → report.outcome ≡ table.outcome_of refusal
 report_refused writes now l book P marks refusal report h i r e = by l.entered i.sends e
   where
     ended : (o : Option Outcome) → outcome_of (calls writes l now).core ≡ o → IsJob l.job → report_by l (calls writes l now).core.counts.delivered o ≡ Some report → report.outcome ≡ table.outcome_of refusal
@@ -70,7 +70,7 @@ report_refused writes now l book P marks refusal report h i r e = by l.entered i
 pub reports_the_refusal : ReportsTheRefusal
 reports_the_refusal setup writes earlier at given leg refusal report t is r e =
     let now : ℕ = max at (clock earlier) in
-    let z : Sides = in_tick setup writes earlier at in
+    let z : BothLegs = in_tick setup writes earlier at in
     let trace : List Event = Tick at given ∷ earlier in
     let old : List Mark = leg_marks setup writes earlier in
     let marks : List Mark = marks_before setup writes earlier at old in

@@ -21,21 +21,21 @@ use Rattle.fax_answer.specs.History.{Entry, Decision, PassesOver, Trains, HangsU
 use Rattle.fax_answer.specs.Sent.{pieces_heard, IsOfSignal, page_accepted, RisesBy, Rises}
 use Rattle.fax_call.specs.Writings.{Writing, IsWriting}
 use Rattle.fax_call.specs.Replies.{Packet, written}
-use Rattle.fax_call.specs.Calls.{Calling, CallEvent, Comes, Ticks, after_events, ticked}
+use Rattle.fax_call.specs.Calls.{CallerCore, CallEvent, Comes, Ticks, after_events, ticked}
 use Rattle.fax_call.specs.Emission.{Mark, Gave, Acknowledged, Refused, Begins, marks_after}
 use Rattle.fax_call.specs.Given as call
 use Rattle.fax_call.specs.Given.{packets_with, told_dcs, EachDcs, IsOfKind, is_eom_frame}
 use Rattle.fax_call.specs.GivenSignals.{dcs_or, last_dcs, IsImage}
 use Rattle.fax_call.proofs.EmittedOrder.{HasNoBegin}
 use Rattle.fax_call.proofs.FinePackets.{OneKind, one_kind}
-use Rattle.fax_call.proofs.GivenSignals.{Behind, CheckOrImage, signal_given}
+use Rattle.fax_call.proofs.GivenSignals.{CheckOrImage, ComesAfter, signal_given}
 use Rattle.fax_call.proofs.ImagesInOrder.{MarksOn, marks_on, later_page}
 use Rattle.fax_call.proofs.SignalsGiven.{IsEnded, map_back}
 use Rattle.fax_gateway.specs.Setups.{Setup}
 use Rattle.fax_gateway.specs.Events.{Event}
 use Rattle.fax_gateway.specs.CalledLegs.{CalledLeg, begun_core}
 use Rattle.fax_gateway.specs.Forwards.{WasConfirmed}
-use Rattle.fax_gateway.specs.Sides.{book_of, sides}
+use Rattle.fax_gateway.specs.BothLegs.{book_of, both_legs}
 use Rattle.fax_gateway.specs.Told.{leg_marks}
 use Rattle.fax_gateway.specs.CallingLegs.{CallingLeg}
 use Rattle.fax_gateway.specs.Chain.{HasNoEom, IsJoined, IsOfTheFirst, history_of, is_begin, IsRelayed, RelaysBy, Relays, ChainsRelay}
@@ -113,13 +113,13 @@ with_each : (P : Dcs → Type 0) (o : Option Packet) (packets : List Packet) →
 with_each P None packets k = k
 with_each P (Some p) packets k = k.1
 
-each_before : (P : Dcs → Type 0) (writes : Writing) (job : JobValue) (a : Calling) (more before : List CallEvent) → EachDcs P (call.packets_given writes job a (more ++ before)) → EachDcs P (call.packets_given writes job a before)
+each_before : (P : Dcs → Type 0) (writes : Writing) (job : JobValue) (a : CallerCore) (more before : List CallEvent) → EachDcs P (call.packets_given writes job a (more ++ before)) → EachDcs P (call.packets_given writes job a before)
 each_before P writes job a [] before k = k
 each_before P writes job a (Comes piece now ∷ more) before k = each_before P writes job a more before k
 each_before P writes job a (Ticks now ∷ more) before k =
     each_before P writes job a more before (with_each P (ticked writes job (after_events writes job a (more ++ before)) now).given (call.packets_given writes job a (more ++ before)) k)
 
-image_kind : (P : Dcs → Type 0) (writes : Writing) (job : JobValue) (old : List Mark) (a : Calling) (events : List CallEvent) (octets : List ℕ) (i : IsImage writes job old a events octets)
+image_kind : (P : Dcs → Type 0) (writes : Writing) (job : JobValue) (old : List Mark) (a : CallerCore) (events : List CallEvent) (octets : List ℕ) (i : IsImage writes job old a events octets)
     → EachDcs P (call.packets_given writes job a events) → P i.dcs
 image_kind P writes job old a events octets i k =
     last_kind P (call.packets_given writes job a i.before) i.dcs
@@ -160,13 +160,13 @@ Signal setup writes first leg c place octets = IsEnded (CheckOrImage writes leg.
 
 signal_is : (setup : Setup) (writes : Writing) (first : List Event) (leg : CalledLeg) (c : Call setup writes first leg) (place : ℕ) (octets : List ℕ) → signal_at (reverse leg.given) place ≡ Some octets → Signal setup writes first leg c place octets
 signal_is setup writes first leg c place octets h =
-    as_begun (λ (a : Calling). IsEnded (CheckOrImage writes leg.job c.old a leg.events) (call.packets_given writes leg.job a leg.events) place octets) leg c.placed
+    as_begun (λ (a : CallerCore). IsEnded (CheckOrImage writes leg.job c.old a leg.events) (call.packets_given writes leg.job a leg.events) place octets) leg c.placed
     (signal_given writes leg.job c.old leg.before leg.begun leg.events place octets c.are_texts c.kept.holds.is_job
-    (from_begun (λ (a : Calling). signal_at (reverse (map written (call.packets_given writes leg.job a leg.events))) place ≡ Some octets) leg c.placed
+    (from_begun (λ (a : CallerCore). signal_at (reverse (map written (call.packets_given writes leg.job a leg.events))) place ≡ Some octets) leg c.placed
     (subst (λ (packets : List (List ℕ)). signal_at (reverse packets) place ≡ Some octets) c.kept.given_is h)))
 
 abbrev ImageOf : (setup : Setup) (writes : Writing) (first : List Event) (leg : CalledLeg) (c : Call setup writes first leg) (place : ℕ) (octets : List ℕ) → Signal setup writes first leg c place octets → Type 0
-ImageOf setup writes first leg c place octets x = Behind writes leg.job c.old (begun_core leg) leg.events x.older octets
+ImageOf setup writes first leg c place octets x = ComesAfter writes leg.job c.old (begun_core leg) leg.events x.older octets
 
 -- the images at places before `bound` are of pages up to `next`
 abbrev Before : (setup : Setup) (writes : Writing) (first : List Event) (leg : CalledLeg) → Call setup writes first leg → (bound next : ℕ) → Type 0
@@ -184,7 +184,7 @@ image_relayed setup writes first leg c octets page dcs i k m =
     let f : Format = leg.job.format in
     let n : Coding = c.one.coding in
     let own : IsOfKind f n i.dcs = image_kind (IsOfKind f n) writes leg.job c.old (begun_core leg) leg.events octets i
-    (as_begun (λ (a : Calling). EachDcs (IsOfKind f n) (call.packets_given writes leg.job a leg.events)) leg c.placed c.one.given) in
+    (as_begun (λ (a : CallerCore). EachDcs (IsOfKind f n) (call.packets_given writes leg.job a leg.events)) leg c.placed c.one.given) in
     let same : i.means.page ≡ page = same_page f n octets i.means.page page (means_as f n i.dcs octets i.means.page own i.means.means) (means_as f n dcs octets page k m) in
     let is : slice_get leg.job.pages i.page ≡ Some page = i.means.is_page ∙ ap (λ (p : PageValue). Some p) same in
     let on : MarksOn (marks_after writes leg.job c.old (begun_core leg) (i.later ++ Ticks i.now ∷ i.before)) (marks_after writes leg.job c.old (begun_core leg) (Ticks i.now ∷ i.before)) =
@@ -235,18 +235,18 @@ rises_relay setup writes first leg c (e ∷ h) bound next k f r =
 relay : (setup other : Setup) (writes others : Writing) (first second : List Event) (leg : CalledLeg) (l : CallingLeg) → IsWriting writes → IsJoined setup other writes others first second leg l → HasNoEom (reverse leg.given)
     → leg.placed ≡ true → KeptLeg writes (WasConfirmed setup first) leg → IsOfTheFirst leg l → Relays setup writes first leg (history_of l) (length leg.job.pages)
 relay setup other writes others first second leg l w j none placed kept hears =
-    let i : InCall writes leg (book_of (sides setup writes first)).sending (leg_marks setup writes first) =
-    subst (λ (o : Option CalledLeg). IfInCall writes o (book_of (sides setup writes first)).sending (leg_marks setup writes first)) j.is_leg (in_call setup writes first j.is_first) in
+    let i : InCall writes leg (book_of (both_legs setup writes first)).sending (leg_marks setup writes first) =
+    subst (λ (o : Option CalledLeg). IfInCall writes o (book_of (both_legs setup writes first)).sending (leg_marks setup writes first)) j.is_leg (in_call setup writes first j.is_first) in
     let slots : slots_of (reverse leg.given) ≡ map Some (map written (call_packets writes leg leg.events)) =
     map_back leg.given ∙ ap (λ (packets : List (List ℕ)). let ss : List Slot = map Some packets in ss) kept.given_is in
     let one : OneKind writes leg.job leg.before leg.begun leg.events =
     one_kind writes leg.job leg.before leg.begun leg.events w kept.holds.is_job
-    (from_begun (λ (a : Calling). list_any is_eom_frame (pieces.pieces (map Some (map written (call.packets_given writes leg.job a leg.events)))) ≡ false) leg placed
+    (from_begun (λ (a : CallerCore). list_any is_eom_frame (pieces.pieces (map Some (map written (call.packets_given writes leg.job a leg.events)))) ≡ false) leg placed
     (subst (λ (ss : List Slot). list_any is_eom_frame (pieces.pieces ss) ≡ false) slots none)) in
     let c : Call setup writes first leg = record { are_texts = w; placed = placed; kept = kept; old = i.old; marks_are = i.marks_are; one = one } in
     rises_relay setup writes first leg c (history_of l) (length (reverse leg.given)) (length leg.job.pages)
     (λ octets dcs has says. one.heard octets dcs
-    (from_begun (λ (a : Calling). Contains (pieces.pieces (map Some (map written (call.packets_given writes leg.job a leg.events)))) (pieces.Frame octets)) leg placed
+    (from_begun (λ (a : CallerCore). Contains (pieces.pieces (map Some (map written (call.packets_given writes leg.job a leg.events)))) (pieces.Frame octets)) leg placed
     (subst (λ (ss : List Slot). Contains (pieces.pieces ss) (pieces.Frame octets)) slots (hears.frames octets (contains (pieces_heard (history_of l)) octets has)))) says)
     (λ place octets x b m. place_within leg.job.pages b.image.page b.image.means.page b.image.means.is_page)
     hears.signals

@@ -129,10 +129,10 @@ each_number Own [] = tt
 each_number Own (r ∷ rs) =
     (refl, each_shift (λ k call page. HasNumber rs k call page (Own call page)) (λ k call page. HasNumber (r ∷ rs) k call page (Own call page)) 0 rs (λ k call page h. h) (each_number Own rs))
 
-pub number_behind : (rs : List CallPage) (k call : ℕ) (page : PageValue) (Own : ℕ → Type 0) → Own k → HasNumber rs (length rs + k) call page Own
-number_behind [] k call page Own a = subst Own (let e : k ≡ 0 + k = omega arith in e) a
-number_behind (r ∷ rs) k call page Own a =
-    subst (λ (n : ℕ). HasNumber (r ∷ rs) n call page Own) (let e : suc (length rs + k) ≡ length (r ∷ rs) + k = omega arith in e) (number_behind rs k call page Own a)
+pub number_after : (rs : List CallPage) (k call : ℕ) (page : PageValue) (Own : ℕ → Type 0) → Own k → HasNumber rs (length rs + k) call page Own
+number_after [] k call page Own a = subst Own (let e : k ≡ 0 + k = omega arith in e) a
+number_after (r ∷ rs) k call page Own a =
+    subst (λ (n : ℕ). HasNumber (r ∷ rs) n call page Own) (let e : suc (length rs + k) ≡ length (r ∷ rs) + k = omega arith in e) (number_after rs k call page Own a)
 
 pub number_map : (rs : List CallPage) (k call : ℕ) (page : PageValue) (Own Other : ℕ → Type 0) → ((k : ℕ) → Own k → Other k) → HasNumber rs k call page Own → HasNumber rs k call page Other
 number_map [] k call page Own Other f h = f k h

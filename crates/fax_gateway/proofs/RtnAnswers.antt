@@ -7,7 +7,7 @@ use Rattle.fax_call.specs.Writings.{Writing}
 use Rattle.fax_gateway.specs.Setups.{Setup}
 use Rattle.fax_gateway.specs.Events.{Event, Tick, Given, clock}
 use Rattle.fax_gateway.specs.CallingLegs.{CallingLeg, core_of, calling_leg, answers, told_calling}
-use Rattle.fax_gateway.specs.Sides.{Sides, serves, before_serving, sides}
+use Rattle.fax_gateway.specs.BothLegs.{BothLegs, serves, before_serving, both_legs}
 use Rattle.fax_gateway.specs.Traces.{IsTrace}
 use Rattle.fax_gateway.specs.Told.{gives_mcf, gives_rtn}
 use Rattle.fax_gateway.specs.Rtns.{RefusesNow, EachRtnAnswers, CommandsAreJudged}
@@ -15,7 +15,7 @@ use Rattle.fax_gateway.proofs.LegsRead.{leg_is_read}
 use Rattle.fax_gateway.proofs.McfAnswers.{if_none}
 use Rattle.fax_gateway.proofs.Replied.{NeatLeg, IfNeat, neat_of, ticked_neat, rtn_only, rtn_is_no_mcf}
 
-if_rtn : (setup : Setup) (writes : Writing) (earlier : List Event) (now : ℕ) (o : Option CallingLeg) (s : Sides) → IsTrace setup writes earlier → calling_leg setup earlier ≡ o → gives_rtn (told_calling setup o now) ≡ true →
+if_rtn : (setup : Setup) (writes : Writing) (earlier : List Event) (now : ℕ) (o : Option CallingLeg) (s : BothLegs) → IsTrace setup writes earlier → calling_leg setup earlier ≡ o → gives_rtn (told_calling setup o now) ≡ true →
     (leg : CallingLeg) × (o ≡ Some leg) × RefusesNow leg s.steps (serves writes now (before_serving setup writes o now s)).steps
 if_rtn setup writes earlier now None s t is m = cc
 if_rtn setup writes earlier now (Some l) s t is m =
@@ -29,7 +29,7 @@ pub each_rtn_answers : EachRtnAnswers
 each_rtn_answers setup writes earlier at given t m =
     let now : ℕ = max at (clock earlier) in
     let same : gives_rtn given.on_calling ≡ gives_rtn (told_calling setup (calling_leg setup earlier) now) = ap (λ (g : Given). gives_rtn g.on_calling) t.0 in
-    if_rtn setup writes earlier now (calling_leg setup earlier) (sides setup writes earlier) t.1 refl (sym same ∙ m)
+    if_rtn setup writes earlier now (calling_leg setup earlier) (both_legs setup writes earlier) t.1 refl (sym same ∙ m)
 
 pub commands_are_judged : CommandsAreJudged
 commands_are_judged setup writes trace leg later before octets d command t is split order not_passed =

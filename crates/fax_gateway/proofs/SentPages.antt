@@ -17,7 +17,7 @@ use Rattle.fax_ifp.proofs.SentFrames.{Has, has_onto, contained, contains, frames
 use Rattle.fax_pagestore.specs.Pages.{PageValue}
 use Rattle.fax_answer.specs.History.{Entry}
 use Rattle.fax_answer.specs.Table.{Reading}
-use Rattle.fax_answer.specs.Calls.{Answering, CallEvent, Comes, after_events, rung}
+use Rattle.fax_answer.specs.Calls.{AnswererCore, CallEvent, Comes, after_events, rung}
 use Rattle.fax_answer.specs.Readings.{comes_all}
 use Rattle.fax_answer.specs.Sent.{pieces_heard, page_accepted, RisesBy, Rises}
 use Rattle.fax_answer.proofs.Confirmations.{ticked_history}
@@ -30,9 +30,9 @@ use Rattle.fax_gateway.specs.Sent as sent
 use Rattle.fax_gateway.proofs.LegsRead.{leg_is_read}
 
 -- WHAT A LEG HAS HEARD ARE THE PIECES OF ITS SLOTS
-behind_more : (old : List DatagramValue) (d : DatagramValue) (more : List Slot) → newest_slots (d ∷ old) ≡ more ++ newest_slots old → pieces (newest_slots (d ∷ old)) ≡ pieces (newest_slots old) ++ new_pieces old d
+after_more : (old : List DatagramValue) (d : DatagramValue) (more : List Slot) → newest_slots (d ∷ old) ≡ more ++ newest_slots old → pieces (newest_slots (d ∷ old)) ≡ pieces (newest_slots old) ++ new_pieces old d
 unfolding new_pieces
-behind_more old d more e =
+after_more old d more e =
     let go = pieces_go_on more (newest_slots old) in
     let is : pieces (newest_slots (d ∷ old)) ≡ pieces (newest_slots old) ++ go.0 = ap pieces e ∙ go.1 in
     is ∙ ap (λ (x : List Piece). pieces (newest_slots old) ++ x)
@@ -40,22 +40,22 @@ behind_more old d more e =
 
 more_newest : (old : List DatagramValue) (d : DatagramValue) → (more : List Slot) × (newest_slots (d ∷ old) ≡ more ++ newest_slots old)
 unfolding newest_slots slots
-more_newest [] d = (newest_slots (d ∷ []), sym (none_behind (newest_slots (d ∷ []))))
+more_newest [] d = (newest_slots (d ∷ []), sym (none_after (newest_slots (d ∷ []))))
   where
-    none_behind : (xs : List Slot) → xs ++ [] ≡ xs
-    none_behind [] = refl
-    none_behind (x ∷ xs) = ap (λ (ys : List Slot). x ∷ ys) (none_behind xs)
+    none_after : (xs : List Slot) → xs ++ [] ≡ xs
+    none_after [] = refl
+    none_after (x ∷ xs) = ap (λ (ys : List Slot). x ∷ ys) (none_after xs)
 more_newest (e ∷ old) d =
     (reverse (decided_now d (e ∷ old)), ap (λ (s : List Slot). reverse s) (slots_go_on d e old) ∙ reverse-append (slots (e ∷ old)) (decided_now d (e ∷ old)))
 
 go_on : (old : List DatagramValue) (d : DatagramValue) → pieces (newest_slots (d ∷ old)) ≡ pieces (newest_slots old) ++ new_pieces old d
-go_on old d = let m = more_newest old d in behind_more old d m.0 m.1
+go_on old d = let m = more_newest old d in after_more old d m.0 m.1
 
 abbrev HeardSo : Option CallingLeg → Type 0
 HeardSo None = Unit {0}
 HeardSo (Some l) = pieces_heard (core_of l).history ≡ reverse (pieces (newest_slots l.arrived))
 
-comes_heard : (a : Answering) (ps : List Piece) (now : ℕ) (read : Reading) (events : List CallEvent)
+comes_heard : (a : AnswererCore) (ps : List Piece) (now : ℕ) (read : Reading) (events : List CallEvent)
     → pieces_heard (after_events a (comes_all ps now read events)).history ≡ onto ps (pieces_heard (after_events a events).history)
 comes_heard a [] now read events = refl
 comes_heard a (p ∷ ps) now read events = comes_heard a ps now read (Comes p now read ∷ events)

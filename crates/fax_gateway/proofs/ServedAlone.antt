@@ -17,26 +17,26 @@ use Rattle.fax_gateway.specs.Setups.{Setup}
 use Rattle.fax_gateway.specs.Events.{Event, Ring, FromCalling, FromCalled, Tick, Placed, Given, clock, rings}
 use Rattle.fax_gateway.specs.CallingLegs.{CallingLeg, calling_leg, calling_after, decided_calling, told_calling, question}
 use Rattle.fax_gateway.specs.Traces.{IsTrace}
-use Rattle.fax_gateway.specs.Alone.{Heard, Rang, Came, Ticked, calling_part, CallingAnswer, Numbers, Decides, Gives, calling_answers, IsServedAlone}
+use Rattle.fax_gateway.specs.Alone.{HeardEvent, Rang, Came, Ticked, calling_part, CallingAnswer, Numbers, Decides, Gives, calling_answers, IsServedAlone}
 
 -- the part with how its images were read
-data Known : Type 0 where
-  RangAt : (now : ℕ) → Known
-  CameAt : (octets : List ℕ) → (now : ℕ) → (read : Reading) → Known
-  TickedAt : (now : ℕ) → Known
+data KnownWire : Type 0 where
+  RangAt : (now : ℕ) → KnownWire
+  CameAt : (octets : List ℕ) → (now : ℕ) → (read : Reading) → KnownWire
+  TickedAt : (now : ℕ) → KnownWire
 
-abbrev known_with : Event → ℕ → List Known → List Known
+abbrev known_with : Event → ℕ → List KnownWire → List KnownWire
 known_with (Ring at n) now part = RangAt now ∷ part
 known_with (FromCalling octets at decided read) now part = CameAt octets now read ∷ part
 known_with (FromCalled octets at decided) now part = part
 known_with (Placed at connected) now part = part
 known_with (Tick at given) now part = TickedAt now ∷ part
 
-abbrev known_part : List Event → List Known
+abbrev known_part : List Event → List KnownWire
 known_part [] = []
 known_part (e ∷ earlier) = known_with e (clock (e ∷ earlier)) (known_part earlier)
 
-abbrev forget : List Known → List Heard
+abbrev forget : List KnownWire → List HeardEvent
 forget [] = []
 forget (RangAt now ∷ part) = Rang now ∷ forget part
 forget (CameAt octets now read ∷ part) = Came octets now ∷ forget part
@@ -44,14 +44,14 @@ forget (TickedAt now ∷ part) = Ticked now ∷ forget part
 
 forget_is : (trace : List Event) → forget (known_part trace) ≡ calling_part trace
 forget_is [] = refl
-forget_is (Ring at n ∷ earlier) = ap (λ (p : List Heard). Rang (clock (Ring at n ∷ earlier)) ∷ p) (forget_is earlier)
-forget_is (FromCalling octets at d read ∷ earlier) = ap (λ (p : List Heard). Came octets (clock (FromCalling octets at d read ∷ earlier)) ∷ p) (forget_is earlier)
+forget_is (Ring at n ∷ earlier) = ap (λ (p : List HeardEvent). Rang (clock (Ring at n ∷ earlier)) ∷ p) (forget_is earlier)
+forget_is (FromCalling octets at d read ∷ earlier) = ap (λ (p : List HeardEvent). Came octets (clock (FromCalling octets at d read ∷ earlier)) ∷ p) (forget_is earlier)
 forget_is (FromCalled octets at d ∷ earlier) = forget_is earlier
 forget_is (Placed at c ∷ earlier) = forget_is earlier
-forget_is (Tick at g ∷ earlier) = ap (λ (p : List Heard). Ticked (clock (Tick at g ∷ earlier)) ∷ p) (forget_is earlier)
+forget_is (Tick at g ∷ earlier) = ap (λ (p : List HeardEvent). Ticked (clock (Tick at g ∷ earlier)) ∷ p) (forget_is earlier)
 
 -- rings are numbered by those before them
-abbrev rings_in : List Known → ℕ
+abbrev rings_in : List KnownWire → ℕ
 rings_in [] = 0
 rings_in (RangAt now ∷ part) = rings_in part + 1
 rings_in (CameAt octets now read ∷ part) = rings_in part
@@ -66,17 +66,17 @@ rings_are (Placed at c ∷ earlier) = rings_are earlier
 rings_are (Tick at g ∷ earlier) = rings_are earlier
 
 -- the leg
-abbrev as_event : Known → ℕ → Event
+abbrev as_event : KnownWire → ℕ → Event
 as_event (RangAt now) number = Ring now number
 as_event (CameAt octets now read) number = FromCalling octets now true read
 as_event (TickedAt now) number = Tick now (record { on_calling = None; on_called = None; report = None })
 
-abbrev moment : Known → ℕ
+abbrev moment : KnownWire → ℕ
 moment (RangAt now) = now
 moment (CameAt octets now read) = now
 moment (TickedAt now) = now
 
-abbrev leg_of : Setup → List Known → Option CallingLeg
+abbrev leg_of : Setup → List KnownWire → Option CallingLeg
 leg_of setup [] = None
 leg_of setup (h ∷ part) = calling_after setup (leg_of setup part) (moment h) (as_event h (rings_in part))
 
@@ -95,7 +95,7 @@ ring_is : (setup : Setup) (o : Option CallingLeg) (now at m n : ℕ) → m ≡ n
 ring_is setup None now at m n e = ap (λ (k : ℕ). calling_after setup None now (Ring now k)) e
 ring_is setup (Some l) now at m n e = ap (λ (k : ℕ). calling_after setup (Some l) now (Ring now k)) e
 
-step_is : (setup : Setup) (o : Option CallingLeg) (part : List Known) (e : Event) (now : ℕ) → IfRings e (rings_in part) → o ≡ leg_of setup part → calling_after setup o now e ≡ leg_of setup (known_with e now part)
+step_is : (setup : Setup) (o : Option CallingLeg) (part : List KnownWire) (e : Event) (now : ℕ) → IfRings e (rings_in part) → o ≡ leg_of setup part → calling_after setup o now e ≡ leg_of setup (known_with e now part)
 step_is setup o part (Ring at n) now r h = ring_is setup o now at n (rings_in part) r ∙ ap (λ (o : Option CallingLeg). calling_after setup o now (Ring now (rings_in part))) h
 step_is setup None part (FromCalling octets at d read) now r h = ap (λ (o : Option CallingLeg). calling_after setup o now (FromCalling octets now true read)) h
 step_is setup (Some l) part (FromCalling octets at d read) now r h = ap (λ (o : Option CallingLeg). calling_after setup o now (FromCalling octets now true read)) h
@@ -111,7 +111,7 @@ leg_is setup writes [] t = refl
 leg_is setup writes (e ∷ earlier) t = step_is setup (calling_leg setup earlier) (known_part earlier) e (clock (e ∷ earlier)) (if_rings setup writes e earlier t) (leg_is setup writes earlier t.1)
 
 -- the readings are fixed by the rest
-abbrev AreKnown : Setup → List Known → Type 0
+abbrev AreKnown : Setup → List KnownWire → Type 0
 AreKnown setup [] = Unit {0}
 AreKnown setup (RangAt now ∷ part) = AreKnown setup part
 AreKnown setup (CameAt octets now read ∷ part) = IsRead (question (leg_of setup part) now octets) read × AreKnown setup part
@@ -146,7 +146,7 @@ same_read (Some q) None (Some p) a b = absurd (pages_dont_fail _ _ q.octets p.ro
 same_read (Some q) (Some p) None a b = absurd (pages_dont_fail _ _ q.octets p.rows b.0 (is_width (format_of q.dcs).width) a.1 b.1)
 same_read (Some q) (Some p) (Some v) a b = ap (λ (x : PageValue). let r : Reading = Some x in r) (same_page (format_of q.dcs) (coding_of q.dcs) q.octets p v a b)
 
-same_known : (setup : Setup) (xs ys : List Known) → AreKnown setup xs → AreKnown setup ys → forget xs ≡ forget ys → xs ≡ ys
+same_known : (setup : Setup) (xs ys : List KnownWire) → AreKnown setup xs → AreKnown setup ys → forget xs ≡ forget ys → xs ≡ ys
 same_known setup [] [] a b h = refl
 same_known setup [] (RangAt n ∷ ys) a b h = cc
 same_known setup [] (TickedAt n ∷ ys) a b h = cc
@@ -157,22 +157,22 @@ same_known setup (CameAt os m r ∷ xs) [] a b h = cc
 same_known setup (RangAt m ∷ xs) (RangAt n ∷ ys) a b h =
     let e : m ≡ n = cc in
     let k : forget xs ≡ forget ys = cc in
-    ap (λ (x : ℕ). RangAt x ∷ xs) e ∙ ap (λ (p : List Known). RangAt n ∷ p) (same_known setup xs ys a b k)
+    ap (λ (x : ℕ). RangAt x ∷ xs) e ∙ ap (λ (p : List KnownWire). RangAt n ∷ p) (same_known setup xs ys a b k)
 same_known setup (TickedAt m ∷ xs) (TickedAt n ∷ ys) a b h =
     let e : m ≡ n = cc in
     let k : forget xs ≡ forget ys = cc in
-    ap (λ (x : ℕ). TickedAt x ∷ xs) e ∙ ap (λ (p : List Known). TickedAt n ∷ p) (same_known setup xs ys a b k)
+    ap (λ (x : ℕ). TickedAt x ∷ xs) e ∙ ap (λ (p : List KnownWire). TickedAt n ∷ p) (same_known setup xs ys a b k)
 same_known setup (CameAt os m r ∷ xs) (CameAt us n s ∷ ys) a b h =
     let e : m ≡ n = cc in
     let f : os ≡ us = cc in
     let k : forget xs ≡ forget ys = cc in
     let p : xs ≡ ys = same_known setup xs ys a.1 b.1 k in
     let moved : IsRead (question (leg_of setup ys) n us) r =
-    subst (λ (part : List Known). IsRead (question (leg_of setup part) n us) r) p
+    subst (λ (part : List KnownWire). IsRead (question (leg_of setup part) n us) r) p
     (subst (λ (x : ℕ). IsRead (question (leg_of setup xs) x us) r) e (subst (λ (x : List ℕ). IsRead (question (leg_of setup xs) m x) r) f a.0)) in
     ap (λ (x : List ℕ). CameAt x m r ∷ xs) f ∙ ap (λ (x : ℕ). CameAt us x r ∷ xs) e
     ∙ ap (λ (x : Reading). CameAt us n x ∷ xs) (same_read (question (leg_of setup ys) n us) r s moved b.0)
-    ∙ ap (λ (part : List Known). CameAt us n s ∷ part) p
+    ∙ ap (λ (part : List KnownWire). CameAt us n s ∷ part) p
 same_known setup (RangAt m ∷ xs) (TickedAt n ∷ ys) a b h = cc
 same_known setup (RangAt m ∷ xs) (CameAt us n s ∷ ys) a b h = cc
 same_known setup (TickedAt m ∷ xs) (RangAt n ∷ ys) a b h = cc
@@ -181,12 +181,12 @@ same_known setup (CameAt os m r ∷ xs) (RangAt n ∷ ys) a b h = cc
 same_known setup (CameAt os m r ∷ xs) (TickedAt n ∷ ys) a b h = cc
 
 -- the answers on the calling leg are those that its part asks for
-abbrev answer_to : Setup → Option CallingLeg → ℕ → Known → CallingAnswer
+abbrev answer_to : Setup → Option CallingLeg → ℕ → KnownWire → CallingAnswer
 answer_to setup o number (RangAt now) = Numbers number
 answer_to setup o number (CameAt octets now read) = Decides (decided_calling o octets)
 answer_to setup o number (TickedAt now) = Gives (told_calling setup o now)
 
-abbrev answers_to : Setup → List Known → List CallingAnswer
+abbrev answers_to : Setup → List KnownWire → List CallingAnswer
 answers_to setup [] = []
 answers_to setup (h ∷ part) = answer_to setup (leg_of setup part) (rings_in part) h ∷ answers_to setup part
 

@@ -14,7 +14,7 @@ use Rattle.fax_gateway.specs.Setups.{Setup}
 use Rattle.fax_gateway.specs.Events.{Event, Ring, FromCalling, FromCalled, Tick, Placed, Given, clock}
 use Rattle.fax_gateway.specs.CallingLegs.{CallingLeg, calling_leg, idle_after, answers, confirmed_by}
 use Rattle.fax_gateway.specs.CalledLegs.{CalledLeg, calls, outcome_of, outcome_told, delivered_told, report_by, told_report}
-use Rattle.fax_gateway.specs.Sides.{Sides, begins_next, past_of, confirms_if, ends_if, heard_in_tick, sends, sends_if, enters, sides, in_tick}
+use Rattle.fax_gateway.specs.BothLegs.{BothLegs, begins_next, past_of, confirms_if, ends_if, heard_in_tick, sends, sends_if, enters, both_legs, in_tick}
 use Rattle.fax_gateway.specs.Traces.{IsTrace}
 use Rattle.fax_gateway.specs.Told.{leg_marks, marks_before}
 use Rattle.fax_gateway.specs.Reports.{report_list, reports_given, job_sent, JobsHaveStates}
@@ -38,10 +38,10 @@ heard_report None now steps = refl
 heard_report (Some l) now steps =
     ends_report (answers l now).ended (confirms_if l.number (confirmed_by (answers l now).given) steps) ∙ confirms_report l.number (confirmed_by (answers l now).given) steps
 
-sends_report : (setup : Setup) (writes : Writing) (now : ℕ) (s : Sides) → reported_by (sends_if setup writes now s).steps ≡ reported_by s.steps
+sends_report : (setup : Setup) (writes : Writing) (now : ℕ) (s : BothLegs) → reported_by (sends_if setup writes now s).steps ≡ reported_by s.steps
 sends_report setup writes now s = by (begins_next setup s.leg)
   where
-    by : (b : Bool) → reported_by (if◌then◌else◌ {A = Sides} b (sends true setup writes now s) s).steps ≡ reported_by s.steps
+    by : (b : Bool) → reported_by (if◌then◌else◌ {A = BothLegs} b (sends true setup writes now s) s).steps ≡ reported_by s.steps
     by true = refl
     by false = refl
 
@@ -69,17 +69,17 @@ served_report writes (Some l) now steps marks i = by l.entered i.sends
     by true e = sym (append-nil (reported_by steps))
     by false e = enters_report l delivered (outcome_of (calls writes l now).core) steps e
 
-reported_are : (setup : Setup) (writes : Writing) (trace : List Event) → IsTrace setup writes trace → reported_by (sides setup writes trace).steps ≡ reports_given trace
+reported_are : (setup : Setup) (writes : Writing) (trace : List Event) → IsTrace setup writes trace → reported_by (both_legs setup writes trace).steps ≡ reports_given trace
 reported_are setup writes [] t = restored_reports setup.restored []
 reported_are setup writes (Ring at n ∷ earlier) t = reported_are setup writes earlier t.1
 reported_are setup writes (FromCalling octets at decided read ∷ earlier) t =
-    ends_report (not (idle_after (calling_leg setup earlier)) && idle_after (calling_leg setup (FromCalling octets at decided read ∷ earlier))) (sides setup writes earlier).steps ∙ reported_are setup writes earlier t.1
+    ends_report (not (idle_after (calling_leg setup earlier)) && idle_after (calling_leg setup (FromCalling octets at decided read ∷ earlier))) (both_legs setup writes earlier).steps ∙ reported_are setup writes earlier t.1
 reported_are setup writes (FromCalled octets at decided ∷ earlier) t = reported_are setup writes earlier t.1
 reported_are setup writes (Placed at connected ∷ earlier) t = reported_are setup writes earlier t.1
 reported_are setup writes (Tick at given ∷ earlier) t =
     let now : ℕ = max at (clock earlier) in
-    let s : Sides = sides setup writes earlier in
-    let z : Sides = in_tick setup writes earlier at in
+    let s : BothLegs = both_legs setup writes earlier in
+    let z : BothLegs = in_tick setup writes earlier at in
     served_report writes z.leg now z.steps (marks_before setup writes earlier at (leg_marks setup writes earlier)) (before_call setup writes earlier at (leg_marks setup writes earlier) (in_call setup writes earlier t.1))
     ∙ ap (λ (rs : List Report). rs ++ report_list (told_report writes z.leg now))
     (sends_report setup writes now (record s { steps = heard_in_tick (calling_leg setup earlier) now s.steps }) ∙ heard_report (calling_leg setup earlier) now s.steps ∙ reported_are setup writes earlier t.1)
@@ -91,7 +91,7 @@ sending_is writes (Some l) sending marks i = i.sends
 
 pub have_states : JobsHaveStates
 have_states setup writes trace t =
-    let s : Sides = sides setup writes trace in
+    let s : BothLegs = both_legs setup writes trace in
     let past : Past = past_of s in
     let r : HasReports past = reports_each_job s.steps in
     let are : past.reported ≡ reports_given trace = reported_are setup writes trace t in

@@ -6,10 +6,10 @@ use Rattle.fax_answer.specs.Table.{Reading}
 use Rattle.fax_call.specs.Writings.{Writing}
 use Rattle.fax_gateway.specs.Setups.{HasSettings, Setup}
 use Rattle.fax_gateway.specs.declared.settings.Settings.{Settings}
-use Rattle.fax_gateway.specs.declared.called.CalledSide.{CalledSide}
+use Rattle.fax_gateway.specs.declared.called.CalledEndpoint.{CalledEndpoint}
 use Rattle.fax_gateway.specs.Events.{Event, FromCalling, clock}
 use Rattle.fax_gateway.specs.CallingLegs.{CallingLeg, idle_after, calling_after, calling_leg, decided_calling}
-use Rattle.fax_gateway.specs.Sides.{book_of, ends_if, sides}
+use Rattle.fax_gateway.specs.BothLegs.{book_of, both_legs, ends_if}
 use Rattle.fax_gateway.specs.Reached.{IsCalling, IsCalled, heard_on, HearsCalling, GatewayValue, IsReachedBy, HearsFrom}
 
 -- a call that ends closes the open job
@@ -31,7 +31,7 @@ hears_from setup writes trace octets at decided ends old new r later rung set sa
     let h : HearsCalling setup (calling_leg setup trace) (max at (clock trace)) octets new.calling = subst (λ (m : ℕ). HearsCalling setup (calling_leg setup trace) m octets new.calling) now hears in
     let leg : IsCalling setup (calling_after setup (calling_leg setup trace) (max at (clock trace)) (FromCalling octets at decided h.read)) new.calling =
     subst (λ (o : Option CallingLeg). IsCalling setup o new.calling) (heard_same setup (calling_leg setup trace) (max at (clock trace)) octets at decided h.read) h.calling in
-    let steps : List Step = (sides setup writes trace).steps in
+    let steps : List Step = (both_legs setup writes trace).steps in
     let ends_is : Bool = not (idle_after (calling_leg setup trace)) && idle_after (calling_after setup (calling_leg setup trace) (max at (clock trace)) (FromCalling octets at decided h.read)) in
     record {
       read = h.read;
@@ -41,10 +41,10 @@ hears_from setup writes trace octets at decided ends old new r later rung set sa
         set = subst (λ (x : Settings). HasSettings setup x) (sym set) r.set;
         rung = rung ∙ r.rung;
         calling = leg;
-        called = subst (λ (s : CalledSide). IsCalled setup writes (sides setup writes trace).leg s) (sym same) r.called;
+        called = subst (λ (s : CalledEndpoint). IsCalled setup writes (both_legs setup writes trace).leg s) (sym same) r.called;
         book =
             book ∙ ap (λ (b : Book). if ends then closed b else b) r.book
-            ∙ ap (λ (b : Bool). if b then closed (book_of (sides setup writes trace)) else book_of (sides setup writes trace)) (ended _ leg)
+            ∙ ap (λ (b : Bool). if b then closed (book_of (both_legs setup writes trace)) else book_of (both_legs setup writes trace)) (ended _ leg)
             ∙ sym (ended_book ends_is steps);
       };
     }

@@ -10,18 +10,18 @@ use Rattle.fax_answer.specs.Replies.{ConfirmedPage}
 use Rattle.fax_call.specs.declared.procedure.Procedure.{Procedure}
 use Rattle.fax_call.specs.declared.state.State.{State}
 use Rattle.fax_call.specs.Writings.{Writing}
-use Rattle.fax_call.specs.Calls.{Ticked}
+use Rattle.fax_call.specs.Calls.{TickResult}
 use Rattle.fax_call.specs.Delivery.{is_over}
 use Rattle.fax_call.specs.Table.{Counts}
 use Rattle.fax_gateway.specs.Setups.{HasSettings, Setup}
 use Rattle.fax_gateway.specs.declared.settings.Settings.{Settings}
-use Rattle.fax_gateway.specs.declared.called.CalledSide.{CalledSide}
+use Rattle.fax_gateway.specs.declared.called.CalledEndpoint.{CalledEndpoint}
 use Rattle.fax_gateway.specs.Events.{Event, Tick, Given, clock}
 use Rattle.fax_gateway.specs.CallingLegs.{CallingLeg, answers, confirmed_by, calling_after, calling_leg, told_calling}
 use Rattle.fax_gateway.specs.CalledLegs.{CalledLeg, is_free, core_left, begun_leg, calls, outcome_of, with_tick, told_by, told_called, report_by, told_report}
-use Rattle.fax_gateway.specs.Sides.{Sides, begins_next, book_of, confirms_if, ends_if, heard_in_tick, leg_of, sends, enters, serves, sides, in_tick}
+use Rattle.fax_gateway.specs.BothLegs.{BothLegs, begins_next, book_of, confirms_if, ends_if, heard_in_tick, leg_of, sends, enters, serves, both_legs, in_tick}
 use Rattle.fax_gateway.specs.Reports.{job_sent, HaveStates}
-use Rattle.fax_gateway.specs.Reached.{HasNumber, confirmed_if, closed_if, confirmed_on, ended_on, ticked_on, IsCalling, IsCalled, TicksOn, Begins, outcome_kept, report_if, ended_with, ended_if, GatewayValue, IsReachedBy}
+use Rattle.fax_gateway.specs.Reached.{HasNumber, confirmed_if, closed_if, confirmed_on, ended_on, ticked_on, IsCalling, IsCalled, TicksOn, Begins, outcome_of_rep, report_if, ended_with, ended_if, GatewayValue, IsReachedBy}
 use Rattle.fax_gateway.proofs.InCalls.{heard_sends}
 use Rattle.fax_gateway.proofs.States.{have_states}
 
@@ -44,20 +44,20 @@ heard_book (Some l) now number steps h =
     ends_book ended (confirms_if l.number c steps) ∙ ap (closed_if ended) (confirms_book l.number c steps) ∙ ap (λ (n : ℕ). closed_if ended (confirmed_if n c book)) h
 
 -- THE CALLED LEG is served: what this leaves and tells
-pub record Served (setup : Setup) (writes : Writing) (now : ℕ) (z : Sides) (side : CalledSide) (given : Option (List ℕ)) (told : Option Report) (left : Book) : Type 0 where
-  pub called : IsCalled setup writes (serves writes now z).leg side
+pub record Served (setup : Setup) (writes : Writing) (now : ℕ) (z : BothLegs) (endpoint : CalledEndpoint) (given : Option (List ℕ)) (told : Option Report) (left : Book) : Type 0 where
+  pub called : IsCalled setup writes (serves writes now z).leg endpoint
   pub datagram : given ≡ told_called setup writes z.leg now
   pub report : told ≡ told_report writes z.leg now
   pub book : left ≡ book_of (serves writes now z)
 
-outcome_is : (setup : Setup) (writes : Writing) (l : CalledLeg) (side : CalledSide) (now : ℕ) → IsCalled setup writes (Some (with_tick (calls writes l now) now l)) side → outcome_kept side.caller.procedure ≡ outcome_of (calls writes l now).core
-outcome_is setup writes l side now r =
-    let p : Procedure = side.caller.procedure in
+outcome_is : (setup : Setup) (writes : Writing) (l : CalledLeg) (endpoint : CalledEndpoint) (now : ℕ) → IsCalled setup writes (Some (with_tick (calls writes l now) now l)) endpoint → outcome_of_rep endpoint.caller.procedure ≡ outcome_of (calls writes l now).core
+outcome_is setup writes l endpoint now r =
+    let p : Procedure = endpoint.caller.procedure in
     ap (λ (s : State). if◌then◌else◌ {A = Option Outcome} (is_over s) p.outcome None) r.core.follows.state
     ∙ ap (λ (o : Option Outcome). if◌then◌else◌ {A = Option Outcome} (is_over (calls writes l now).core.state) o None) r.core.follows.outcome
 
-delivered_is : (setup : Setup) (writes : Writing) (l : CalledLeg) (side : CalledSide) (now : ℕ) → IsCalled setup writes (Some (with_tick (calls writes l now) now l)) side → side.caller.procedure.counts.delivered ≡ (calls writes l now).core.counts.delivered
-delivered_is setup writes l side now r = ap (λ (c : Counts). c.delivered) r.core.follows.counts
+delivered_is : (setup : Setup) (writes : Writing) (l : CalledLeg) (endpoint : CalledEndpoint) (now : ℕ) → IsCalled setup writes (Some (with_tick (calls writes l now) now l)) endpoint → endpoint.caller.procedure.counts.delivered ≡ (calls writes l now).core.counts.delivered
+delivered_is setup writes l endpoint now r = ap (λ (c : Counts). c.delivered) r.core.follows.counts
 
 entered_book : (o : Option JobValue) (job : JobValue) (past : Past) (outcome : Outcome) (delivered : ℕ) → o ≡ Some job → (pasts.ended_if o past outcome delivered).book ≡ ended past.book outcome delivered
 entered_book None job past outcome delivered e = cc
@@ -73,39 +73,39 @@ report_is l delivered None = refl
 report_is l delivered (Some outcome) = refl
 
 -- a job is being sent
-served_on : (setup : Setup) (writes : Writing) (now : ℕ) (steps : List Step) (l : CalledLeg) (side : CalledSide) (given : Option (List ℕ)) → l.entered ≡ false → (after_steps new_past steps).book.sending ≡ Some l.job
-    → IsCalled setup writes (Some (with_tick (calls writes l now) now l)) side → given ≡ told_by setup l.given (calls writes l now).given
-    → Served setup writes now (record { steps = steps; leg = Some l }) side given (report_if (Some l.job) (outcome_kept side.caller.procedure) side.caller.procedure.counts.delivered) (ended_with (outcome_kept side.caller.procedure) side.caller.procedure.counts.delivered (after_steps new_past steps).book)
-served_on setup writes now steps l side given on sending r told =
-    let t : Ticked = calls writes l now in
+served_on : (setup : Setup) (writes : Writing) (now : ℕ) (steps : List Step) (l : CalledLeg) (endpoint : CalledEndpoint) (given : Option (List ℕ)) → l.entered ≡ false → (after_steps new_past steps).book.sending ≡ Some l.job
+    → IsCalled setup writes (Some (with_tick (calls writes l now) now l)) endpoint → given ≡ told_by setup l.given (calls writes l now).given
+    → Served setup writes now (record { steps = steps; leg = Some l }) endpoint given (report_if (Some l.job) (outcome_of_rep endpoint.caller.procedure) endpoint.caller.procedure.counts.delivered) (ended_with (outcome_of_rep endpoint.caller.procedure) endpoint.caller.procedure.counts.delivered (after_steps new_past steps).book)
+served_on setup writes now steps l endpoint given on sending r told =
+    let t : TickResult = calls writes l now in
     let o : Option Outcome = outcome_of t.core in
     let d : ℕ = t.core.counts.delivered in
     let book : Book = (after_steps new_past steps).book in
-    let kept : Option Outcome = outcome_kept side.caller.procedure in
-    let outcome : kept ≡ o = outcome_is setup writes l side now r in
-    let delivered : side.caller.procedure.counts.delivered ≡ d = delivered_is setup writes l side now r in
+    let kept : Option Outcome = outcome_of_rep endpoint.caller.procedure in
+    let outcome : kept ≡ o = outcome_is setup writes l endpoint now r in
+    let delivered : endpoint.caller.procedure.counts.delivered ≡ d = delivered_is setup writes l endpoint now r in
     let entered : (if◌then◌else◌ {A = Option Outcome} l.entered None o) ≡ o = ap (λ (b : Bool). if◌then◌else◌ {A = Option Outcome} b None o) on in
     record {
-      called = subst (λ (b : Bool). IsCalled setup writes (Some (if◌then◌else◌ {A = CalledLeg} b l (with_tick t now l))) side) (sym on) r;
+      called = subst (λ (b : Bool). IsCalled setup writes (Some (if◌then◌else◌ {A = CalledLeg} b l (with_tick t now l))) endpoint) (sym on) r;
       datagram = told ∙ sym (ap (λ (b : Bool). if◌then◌else◌ {A = Option (List ℕ)} b None (told_by setup l.given t.given)) on);
       report =
-          ap (λ (x : Option Outcome). report_if (Some l.job) x side.caller.procedure.counts.delivered) outcome ∙ ap (report_if (Some l.job) o) delivered ∙ report_is l d o
+          ap (λ (x : Option Outcome). report_if (Some l.job) x endpoint.caller.procedure.counts.delivered) outcome ∙ ap (report_if (Some l.job) o) delivered ∙ report_is l d o
           ∙ sym (ap (report_by l d) entered);
       book =
-          ap (λ (x : Option Outcome). ended_with x side.caller.procedure.counts.delivered book) outcome ∙ ap (λ (n : ℕ). ended_with o n book) delivered
+          ap (λ (x : Option Outcome). ended_with x endpoint.caller.procedure.counts.delivered book) outcome ∙ ap (λ (n : ℕ). ended_with o n book) delivered
           ∙ sym (enters_book l.job d o steps sending) ∙ sym (ap (λ (x : Option Outcome). (after_steps new_past (enters d x steps)).book) entered);
     }
 
 -- no job is being sent
-served_off : (setup : Setup) (writes : Writing) (now : ℕ) (steps : List Step) (leg : Option CalledLeg) (side : CalledSide) → is_free leg ≡ true → IsCalled setup writes leg side
-    → Served setup writes now (record { steps = steps; leg = leg }) side None None (after_steps new_past steps).book
-served_off setup writes now steps None side off r = record { called = r; datagram = refl; report = refl; book = refl }
-served_off setup writes now steps (Some l) side off r =
-    let t : Ticked = calls writes l now in
+served_off : (setup : Setup) (writes : Writing) (now : ℕ) (steps : List Step) (leg : Option CalledLeg) (endpoint : CalledEndpoint) → is_free leg ≡ true → IsCalled setup writes leg endpoint
+    → Served setup writes now (record { steps = steps; leg = leg }) endpoint None None (after_steps new_past steps).book
+served_off setup writes now steps None endpoint off r = record { called = r; datagram = refl; report = refl; book = refl }
+served_off setup writes now steps (Some l) endpoint off r =
+    let t : TickResult = calls writes l now in
     let o : Option Outcome = outcome_of t.core in
     let entered : (if◌then◌else◌ {A = Option Outcome} l.entered None o) ≡ None = ap (λ (b : Bool). if◌then◌else◌ {A = Option Outcome} b None o) off in
     record {
-      called = subst (λ (b : Bool). IsCalled setup writes (Some (if◌then◌else◌ {A = CalledLeg} b l (with_tick t now l))) side) (sym off) r;
+      called = subst (λ (b : Bool). IsCalled setup writes (Some (if◌then◌else◌ {A = CalledLeg} b l (with_tick t now l))) endpoint) (sym off) r;
       datagram = sym (ap (λ (b : Bool). if◌then◌else◌ {A = Option (List ℕ)} b None (told_by setup l.given t.given)) off);
       report = sym (ap (report_by l t.core.counts.delivered) entered);
       book = sym (ap (λ (x : Option Outcome). (after_steps new_past (enters t.core.counts.delivered x steps)).book) entered);
@@ -124,12 +124,12 @@ sent_off (Some l) e = by l.entered e
     by true e = refl
     by false e = cc
 
-pub same_served : (setup : Setup) (writes : Writing) (now : ℕ) (y z : Sides) (side : CalledSide) (given : Option (List ℕ)) (t told : Option Report) (l left : Book) → z ≡ y → told ≡ t → left ≡ l → Served setup writes now y side given t l → Served setup writes now z side given told left
-same_served setup writes now y z side given t told l left a b c h =
-    subst (λ (x : Sides). Served setup writes now x side given told left) (sym a) (subst (λ (r : Option Report). Served setup writes now y side given r left) (sym b) (subst (λ (k : Book). Served setup writes now y side given t k) (sym c) h))
+pub same_served : (setup : Setup) (writes : Writing) (now : ℕ) (y z : BothLegs) (endpoint : CalledEndpoint) (given : Option (List ℕ)) (t told : Option Report) (l left : Book) → z ≡ y → told ≡ t → left ≡ l → Served setup writes now y endpoint given t l → Served setup writes now z endpoint given told left
+same_served setup writes now y z endpoint given t told l left a b c h =
+    subst (λ (x : BothLegs). Served setup writes now x endpoint given told left) (sym a) (subst (λ (r : Option Report). Served setup writes now y endpoint given r left) (sym b) (subst (λ (k : Book). Served setup writes now y endpoint given t k) (sym c) h))
 
 abbrev steps_heard : Setup → Writing → List Event → ℕ → List Step
-steps_heard setup writes trace at = heard_in_tick (calling_leg setup trace) (max at (clock trace)) (sides setup writes trace).steps
+steps_heard setup writes trace at = heard_in_tick (calling_leg setup trace) (max at (clock trace)) (both_legs setup writes trace).steps
 
 -- what the book is when it heard of the calling leg
 abbrev pub IsHeard : Setup → List Event → ℕ → GatewayValue → Book → Type 0
@@ -139,12 +139,12 @@ heard_is : (setup : Setup) (writes : Writing) (trace : List Event) (at : ℕ) (o
 heard_is setup writes trace at old heard r h =
     let now : ℕ = max at (clock trace) in
     let leg : Option CallingLeg = calling_leg setup trace in
-    h ∙ ap (λ (b : Book). closed_if (ended_on leg now) (confirmed_if old.calling.number (confirmed_on leg now) b)) r.book ∙ sym (heard_book leg now old.calling.number (sides setup writes trace).steps r.calling.number)
+    h ∙ ap (λ (b : Book). closed_if (ended_on leg now) (confirmed_if old.calling.number (confirmed_on leg now) b)) r.book ∙ sym (heard_book leg now old.calling.number (both_legs setup writes trace).steps r.calling.number)
 
 sending_is : (setup : Setup) (writes : Writing) (trace : List Event) (at : ℕ) (old : GatewayValue) → IsReachedBy setup writes trace old → (after_steps new_past (steps_heard setup writes trace at)).book.sending ≡ old.book.sending
-sending_is setup writes trace at old r = heard_sends (calling_leg setup trace) (max at (clock trace)) (sides setup writes trace).steps ∙ sym (ap (λ (b : Book). b.sending) r.book)
+sending_is setup writes trace at old r = heard_sends (calling_leg setup trace) (max at (clock trace)) (both_legs setup writes trace).steps ∙ sym (ap (λ (b : Book). b.sending) r.book)
 
-pub job_is : (setup : Setup) (writes : Writing) (trace : List Event) (old : GatewayValue) → IsReachedBy setup writes trace old → job_sent (sides setup writes trace).leg ≡ old.book.sending
+pub job_is : (setup : Setup) (writes : Writing) (trace : List Event) (old : GatewayValue) → IsReachedBy setup writes trace old → job_sent (both_legs setup writes trace).leg ≡ old.book.sending
 job_is setup writes trace old r = let h : HaveStates setup writes trace = have_states setup writes trace r.is_trace in sym (ap (λ (b : Book). b.sending) r.book ∙ h.sending)
 
 begins_none : (setup : Setup) (leg : Option CalledLeg) → is_free leg ≡ false → begins_next setup leg ≡ false
@@ -155,79 +155,79 @@ begins_none setup leg on = ap (λ (b : Bool). not setup.asks && b) on ∙ by set
     by false = refl
 
 -- where calls are asked for, no tick begins one
-pub in_tick_at_rest : (setup : Setup) (writes : Writing) (trace : List Event) (at : ℕ) → setup.asks ≡ true → in_tick setup writes trace at ≡ record { steps = steps_heard setup writes trace at; leg = (sides setup writes trace).leg }
+pub in_tick_at_rest : (setup : Setup) (writes : Writing) (trace : List Event) (at : ℕ) → setup.asks ≡ true → in_tick setup writes trace at ≡ record { steps = steps_heard setup writes trace at; leg = (both_legs setup writes trace).leg }
 in_tick_at_rest setup writes trace at asks =
-    let z : Sides = record { steps = steps_heard setup writes trace at; leg = (sides setup writes trace).leg } in
-    ap (λ (b : Bool). if◌then◌else◌ {A = Sides} (not b && is_free z.leg) (sends true setup writes (max at (clock trace)) z) z) asks
+    let z : BothLegs = record { steps = steps_heard setup writes trace at; leg = (both_legs setup writes trace).leg } in
+    ap (λ (b : Bool). if◌then◌else◌ {A = BothLegs} (not b && is_free z.leg) (sends true setup writes (max at (clock trace)) z) z) asks
 
 pub serves_at_rest : (setup : Setup) (writes : Writing) (trace : List Event) (at : ℕ) (old : GatewayValue) (heard : Book) → setup.asks ≡ true → IsReachedBy setup writes trace old → old.book.sending ≡ None
     → IsHeard setup trace (max at (clock trace)) old heard → Served setup writes (max at (clock trace)) (in_tick setup writes trace at) old.called None None heard
 serves_at_rest setup writes trace at old heard asks r none h =
     let now : ℕ = max at (clock trace) in
-    let leg : Option CalledLeg = (sides setup writes trace).leg in
+    let leg : Option CalledLeg = (both_legs setup writes trace).leg in
     let steps : List Step = steps_heard setup writes trace at in
     same_served setup writes now (record { steps = steps; leg = leg }) (in_tick setup writes trace at) old.called None None None (after_steps new_past steps).book heard
     (in_tick_at_rest setup writes trace at asks) refl (heard_is setup writes trace at old heard r h)
     (served_off setup writes now steps leg old.called (sent_off leg (job_is setup writes trace old r ∙ none)) r.called)
 
-pub in_tick_on : (setup : Setup) (writes : Writing) (trace : List Event) (at : ℕ) (leg : Option CalledLeg) → (sides setup writes trace).leg ≡ leg → is_free leg ≡ false → in_tick setup writes trace at ≡ record { steps = steps_heard setup writes trace at; leg = leg }
+pub in_tick_on : (setup : Setup) (writes : Writing) (trace : List Event) (at : ℕ) (leg : Option CalledLeg) → (both_legs setup writes trace).leg ≡ leg → is_free leg ≡ false → in_tick setup writes trace at ≡ record { steps = steps_heard setup writes trace at; leg = leg }
 in_tick_on setup writes trace at leg is on =
-    let z : Sides = record { steps = steps_heard setup writes trace at; leg = (sides setup writes trace).leg } in
-    ap (λ (b : Bool). if◌then◌else◌ {A = Sides} b (sends true setup writes (max at (clock trace)) z) z) (ap (λ (o : Option CalledLeg). begins_next setup o) is ∙ begins_none setup leg on) ∙ ap (λ (o : Option CalledLeg). record { steps = steps_heard setup writes trace at; leg = o }) is
+    let z : BothLegs = record { steps = steps_heard setup writes trace at; leg = (both_legs setup writes trace).leg } in
+    ap (λ (b : Bool). if◌then◌else◌ {A = BothLegs} b (sends true setup writes (max at (clock trace)) z) z) (ap (λ (o : Option CalledLeg). begins_next setup o) is ∙ begins_none setup leg on) ∙ ap (λ (o : Option CalledLeg). record { steps = steps_heard setup writes trace at; leg = o }) is
 
 -- a job is being sent
-pub serves_on : (setup : Setup) (writes : Writing) (trace : List Event) (at : ℕ) (old : GatewayValue) (job : JobValue) (side : CalledSide) (given : Option (List ℕ)) (heard : Book) → IsReachedBy setup writes trace old → old.book.sending ≡ Some job
-    → IsHeard setup trace (max at (clock trace)) old heard → ((l : CalledLeg) → (sides setup writes trace).leg ≡ Some l → l.entered ≡ false → l.job ≡ job → IsCalled setup writes (Some l) old.called → TicksOn setup writes l (max at (clock trace)) given side)
-    → Served setup writes (max at (clock trace)) (in_tick setup writes trace at) side given (report_if (Some job) (outcome_kept side.caller.procedure) side.caller.procedure.counts.delivered)
-    (ended_if (Some job) (outcome_kept side.caller.procedure) side.caller.procedure.counts.delivered heard)
-serves_on setup writes trace at old job side given heard r sending h f = by (sides setup writes trace).leg refl (job_is setup writes trace old r ∙ sending) r.called
+pub serves_on : (setup : Setup) (writes : Writing) (trace : List Event) (at : ℕ) (old : GatewayValue) (job : JobValue) (endpoint : CalledEndpoint) (given : Option (List ℕ)) (heard : Book) → IsReachedBy setup writes trace old → old.book.sending ≡ Some job
+    → IsHeard setup trace (max at (clock trace)) old heard → ((l : CalledLeg) → (both_legs setup writes trace).leg ≡ Some l → l.entered ≡ false → l.job ≡ job → IsCalled setup writes (Some l) old.called → TicksOn setup writes l (max at (clock trace)) given endpoint)
+    → Served setup writes (max at (clock trace)) (in_tick setup writes trace at) endpoint given (report_if (Some job) (outcome_of_rep endpoint.caller.procedure) endpoint.caller.procedure.counts.delivered)
+    (ended_if (Some job) (outcome_of_rep endpoint.caller.procedure) endpoint.caller.procedure.counts.delivered heard)
+serves_on setup writes trace at old job endpoint given heard r sending h f = by (both_legs setup writes trace).leg refl (job_is setup writes trace old r ∙ sending) r.called
   where
     o : Option Outcome
-    o = outcome_kept side.caller.procedure
+    o = outcome_of_rep endpoint.caller.procedure
 
     d : ℕ
-    d = side.caller.procedure.counts.delivered
+    d = endpoint.caller.procedure.counts.delivered
 
-    by : (leg : Option CalledLeg) → (sides setup writes trace).leg ≡ leg → job_sent leg ≡ Some job → IsCalled setup writes leg old.called
-        → Served setup writes (max at (clock trace)) (in_tick setup writes trace at) side given (report_if (Some job) o d) (ended_if (Some job) o d heard)
+    by : (leg : Option CalledLeg) → (both_legs setup writes trace).leg ≡ leg → job_sent leg ≡ Some job → IsCalled setup writes leg old.called
+        → Served setup writes (max at (clock trace)) (in_tick setup writes trace at) endpoint given (report_if (Some job) o d) (ended_if (Some job) o d heard)
     by None is e c = cc
     by (Some l) is e c =
         let now : ℕ = max at (clock trace) in
         let steps : List Step = steps_heard setup writes trace at in
         let on = sent_on l.entered l.job job e in
-        let t : TicksOn setup writes l now given side = f l is on.0 on.1 c in
+        let t : TicksOn setup writes l now given endpoint = f l is on.0 on.1 c in
         let sent : (after_steps new_past steps).book.sending ≡ Some l.job = sending_is setup writes trace at old r ∙ sending ∙ sym (ap (λ (j : JobValue). Some j) on.1) in
-        same_served setup writes now (record { steps = steps; leg = Some l }) (in_tick setup writes trace at) side given (report_if (Some l.job) o d) (report_if (Some job) o d) (ended_with o d (after_steps new_past steps).book) (ended_with o d heard)
+        same_served setup writes now (record { steps = steps; leg = Some l }) (in_tick setup writes trace at) endpoint given (report_if (Some l.job) o d) (report_if (Some job) o d) (ended_with o d (after_steps new_past steps).book) (ended_with o d heard)
         (in_tick_on setup writes trace at (Some l) is on.0) (ap (λ (j : JobValue). report_if (Some j) o d) (sym on.1)) (ap (λ (b : Book). ended_with o d b) (heard_is setup writes trace at old heard r h))
-        (served_on setup writes now steps l side given on.0 sent t.called t.told)
+        (served_on setup writes now steps l endpoint given on.0 sent t.called t.told)
 
 -- no job is being sent: the one that was closed first is, where one waits
-sends_free : (setup : Setup) (writes : Writing) (trace : List Event) (at : ℕ) → setup.asks ≡ false → is_free (sides setup writes trace).leg ≡ true → in_tick setup writes trace at ≡ sends true setup writes (max at (clock trace)) (record { steps = steps_heard setup writes trace at; leg = (sides setup writes trace).leg })
+sends_free : (setup : Setup) (writes : Writing) (trace : List Event) (at : ℕ) → setup.asks ≡ false → is_free (both_legs setup writes trace).leg ≡ true → in_tick setup writes trace at ≡ sends true setup writes (max at (clock trace)) (record { steps = steps_heard setup writes trace at; leg = (both_legs setup writes trace).leg })
 sends_free setup writes trace at asks free =
-    let z : Sides = record { steps = steps_heard setup writes trace at; leg = (sides setup writes trace).leg } in
-    ap (λ (b : Bool). if◌then◌else◌ {A = Sides} b (sends true setup writes (max at (clock trace)) z) z)
+    let z : BothLegs = record { steps = steps_heard setup writes trace at; leg = (both_legs setup writes trace).leg } in
+    ap (λ (b : Bool). if◌then◌else◌ {A = BothLegs} b (sends true setup writes (max at (clock trace)) z) z)
     (ap (λ (b : Bool). not b && is_free z.leg) asks ∙ free)
 
-pub serves_off : (setup : Setup) (writes : Writing) (trace : List Event) (at : ℕ) (old : GatewayValue) (side : CalledSide) (given : Option (List ℕ)) (heard : Book) → setup.asks ≡ false → IsReachedBy setup writes trace old → old.book.sending ≡ None
-    → IsHeard setup trace (max at (clock trace)) old heard → Begins setup writes (sides setup writes trace).leg (taken heard).sending (max at (clock trace)) given old.called side
-    → Served setup writes (max at (clock trace)) (in_tick setup writes trace at) side given (report_if (taken heard).sending (outcome_kept side.caller.procedure) side.caller.procedure.counts.delivered)
-    (ended_if (taken heard).sending (outcome_kept side.caller.procedure) side.caller.procedure.counts.delivered (taken heard))
-serves_off setup writes trace at old side given heard asks r none h begins = by (taken heard).sending refl begins
+pub serves_off : (setup : Setup) (writes : Writing) (trace : List Event) (at : ℕ) (old : GatewayValue) (endpoint : CalledEndpoint) (given : Option (List ℕ)) (heard : Book) → setup.asks ≡ false → IsReachedBy setup writes trace old → old.book.sending ≡ None
+    → IsHeard setup trace (max at (clock trace)) old heard → Begins setup writes (both_legs setup writes trace).leg (taken heard).sending (max at (clock trace)) given old.called endpoint
+    → Served setup writes (max at (clock trace)) (in_tick setup writes trace at) endpoint given (report_if (taken heard).sending (outcome_of_rep endpoint.caller.procedure) endpoint.caller.procedure.counts.delivered)
+    (ended_if (taken heard).sending (outcome_of_rep endpoint.caller.procedure) endpoint.caller.procedure.counts.delivered (taken heard))
+serves_off setup writes trace at old endpoint given heard asks r none h begins = by (taken heard).sending refl begins
   where
     now : ℕ
     now = max at (clock trace)
 
     leg : Option CalledLeg
-    leg = (sides setup writes trace).leg
+    leg = (both_legs setup writes trace).leg
 
     steps : List Step
     steps = Sends ∷ steps_heard setup writes trace at
 
     o : Option Outcome
-    o = outcome_kept side.caller.procedure
+    o = outcome_of_rep endpoint.caller.procedure
 
     d : ℕ
-    d = side.caller.procedure.counts.delivered
+    d = endpoint.caller.procedure.counts.delivered
 
     free : is_free leg ≡ true
     free = sent_off leg (job_is setup writes trace old r ∙ none)
@@ -241,16 +241,16 @@ serves_off setup writes trace at old side given heard asks r none h begins = by 
     in_it s e =
         sends_free setup writes trace at asks free ∙ ap (λ (x : Option JobValue). record { steps = steps; leg = leg_of true x (core_left setup writes leg) now leg }) (ap (λ (b : Book). b.sending) book ∙ e)
 
-    by : (s : Option JobValue) → (taken heard).sending ≡ s → Begins setup writes leg s now given old.called side → Served setup writes now (in_tick setup writes trace at) side given (report_if s o d) (ended_if s o d (taken heard))
+    by : (s : Option JobValue) → (taken heard).sending ≡ s → Begins setup writes leg s now given old.called endpoint → Served setup writes now (in_tick setup writes trace at) endpoint given (report_if s o d) (ended_if s o d (taken heard))
     by None e b =
-        subst (λ (x : CalledSide). Served setup writes now (in_tick setup writes trace at) x given None (taken heard)) (sym b.1)
+        subst (λ (x : CalledEndpoint). Served setup writes now (in_tick setup writes trace at) x given None (taken heard)) (sym b.1)
         (subst (λ (x : Option (List ℕ)). Served setup writes now (in_tick setup writes trace at) old.called x None (taken heard)) (sym b.0)
         (same_served setup writes now (record { steps = steps; leg = leg }) (in_tick setup writes trace at) old.called None None None (after_steps new_past steps).book (taken heard) (in_it None e) refl (sym book)
         (served_off setup writes now steps leg old.called free r.called)))
     by (Some job) e b =
         let l : CalledLeg = begun_leg job (core_left setup writes leg) now in
-        same_served setup writes now (record { steps = steps; leg = Some l }) (in_tick setup writes trace at) side given (report_if (Some job) o d) (report_if (Some job) o d) (ended_with o d (after_steps new_past steps).book) (ended_with o d (taken heard))
-        (in_it (Some job) e) refl (ap (λ (x : Book). ended_with o d x) (sym book)) (served_on setup writes now steps l side given refl (ap (λ (x : Book). x.sending) book ∙ e) b.called b.told)
+        same_served setup writes now (record { steps = steps; leg = Some l }) (in_tick setup writes trace at) endpoint given (report_if (Some job) o d) (report_if (Some job) o d) (ended_with o d (after_steps new_past steps).book) (ended_with o d (taken heard))
+        (in_it (Some job) e) refl (ap (λ (x : Book). ended_with o d x) (sym book)) (served_on setup writes now steps l endpoint given refl (ap (λ (x : Book). x.sending) book ∙ e) b.called b.told)
 
 ticked_same : (setup : Setup) (leg : Option CallingLeg) (now at : ℕ) (given : Given) → ticked_on leg now ≡ calling_after setup leg now (Tick at given)
 ticked_same setup None now at given = refl

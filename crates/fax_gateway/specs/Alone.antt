@@ -7,19 +7,19 @@ use Rattle.fax_gateway.specs.CallingLegs.{calling_leg}
 use Rattle.fax_gateway.specs.Traces.{IsTrace}
 
 -- the events of the calling leg and the ticks, at their moments as the clock read them, without their answers
-pub data Heard : Type 0 where
-  Rang : (now : ℕ) → Heard
-  Came : (octets : List ℕ) → (now : ℕ) → Heard
-  Ticked : (now : ℕ) → Heard
+pub data HeardEvent : Type 0 where
+  Rang : (now : ℕ) → HeardEvent
+  Came : (octets : List ℕ) → (now : ℕ) → HeardEvent
+  Ticked : (now : ℕ) → HeardEvent
 
-abbrev pub part_with : Event → ℕ → List Heard → List Heard
+abbrev pub part_with : Event → ℕ → List HeardEvent → List HeardEvent
 part_with (Ring at number) now part = Rang now ∷ part
 part_with (FromCalling octets at decided read) now part = Came octets now ∷ part
 part_with (FromCalled octets at decided) now part = part
 part_with (Tick at given) now part = Ticked now ∷ part
 part_with (Placed at connected) now part = part
 
-abbrev pub calling_part : List Event → List Heard
+abbrev pub calling_part : List Event → List HeardEvent
 calling_part [] = []
 calling_part (e ∷ earlier) = part_with e (clock (e ∷ earlier)) (calling_part earlier)
 

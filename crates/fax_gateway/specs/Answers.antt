@@ -8,11 +8,11 @@ use Rattle.fax_call.specs.Writings.{Writing}
 use Rattle.fax_gateway.specs.Setups.{Setup}
 use Rattle.fax_gateway.specs.Events.{Event, Tick, Given}
 use Rattle.fax_gateway.specs.CallingLegs.{CallingLeg, core_of, calling_leg}
-use Rattle.fax_gateway.specs.Sides.{sides}
+use Rattle.fax_gateway.specs.BothLegs.{both_legs}
 use Rattle.fax_gateway.specs.Traces.{IsTrace}
 use Rattle.fax_gateway.specs.Told.{gives_mcf}
 
--- the steps behind the old ones confirm no page
+-- the steps after the old ones confirm no page
 pub record AddsNoPage (old new : List Step) : Type 0 where
   pub later : List Step
   pub no_page : confirmations later ≡ []
@@ -33,7 +33,7 @@ pub record GivesAgain (leg : CallingLeg) (old new : List Step) : Type 0 where
 abbrev pub EachMcfAnswers : Type 0
 EachMcfAnswers =
     (setup : Setup) (writes : Writing) (earlier : List Event) (at : ℕ) (given : Given) → IsTrace setup writes (Tick at given ∷ earlier) →
-    let old : List Step = (sides setup writes earlier).steps in
-    let new : List Step = (sides setup writes (Tick at given ∷ earlier)).steps in
+    let old : List Step = (both_legs setup writes earlier).steps in
+    let new : List Step = (both_legs setup writes (Tick at given ∷ earlier)).steps in
     (gives_mcf given.on_calling ≡ true → (leg : CallingLeg) × (calling_leg setup earlier ≡ Some leg) × (ConfirmsNow leg old new ⊎ GivesAgain leg old new))
     × (gives_mcf given.on_calling ≡ false → AddsNoPage old new)

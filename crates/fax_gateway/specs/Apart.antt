@@ -29,7 +29,7 @@ last_given leg (Placed at connected ∷ earlier) = last_given leg earlier
 abbrev pub HasPreamble : List ℕ → Type 0
 HasPreamble octets = (datagram : DatagramValue) × (datagram_of octets ≡ Ok datagram) × (datagram.primary ≡ preamble)
 
--- behind a datagram 40 ms at least, and behind a preamble the pause that is set
+-- after a datagram 40 ms at least, and after a preamble the pause that is set
 abbrev pub IsApart : Setup → Option LastGiven → ℕ → Type 0
 IsApart setup None now = Unit {0}
 IsApart setup (Some last) now = (last.at + spans.pace ≤ now) × (HasPreamble last.octets → last.at + setup.pause ≤ now)

@@ -11,16 +11,16 @@ use Rattle.fax_jobs.specs.Jobs.{JobValue}
 use Rattle.fax_jobs.specs.Books.{report_of}
 use Rattle.fax_call.specs.Writings.{Writing}
 use Rattle.fax_call.specs.Replies.{Packet, written}
-use Rattle.fax_call.specs.Calls.{Calling, new_calling, not_placed, started, ticked, Ticked, CallEvent, Comes, Ticks, after_events}
+use Rattle.fax_call.specs.Calls.{CallerCore, new_calling, not_placed, started, ticked, TickResult, CallEvent, Comes, Ticks, after_events}
 use Rattle.fax_call.specs.Delivery.{is_over}
 use Rattle.fax_gateway.specs.Setups.{Setup}
 use Rattle.fax_gateway.specs.Legs.{new_pieces, decided_by, sent}
 
--- The last call: its job, the calling side before it, when it was started, and whether it was placed; since then the pieces and
+-- The last call: its job, the caller before it, when it was started, and whether it was placed; since then the pieces and
 -- ticks, the datagrams that arrived and the packets given, the newest first; and whether its end was entered in the book.
 pub record CalledLeg : Type 0 where
   pub job : JobValue
-  pub before : Calling
+  pub before : CallerCore
   pub begun : ℕ
   pub placed : Bool
   pub events : List CallEvent
@@ -28,10 +28,10 @@ pub record CalledLeg : Type 0 where
   pub given : List (List ℕ)
   pub entered : Bool
 
-abbrev pub begun_core : CalledLeg → Calling
+abbrev pub begun_core : CalledLeg → CallerCore
 begun_core l = if l.placed then started l.before l.job l.begun else not_placed l.before l.job
 
-abbrev pub core_of : Writing → CalledLeg → Calling
+abbrev pub core_of : Writing → CalledLeg → CallerCore
 core_of writes l = after_events writes l.job (begun_core l) l.events
 
 -- no job is being sent: there was none, or the end of its call was entered
@@ -39,32 +39,32 @@ abbrev pub is_free : Option CalledLeg → Bool
 is_free None = true
 is_free (Some l) = l.entered
 
--- the calling side as a call leaves it
-abbrev pub core_left : Setup → Writing → Option CalledLeg → Calling
+-- the caller as a call leaves it
+abbrev pub core_left : Setup → Writing → Option CalledLeg → CallerCore
 core_left setup writes None = new_calling setup.pause (record { width = W1728; fine = false })
 core_left setup writes (Some l) = core_of writes l
 
 -- the call of a job begins; one that could not be placed is over as it begins
-abbrev pub placed_leg : (connected : Bool) → JobValue → Calling → ℕ → CalledLeg
+abbrev pub placed_leg : (connected : Bool) → JobValue → CallerCore → ℕ → CalledLeg
 placed_leg connected job before now =
     record { job = job; before = before; begun = now; placed = connected; events = []; arrived = []; given = []; entered = false }
 
-abbrev pub begun_leg : JobValue → Calling → ℕ → CalledLeg
+abbrev pub begun_leg : JobValue → CallerCore → ℕ → CalledLeg
 begun_leg job before now = placed_leg true job before now
 
 -- what a tick does on the leg
-abbrev pub calls : Writing → CalledLeg → ℕ → Ticked
+abbrev pub calls : Writing → CalledLeg → ℕ → TickResult
 calls writes l now = ticked writes l.job (core_of writes l) now
 
 -- a call that is over has an outcome
-abbrev pub outcome_of : Calling → Option Outcome
+abbrev pub outcome_of : CallerCore → Option Outcome
 outcome_of core = if is_over core.state then core.outcome else None
 
 abbrev pub packets_given : Option Packet → List (List ℕ) → List (List ℕ)
 packets_given None given = given
 packets_given (Some packet) given = written packet ∷ given
 
-abbrev pub with_tick : Ticked → ℕ → CalledLeg → CalledLeg
+abbrev pub with_tick : TickResult → ℕ → CalledLeg → CalledLeg
 with_tick t now l =
     record l { events = Ticks now ∷ l.events; given = packets_given t.given l.given; entered = is_some (outcome_of t.core) }
 

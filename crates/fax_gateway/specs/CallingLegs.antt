@@ -5,24 +5,24 @@ use Rattle.fax_udptl.specs.Datagrams.{DatagramValue, datagram_of}
 use Rattle.fax_answer.specs.declared.state.State.{State}
 use Rattle.fax_answer.specs.declared.state.State.TheVariants.{Idle}
 use Rattle.fax_answer.specs.Table.{Reading, Question}
-use Rattle.fax_answer.specs.Replies.{ConfirmedPage, Waiting}
-use Rattle.fax_answer.specs.Calls.{Answering, new_answering, rung, ticked, Ticked, first_asked, CallEvent, Ticks, after_events}
+use Rattle.fax_answer.specs.Replies.{ConfirmedPage, WaitingPacket}
+use Rattle.fax_answer.specs.Calls.{AnswererCore, new_answering, rung, ticked, TickResult, first_asked, CallEvent, Ticks, after_events}
 use Rattle.fax_answer.specs.Readings.{comes_all}
 use Rattle.fax_gateway.specs.Setups.{Setup}
 use Rattle.fax_gateway.specs.Events.{Event, Ring, FromCalling, Tick, clock}
 use Rattle.fax_gateway.specs.Legs.{new_pieces, decided_by, sent}
 
--- The last call: its number, the answering side before it, when it was rung, and since then the pieces and ticks, the
+-- The last call: its number, the answerer before it, when it was rung, and since then the pieces and ticks, the
 -- datagrams that arrived and the packets given; the newest first.
 pub record CallingLeg : Type 0 where
   pub number : ℕ
-  pub before : Answering
+  pub before : AnswererCore
   pub begun : ℕ
   pub events : List CallEvent
   pub arrived : List DatagramValue
   pub given : List (List ℕ)
 
-abbrev pub core_of : CallingLeg → Answering
+abbrev pub core_of : CallingLeg → AnswererCore
 core_of l = after_events (rung l.before l.begun) l.events
 
 abbrev pub is_idle : State → Bool
@@ -35,17 +35,17 @@ idle_after None = true
 idle_after (Some l) = is_idle (core_of l).state
 
 -- what a tick does on the leg
-abbrev pub answers : CallingLeg → ℕ → Ticked
+abbrev pub answers : CallingLeg → ℕ → TickResult
 answers l now = ticked (core_of l) now
 
-abbrev pub rung_leg : Answering → ℕ → ℕ → CallingLeg
+abbrev pub rung_leg : AnswererCore → ℕ → ℕ → CallingLeg
 rung_leg before now number = record { number = number; before = before; begun = now; events = []; arrived = []; given = [] }
 
 abbrev pub leg_with : CallingLeg → ℕ → Reading → Result DatagramValue UdptlFault → CallingLeg
 leg_with l now read (Ok d) = record l { events = comes_all (new_pieces l.arrived d) now read l.events; arrived = d ∷ l.arrived }
 leg_with l now read (Err fault) = l
 
-abbrev pub packets_with : Option Waiting → List (List ℕ) → List (List ℕ)
+abbrev pub packets_with : Option WaitingPacket → List (List ℕ) → List (List ℕ)
 packets_with None given = given
 packets_with (Some w) given = w.packet ∷ given
 
@@ -81,7 +81,7 @@ question None now octets = None
 question (Some l) now octets = if is_idle (core_of l).state then None else asked_by l now (datagram_of octets)
 
 -- the datagram that a tick gives, and the page that it confirms
-abbrev pub told_by : Setup → List (List ℕ) → Option Waiting → Option (List ℕ)
+abbrev pub told_by : Setup → List (List ℕ) → Option WaitingPacket → Option (List ℕ)
 told_by setup given None = None
 told_by setup given (Some w) = Some (sent setup given w.packet)
 
@@ -89,6 +89,6 @@ abbrev pub told_calling : Setup → Option CallingLeg → ℕ → Option (List �
 told_calling setup None now = None
 told_calling setup (Some l) now = told_by setup l.given (answers l now).given
 
-abbrev pub confirmed_by : Option Waiting → Option ConfirmedPage
+abbrev pub confirmed_by : Option WaitingPacket → Option ConfirmedPage
 confirmed_by None = None
 confirmed_by (Some w) = w.confirmed

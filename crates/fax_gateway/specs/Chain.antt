@@ -17,7 +17,7 @@ use Rattle.fax_gateway.specs.CallingLegs as calling
 use Rattle.fax_gateway.specs.CallingLegs.{CallingLeg, calling_leg}
 use Rattle.fax_gateway.specs.CalledLegs.{CalledLeg}
 use Rattle.fax_gateway.specs.Forwards.{WasConfirmed}
-use Rattle.fax_gateway.specs.Sides.{sides}
+use Rattle.fax_gateway.specs.BothLegs.{both_legs}
 use Rattle.fax_gateway.specs.Told.{leg_marks}
 use Rattle.fax_gateway.specs.Traces.{IsTrace}
 
@@ -27,7 +27,7 @@ use Rattle.fax_gateway.specs.Traces.{IsTrace}
 pub record IsJoined (setup other : Setup) (writes others : Writing) (first second : List Event) (leg : CalledLeg) (l : CallingLeg) : Type 0 where
   pub is_first : IsTrace setup writes first
   pub is_second : IsTrace other others second
-  pub is_leg : (sides setup writes first).leg ≡ Some leg
+  pub is_leg : (both_legs setup writes first).leg ≡ Some leg
   pub is_call : calling_leg other second ≡ Some l
   pub arrivals : List Arrival
   pub honest : IsHonest (reverse leg.given) arrivals
@@ -79,7 +79,7 @@ abbrev pub Relays : Setup → Writing → List Event → CalledLeg → List Entr
 Relays setup writes first leg [] bound = Unit {0}
 Relays setup writes first leg (e ∷ before) bound = RelaysBy setup writes first leg (page_accepted e.decision) bound (Relays setup writes first leg before)
 
--- So it is where the first sent no EOM in that call. (Behind EOM a page of another format follows, and a second that lost the DCS
+-- So it is where the first sent no EOM in that call. (After EOM a page of another format follows, and a second that lost the DCS
 -- of it would read it under the one before.)
 abbrev pub ChainsRelay : Type 0
 ChainsRelay =

@@ -9,7 +9,7 @@ use Rattle.fax_gateway.specs.Restored.{RestoredCall}
 use Rattle.fax_gateway.specs.Setups.{Setup}
 use Rattle.fax_gateway.specs.Events.{Event, Ring, FromCalling, FromCalled, Tick, Placed, clock}
 use Rattle.fax_gateway.specs.CallingLegs.{CallingLeg, calling_leg, idle_after, answers, confirmed_by}
-use Rattle.fax_gateway.specs.Sides.{past_of, sides}
+use Rattle.fax_gateway.specs.BothLegs.{both_legs, past_of}
 use Rattle.fax_gateway.specs.Traces.{IsTrace}
 
 -- what a tick confirms
@@ -45,7 +45,7 @@ AreCutsOf restored [] jobs = AreCutsOfRestored restored jobs
 AreCutsOf restored (cs ∷ calls) jobs =
     (old : List JobValue) × (own : List JobValue) × (jobs ≡ old ++ own) × IsCutOf (length calls) cs own × AreCutsOf restored calls old
 
--- a call that is on is cut as far as it has come, behind those that have ended
+-- a call that is on is cut as far as it has come, after those that have ended
 pub record IsCutWith (restored : List RestoredCall) (calls : List (List Confirmation)) (cs : List Confirmation) (past : Past) : Type 0 where
   pub old : List JobValue
   pub own : List JobValue
@@ -62,4 +62,4 @@ IsBookOf restored true (cs ∷ calls) past = IsCutWith restored calls cs past
 abbrev pub JobsAreCut : Type 0
 JobsAreCut =
     (setup : Setup) (writes : Writing) (trace : List Event) → IsTrace setup writes trace
-    → IsBookOf setup.restored (not (idle_after (calling_leg setup trace))) (calls_of setup trace) (past_of (sides setup writes trace))
+    → IsBookOf setup.restored (not (idle_after (calling_leg setup trace))) (calls_of setup trace) (past_of (both_legs setup writes trace))

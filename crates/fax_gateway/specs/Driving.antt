@@ -8,26 +8,26 @@ use Rattle.fax_call.specs.Writings.{Writing}
 use Rattle.fax_gateway.specs.Reached.{GatewayValue}
 use Rattle.fax_gateway.specs.CallingLegs.{calling_leg, decided_calling, idle_after}
 use Rattle.fax_gateway.specs.CalledLegs.{decided_called}
-use Rattle.fax_gateway.specs.Sides.{sides}
+use Rattle.fax_gateway.specs.BothLegs.{both_legs}
 use Rattle.fax_gateway.specs.Due.{due_at}
 use Rattle.fax_gateway.specs.Reached.{IsReachedBy}
 use Rattle.fax_gateway.specs.declared.fault.RingFault.{RingFault}
 use Rattle.fax_gateway.specs.declared.fault.RingFault.TheVariants as ring_faults
-use Rattle.fax_gateway.specs.declared.side.Side.{Side}
+use Rattle.fax_gateway.specs.declared.leg.Leg.{Leg}
 use Rattle.fax_gateway.specs.declared.driven.Driven.{Driven}
-use Rattle.fax_gateway.specs.declared.side.Side.TheVariants as side
-use Rattle.fax_gateway.specs.Wires.{Receipt, Came, Nothing, Failed, Handed, Known, Grows, buffer_octets, greatest_count}
+use Rattle.fax_gateway.specs.declared.leg.Leg.TheVariants as legs
+use Rattle.fax_gateway.specs.Wires.{Receipt, Came, Nothing, Failed, HandedDatagram, KnownWire, Grows, buffer_octets, greatest_count}
 
 -- A ring, a datagram that was received, and a tick are accepted by the gateway, as an event with its answer, or refused: a
 -- ring for a cause, a tick at a moment. A receive can bring no datagram. What is given is handed over, and the send may fail.
 pub data Entry : Type 0 where
   Accepts : (event : Event) → Entry
   RefusesRing : (fault : RingFault) → Entry
-  RefusesDatagram : (side : Side) → (octets : List ℕ) → Entry
+  RefusesDatagram : (leg : Leg) → (octets : List ℕ) → Entry
   RefusesTick : (now : ℕ) → Entry
-  ReceivesNothing : (side : Side) → Entry
-  FailsToReceive : (side : Side) → Entry
-  Sends : (side : Side) → (octets : List ℕ) → (fails : Bool) → Entry
+  ReceivesNothing : (leg : Leg) → Entry
+  FailsToReceive : (leg : Leg) → Entry
+  Sends : (leg : Leg) → (octets : List ℕ) → (fails : Bool) → Entry
 
 -- ---- what a log tells
 
@@ -47,8 +47,8 @@ events log = flat_map events_in log
 -- of the wire: what was received, each time into a buffer that is long enough for any datagram; and what was handed over
 abbrev pub receipt_of_event : Event → List Receipt
 receipt_of_event (Ring now number) = []
-receipt_of_event (FromCalling octets now decided read) = Came side.Calling buffer_octets octets ∷ []
-receipt_of_event (FromCalled octets now decided) = Came side.Called buffer_octets octets ∷ []
+receipt_of_event (FromCalling octets now decided read) = Came legs.Calling buffer_octets octets ∷ []
+receipt_of_event (FromCalled octets now decided) = Came legs.Called buffer_octets octets ∷ []
 receipt_of_event (Tick now given) = []
 receipt_of_event (Placed now connected) = []
 
@@ -64,16 +64,16 @@ receipts_in (Sends at octets fails) = []
 abbrev pub receipts : List Entry → List Receipt
 receipts log = flat_map receipts_in log
 
-abbrev pub sent_in : Entry → List Handed
+abbrev pub sent_in : Entry → List HandedDatagram
 sent_in (Accepts event) = []
 sent_in (RefusesRing fault) = []
 sent_in (RefusesDatagram at octets) = []
 sent_in (RefusesTick now) = []
 sent_in (ReceivesNothing at) = []
 sent_in (FailsToReceive at) = []
-sent_in (Sends at octets fails) = record { side = at; octets = octets } ∷ []
+sent_in (Sends at octets fails) = record { leg = at; octets = octets } ∷ []
 
-abbrev pub sent : List Entry → List Handed
+abbrev pub sent : List Entry → List HandedDatagram
 sent log = flat_map sent_in log
 
 -- of refusals and failures
@@ -130,14 +130,14 @@ HasFailed log = most_failed ≤ failed_in_a_row (receipts log)
 -- ---- a turn
 
 -- A datagram came on the leg, and was handed on at this moment.
-abbrev pub IsFrom : Side → ℕ → Event → Type 0
+abbrev pub IsFrom : Leg → ℕ → Event → Type 0
 IsFrom at now (Ring moment number) = ⊥
-IsFrom at now (FromCalling octets moment decided read) = (at ≡ side.Calling) × (moment ≡ now)
-IsFrom at now (FromCalled octets moment decided) = (at ≡ side.Called) × (moment ≡ now)
+IsFrom at now (FromCalling octets moment decided read) = (at ≡ legs.Calling) × (moment ≡ now)
+IsFrom at now (FromCalled octets moment decided) = (at ≡ legs.Called) × (moment ≡ now)
 IsFrom at now (Tick moment given) = ⊥
 IsFrom at now (Placed moment connected) = ⊥
 
-abbrev pub Comes : Side → ℕ → Entry → Type 0
+abbrev pub Comes : Leg → ℕ → Entry → Type 0
 Comes at now (Accepts event) = IsFrom at now event
 Comes at now (RefusesRing fault) = ⊥
 Comes at now (RefusesDatagram on octets) = on ≡ at
@@ -146,27 +146,27 @@ Comes at now (ReceivesNothing on) = ⊥
 Comes at now (FailsToReceive on) = ⊥
 Comes at now (Sends on octets fails) = ⊥
 
-abbrev pub BringsNone : Side → Entry → Type 0
-BringsNone at entry = (entry ≡ ReceivesNothing at) ⊎ (entry ≡ FailsToReceive at)
+abbrev pub GivesNoDatagram : Leg → Entry → Type 0
+GivesNoDatagram at entry = (entry ≡ ReceivesNothing at) ⊎ (entry ≡ FailsToReceive at)
 
 abbrev pub most_datagrams : ℕ
 most_datagrams = 16
 
 -- A leg's receives in a turn: 16 datagrams come; or fewer, and then a receive brings none.
-abbrev pub AreReceives : Side → ℕ → List Entry → Type 0
+abbrev pub AreReceives : Leg → ℕ → List Entry → Type 0
 AreReceives at now log =
     (All (Comes at now) log × (length log ≡ most_datagrams))
-    ⊎ ((came : List Entry) × (last : Entry) × (log ≡ last ∷ came) × All (Comes at now) came × (length came < most_datagrams) × BringsNone at last)
+    ⊎ ((came : List Entry) × (last : Entry) × (log ≡ last ∷ came) × All (Comes at now) came × (length came < most_datagrams) × GivesNoDatagram at last)
 
 -- What is given on a leg is handed over, once.
-abbrev pub IsSent : Side → Option (List ℕ) → List Entry → Type 0
+abbrev pub IsSent : Leg → Option (List ℕ) → List Entry → Type 0
 IsSent at None log = log ≡ []
 IsSent at (Some octets) log = (fails : Bool) × (log ≡ Sends at octets fails ∷ [])
 
 -- Time goes on: the tick is accepted, and what it gives is sent, the calling leg first; or it is refused.
 abbrev pub IsTick : ℕ → List Entry → Type 0
 IsTick now log =
-    ((given : Given) × (calling : List Entry) × (called : List Entry) × IsSent side.Calling given.on_calling calling × IsSent side.Called given.on_called called
+    ((given : Given) × (calling : List Entry) × (called : List Entry) × IsSent legs.Calling given.on_calling calling × IsSent legs.Called given.on_called called
     × (log ≡ called ++ (calling ++ Accepts (Tick now given) ∷ [])))
     ⊎ (log ≡ RefusesTick now ∷ [])
 
@@ -176,28 +176,28 @@ pub record IsTurn (now : ℕ) (log : List Entry) : Type 0 where
   pub called : List Entry
   pub tick : List Entry
   pub log_is : log ≡ tick ++ (called ++ calling)
-  pub on_calling : AreReceives side.Calling now calling
-  pub on_called : AreReceives side.Called now called
+  pub on_calling : AreReceives legs.Calling now calling
+  pub on_called : AreReceives legs.Called now called
   pub ticks : IsTick now tick
 
--- ---- what is left behind it
+-- ---- what is left after it
 
 -- The wire carried what the log tells, from the one to the other. Its failures are those of the log, where their count did
 -- not stop.
-pub record Carries (log : List Entry) (before after : Known) : Type 0 where
+pub record Carries (log : List Entry) (before after : KnownWire) : Type 0 where
   pub received : Grows (receipts log) before.received after.received
   pub sent : Grows (sent log) before.sent after.sent
   pub failures : after.failures < greatest_count → after.failures ≡ before.failures + (count_by is_failed_receive log + count_by is_failed_send log)
 
 -- what an entry made of the wire, by what its calls make of it: a receive on a leg, a send, or neither
-abbrev pub GoesByEvent : {W : Type 0} → (Side → W → W → Type 0) → Event → W → W → Type 0
+abbrev pub GoesByEvent : {W : Type 0} → (Leg → W → W → Type 0) → Event → W → W → Type 0
 GoesByEvent receives (Ring now number) old new = new ≡ old
-GoesByEvent receives (FromCalling octets now decided read) old new = receives side.Calling old new
-GoesByEvent receives (FromCalled octets now decided) old new = receives side.Called old new
+GoesByEvent receives (FromCalling octets now decided read) old new = receives legs.Calling old new
+GoesByEvent receives (FromCalled octets now decided) old new = receives legs.Called old new
 GoesByEvent receives (Tick now given) old new = new ≡ old
 GoesByEvent receives (Placed now connected) old new = new ≡ old
 
-abbrev pub GoesBy : {W : Type 0} → (Side → W → W → Type 0) → (Side → List ℕ → Bool → W → W → Type 0) → Entry → W → W → Type 0
+abbrev pub GoesBy : {W : Type 0} → (Leg → W → W → Type 0) → (Leg → List ℕ → Bool → W → W → Type 0) → Entry → W → W → Type 0
 GoesBy receives sends (Accepts event) old new = GoesByEvent receives event old new
 GoesBy receives sends (RefusesRing fault) old new = new ≡ old
 GoesBy receives sends (RefusesDatagram at octets) old new = receives at old new
@@ -208,16 +208,16 @@ GoesBy receives sends (Sends at octets fails) old new = sends at octets (not fai
 
 -- THE WIRE WENT from the one to the other by just the receives and sends of the log, one after the other: nothing else was done with
 -- it.
-abbrev pub WireGoes : {W : Type 0} → (Side → W → W → Type 0) → (Side → List ℕ → Bool → W → W → Type 0) → List Entry → W → W → Type 0
+abbrev pub WireGoes : {W : Type 0} → (Leg → W → W → Type 0) → (Leg → List ℕ → Bool → W → W → Type 0) → List Entry → W → W → Type 0
 WireGoes receives sends [] old new = new ≡ old
 WireGoes {W} receives sends (entry ∷ earlier) old new = (between : W) × WireGoes receives sends earlier old between × GoesBy receives sends entry between new
 
--- What is refused, behind this trace, for want of memory, wants some: of the datagrams those alone that decide a slot, and a
+-- What is refused, after this trace, for want of memory, wants some: of the datagrams those alone that decide a slot, and a
 -- tick only where something is due. A ring is refused as busy exactly where a call is on, and where none is, for want of a
 -- number exactly where none is left: so that any other refusal is for want of memory.
-abbrev pub decides_on : Setup → Writing → List Event → Side → List ℕ → Bool
-decides_on setup writes earlier side.Calling octets = decided_calling (calling_leg setup earlier) octets
-decides_on setup writes earlier side.Called octets = decided_called writes (sides setup writes earlier).leg octets
+abbrev pub decides_on : Setup → Writing → List Event → Leg → List ℕ → Bool
+decides_on setup writes earlier legs.Calling octets = decided_calling (calling_leg setup earlier) octets
+decides_on setup writes earlier legs.Called octets = decided_called writes (both_legs setup writes earlier).leg octets
 
 abbrev pub IsRingRefused : Setup → List Event → RingFault → Type 0
 IsRingRefused setup earlier fault =
@@ -238,7 +238,7 @@ AreWanting setup writes trace [] = Unit {0}
 AreWanting setup writes trace (entry ∷ earlier) = IsWanting setup writes (events earlier ++ trace) entry × AreWanting setup writes trace earlier
 
 -- The events of the log followed on the trace, what was refused wanted memory, and the wire carried the rest.
-pub record Happens (setup : Setup) (writes : Writing) (log : List Entry) (trace : List Event) (gateway : GatewayValue) (before after : Known) : Type 0 where
+pub record Happens (setup : Setup) (writes : Writing) (log : List Entry) (trace : List Event) (gateway : GatewayValue) (before after : KnownWire) : Type 0 where
   pub reached : IsReachedBy setup writes (events log ++ trace) gateway
   pub wanting : AreWanting setup writes trace log
   pub carried : Carries log before after
@@ -306,12 +306,12 @@ pub record Tells (wanted : ℕ) (rounds : List (List Entry)) (driven : Driven) :
 -- ---- the steps of a turn
 
 -- one receive: a datagram came, or none
-abbrev pub IsReceive : Bool → Side → ℕ → Entry → Type 0
+abbrev pub IsReceive : Bool → Leg → ℕ → Entry → Type 0
 IsReceive true at now entry = Comes at now entry
-IsReceive false at now entry = BringsNone at entry
+IsReceive false at now entry = GivesNoDatagram at entry
 
 -- a datagram of these octets was handed on, and accepted or refused
-pub record IsHanded (accepted : Bool) (at : Side) (octets : List ℕ) (entry : Entry) : Type 0 where
+pub record IsHanded (accepted : Bool) (at : Leg) (octets : List ℕ) (entry : Entry) : Type 0 where
   pub receipt : receipts_in entry ≡ Came at buffer_octets octets ∷ []
   pub refused : is_refused_event entry ≡ not accepted
   pub none_sent : sent_in entry ≡ []
@@ -319,6 +319,6 @@ pub record IsHanded (accepted : Bool) (at : Side) (octets : List ℕ) (entry : E
   pub sends_none : is_failed_send entry ≡ false
 
 -- it happened, and a driver that did all that is in `earlier` did it
-pub record Steps (setup : Setup) (writes : Writing) (log : List Entry) (trace : List Event) (earlier : List Entry) (gateway : GatewayValue) (before after : Known) (driver : DriverValue) : Type 0 where
+pub record Steps (setup : Setup) (writes : Writing) (log : List Entry) (trace : List Event) (earlier : List Entry) (gateway : GatewayValue) (before after : KnownWire) (driver : DriverValue) : Type 0 where
   pub happens : Happens setup writes log trace gateway before after
   pub made : HasMade (log ++ earlier) driver

@@ -5,22 +5,22 @@ use Rattle.fax_timers.specs.Moments.{earlier}
 use Rattle.fax_jobs.specs.Jobs.{JobValue}
 use Rattle.fax_answer.specs.Due as answer
 use Rattle.fax_call.specs.Writings.{Writing}
-use Rattle.fax_call.specs.Calls.{Calling}
+use Rattle.fax_call.specs.Calls.{CallerCore}
 use Rattle.fax_call.specs.Due as call
 use Rattle.fax_gateway.specs.declared.given.Given as shown
 use Rattle.fax_gateway.specs.Setups.{Setup}
 use Rattle.fax_gateway.specs.Events.{Event}
 use Rattle.fax_gateway.specs.CallingLegs.{CallingLeg, calling_leg}
 use Rattle.fax_gateway.specs.CalledLegs.{CalledLeg, core_of, outcome_of}
-use Rattle.fax_gateway.specs.Sides.{Sides, book_of, sides}
+use Rattle.fax_gateway.specs.BothLegs.{BothLegs, book_of, both_legs}
 use Rattle.fax_gateway.specs.Reached.{answering_of}
 
--- the calling leg: that of its answering side
+-- the calling leg: that of its answerer
 abbrev pub calling_due : Setup → Option CallingLeg → Option ℕ
 calling_due setup leg = answer.due_at (answering_of setup leg)
 
--- the call of a job: at once where it is over, since the next tick enters its end in the book; else that of its calling side
-abbrev pub call_due : Calling → Option ℕ
+-- the call of a job: at once where it is over, since the next tick enters its end in the book; else that of its caller
+abbrev pub call_due : CallerCore → Option ℕ
 call_due core = if is_some (outcome_of core) then Some 0 else call.due_at core
 
 -- where no job is being sent: at once where one waits, but where calls are asked for: then none is due until it is placed
@@ -36,7 +36,7 @@ called_due asks writes (Some l) waiting = if l.entered then job_due asks waiting
 -- both
 abbrev pub due_at : Setup → Writing → List Event → Option ℕ
 due_at setup writes trace =
-    let s : Sides = sides setup writes trace in
+    let s : BothLegs = both_legs setup writes trace in
     earlier (calling_due setup (calling_leg setup trace)) (called_due setup.asks writes s.leg (book_of s).waiting)
 
 -- a tick that gives and tells nothing

@@ -11,12 +11,12 @@ use Rattle.fax_gateway.specs.Restored.{CallPage, pages_restored}
 use Rattle.fax_gateway.specs.Setups.{Setup}
 use Rattle.fax_gateway.specs.Events.{Event, Tick, Given, clock}
 use Rattle.fax_gateway.specs.CallingLegs.{CallingLeg, core_of, calling_leg, answers, confirmed_by}
-use Rattle.fax_gateway.specs.Sides.{book_of, in_tick}
+use Rattle.fax_gateway.specs.BothLegs.{book_of, in_tick}
 use Rattle.fax_gateway.specs.Traces.{IsTrace}
 use Rattle.fax_gateway.specs.Told.{elements_told, gives_mcf, leg_marks, marks_before, EachEmission}
 
 -- In the trace there is a tick that gave the frame MCF, in the call of this number, and it confirms this page: its command
--- stands behind exactly one image since the last CFR or MCF, which is whole and means the page under the DCS that the last
+-- stands after exactly one image since the last CFR or MCF, which is whole and means the page under the DCS that the last
 -- CFR answered.
 pub record WasConfirmedIn (setup : Setup) (trace : List Event) (call : ℕ) (page : PageValue) : Type 0 where
   pub later : List Event

@@ -7,7 +7,7 @@ use Rattle.fax_call.specs.Refusals.{dis_taken, Allows}
 use Rattle.fax_gateway.specs.Setups.{Setup}
 use Rattle.fax_gateway.specs.Events.{Event, Tick, Given}
 use Rattle.fax_gateway.specs.CalledLegs.{CalledLeg, begun_core}
-use Rattle.fax_gateway.specs.Sides.{in_tick}
+use Rattle.fax_gateway.specs.BothLegs.{in_tick}
 use Rattle.fax_gateway.specs.Traces.{IsTrace}
 use Rattle.fax_gateway.specs.Told.{elements_told, leg_marks, marks_before, EachEmission}
 

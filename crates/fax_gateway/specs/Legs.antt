@@ -7,7 +7,7 @@ use Rattle.fax_udptl.specs.Slots.{newest_slots}
 use Rattle.fax_ifp.specs.Pieces.{Piece, pieces}
 use Rattle.fax_gateway.specs.Setups.{Setup}
 
--- the pieces that a datagram brings, behind those that arrived: those of all slots behind those of the slots before
+-- the pieces that a datagram brings, after those that arrived: those of all slots after those of the slots before
 unfoldable pub new_pieces : List DatagramValue → DatagramValue → List Piece
 new_pieces arrived d = drop (length (pieces (newest_slots arrived))) (pieces (newest_slots (d ∷ arrived)))
 
@@ -19,6 +19,6 @@ abbrev pub decided_by : (idle : Bool) → List DatagramValue → Result Datagram
 decided_by idle arrived (Ok d) = not idle && decides arrived d
 decided_by idle arrived (Err fault) = false
 
--- the datagram of a packet that is given behind these, with as many of them as the setup says
+-- the datagram of a packet that is given after these, with as many of them as the setup says
 abbrev pub sent : Setup → List (List ℕ) → List ℕ → List ℕ
 sent setup given packet = written_datagram (datagram_for setup.redundancy given packet)

@@ -11,6 +11,7 @@ pub mod Events
 pub mod Forwards
 pub mod GoesOn
 pub mod Lacking
+pub mod LegNames
 pub mod Legs
 pub mod Newest
 pub mod Lives
@@ -22,7 +23,7 @@ pub mod Refused
 pub mod Reports
 pub mod ReportsTold
 pub mod Rtns
-pub mod Sides
+pub mod BothLegs
 pub mod Told
 pub mod Traces
 pub mod Turns

@@ -11,7 +11,7 @@ use Rattle.fax_gateway.specs.Restored.{CallPage, pages_restored}
 use Rattle.fax_gateway.specs.Setups.{Setup}
 use Rattle.fax_gateway.specs.Events.{Event, Ring, FromCalling, FromCalled, Tick, Placed, Given, clock}
 use Rattle.fax_gateway.specs.CallingLegs.{CallingLeg, calling_leg, answers, confirmed_by}
-use Rattle.fax_gateway.specs.Sides.{past_of, book_of, sides, in_tick}
+use Rattle.fax_gateway.specs.BothLegs.{past_of, book_of, both_legs, in_tick}
 use Rattle.fax_gateway.specs.Traces.{IsTrace}
 use Rattle.fax_gateway.specs.Told.{elements_told, leg_marks, marks_before, EachEmission}
 use Rattle.fax_gateway.specs.Forwards.{WasConfirmedIn, IsForwardedBy}
@@ -69,7 +69,7 @@ ForwardsOverLives =
     → EachEmission (IsForwardedBy (WasConfirmedInOne (record { setup = setup; trace = earlier } ∷ lives)) (book_of (in_tick setup writes earlier at)))
     (marks_before setup writes earlier at (leg_marks setup writes earlier)) (elements_told given.on_called)
 
--- ---- where just those pages are kept whose jobs had not ended
+-- ---- where just those pages are stored whose jobs had not ended
 
 -- the pages of jobs, in order, each with the number of the job's call
 abbrev pub pages_in : ℕ → List PageValue → List CallPage
@@ -86,12 +86,12 @@ pages_left_in book = pages_of_jobs (as_list book.sending) ++ (pages_of_jobs book
 
 abbrev pub pages_left : Writing → List Life → List CallPage
 pages_left writes [] = []
-pages_left writes (life ∷ earlier) = pages_left_in (book_of (sides life.setup writes life.trace))
+pages_left writes (life ∷ earlier) = pages_left_in (book_of (both_legs life.setup writes life.trace))
 
-abbrev pub AreKept : Writing → List Life → Type 0
-AreKept writes [] = Unit {0}
-AreKept writes (life ∷ earlier) =
-    IsTrace life.setup writes life.trace × (pages_restored life.setup.restored ≡ pages_left writes earlier) × AreKept writes earlier
+abbrev pub AreStored : Writing → List Life → Type 0
+AreStored writes [] = Unit {0}
+AreStored writes (life ∷ earlier) =
+    IsTrace life.setup writes life.trace × (pages_restored life.setup.restored ≡ pages_left writes earlier) × AreStored writes earlier
 
 -- over all lives: what was confirmed, and what the jobs that ended had
 abbrev pub all_confirmed : List Life → List CallPage
@@ -100,9 +100,9 @@ all_confirmed (life ∷ earlier) = all_confirmed earlier ++ pages_confirmed life
 
 abbrev pub all_ended : Writing → List Life → List CallPage
 all_ended writes [] = []
-all_ended writes (life ∷ earlier) = all_ended writes earlier ++ pages_of_jobs (past_of (sides life.setup writes life.trace)).ended
+all_ended writes (life ∷ earlier) = all_ended writes earlier ++ pages_of_jobs (past_of (both_legs life.setup writes life.trace)).ended
 
--- Over all lives the pages of the jobs that ended, and behind them those of the jobs that have not, are the pages that were
+-- Over all lives the pages of the jobs that ended, and after them those of the jobs that have not, are the pages that were
 -- confirmed, in their order: none is lost, none added, none twice.
 abbrev pub NoneIsLost : Type 0
-NoneIsLost = (writes : Writing) (lives : List Life) → AreKept writes lives → all_confirmed lives ≡ all_ended writes lives ++ pages_left writes lives
+NoneIsLost = (writes : Writing) (lives : List Life) → AreStored writes lives → all_confirmed lives ≡ all_ended writes lives ++ pages_left writes lives

@@ -6,7 +6,7 @@ use Rattle.fax_jobs.specs.Pasts.{as_list, jobs_of}
 use Rattle.fax_call.specs.Writings.{Writing}
 use Rattle.fax_gateway.specs.Setups.{Setup}
 use Rattle.fax_gateway.specs.Events.{Event}
-use Rattle.fax_gateway.specs.Sides.{past_of, book_of, sides}
+use Rattle.fax_gateway.specs.BothLegs.{past_of, book_of, both_legs}
 use Rattle.fax_gateway.specs.Traces.{IsTrace}
 use Rattle.fax_gateway.specs.Forwards.{WasConfirmed}
 
@@ -27,4 +27,4 @@ AreOfTheirCalls setup trace (job ∷ jobs) = IsOfItsCall setup trace job × AreO
 abbrev pub JobsAreOfTheirCalls : Type 0
 JobsAreOfTheirCalls =
     (setup : Setup) (writes : Writing) (trace : List Event) → IsTrace setup writes trace
-    → AreOfTheirCalls setup trace (jobs_of (past_of (sides setup writes trace))) × AreOfTheirCalls setup trace (as_list (book_of (sides setup writes trace)).open_job)
+    → AreOfTheirCalls setup trace (jobs_of (past_of (both_legs setup writes trace))) × AreOfTheirCalls setup trace (as_list (book_of (both_legs setup writes trace)).open_job)

@@ -10,7 +10,7 @@ use Rattle.fax_gateway.specs.Restored.{CallPage, pages_restored}
 use Rattle.fax_gateway.specs.Setups.{Setup}
 use Rattle.fax_gateway.specs.Events.{Event, Ring, FromCalling, FromCalled, Tick, Placed, Given, clock}
 use Rattle.fax_gateway.specs.CallingLegs.{calling_leg}
-use Rattle.fax_gateway.specs.Sides.{past_of, sides}
+use Rattle.fax_gateway.specs.BothLegs.{both_legs, past_of}
 use Rattle.fax_gateway.specs.Traces.{IsTrace}
 use Rattle.fax_gateway.specs.Told.{elements_told, leg_marks, marks_before, EachEmission}
 use Rattle.fax_gateway.specs.Forwards.{WasConfirmedIn}
@@ -44,15 +44,15 @@ HasNumber (r ∷ restored) (suc k) call page Own = HasNumber restored k call pag
 
 -- An image that a tick ends is page n of the job that was being sent before the tick. It is the page of an earlier tick's MCF in
 -- the call that the job names, or one that was restored, and before that just so many pages were restored and confirmed as the
--- jobs that ended have, and n. So page n of the job has confirmation n behind theirs, no other page has it, and later pages have
+-- jobs that ended have, and n. So page n of the job has confirmation n after theirs, no other page has it, and later pages have
 -- later ones.
 pub record HasItsOwn (setup : Setup) (writes : Writing) (earlier : List Event) (marks : List Mark) (emission : Emission) : Type 0 where
   pub job : JobValue
-  pub is_sending : (past_of (sides setup writes earlier)).book.sending ≡ Some job
+  pub is_sending : (past_of (both_legs setup writes earlier)).book.sending ≡ Some job
   pub n : ℕ
   pub is_page : IsPageOf job n emission
   pub confirmed :
-      HasNumber (pages_restored setup.restored) (length (pages_of (past_of (sides setup writes earlier)).ended) + n) job.call is_page.page
+      HasNumber (pages_restored setup.restored) (length (pages_of (past_of (both_legs setup writes earlier)).ended) + n) job.call is_page.page
       (IsNumber setup earlier job.call is_page.page)
 
 abbrev pub EachPageHasItsOwnConfirmation : Type 0

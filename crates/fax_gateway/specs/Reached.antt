@@ -12,7 +12,7 @@ use Rattle.fax_answer.specs.declared.refusal.Refusal.{Refusal}
 use Rattle.fax_answer.specs.declared.step.Step.{Step}
 use Rattle.fax_answer.specs.Table.{Reading}
 use Rattle.fax_answer.specs.Replies.{ConfirmedPage}
-use Rattle.fax_answer.specs.Calls.{Answering, new_answering}
+use Rattle.fax_answer.specs.Calls.{AnswererCore, new_answering}
 use Rattle.fax_answer.specs.Confirmation.{IsRead}
 use Rattle.fax_answer.specs.Reached as answer
 use Rattle.fax_answer.specs.Refusals.{TellsWhy}
@@ -26,8 +26,8 @@ use Rattle.fax_call.specs.Following.{IsJobOfCall}
 use Rattle.fax_call.specs.Reached as call
 use Rattle.fax_gateway.specs.Setups.{HasSettings, Setup}
 use Rattle.fax_gateway.specs.declared.settings.Settings.{Settings}
-use Rattle.fax_gateway.specs.declared.leg.Leg.{Leg}
-use Rattle.fax_gateway.specs.declared.called.CalledSide.{CalledSide}
+use Rattle.fax_gateway.specs.declared.endpoint.Endpoint.{Endpoint}
+use Rattle.fax_gateway.specs.declared.called.CalledEndpoint.{CalledEndpoint}
 use Rattle.fax_gateway.specs.declared.given.Given as shown
 use Rattle.fax_gateway.specs.Events.{Event, FromCalling, Given, clock, rings}
 use Rattle.fax_gateway.specs.Legs.{sent}
@@ -35,7 +35,7 @@ use Rattle.fax_gateway.specs.CallingLegs as calling_legs
 use Rattle.fax_gateway.specs.CallingLegs.{CallingLeg, calling_leg, calling_after, question, told_calling}
 use Rattle.fax_gateway.specs.CalledLegs as called_legs
 use Rattle.fax_gateway.specs.CalledLegs.{CalledLeg}
-use Rattle.fax_gateway.specs.Sides.{book_of, sides}
+use Rattle.fax_gateway.specs.BothLegs.{book_of, both_legs}
 use Rattle.fax_gateway.specs.Traces.{IsTrace}
 
 -- what a tick gives
@@ -43,11 +43,11 @@ abbrev pub given_shown : shown.Given → Given
 given_shown given = record { on_calling = given.calling; on_called = given.called; report = given.report }
 
 -- A LEG in a call: these datagrams came, and these packets were given, the newest first
-pub record IsLeg (setup : Setup) (arrived : List DatagramValue) (given : List (List ℕ)) (leg : Leg) : Type 0 where
+pub record IsLeg (setup : Setup) (arrived : List DatagramValue) (given : List (List ℕ)) (leg : Endpoint) : Type 0 where
   pub receiver : IsAfter arrived leg.receiver
   pub sender : HasSent setup.redundancy given leg.sender
 
--- a packet, where there is one, as the datagram behind those given, and the packets given behind it
+-- a packet, where there is one, as the datagram after those given, and the packets given after it
 abbrev pub sent_if : Setup → List (List ℕ) → Option (List ℕ) → Option (List ℕ)
 sent_if setup given None = None
 sent_if setup given (Some packet) = Some (sent setup given packet)
@@ -56,14 +56,14 @@ abbrev pub given_with : Option (List ℕ) → List (List ℕ) → List (List ℕ
 given_with None given = given
 given_with (Some packet) given = packet ∷ given
 
--- THE CALLING SIDE: the number of the last call, what is kept of it, and its leg
+-- THE CALLING LEG: the number of the last call, what is kept of it, and its leg
 pub record CallingValue : Type 0 where
   pub number : ℕ
-  pub kept : answer.Kept
-  pub leg : Leg
+  pub kept : answer.Rep
+  pub leg : Endpoint
 
 -- the core, the datagrams and the packets of the last call; before the first they are new
-abbrev pub answering_of : Setup → Option CallingLeg → Answering
+abbrev pub answering_of : Setup → Option CallingLeg → AnswererCore
 answering_of setup None = new_answering setup.pause
 answering_of setup (Some l) = calling_legs.core_of l
 
@@ -80,19 +80,19 @@ HasNumber None number = Unit {0}
 HasNumber (Some l) number = l.number ≡ number
 
 -- the last call led to it
-pub record IsCalling (setup : Setup) (leg : Option CallingLeg) (side : CallingValue) : Type 0 where
-  pub number : HasNumber leg side.number
-  pub core : answer.IsReached (newest_slots (arrived_on leg)) (answering_of setup leg) side.kept
-  pub on_leg : IsLeg setup (arrived_on leg) (given_on leg) side.leg
+pub record IsCalling (setup : Setup) (leg : Option CallingLeg) (endpoint : CallingValue) : Type 0 where
+  pub number : HasNumber leg endpoint.number
+  pub core : answer.IsReached (newest_slots (arrived_on leg)) (answering_of setup leg) endpoint.kept
+  pub on_leg : IsLeg setup (arrived_on leg) (given_on leg) endpoint.leg
 
 -- a datagram came, by one reading that is right
 abbrev pub heard_on : Setup → Option CallingLeg → ℕ → List ℕ → Reading → Option CallingLeg
 heard_on setup leg now octets read = calling_after setup leg now (FromCalling octets now true read)
 
-pub record HearsCalling (setup : Setup) (leg : Option CallingLeg) (now : ℕ) (octets : List ℕ) (side : CallingValue) : Type 0 where
+pub record HearsCalling (setup : Setup) (leg : Option CallingLeg) (now : ℕ) (octets : List ℕ) (endpoint : CallingValue) : Type 0 where
   pub read : Reading
   pub right : IsRead (question leg now octets) read
-  pub calling : IsCalling setup (heard_on setup leg now octets read) side
+  pub calling : IsCalling setup (heard_on setup leg now octets read) endpoint
 
 -- a tick on the leg: the page that it confirms, and whether the call ends
 abbrev pub confirmed_on : Option CallingLeg → ℕ → Option ConfirmedPage
@@ -119,19 +119,19 @@ pub record TellsTick {S : Type 0} (setup : Setup) (leg : Option CallingLeg) (now
   pub refused : TellsWhyOn leg now step.refused
   pub ends : step.ended ≡ ended_on leg now
 
--- THE CALLED SIDE, in the call of a job; before the first one no call was on
-abbrev pub IsCaller : Setup → Writing → Option CalledLeg → call.Kept → Type 0
+-- THE CALLED LEG, in the call of a job; before the first one no call was on
+abbrev pub IsCaller : Setup → Writing → Option CalledLeg → call.Rep → Type 0
 IsCaller setup writes None kept = (job : JobValue) → call.IsReached writes job [] (new_calling setup.pause kept.procedure.format) kept
 IsCaller setup writes (Some l) kept = call.IsReached writes l.job (newest_slots l.arrived) (called_legs.core_of writes l) kept
 
-abbrev pub IsCalledLeg : Setup → Option CalledLeg → Leg → Type 0
+abbrev pub IsCalledLeg : Setup → Option CalledLeg → Endpoint → Type 0
 IsCalledLeg setup None leg = Unit {0}
 IsCalledLeg setup (Some l) leg = IsLeg setup l.arrived l.given leg
 
 -- the call of the last job led to it
-pub record IsCalled (setup : Setup) (writes : Writing) (leg : Option CalledLeg) (side : CalledSide) : Type 0 where
-  pub core : IsCaller setup writes leg side.caller
-  pub on_leg : IsCalledLeg setup leg side.leg
+pub record IsCalled (setup : Setup) (writes : Writing) (leg : Option CalledLeg) (endpoint : CalledEndpoint) : Type 0 where
+  pub core : IsCaller setup writes leg endpoint.caller
+  pub on_leg : IsCalledLeg setup leg endpoint.leg
 
 -- the job that is being sent is the one of the call, and where none is no call is on
 abbrev pub IsServed : Option JobValue → Procedure → Type 0
@@ -139,18 +139,18 @@ IsServed None procedure = procedure.state ≡ Idle
 IsServed (Some job) procedure = IsJobOfCall procedure job
 
 -- a tick in the call of a job: what it leaves and gives
-pub record TicksOn (setup : Setup) (writes : Writing) (l : CalledLeg) (now : ℕ) (given : Option (List ℕ)) (side : CalledSide) : Type 0 where
-  pub called : IsCalled setup writes (Some (called_legs.with_tick (called_legs.calls writes l now) now l)) side
+pub record TicksOn (setup : Setup) (writes : Writing) (l : CalledLeg) (now : ℕ) (given : Option (List ℕ)) (endpoint : CalledEndpoint) : Type 0 where
+  pub called : IsCalled setup writes (Some (called_legs.with_tick (called_legs.calls writes l now) now l)) endpoint
   pub told : given ≡ called_legs.told_by setup l.given (called_legs.calls writes l now).given
 
 -- where there is a job its call begins, and the tick goes on in it
-abbrev pub Begins : Setup → Writing → Option CalledLeg → Option JobValue → (now : ℕ) → (given : Option (List ℕ)) → (old new : CalledSide) → Type 0
+abbrev pub Begins : Setup → Writing → Option CalledLeg → Option JobValue → (now : ℕ) → (given : Option (List ℕ)) → (old new : CalledEndpoint) → Type 0
 Begins setup writes leg None now given old new = (given ≡ None) × (new ≡ old)
 Begins setup writes leg (Some job) now given old new = TicksOn setup writes (called_legs.begun_leg job (called_legs.core_left setup writes leg) now) now given new
 
 -- the outcome of a call that is over, and the report of its job
-abbrev pub outcome_kept : Procedure → Option Outcome
-outcome_kept procedure = if is_over procedure.state then procedure.outcome else None
+abbrev pub outcome_of_rep : Procedure → Option Outcome
+outcome_of_rep procedure = if is_over procedure.state then procedure.outcome else None
 
 abbrev pub report_if : Option JobValue → Option Outcome → ℕ → Option Report
 report_if None outcome delivered = None
@@ -174,13 +174,13 @@ abbrev pub closed_if : Bool → Book → Book
 closed_if true book = closed book
 closed_if false book = book
 
--- THE GATEWAY: its settings, its clock, how many calls were rung, both sides, the book, and for how many pages this has room
+-- THE GATEWAY: its settings, its clock, how many calls were rung, both legs, the book, and for how many pages this has room
 pub record GatewayValue : Type 0 where
   pub settings : Settings
   pub clock : ℕ
   pub rings : ℕ
   pub calling : CallingValue
-  pub called : CalledSide
+  pub called : CalledEndpoint
   pub book : Book
   pub spare : ℕ
 
@@ -191,30 +191,30 @@ pub record IsReachedBy (setup : Setup) (writes : Writing) (trace : List Event) (
   pub at : gateway.clock ≡ clock trace
   pub rung : gateway.rings ≡ rings trace
   pub calling : IsCalling setup (calling_leg setup trace) gateway.calling
-  pub called : IsCalled setup writes (sides setup writes trace).leg gateway.called
-  pub book : gateway.book ≡ book_of (sides setup writes trace)
+  pub called : IsCalled setup writes (both_legs setup writes trace).leg gateway.called
+  pub book : gateway.book ≡ book_of (both_legs setup writes trace)
 
 -- one more datagram of the calling leg led to it, by one reading that is right
 pub record HearsFrom (setup : Setup) (writes : Writing) (trace : List Event) (octets : List ℕ) (now : ℕ) (decided : Bool) (gateway : GatewayValue) : Type 0 where
   pub read : Reading
   pub reached : IsReachedBy setup writes (FromCalling octets now decided read ∷ trace) gateway
 
--- MEMORY that is reserved before a tick: for the packet of each side and its datagram, for a page, and for the first packet
+-- MEMORY that is reserved before a tick: for the packet of each leg and its datagram, for a page, and for the first packet
 -- of a call
 abbrev pub most_octets : ℕ
 most_octets = 100
 
--- how many octets a packet of the answering side has at most
+-- how many octets a packet of the answerer has at most
 abbrev pub most_answered : ℕ
 most_answered = 12
 
-pub record CallingHasRoom (side : CallingValue) : Type 0 where
-  pub packet : 1 ≤ side.kept.spare
-  pub datagram : most_answered < side.leg.sender.spare
+pub record CallingHasRoom (endpoint : CallingValue) : Type 0 where
+  pub packet : 1 ≤ endpoint.kept.spare
+  pub datagram : most_answered < endpoint.leg.sender.spare
 
-pub record CalledHasRoom (side : CalledSide) : Type 0 where
-  pub packet : 1 ≤ side.caller.spare
-  pub datagram : most_octets < side.leg.sender.spare
+pub record CalledHasRoom (endpoint : CalledEndpoint) : Type 0 where
+  pub packet : 1 ≤ endpoint.caller.spare
+  pub datagram : most_octets < endpoint.leg.sender.spare
 
 pub record HasRoom (gateway : GatewayValue) : Type 0 where
   pub calling : CallingHasRoom gateway.calling
@@ -222,14 +222,14 @@ pub record HasRoom (gateway : GatewayValue) : Type 0 where
   pub page : 1 ≤ gateway.spare
 
 -- a gateway without what is reserved: all that is told of one
-abbrev pub leg_alone : Leg → Leg
+abbrev pub leg_alone : Endpoint → Endpoint
 leg_alone leg = record { receiver = leg.receiver; sender = record leg.sender { spare = 0 } }
 
 abbrev pub calling_alone : CallingValue → CallingValue
-calling_alone side = record { number = side.number; kept = record side.kept { spare = 0 }; leg = leg_alone side.leg }
+calling_alone endpoint = record { number = endpoint.number; kept = record endpoint.kept { spare = 0 }; leg = leg_alone endpoint.leg }
 
-abbrev pub called_alone : CalledSide → CalledSide
-called_alone side = record { caller = record side.caller { spare = 0 }; leg = leg_alone side.leg }
+abbrev pub called_alone : CalledEndpoint → CalledEndpoint
+called_alone endpoint = record { caller = record endpoint.caller { spare = 0 }; leg = leg_alone endpoint.leg }
 
 abbrev pub alone : GatewayValue → GatewayValue
 alone g =

@@ -10,16 +10,16 @@ use Rattle.fax_pagestore.specs.Pages.{PageValue}
 use Rattle.fax_jobs.specs.declared.report.Report.{Report}
 use Rattle.fax_call.specs.declared.state.State.TheVariants.{AwaitDis}
 use Rattle.fax_call.specs.Writings.{Writing}
-use Rattle.fax_call.specs.Calls.{Calling, CallEvent, Comes, after_events}
+use Rattle.fax_call.specs.Calls.{CallerCore, CallEvent, Comes, after_events}
 use Rattle.fax_call.specs.Table.{outcome_of}
 use Rattle.fax_gateway.specs.Setups.{Setup}
 use Rattle.fax_gateway.specs.Events.{Event, Tick, Given, clock}
 use Rattle.fax_gateway.specs.CalledLegs.{CalledLeg, begun_core}
-use Rattle.fax_gateway.specs.Sides.{in_tick}
+use Rattle.fax_gateway.specs.BothLegs.{in_tick}
 use Rattle.fax_gateway.specs.Traces.{IsTrace}
 
 -- In the call of this leg a DIS was taken in Await DIS that leaves no choice for the page due.
-pub record Refused (writes : Writing) (leg : CalledLeg) (refusal : Refusal) : Type 0 where
+pub record LeavesNoChoice (writes : Writing) (leg : CalledLeg) (refusal : Refusal) : Type 0 where
   pub later : List CallEvent
   pub octets : List ℕ
   pub now : ℕ
@@ -33,9 +33,9 @@ pub record Refused (writes : Writing) (leg : CalledLeg) (refusal : Refusal) : Ty
   pub due : slice_get leg.job.pages (after_events writes leg.job (begun_core leg) events).counts.page ≡ Some page
   pub none : choice dis page.format 0 ≡ Err refusal
 
--- The report that a tick gives behind that has its outcome.
+-- The report that a tick gives after that has its outcome.
 abbrev pub ReportsTheRefusal : Type 0
 ReportsTheRefusal =
     (setup : Setup) (writes : Writing) (earlier : List Event) (at : ℕ) (given : Given) (leg : CalledLeg) (refusal : Refusal) (report : Report)
-    → IsTrace setup writes (Tick at given ∷ earlier) → (in_tick setup writes earlier at).leg ≡ Some leg → Refused writes leg refusal
+    → IsTrace setup writes (Tick at given ∷ earlier) → (in_tick setup writes earlier at).leg ≡ Some leg → LeavesNoChoice writes leg refusal
     → given.report ≡ Some report → report.outcome ≡ outcome_of refusal

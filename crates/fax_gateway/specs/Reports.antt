@@ -8,7 +8,7 @@ use Rattle.fax_call.specs.Writings.{Writing}
 use Rattle.fax_gateway.specs.Setups.{Setup}
 use Rattle.fax_gateway.specs.Events.{Event, Ring, FromCalling, FromCalled, Tick, Placed}
 use Rattle.fax_gateway.specs.CalledLegs.{CalledLeg}
-use Rattle.fax_gateway.specs.Sides.{past_of, book_of, sides}
+use Rattle.fax_gateway.specs.BothLegs.{past_of, book_of, both_legs}
 use Rattle.fax_gateway.specs.Traces.{IsTrace}
 
 -- the reports that the ticks gave, in the order of time
@@ -34,9 +34,9 @@ job_sent (Some l) = if l.entered then None else Some l.job
 pub record HaveStates (setup : Setup) (writes : Writing) (trace : List Event) : Type 0 where
   pub ended : List JobValue
   pub are_reported : AreReported ended (reports_given trace)
-  pub sending : (book_of (sides setup writes trace)).sending ≡ job_sent (sides setup writes trace).leg
-  pub jobs_are : jobs_of (past_of (sides setup writes trace)) ≡ ended ++ (as_list (job_sent (sides setup writes trace).leg) ++ (book_of (sides setup writes trace)).waiting)
-  pub last_reports : (book_of (sides setup writes trace)).reports ≡ last_of kept_reports (reports_given trace)
+  pub sending : (book_of (both_legs setup writes trace)).sending ≡ job_sent (both_legs setup writes trace).leg
+  pub jobs_are : jobs_of (past_of (both_legs setup writes trace)) ≡ ended ++ (as_list (job_sent (both_legs setup writes trace).leg) ++ (book_of (both_legs setup writes trace)).waiting)
+  pub last_reports : (book_of (both_legs setup writes trace)).reports ≡ last_of kept_reports (reports_given trace)
 
 abbrev pub JobsHaveStates : Type 0
 JobsHaveStates = (setup : Setup) (writes : Writing) (trace : List Event) → IsTrace setup writes trace → HaveStates setup writes trace

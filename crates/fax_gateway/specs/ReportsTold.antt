@@ -8,7 +8,7 @@ use Rattle.fax_call.specs.Delivery.{IsTold}
 use Rattle.fax_gateway.specs.Setups.{Setup}
 use Rattle.fax_gateway.specs.Events.{Event, Tick, Given}
 use Rattle.fax_gateway.specs.CalledLegs.{CalledLeg}
-use Rattle.fax_gateway.specs.Sides.{book_of, sides, in_tick}
+use Rattle.fax_gateway.specs.BothLegs.{book_of, both_legs, in_tick}
 use Rattle.fax_gateway.specs.Traces.{IsTrace}
 use Rattle.fax_gateway.specs.Told.{leg_marks}
 
@@ -20,7 +20,7 @@ AreHeard (Acknowledged ∷ marks) = AreHeard marks
 AreHeard (Refused ∷ marks) = AreHeard marks
 AreHeard (Begins ∷ marks) = ⊥
 
--- A report that a tick gave: `book` is the book when the called leg is served, and the leg and the marks are those behind the
+-- A report that a tick gave: `book` is the book when the called leg is served, and the leg and the marks are those after the
 -- tick.
 pub record IsReported (book : Book) (leg : Option CalledLeg) (marks : List Mark) (report : Report) : Type 0 where
   -- it is of the job that was being sent
@@ -30,7 +30,7 @@ pub record IsReported (book : Book) (leg : Option CalledLeg) (marks : List Mark)
   pub call : report.call ≡ l.job.call
   pub format : report.format ≡ l.job.format
   pub pages : report.pages ≡ length l.job.pages
-  -- by what the leg gave and heard until the call was over: behind that it gave nothing, and at most heard frames
+  -- by what the leg gave and heard until the call was over: after that it gave nothing, and at most heard frames
   pub until : List Mark
   pub later : List Mark
   pub are_heard : AreHeard later
@@ -44,4 +44,4 @@ ReportsTheJob =
     (setup : Setup) (writes : Writing) (earlier : List Event) (at : ℕ) (given : Given) (report : Report) → IsWriting writes
     → IsTrace setup writes (Tick at given ∷ earlier) → given.report ≡ Some report →
     let trace : List Event = Tick at given ∷ earlier in
-    IsReported (book_of (in_tick setup writes earlier at)) (sides setup writes trace).leg (leg_marks setup writes trace) report
+    IsReported (book_of (in_tick setup writes earlier at)) (both_legs setup writes trace).leg (leg_marks setup writes trace) report

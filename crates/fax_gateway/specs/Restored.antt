@@ -1,4 +1,4 @@
--- What a gateway is restored with behind a crash: pages that an earlier life of it confirmed, and whose jobs had not ended. A call
+-- What a gateway is restored with after a crash: pages that an earlier life of it confirmed, and whose jobs had not ended. A call
 -- that was on then ended there. (This project's profile.)
 use Rattle.std.specs.Prelude.{ℕ, List, [], ◌∷◌, ◌++◌, map}
 use Rattle.fax_pagestore.specs.Pages.{PageValue, IsPage}
@@ -37,7 +37,7 @@ abbrev pub ArePages : List CallPage → Type 0
 ArePages [] = Unit {0}
 ArePages (p ∷ pages) = IsPage p.page × ArePages pages
 
--- The book hears of them behind the steps so far (the newest first): the pages of each call are confirmed, and the call ends.
+-- The book hears of them after the steps so far (the newest first): the pages of each call are confirmed, and the call ends.
 abbrev pub confirms_all : ℕ → List Confirmation → List Step → List Step
 confirms_all number [] steps = steps
 confirms_all number (c ∷ cs) steps = confirms_all number cs (Confirms number c.page c.closes ∷ steps)

@@ -12,7 +12,7 @@ use Rattle.fax_call.specs.Writings.{Writing}
 use Rattle.fax_gateway.specs.Setups.{Setup}
 use Rattle.fax_gateway.specs.Events.{Event, Tick, Given}
 use Rattle.fax_gateway.specs.CallingLegs.{CallingLeg, core_of, calling_leg}
-use Rattle.fax_gateway.specs.Sides.{sides}
+use Rattle.fax_gateway.specs.BothLegs.{both_legs}
 use Rattle.fax_gateway.specs.Traces.{IsTrace}
 use Rattle.fax_gateway.specs.Told.{gives_rtn}
 use Rattle.fax_gateway.specs.Answers.{AddsNoPage}
@@ -27,10 +27,10 @@ pub record RefusesNow (leg : CallingLeg) (old new : List Step) : Type 0 where
 abbrev pub EachRtnAnswers : Type 0
 EachRtnAnswers =
     (setup : Setup) (writes : Writing) (earlier : List Event) (at : ℕ) (given : Given) → IsTrace setup writes (Tick at given ∷ earlier) → gives_rtn given.on_calling ≡ true
-    → (leg : CallingLeg) × (calling_leg setup earlier ≡ Some leg) × RefusesNow leg (sides setup writes earlier).steps (sides setup writes (Tick at given ∷ earlier)).steps
+    → (leg : CallingLeg) × (calling_leg setup earlier ≡ Some leg) × RefusesNow leg (both_legs setup writes earlier).steps (both_legs setup writes (Tick at given ∷ earlier)).steps
 
 -- In every trace each frame of a command that came on the calling leg and was not passed over is judged: where one whole image
--- came in Page with nothing behind it, the answer is RTN exactly where it means no page, and else MCF for the page that it means.
+-- came in Page with nothing after it, the answer is RTN exactly where it means no page, and else MCF for the page that it means.
 abbrev pub CommandsAreJudged : Type 0
 CommandsAreJudged =
     (setup : Setup) (writes : Writing) (trace : List Event) (leg : CallingLeg) (later before : List Entry) (octets : List ℕ) (d : Decision) (command : Command)

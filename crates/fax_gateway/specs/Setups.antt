@@ -5,7 +5,7 @@ use Rattle.fax_udptl.specs.Sending.{most_redundancy}
 use Rattle.fax_gateway.specs.declared.settings.Settings.{Settings}
 use Rattle.fax_gateway.specs.Restored.{RestoredCall, pages_restored, ArePages}
 
--- What is set for both legs: how many of the packets before its own each datagram has, and the pause behind a preamble. Whether
+-- What is set for both legs: how many of the packets before its own each datagram has, and the pause after a preamble. Whether
 -- a job's call is asked for, and begins when it is placed. And the calls that it is restored with, the oldest first: a new gateway
 -- has none.
 pub record Setup : Type 0 where

@@ -5,7 +5,7 @@ use Rattle.fax_jobs.specs.Jobs.{JobValue}
 use Rattle.fax_answer.specs.Replies.{ConfirmedPage}
 use Rattle.fax_answer.specs.declared.refusal.Refusal.{Refusal}
 use Rattle.fax_gateway.specs.declared.given.Kept.{Kept}
-use Rattle.fax_gateway.specs.declared.given.Refused.{Refused}
+use Rattle.fax_gateway.specs.declared.given.RefusedPage.{RefusedPage}
 use Rattle.fax_gateway.specs.Setups.{Setup}
 use Rattle.fax_gateway.specs.Events.{Event, Ring, FromCalling, FromCalled, Tick, Placed, clock}
 use Rattle.fax_gateway.specs.CallingLegs.{CallingLeg, answers, calling_leg, confirmed_by, core_of, is_idle}
@@ -24,14 +24,14 @@ kept_at None now = None
 kept_at (Some l) now = kept_if l.number (confirmed_by (answers l now).given)
 
 -- the page that it refuses, in the call of this number, for a reason that is right
-abbrev pub refused_if : ℕ → Option Refusal → Option Refused
+abbrev pub refused_if : ℕ → Option Refusal → Option RefusedPage
 refused_if number None = None
 refused_if number (Some why) = Some (record { call = number; why = why })
 
-abbrev pub Refuses : Option CallingLeg → ℕ → (number : ℕ) → Option Refused → Type 0
+abbrev pub Refuses : Option CallingLeg → ℕ → (number : ℕ) → Option RefusedPage → Type 0
 Refuses leg now number told = (why : Option Refusal) × TellsWhyOn leg now why × (told ≡ refused_if number why)
 
-abbrev pub IsRefusedAt : Option CallingLeg → ℕ → Option Refused → Type 0
+abbrev pub IsRefusedAt : Option CallingLeg → ℕ → Option RefusedPage → Type 0
 IsRefusedAt None now told = told ≡ None
 IsRefusedAt (Some l) now told = Refuses (Some l) now l.number told
 
@@ -49,25 +49,25 @@ abbrev pub kept_list : Option Kept → List Kept
 kept_list None = []
 kept_list (Some kept) = kept ∷ []
 
-abbrev pub pages_kept : Setup → List Event → List Kept
-pages_kept setup [] = []
-pages_kept setup (Ring at number ∷ earlier) = pages_kept setup earlier
-pages_kept setup (FromCalling octets at decided read ∷ earlier) = pages_kept setup earlier
-pages_kept setup (FromCalled octets at decided ∷ earlier) = pages_kept setup earlier
-pages_kept setup (Tick at given ∷ earlier) = pages_kept setup earlier ++ kept_list (kept_at (calling_leg setup earlier) (max at (clock earlier)))
-pages_kept setup (Placed at connected ∷ earlier) = pages_kept setup earlier
+abbrev pub pages_confirmed : Setup → List Event → List Kept
+pages_confirmed setup [] = []
+pages_confirmed setup (Ring at number ∷ earlier) = pages_confirmed setup earlier
+pages_confirmed setup (FromCalling octets at decided read ∷ earlier) = pages_confirmed setup earlier
+pages_confirmed setup (FromCalled octets at decided ∷ earlier) = pages_confirmed setup earlier
+pages_confirmed setup (Tick at given ∷ earlier) = pages_confirmed setup earlier ++ kept_list (kept_at (calling_leg setup earlier) (max at (clock earlier)))
+pages_confirmed setup (Placed at connected ∷ earlier) = pages_confirmed setup earlier
 
-abbrev pub refused_list : Option Refused → List Refused
+abbrev pub refused_list : Option RefusedPage → List RefusedPage
 refused_list None = []
 refused_list (Some refused) = refused ∷ []
 
-abbrev pub AreRefused : Setup → List Event → List Refused → Type 0
+abbrev pub AreRefused : Setup → List Event → List RefusedPage → Type 0
 AreRefused setup [] told = told ≡ []
 AreRefused setup (Ring at number ∷ earlier) told = AreRefused setup earlier told
 AreRefused setup (FromCalling octets at decided read ∷ earlier) told = AreRefused setup earlier told
 AreRefused setup (FromCalled octets at decided ∷ earlier) told = AreRefused setup earlier told
 AreRefused setup (Tick at given ∷ earlier) told =
-    (before : List Refused) × (refused : Option Refused) × AreRefused setup earlier before
+    (before : List RefusedPage) × (refused : Option RefusedPage) × AreRefused setup earlier before
     × IsRefusedAt (calling_leg setup earlier) (max at (clock earlier)) refused × (told ≡ before ++ refused_list refused)
 AreRefused setup (Placed at connected ∷ earlier) told = AreRefused setup earlier told
 
@@ -85,10 +85,10 @@ calls_given_up setup (Placed at connected ∷ earlier) = calls_given_up setup ea
 
 -- What the ticks told by which a trace became longer: at most one report, one page that was confirmed, one that was refused, and
 -- one call.
-pub record TellTicks (setup : Setup) (older newer : List Event) (report : Option Report) (kept : Option Kept) (refused : Option Refused) (gave_up : Option ℕ) : Type 0 where
+pub record TellTicks (setup : Setup) (older newer : List Event) (report : Option Report) (kept : Option Kept) (refused : Option RefusedPage) (gave_up : Option ℕ) : Type 0 where
   pub reports : reports_given newer ≡ reports_given older ++ report_list report
-  pub pages : pages_kept setup newer ≡ pages_kept setup older ++ kept_list kept
-  pub refusals : (told : List Refused) → AreRefused setup older told → AreRefused setup newer (told ++ refused_list refused)
+  pub pages : pages_confirmed setup newer ≡ pages_confirmed setup older ++ kept_list kept
+  pub refusals : (told : List RefusedPage) → AreRefused setup older told → AreRefused setup newer (told ++ refused_list refused)
   pub calls : calls_given_up setup newer ≡ calls_given_up setup older ++ call_list gave_up
 
 -- ---- what is on
@@ -98,8 +98,8 @@ abbrev pub call_on : Option CallingLeg → Option ℕ
 call_on None = None
 call_on (Some l) = if is_idle (core_of l).state then None else Some l.number
 
-abbrev pub call_kept : CallingValue → Option ℕ
-call_kept side = if is_idle side.kept.procedure.state then None else Some side.number
+abbrev pub call_of_rep : CallingValue → Option ℕ
+call_of_rep endpoint = if is_idle endpoint.kept.procedure.state then None else Some endpoint.number
 
 -- a call that was on, and is on no more
 abbrev pub call_ended : (old new : Option ℕ) → Option ℕ

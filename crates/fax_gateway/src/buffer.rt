@@ -2,7 +2,7 @@
 ghost use Rattle.std.specs.Prelude.{◌≡◌, ◌≤◌, ◌∷◌, [], IfOk, IfSome, length, take};
 ghost use Rattle.fax_gateway.specs.Wires.{Grows, buffer_octets, failures_after, receipt_of};
 
-use crate::side::Side;
+use crate::leg::Leg;
 use crate::wire::{Wire, WireFault};
 use fax_bits::NoMemory;
 use std::alloc::Global;
@@ -12,7 +12,7 @@ use std::marker::Model;
 const OCTETS: usize = 65_536;
 
 /// A buffer of 65,536 octets. No datagram of UDP is longer than it: its length has 16 bits (RFC 768). Seen as its octets,
-/// which may be anything behind a datagram.
+/// which may be anything after a datagram.
 #[derive(Drop)]
 pub struct Buffer {
     octets: Vec<u8>,
@@ -41,17 +41,17 @@ impl Buffer {
     /// Receives a datagram of a leg into its front, and says how many octets it has. `None`: nothing has come.
     pub(crate) fn receive<W: Wire>(
         &mut self,
-        side: Side,
+        leg: Leg,
         wire: &mut W,
     ) -> Result<Option<usize>, WireFault>
         ensures room { length self.new ≡ buffer_octets }
         ensures fits { IfOk result (λ came. IfSome came (λ count. count ≤ length self.new)) }
         ensures failures { (W.known wire.new).failures ≡ failures_after (W.known wire.old).failures result }
-        ensures received { Grows (receipt_of side self.new result ∷ []) (W.known wire.old).received (W.known wire.new).received }
+        ensures received { Grows (receipt_of leg self.new result ∷ []) (W.known wire.old).received (W.known wire.new).received }
         ensures sent { Grows [] (W.known wire.old).sent (W.known wire.new).sent }
-        ensures makes { W.receives side wire.old wire.new }
+        ensures makes { W.receives leg wire.old wire.new }
     {
-        wire.receive(side, self.octets.as_mut_slice())
+        wire.receive(leg, self.octets.as_mut_slice())
     }
 
     /// Its first octets.

@@ -7,9 +7,9 @@ ghost use Rattle.fax_call.specs.declared.pending.Pending.TheVariants as Pending;
 ghost use Rattle.fax_gateway.specs.Setups.{AreAllowed, HasSettings, Setup};
 ghost use Rattle.fax_gateway.specs.CalledLegs.{CalledLeg, begun_leg, placed_leg, core_left, core_of, decided_called, hears};
 ghost use Rattle.fax_gateway.specs.Due.{call_due};
-ghost use Rattle.fax_gateway.specs.Reached.{Begins, CalledHasRoom, IsCalled, IsLeg, IsServed, TicksOn, called_alone, most_octets, outcome_kept};
+ghost use Rattle.fax_gateway.specs.Reached.{Begins, CalledHasRoom, IsCalled, IsLeg, IsServed, TicksOn, called_alone, most_octets, outcome_of_rep};
 
-use crate::leg::{Leg, MOST_OCTETS};
+use crate::endpoint::{Endpoint, MOST_OCTETS};
 use crate::settings::Settings;
 use fax_bits::{NoMemory, Octets};
 use fax_call::{Caller, State};
@@ -17,22 +17,22 @@ use fax_jobs::{Job, Jobs, Outcome};
 use fax_pagestore::RowStore;
 use std::alloc::Global;
 
-/// The calling side of the called leg.
+/// The caller of the called leg.
 #[derive(Drop)]
-pub(crate) struct CalledSide {
+pub(crate) struct CalledEndpoint {
     pub caller: Caller,
-    pub leg: Leg,
+    pub leg: Endpoint,
 }
 
-impl CalledSide {
-    /// A side on whose leg no call was. It takes memory for the leg.
+impl CalledEndpoint {
+    /// An endpoint on whose leg no call was. It takes memory for the leg.
     pub fn new(alloc: Global, settings: Settings) -> Result<Self, NoMemory>
         requires { AreAllowed settings }
-        ensures reached { IfOk result (λ side. (setup : Setup) (writes : Writing) → HasSettings setup settings → IsCalled setup writes None side) }
-        ensures idle { IfOk result (λ side. side.caller.procedure.state ≡ State.Idle) }
+        ensures reached { IfOk result (λ endpoint. (setup : Setup) (writes : Writing) → HasSettings setup settings → IsCalled setup writes None endpoint) }
+        ensures idle { IfOk result (λ endpoint. endpoint.caller.procedure.state ≡ State.Idle) }
     {
-        let leg = Leg::new(alloc, settings.redundancy)?;
-        Ok(CalledSide {
+        let leg = Endpoint::new(alloc, settings.redundancy)?;
+        Ok(CalledEndpoint {
             caller: Caller::new(alloc, settings.preamble_ms),
             leg,
         })
@@ -65,7 +65,7 @@ impl CalledSide {
 
     /// The outcome of the call, where it is over.
     pub fn outcome(&self) -> Option<Outcome>
-        ensures { result ≡ outcome_kept self.now.caller.procedure }
+        ensures { result ≡ outcome_of_rep self.now.caller.procedure }
     {
         if self.caller.state() == State::Idle {
             self.caller.outcome()
@@ -103,7 +103,7 @@ impl CalledSide {
     }
 
     /// The call of a job begins, where no call is on, with a leg of its own. It takes no memory.
-    pub fn start<S: RowStore>(&mut self, job: &Job<S>, leg: Leg, now: u64)
+    pub fn start<S: RowStore>(&mut self, job: &Job<S>, leg: Endpoint, now: u64)
         requires idle { self.old.caller.procedure.state ≡ State.Idle }
         ensures started { (setup : Setup) (writes : Writing) (old : Option CalledLeg) → IsLeg setup [] [] leg → IsCalled setup writes old self.old
             → IsCalled setup writes (Some (begun_leg job.now (core_left setup writes old) now)) self.new }
@@ -120,7 +120,7 @@ impl CalledSide {
 
     /// The call of a job is placed, where no call is on, with a leg of its own: it begins, or, where the called machine could not be
     /// reached, is over as it begins. It takes no memory.
-    pub fn place<S: RowStore>(&mut self, job: &Job<S>, connected: bool, leg: Leg, now: u64)
+    pub fn place<S: RowStore>(&mut self, job: &Job<S>, connected: bool, leg: Endpoint, now: u64)
         requires idle { self.old.caller.procedure.state ≡ State.Idle }
         ensures placed { (setup : Setup) (writes : Writing) (old : Option CalledLeg) → IsLeg setup [] [] leg → IsCalled setup writes old self.old
             → IsCalled setup writes (Some (placed_leg connected job.now (core_left setup writes old) now)) self.new }
@@ -134,7 +134,7 @@ impl CalledSide {
     }
 
     /// The call of a job could not be placed: it is over as it begins.
-    fn fail_to_place<S: RowStore>(&mut self, job: &Job<S>, leg: Leg, now: u64)
+    fn fail_to_place<S: RowStore>(&mut self, job: &Job<S>, leg: Endpoint, now: u64)
         requires idle { self.old.caller.procedure.state ≡ State.Idle }
         ensures failed { (setup : Setup) (writes : Writing) (old : Option CalledLeg) → IsLeg setup [] [] leg → IsCalled setup writes old self.old
             → IsCalled setup writes (Some (placed_leg false job.now (core_left setup writes old) now)) self.new }
@@ -164,7 +164,7 @@ impl CalledSide {
 
     /// Where a job is to be sent, its call begins, with a leg of its own, and time goes on in it: it answers the datagram
     /// that is given. No call is on before it. The memory is reserved.
-    pub fn begin<S: RowStore>(&mut self, jobs: &Jobs<S>, leg: Leg, now: u64) -> Option<Octets>
+    pub fn begin<S: RowStore>(&mut self, jobs: &Jobs<S>, leg: Endpoint, now: u64) -> Option<Octets>
         requires idle { self.old.caller.procedure.state ≡ State.Idle }
         requires packet { 1 ≤ self.old.caller.spare }
         requires datagram { most_octets < leg.sender.spare }

@@ -5,9 +5,9 @@ ghost use Rattle.fax_gateway.specs.Setups.{AreAllowed, HasSettings, Setup};
 ghost use Rattle.fax_gateway.specs.CallingLegs.{CallingLeg, decided_calling, idle_after, rung_leg};
 ghost use Rattle.fax_gateway.specs.Due.{calling_due};
 ghost use Rattle.fax_gateway.specs.Reached.{IsCalling, HearsCalling, CallingHasRoom, TellsTick, answering_of, calling_alone, ticked_on};
-ghost use Rattle.fax_gateway.specs.Turns.{call_kept, call_on};
+ghost use Rattle.fax_gateway.specs.Turns.{call_of_rep, call_on};
 
-use crate::leg::Leg;
+use crate::endpoint::Endpoint;
 use crate::settings::Settings;
 use fax_answer::{Answerer, State, Step};
 use fax_bits::NoMemory;
@@ -15,19 +15,19 @@ use fax_pagestore::RowStore;
 use std::alloc::Global;
 use std::marker::Model;
 
-/// How many octets a packet of the answering side has at most.
+/// How many octets a packet of the answerer has at most.
 const MOST_ANSWERED: usize = 12;
 
-/// The answering side of the calling leg, with the number of its last call.
+/// The answerer of the calling leg, with the number of its last call.
 #[derive(Drop)]
-pub(crate) struct CallingSide<S: RowStore> {
+pub(crate) struct CallingEndpoint<S: RowStore> {
     alloc: Global,
     number: u32,
     answerer: Answerer<S>,
-    leg: Leg,
+    leg: Endpoint,
 }
 
-impl<S: RowStore> Model for CallingSide<S> {
+impl<S: RowStore> Model for CallingEndpoint<S> {
     ghost use Rattle.fax_gateway.specs.Reached.{CallingValue};
 
     ghost Value = { CallingValue };
@@ -35,14 +35,14 @@ impl<S: RowStore> Model for CallingSide<S> {
     ghost view = { λ s. record { number = s.number; kept = s.answerer; leg = s.leg } };
 }
 
-impl<S: RowStore> CallingSide<S> {
-    /// A side on whose leg no call was. It takes memory for the leg.
+impl<S: RowStore> CallingEndpoint<S> {
+    /// An endpoint on whose leg no call was. It takes memory for the leg.
     pub fn new(alloc: Global, settings: Settings) -> Result<Self, NoMemory>
         requires { AreAllowed settings }
-        ensures { IfOk result (λ side. (setup : Setup) → HasSettings setup settings → IsCalling setup None side) }
+        ensures { IfOk result (λ endpoint. (setup : Setup) → HasSettings setup settings → IsCalling setup None endpoint) }
     {
-        let leg = Leg::new(alloc, settings.redundancy)?;
-        Ok(CallingSide {
+        let leg = Endpoint::new(alloc, settings.redundancy)?;
+        Ok(CallingEndpoint {
             alloc,
             number: 0,
             answerer: Answerer::new(alloc, settings.preamble_ms),
@@ -60,7 +60,7 @@ impl<S: RowStore> CallingSide<S> {
 
     /// The number of the call that is on.
     pub fn call(&self) -> Option<u32>
-        ensures call { result ≡ call_kept self.now }
+        ensures call { result ≡ call_of_rep self.now }
         ensures told { (setup : Setup) (leg : Option CallingLeg) → IsCalling setup leg self.now → result ≡ call_on leg }
     {
         if self.is_idle() {
@@ -79,7 +79,7 @@ impl<S: RowStore> CallingSide<S> {
             → IsCalling setup (Some (rung_leg (answering_of setup leg) now number)) self.new) }
         ensures err { OnErr result (self.new ≡ self.old) }
     {
-        self.leg = Leg::new(self.alloc, redundancy)?;
+        self.leg = Endpoint::new(self.alloc, redundancy)?;
         self.number = number;
         self.answerer.ring(now);
         Ok(())

@@ -4,14 +4,14 @@ ghost use Rattle.fax_call.specs.Writings.{IsWriting, Writing};
 ghost use Rattle.fax_gateway.specs.Setups.{Setup};
 ghost use Rattle.fax_gateway.specs.Events.{Event};
 ghost use Rattle.fax_gateway.specs.Reached.{IsReachedBy};
-ghost use Rattle.fax_gateway.specs.Sides.{job_asked};
+ghost use Rattle.fax_gateway.specs.BothLegs.{job_asked};
 ghost use Rattle.fax_gateway.specs.Driving.{Entry, Happens, HasMade, IsTurn, WireGoes, events, failed_in_a_row, most_failed, receipts};
-ghost use Rattle.fax_gateway.specs.Turns.{TellTicks, call_asked, call_dialled, call_ended, call_if_new, call_kept};
+ghost use Rattle.fax_gateway.specs.Turns.{TellTicks, call_asked, call_dialled, call_ended, call_if_new, call_of_rep};
 
 use crate::buffer::Buffer;
 use crate::engine::Engine;
 use crate::gateway::Gateway;
-use crate::turned::Turned;
+use crate::turn_report::TurnReport;
 use crate::wire::Wire;
 use fax_bits::NoMemory;
 use fax_pagestore::RowStore;
@@ -51,13 +51,13 @@ impl Driver {
         gateway: &mut Gateway<S>,
         wire: &mut W,
         now: u64,
-    ) -> Turned
+    ) -> TurnReport
         ensures turned { (setup : Setup) (writes : Writing) (trace : List Event) (earlier : List Entry) → IsWriting writes → IsReachedBy setup writes trace gateway.old → HasMade earlier self.old
             → (turn : List Entry) × IsTurn now turn × Happens setup writes turn trace gateway.new (W.known wire.old) (W.known wire.new) × HasMade (turn ++ earlier) self.new
             × TellTicks setup trace (events turn ++ trace) result.report result.kept result.refused result.gave_up
             × WireGoes W.receives W.sends turn wire.old wire.new }
         ensures goes_on { (made : List Entry) → HasMade made self.new → IsTrue result.goes_on ↔ (failed_in_a_row (receipts made) < most_failed) }
-        ensures ended { result.ended ≡ call_ended (call_kept gateway.old.calling) (call_kept gateway.new.calling) }
+        ensures ended { result.ended ≡ call_ended (call_of_rep gateway.old.calling) (call_of_rep gateway.new.calling) }
         ensures dialled { result.dialled ≡ call_dialled (is_some gateway.old.book.sending) gateway.new.book.sending }
         ensures asked { result.asked ≡ call_if_new (call_asked (job_asked gateway.old.settings.asks gateway.old.book)) (call_asked (job_asked gateway.new.settings.asks gateway.new.book)) }
     {

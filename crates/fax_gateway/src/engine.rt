@@ -4,17 +4,17 @@ ghost use Rattle.fax_call.specs.Writings.{IsWriting, Writing};
 ghost use Rattle.fax_gateway.specs.Setups.{Setup};
 ghost use Rattle.fax_gateway.specs.Events.{Event};
 ghost use Rattle.fax_gateway.specs.Reached.{IsReachedBy};
-ghost use Rattle.fax_gateway.specs.Sides.{job_asked};
-ghost use Rattle.fax_gateway.specs.declared.side.Side.{Side as SideShown};
+ghost use Rattle.fax_gateway.specs.BothLegs.{job_asked};
+ghost use Rattle.fax_gateway.specs.declared.leg.Leg.{Leg as LegShown};
 ghost use Rattle.fax_gateway.specs.Driving.{AreReceives, Carries, Comes, Entry, FailsToReceive, Happens, HasMade, IsHanded, IsReceive, IsSent, IsTick, IsTurn, IsWanting, Steps, WireGoes, events, failed_in_a_row, most_failed, receipts};
-ghost use Rattle.fax_gateway.specs.Turns.{TellTicks, call_asked, call_dialled, call_ended, call_if_new, call_kept};
+ghost use Rattle.fax_gateway.specs.Turns.{TellTicks, call_asked, call_dialled, call_ended, call_if_new, call_of_rep};
 
 use crate::buffer::Buffer;
 use crate::driven::Driven;
 use crate::gateway::Gateway;
-use crate::given::Told;
-use crate::side::Side;
-use crate::turned::Turned;
+use crate::given::TickReport;
+use crate::leg::Leg;
+use crate::turn_report::TurnReport;
 use crate::wire::{Wire, WireFault};
 use fax_bits::{NoMemory, Octets};
 use fax_jobs::Job;
@@ -68,23 +68,23 @@ impl Engine {
         gateway: &mut Gateway<S>,
         wire: &mut W,
         now: u64,
-    ) -> Turned
+    ) -> TurnReport
         ensures turned { (setup : Setup) (writes : Writing) (trace : List Event) (earlier : List Entry) → IsWriting writes → IsReachedBy setup writes trace gateway.old → HasMade earlier self.old
             → (turn : List Entry) × IsTurn now turn × Happens setup writes turn trace gateway.new (W.known wire.old) (W.known wire.new) × HasMade (turn ++ earlier) self.new
             × TellTicks setup trace (events turn ++ trace) result.report result.kept result.refused result.gave_up
             × WireGoes W.receives W.sends turn wire.old wire.new }
         ensures goes_on { (made : List Entry) → HasMade made self.new → IsTrue result.goes_on ↔ (failed_in_a_row (receipts made) < most_failed) }
-        ensures ended { result.ended ≡ call_ended (call_kept gateway.old.calling) (call_kept gateway.new.calling) }
+        ensures ended { result.ended ≡ call_ended (call_of_rep gateway.old.calling) (call_of_rep gateway.new.calling) }
         ensures dialled { result.dialled ≡ call_dialled (is_some gateway.old.book.sending) gateway.new.book.sending }
         ensures asked { result.asked ≡ call_if_new (call_asked (job_asked gateway.old.settings.asks gateway.old.book)) (call_asked (job_asked gateway.new.settings.asks gateway.new.book)) }
     {
         let call = gateway.call();
         let was_sending = gateway.sending().is_some();
         let was_asked = gateway.asked();
-        self.serve(Side::Calling, buffer, gateway, wire, now);
-        self.serve(Side::Called, buffer, gateway, wire, now);
+        self.serve(Leg::Calling, buffer, gateway, wire, now);
+        self.serve(Leg::Called, buffer, gateway, wire, now);
         let told = self.tick(gateway, wire, now);
-        Turned {
+        TurnReport {
             goes_on: self.failed_in_a_row < MOST_FAILED,
             report: told.report,
             kept: told.kept,
@@ -113,18 +113,18 @@ impl Engine {
     /// Receives and hands on at most 16 datagrams of a leg, until none comes or a receive fails.
     fn serve<S: RowStore, W: Wire>(
         &mut self,
-        side: Side,
+        leg: Leg,
         buffer: &mut Buffer,
         gateway: &mut Gateway<S>,
         wire: &mut W,
         now: u64,
     )
         ensures { (setup : Setup) (writes : Writing) (trace : List Event) (earlier : List Entry) → IsReachedBy setup writes trace gateway.old → HasMade earlier self.old
-            → (log : List Entry) × AreReceives side now log × Steps setup writes log trace earlier gateway.new (W.known wire.old) (W.known wire.new) self.new
+            → (log : List Entry) × AreReceives leg now log × Steps setup writes log trace earlier gateway.new (W.known wire.old) (W.known wire.new) self.new
             × WireGoes W.receives W.sends log wire.old wire.new }
     {
         for _ in 0..MOST_DATAGRAMS {
-            if !self.receive(side, buffer, gateway, wire, now) {
+            if !self.receive(leg, buffer, gateway, wire, now) {
                 return;
             }
         }
@@ -133,19 +133,19 @@ impl Engine {
     /// Receives and hands on a datagram of a leg. It answers whether one came.
     fn receive<S: RowStore, W: Wire>(
         &mut self,
-        side: Side,
+        leg: Leg,
         buffer: &mut Buffer,
         gateway: &mut Gateway<S>,
         wire: &mut W,
         now: u64,
     ) -> bool
         ensures { (setup : Setup) (writes : Writing) (trace : List Event) (earlier : List Entry) → IsReachedBy setup writes trace gateway.old → HasMade earlier self.old
-            → (entry : Entry) × IsReceive result side now entry × Steps setup writes (entry ∷ []) trace earlier gateway.new (W.known wire.old) (W.known wire.new) self.new
+            → (entry : Entry) × IsReceive result leg now entry × Steps setup writes (entry ∷ []) trace earlier gateway.new (W.known wire.old) (W.known wire.new) self.new
             × WireGoes W.receives W.sends (entry ∷ []) wire.old wire.new }
     {
-        match buffer.receive(side, wire) {
+        match buffer.receive(leg, wire) {
             Ok(Some(count)) => {
-                let is_accepted = hand_on(side, buffer.front(count), gateway, now);
+                let is_accepted = hand_on(leg, buffer.front(count), gateway, now);
                 self.note_datagram(is_accepted);
                 true
             }
@@ -162,7 +162,7 @@ impl Engine {
 
     /// A datagram came, and was accepted or refused.
     fn note_datagram(&mut self, is_accepted: bool)
-        ensures { (log : List Entry) (at : SideShown) (octets : List ℕ) (entry : Entry) → IsHanded is_accepted at octets entry → HasMade log self.old → HasMade (entry ∷ log) self.new }
+        ensures { (log : List Entry) (at : LegShown) (octets : List ℕ) (entry : Entry) → IsHanded is_accepted at octets entry → HasMade log self.old → HasMade (entry ∷ log) self.new }
     {
         self.failed_in_a_row = 0;
         if !is_accepted {
@@ -172,7 +172,7 @@ impl Engine {
 
     /// A receive failed.
     fn note_failure(&mut self)
-        ensures { (log : List Entry) (at : SideShown) → HasMade log self.old → HasMade (FailsToReceive at ∷ log) self.new }
+        ensures { (log : List Entry) (at : LegShown) → HasMade log self.old → HasMade (FailsToReceive at ∷ log) self.new }
     {
         self.receives_failed = self.receives_failed.saturating_add(1);
         if self.failed_in_a_row < MOST_FAILED {
@@ -186,7 +186,7 @@ impl Engine {
         gateway: &mut Gateway<S>,
         wire: &mut W,
         now: u64,
-    ) -> Told
+    ) -> TickReport
         ensures { (setup : Setup) (writes : Writing) (trace : List Event) (earlier : List Entry) → IsWriting writes → IsReachedBy setup writes trace gateway.old → HasMade earlier self.old
             → (log : List Entry) × IsTick now log × Steps setup writes log trace earlier gateway.new (W.known wire.old) (W.known wire.new) self.new
             × TellTicks setup trace (events log ++ trace) result.report result.kept result.refused result.gave_up
@@ -194,27 +194,27 @@ impl Engine {
     {
         match gateway.tick(now) {
             Ok(given) => {
-                self.send(Side::Calling, &given.calling, wire);
-                self.send(Side::Called, &given.called, wire);
+                self.send(Leg::Calling, &given.calling, wire);
+                self.send(Leg::Called, &given.called, wire);
                 given.told()
             }
             Err(NoMemory) => {
                 self.events_refused = self.events_refused.saturating_add(1);
-                Told::nothing()
+                TickReport::nothing()
             }
         }
     }
 
     /// Sends what is given on a leg.
-    fn send<W: Wire>(&mut self, side: Side, given: &Option<Octets>, wire: &mut W)
+    fn send<W: Wire>(&mut self, leg: Leg, given: &Option<Octets>, wire: &mut W)
         ensures { (earlier : List Entry) → HasMade earlier self.old
-            → (log : List Entry) × IsSent side given.now log × Carries log (W.known wire.old) (W.known wire.new) × HasMade (log ++ earlier) self.new
+            → (log : List Entry) × IsSent leg given.now log × Carries log (W.known wire.old) (W.known wire.new) × HasMade (log ++ earlier) self.new
             × WireGoes W.receives W.sends log wire.old wire.new }
     {
         let Some(octets) = given else {
             return;
         };
-        match wire.send(side, octets.as_slice()) {
+        match wire.send(leg, octets.as_slice()) {
             Ok(()) => {}
             Err(WireFault) => self.sends_failed = self.sends_failed.saturating_add(1),
         }
@@ -246,12 +246,12 @@ fn call_if_new(was_asked: Option<u32>, is_asked: Option<u32>) -> Option<u32>
 }
 
 /// Hands a datagram of a leg on to the gateway. It answers whether it was accepted.
-fn hand_on<S: RowStore>(side: Side, octets: &[u8], gateway: &mut Gateway<S>, now: u64) -> bool
+fn hand_on<S: RowStore>(leg: Leg, octets: &[u8], gateway: &mut Gateway<S>, now: u64) -> bool
     ensures { (setup : Setup) (writes : Writing) (trace : List Event) → IsReachedBy setup writes trace gateway.old
-        → (entry : Entry) × Comes side now entry × IsHanded result side octets.now entry × IsWanting setup writes trace entry × IsReachedBy setup writes (events (entry ∷ []) ++ trace) gateway.new }
+        → (entry : Entry) × Comes leg now entry × IsHanded result leg octets.now entry × IsWanting setup writes trace entry × IsReachedBy setup writes (events (entry ∷ []) ++ trace) gateway.new }
 {
-    match side {
-        Side::Calling => gateway.from_calling(octets, now).is_ok(),
-        Side::Called => gateway.from_called(octets, now).is_ok(),
+    match leg {
+        Leg::Calling => gateway.from_calling(octets, now).is_ok(),
+        Leg::Called => gateway.from_called(octets, now).is_ok(),
     }
 }

@@ -10,7 +10,7 @@ pub enum RingFault {
     /// A call is on.
     #[error("a call is on")]
     Busy,
-    /// The number 4,294,967,295 was given, behind which there is none.
+    /// The number 4,294,967,295 was given, after which there is none.
     #[error("no number is left")]
     NoNumber,
     #[error("out of memory")]

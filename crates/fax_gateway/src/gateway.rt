@@ -12,16 +12,16 @@ ghost use Rattle.fax_gateway.specs.Setups.{AreAllowed, AreSet, AreSetWith, Setup
 ghost use Rattle.fax_gateway.specs.Events.{Event, Ring, FromCalled, Tick, Placed, clock, rings};
 ghost use Rattle.fax_gateway.specs.CallingLegs.{CallingLeg, calling_leg, decided_calling, idle_after, told_calling};
 ghost use Rattle.fax_gateway.specs.CalledLegs.{decided_called};
-ghost use Rattle.fax_gateway.specs.Sides.{book_of, job_asked, sides};
+ghost use Rattle.fax_gateway.specs.BothLegs.{book_of, both_legs, job_asked};
 ghost use Rattle.fax_gateway.specs.Due.{called_due, due_at, job_due, nothing_given};
-ghost use Rattle.fax_gateway.specs.Reached.{CallingHasRoom, HasRoom, HearsFrom, IsCalling, IsLeg, IsReachedBy, IsServed, alone, closed_if, confirmed_if, confirmed_on, ended_if, ended_on, given_shown, most_octets, outcome_kept, report_if, ticked_on};
-ghost use Rattle.fax_gateway.specs.Turns.{IsRefusedAt, Refuses, call_asked, call_if, call_kept, call_on, given_up_at, kept_at, kept_if, refused_if};
+ghost use Rattle.fax_gateway.specs.Reached.{CallingHasRoom, HasRoom, HearsFrom, IsCalling, IsLeg, IsReachedBy, IsServed, alone, closed_if, confirmed_if, confirmed_on, ended_if, ended_on, given_shown, most_octets, outcome_of_rep, report_if, ticked_on};
+ghost use Rattle.fax_gateway.specs.Turns.{IsRefusedAt, Refuses, call_asked, call_if, call_of_rep, call_on, given_up_at, kept_at, kept_if, refused_if};
 
-use crate::called::CalledSide;
-use crate::calling::CallingSide;
+use crate::called::CalledEndpoint;
+use crate::calling::CallingEndpoint;
+use crate::endpoint::Endpoint;
 use crate::fault::{PlaceFault, RingFault};
-use crate::given::{Given, Kept, Refused};
-use crate::leg::Leg;
+use crate::given::{Given, Kept, RefusedPage};
 use crate::restored::RestoredCall;
 use crate::settings::{PREAMBLE_MS, Settings};
 use fax_answer::{Confirmed, Refusal};
@@ -42,8 +42,8 @@ pub struct Gateway<S: RowStore> {
     clock: Clock,
     /// How many calls were rung.
     rings: u64,
-    calling: CallingSide<S>,
-    called: CalledSide,
+    calling: CallingEndpoint<S>,
+    called: CalledEndpoint,
     jobs: Jobs<S>,
 }
 
@@ -75,7 +75,7 @@ impl<S: RowStore> Gateway<S> {
         )
     }
 
-    /// The same with these settings: the redundancy is at most 8, the pause behind a preamble from 40 to 2,000 milliseconds.
+    /// The same with these settings: the redundancy is at most 8, the pause after a preamble from 40 to 2,000 milliseconds.
     pub fn with_settings(alloc: Global, settings: Settings) -> Result<Self, NoMemory>
         requires { AreAllowed settings }
         ensures settings { IfOk result (λ gateway. gateway.settings ≡ settings) }
@@ -84,7 +84,7 @@ impl<S: RowStore> Gateway<S> {
         Gateway::restore(alloc, settings, Vec::new(alloc))
     }
 
-    /// The same behind a crash: it begins with the pages that an earlier life of it confirmed and whose jobs had not ended, the
+    /// The same after a crash: it begins with the pages that an earlier life of it confirmed and whose jobs had not ended, the
     /// oldest call first. A call that was on then ended there: its pages are a job. These jobs wait, cut as a life cuts them,
     /// and are sent before any of this life. Both legs are new, so it is rung at once, and numbers its calls from 0 again. It
     /// takes memory for the jobs, too.
@@ -98,8 +98,8 @@ impl<S: RowStore> Gateway<S> {
         ensures reached { IfOk result (λ gateway. (setup : Setup) (writes : Writing) → AreSetWith setup settings (map call_shown calls.items) → IsReachedBy setup writes [] gateway) }
         ensures pages { OnOk result (ArePages (pages_restored (map call_shown calls.items))) }
     {
-        let calling = CallingSide::new(alloc, settings)?;
-        let called = CalledSide::new(alloc, settings)?;
+        let calling = CallingEndpoint::new(alloc, settings)?;
+        let called = CalledEndpoint::new(alloc, settings)?;
         let jobs = restored_jobs(alloc, calls)?;
         Ok(Gateway {
             alloc,
@@ -161,7 +161,7 @@ impl<S: RowStore> Gateway<S> {
         ensures heard { IfOk result (λ decided. (setup : Setup) (writes : Writing) (trace : List Event) → IsReachedBy setup writes trace self.old
             → IsReachedBy setup writes (FromCalled octets.now now decided ∷ trace) self.new) }
         ensures memory { (setup : Setup) (writes : Writing) (trace : List Event) → IsReachedBy setup writes trace self.old
-            → decided_called writes (sides setup writes trace).leg octets.now ≡ false → result ≡ Ok false }
+            → decided_called writes (both_legs setup writes trace).leg octets.now ≡ false → result ≡ Ok false }
         ensures err { OnErr result (self.new ≡ self.old) }
     {
         let mut clock = self.clock;
@@ -176,7 +176,7 @@ impl<S: RowStore> Gateway<S> {
         ensures placed { OnOk result ((setup : Setup) (writes : Writing) (trace : List Event) → IsReachedBy setup writes trace self.old
             → IsReachedBy setup writes (Placed now true ∷ trace) self.new) }
         ensures not_asked { (setup : Setup) (writes : Writing) (trace : List Event) → IsReachedBy setup writes trace self.old
-            → result ≡ Err PlaceFault.NotAsked ↔ (job_asked setup.asks (book_of (sides setup writes trace)) ≡ None) }
+            → result ≡ Err PlaceFault.NotAsked ↔ (job_asked setup.asks (book_of (both_legs setup writes trace)) ≡ None) }
         ensures err { OnErr result (self.new ≡ self.old) }
     {
         self.place(true, now)
@@ -188,7 +188,7 @@ impl<S: RowStore> Gateway<S> {
         ensures placed { OnOk result ((setup : Setup) (writes : Writing) (trace : List Event) → IsReachedBy setup writes trace self.old
             → IsReachedBy setup writes (Placed now false ∷ trace) self.new) }
         ensures not_asked { (setup : Setup) (writes : Writing) (trace : List Event) → IsReachedBy setup writes trace self.old
-            → result ≡ Err PlaceFault.NotAsked ↔ (job_asked setup.asks (book_of (sides setup writes trace)) ≡ None) }
+            → result ≡ Err PlaceFault.NotAsked ↔ (job_asked setup.asks (book_of (both_legs setup writes trace)) ≡ None) }
         ensures err { OnErr result (self.new ≡ self.old) }
     {
         self.place(false, now)
@@ -199,19 +199,19 @@ impl<S: RowStore> Gateway<S> {
         ensures placed { OnOk result ((setup : Setup) (writes : Writing) (trace : List Event) → IsReachedBy setup writes trace self.old
             → IsReachedBy setup writes (Placed now connected ∷ trace) self.new) }
         ensures not_asked { (setup : Setup) (writes : Writing) (trace : List Event) → IsReachedBy setup writes trace self.old
-            → result ≡ Err PlaceFault.NotAsked ↔ (job_asked setup.asks (book_of (sides setup writes trace)) ≡ None) }
+            → result ≡ Err PlaceFault.NotAsked ↔ (job_asked setup.asks (book_of (both_legs setup writes trace)) ≡ None) }
         ensures err { OnErr result (self.new ≡ self.old) }
     {
         if self.job_asked().is_none() {
             return Err(PlaceFault::NotAsked);
         }
-        let leg = Leg::with_room(self.alloc, self.settings.redundancy)?;
+        let leg = Endpoint::with_room(self.alloc, self.settings.redundancy)?;
         self.begin_asked(connected, leg, now);
         Ok(())
     }
 
     /// The same with this leg, where a job's call is asked for. It takes no memory.
-    fn begin_asked(&mut self, connected: bool, leg: Leg, now: u64)
+    fn begin_asked(&mut self, connected: bool, leg: Endpoint, now: u64)
         requires asked { IsSome (job_asked self.old.settings.asks self.old.book) }
         ensures placed { (setup : Setup) (writes : Writing) (trace : List Event) → IsLeg setup [] [] leg → IsReachedBy setup writes trace self.old
             → IsReachedBy setup writes (Placed now connected ∷ trace) self.new }
@@ -239,15 +239,15 @@ impl<S: RowStore> Gateway<S> {
     pub fn asked(&self) -> Option<u32>
         ensures asked { result ≡ call_asked (job_asked self.now.settings.asks self.now.book) }
         ensures told { (setup : Setup) (writes : Writing) (trace : List Event) → IsReachedBy setup writes trace self.now
-            → result ≡ call_asked (job_asked setup.asks (book_of (sides setup writes trace))) }
+            → result ≡ call_asked (job_asked setup.asks (book_of (both_legs setup writes trace))) }
     {
         let job = self.job_asked()?;
         Some(job.call())
     }
 
-    /// Time goes on, on both legs. It answers what is given: on the calling leg the answering side's next datagram, whose
+    /// Time goes on, on both legs. It answers what is given: on the calling leg the answerer's next datagram, whose
     /// page joins the book where it confirms one; on the called leg that of the job that is being sent, or of the one that
-    /// was closed first where none is and calls are not asked for; and the report of a job whose call has ended, behind which
+    /// was closed first where none is and calls are not asked for; and the report of a job whose call has ended, after which
     /// the next one waits for the next tick. It tells the page that it confirms, the one that it refuses and why, and the call of the calling leg that it
     /// gives up. Before the moment of `next_due` the clock is read, and nothing else is done. It takes memory for the datagrams,
     /// and for a page. An `Err` changes nothing but the memory that is reserved.
@@ -279,7 +279,7 @@ impl<S: RowStore> Gateway<S> {
         if self.settings.asks {
             return Ok(self.tick_at_rest(now));
         }
-        let leg = Leg::with_room(self.alloc, self.settings.redundancy)?;
+        let leg = Endpoint::with_room(self.alloc, self.settings.redundancy)?;
         Ok(self.tick_between(leg, now))
     }
 
@@ -296,7 +296,7 @@ impl<S: RowStore> Gateway<S> {
     /// The same of the called leg, and of the jobs that wait.
     fn called_due(&self) -> Option<u64>
         ensures { (setup : Setup) (writes : Writing) (trace : List Event) → IsReachedBy setup writes trace self.now
-            → result ≡ called_due setup.asks writes (sides setup writes trace).leg (book_of (sides setup writes trace)).waiting }
+            → result ≡ called_due setup.asks writes (both_legs setup writes trace).leg (book_of (both_legs setup writes trace)).waiting }
     {
         match self.jobs.sending() {
             Some(_) => self.called.next_due(),
@@ -377,7 +377,7 @@ impl<S: RowStore> Gateway<S> {
     }
 
     /// A tick while no job is being sent: where one waits, its call begins, with a leg of its own. It takes no memory.
-    fn tick_between(&mut self, leg: Leg, now: u64) -> Given
+    fn tick_between(&mut self, leg: Endpoint, now: u64) -> Given
         requires room { HasRoom self.old }
         requires none { self.old.book.sending ≡ None }
         requires asks { self.old.settings.asks ≡ false }
@@ -408,7 +408,7 @@ impl<S: RowStore> Gateway<S> {
 
     /// The number of the call that is on on the calling leg.
     pub fn call(&self) -> Option<u32>
-        ensures call { result ≡ call_kept self.now.calling }
+        ensures call { result ≡ call_of_rep self.now.calling }
         ensures told { (setup : Setup) (writes : Writing) (trace : List Event) → IsReachedBy setup writes trace self.now
             → result ≡ call_on (calling_leg setup trace) }
     {
@@ -419,16 +419,16 @@ impl<S: RowStore> Gateway<S> {
     pub fn sending(&self) -> Option<&Job<S>>
         ensures sending { option_copied result ≡ self.now.book.sending }
         ensures told { (setup : Setup) (writes : Writing) (trace : List Event) → IsReachedBy setup writes trace self.now
-            → option_copied result ≡ (book_of (sides setup writes trace)).sending }
+            → option_copied result ≡ (book_of (both_legs setup writes trace)).sending }
     {
         self.jobs.sending()
     }
 
-    /// The page that was confirmed last, for as long as its job has not ended: behind a tick that tells one in `kept`, that page.
+    /// The page that was confirmed last, for as long as its job has not ended: after a tick that tells one in `kept`, that page.
     pub fn newest_page(&self) -> Option<&Page<S>>
         ensures newest { option_copied result ≡ newest_page self.now.book }
         ensures told { (setup : Setup) (writes : Writing) (trace : List Event) → IsReachedBy setup writes trace self.now
-            → option_copied result ≡ newest_page (book_of (sides setup writes trace)) }
+            → option_copied result ≡ newest_page (book_of (both_legs setup writes trace)) }
     {
         self.jobs.newest_page()
     }
@@ -437,7 +437,7 @@ impl<S: RowStore> Gateway<S> {
     pub fn waiting(&self) -> usize
         ensures waiting { result ≡ length self.now.book.waiting }
         ensures told { (setup : Setup) (writes : Writing) (trace : List Event) → IsReachedBy setup writes trace self.now
-            → result ≡ length (book_of (sides setup writes trace)).waiting }
+            → result ≡ length (book_of (both_legs setup writes trace)).waiting }
     {
         self.jobs.waiting()
     }
@@ -446,13 +446,13 @@ impl<S: RowStore> Gateway<S> {
     pub fn report(&self, i: usize) -> Option<Report>
         ensures report { result ≡ slice_get self.now.book.reports i }
         ensures told { (setup : Setup) (writes : Writing) (trace : List Event) → IsReachedBy setup writes trace self.now
-            → result ≡ slice_get (book_of (sides setup writes trace)).reports i }
+            → result ≡ slice_get (book_of (both_legs setup writes trace)).reports i }
     {
         self.jobs.report(i)
     }
 }
 
-/// The number of the call that begins behind so many: they are counted from 0, and the last is 4,294,967,295.
+/// The number of the call that begins after so many: they are counted from 0, and the last is 4,294,967,295.
 pub(crate) fn next_number(rings: u64) -> Result<u32, RingFault>
     ensures number { IfOk result (λ number. number ≡ rings) }
     ensures err { IfErr result (λ fault. (fault ≡ RingFault.NoNumber) × (4294967296 ≤ rings)) }
@@ -516,13 +516,17 @@ fn restore_call<S: RowStore>(book: &mut Jobs<S>, call: RestoredCall<S>) -> Resul
 struct Served {
     packet: Option<Octets>,
     kept: Option<Kept>,
-    refused: Option<Refused>,
+    refused: Option<RefusedPage>,
     gave_up: Option<u32>,
 }
 
 /// Serves the calling leg in a tick, and the book hears of the page that is confirmed and of the call's end. The memory is
 /// reserved.
-fn serve_calling<S: RowStore>(calling: &mut CallingSide<S>, jobs: &mut Jobs<S>, now: u64) -> Served
+fn serve_calling<S: RowStore>(
+    calling: &mut CallingEndpoint<S>,
+    jobs: &mut Jobs<S>,
+    now: u64,
+) -> Served
     requires room { CallingHasRoom calling.old }
     requires page { 1 ≤ jobs.old.spare }
     ensures ticked { (setup : Setup) (leg : Option CallingLeg) → IsCalling setup leg calling.old → IsCalling setup (ticked_on leg now) calling.new }
@@ -564,11 +568,11 @@ fn kept_in<S: RowStore>(call: u32, confirmed: &Option<Confirmed<S>>) -> Option<K
 }
 
 /// What is told of a page that is refused in the call of this number.
-fn refused_in(call: u32, why: Option<Refusal>) -> Option<Refused>
+fn refused_in(call: u32, why: Option<Refusal>) -> Option<RefusedPage>
     ensures { result ≡ refused_if call why }
 {
     let why = why?;
-    Some(Refused { call, why })
+    Some(RefusedPage { call, why })
 }
 
 /// The call of this number, where it ended.
@@ -605,9 +609,9 @@ fn confirm<S: RowStore>(jobs: &mut Jobs<S>, number: u32, found: Confirmed<S>)
 }
 
 /// Where a job is being sent and its call is over, it ends and is reported.
-fn end_job<S: RowStore>(jobs: &mut Jobs<S>, called: &CalledSide) -> Option<Report>
-    ensures report { result ≡ report_if jobs.old.book.sending (outcome_kept called.now.caller.procedure) called.now.caller.procedure.counts.delivered }
-    ensures ended { jobs.new.book ≡ ended_if jobs.old.book.sending (outcome_kept called.now.caller.procedure) called.now.caller.procedure.counts.delivered jobs.old.book }
+fn end_job<S: RowStore>(jobs: &mut Jobs<S>, called: &CalledEndpoint) -> Option<Report>
+    ensures report { result ≡ report_if jobs.old.book.sending (outcome_of_rep called.now.caller.procedure) called.now.caller.procedure.counts.delivered }
+    ensures ended { jobs.new.book ≡ ended_if jobs.old.book.sending (outcome_of_rep called.now.caller.procedure) called.now.caller.procedure.counts.delivered jobs.old.book }
     ensures served { IsServed jobs.old.book.sending called.now.caller.procedure → IsServed jobs.new.book.sending called.now.caller.procedure }
 {
     let job = jobs.sending()?;

@@ -17,7 +17,7 @@ pub struct Given {
     /// The page that it confirmed.
     pub kept: Option<Kept>,
     /// The page that it refused: it gives an RTN.
-    pub refused: Option<Refused>,
+    pub refused: Option<RefusedPage>,
     /// The number of the calling leg's call where it ended that: T1 or T2 was due (ITU-T T.30, 5.4.3), and our DCN is given.
     pub gave_up: Option<u32>,
 }
@@ -30,13 +30,13 @@ pub struct Kept {
     pub format: Format,
     /// How many rows it has.
     pub rows: u32,
-    /// Whether its command was EOP (ITU-T T.30, 5.3.6.1.6): the job is closed behind it.
+    /// Whether its command was EOP (ITU-T T.30, 5.3.6.1.6): the job is closed after it.
     pub closes: bool,
 }
 
 /// A page that was refused (RTN, ITU-T T.30, 5.3.6.1.7).
 #[derive(Clone, Copy, PartialEq, Eq, Debug)]
-pub struct Refused {
+pub struct RefusedPage {
     /// The number of the call in which it came.
     pub call: u32,
     pub why: Refusal,
@@ -44,19 +44,19 @@ pub struct Refused {
 
 /// What a tick told, beside the datagrams.
 #[derive(Clone, Copy)]
-pub(crate) struct Told {
+pub(crate) struct TickReport {
     pub report: Option<Report>,
     pub kept: Option<Kept>,
-    pub refused: Option<Refused>,
+    pub refused: Option<RefusedPage>,
     pub gave_up: Option<u32>,
 }
 
-impl Told {
+impl TickReport {
     /// What a tick told that was refused.
     pub fn nothing() -> Self
         ensures { result ≡ record { report = None; kept = None; refused = None; gave_up = None } }
     {
-        Told {
+        TickReport {
             report: None,
             kept: None,
             refused: None,
@@ -88,10 +88,10 @@ impl Given {
     }
 
     /// What is told.
-    pub(crate) fn told(&self) -> Told
+    pub(crate) fn told(&self) -> TickReport
         ensures { result ≡ record { report = self.now.report; kept = self.now.kept; refused = self.now.refused; gave_up = self.now.gave_up } }
     {
-        Told {
+        TickReport {
             report: self.report,
             kept: self.kept,
             refused: self.refused,

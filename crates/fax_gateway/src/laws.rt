@@ -1,5 +1,5 @@
 //! Laws of the gateway: functions that do nothing, each of whose contracts is a theorem. Each is told of every trace: any
-//! rings, datagrams of both legs, ticks, and calls that are placed or not, with the answers of a gateway, from its beginning on. A gateway that was restored behind
+//! rings, datagrams of both legs, ticks, and calls that are placed or not, with the answers of a gateway, from its beginning on. A gateway that was restored after
 //! a crash has the restored pages before those that it confirms in its trace; a new one has none.
 ghost use Rattle.fax_gateway.specs.Alone.{IsServedAlone};
 ghost use Rattle.fax_gateway.specs.Answers.{EachMcfAnswers};
@@ -22,8 +22,8 @@ ghost use Rattle.fax_gateway.specs.Sent.{ConfirmsSignals, HearsSentFrames};
 
 /// Whatever comes: each image that a tick ends on the called leg is a page of the job that is being sent, under the DCS that
 /// was given before it, format included. That page was confirmed at an earlier tick: there the calling leg was given the
-/// frame MCF, in the call that the job names, for a command behind exactly one whole image that means the page. The first
-/// image of a job's call is page 0, the next page goes out only behind MCF or RTP, the same page again only behind RTN.
+/// frame MCF, in the call that the job names, for a command after exactly one whole image that means the page. The first
+/// image of a job's call is page 0, the next page goes out only after MCF or RTP, the same page again only after RTN.
 pub fn forwards_what_it_confirmed()
     ensures { ForwardsWhatItConfirmed }
 {}
@@ -43,7 +43,7 @@ pub fn forwards_over_lives()
 {}
 
 /// Where each life is restored with the pages of the jobs that had not ended, the pages of the jobs that ended, over all lives, and
-/// behind them those that are left, are the pages that were confirmed, over all lives, in their order: none is lost, none is added
+/// after them those that are left, are the pages that were confirmed, over all lives, in their order: none is lost, none is added
 /// and none comes twice.
 pub fn none_is_lost()
     ensures { NoneIsLost }
@@ -54,7 +54,7 @@ pub fn traces_go_on()
     ensures { TracesGoOn }
 {}
 
-/// In every trace the readings of the calling leg's call are right, so that the laws of the answering side hold of it.
+/// In every trace the readings of the calling leg's call are right, so that the laws of the answerer hold of it.
 pub fn legs_are_read()
     ensures { LegsAreRead }
 {}
@@ -66,26 +66,26 @@ pub fn each_mcf_answers()
 {}
 
 /// Each RTN that is given refuses the last command, judged by what the image before it means: where one whole image came in Page
-/// with nothing behind it, that means no page. And the book gets no page.
+/// with nothing after it, that means no page. And the book gets no page.
 pub fn each_rtn_answers()
     ensures { EachRtnAnswers }
 {}
 
-/// Each command that came on the calling leg, in Page or behind the MCF to an EOM, has the DCS that a CFR answered, and is judged
-/// under it: where one whole image came in Page with nothing behind it, the answer is RTN exactly where that means no page, and
+/// Each command that came on the calling leg, in Page or after the MCF to an EOM, has the DCS that a CFR answered, and is judged
+/// under it: where one whole image came in Page with nothing after it, the answer is RTN exactly where that means no page, and
 /// else MCF for the page that it means.
 pub fn commands_are_judged()
     ensures { CommandsAreJudged }
 {}
 
-/// The page that a tick confirms is the newest of the book behind that tick, also where its job was closed, or begins to be sent,
+/// The page that a tick confirms is the newest of the book after that tick, also where its job was closed, or begins to be sent,
 /// in it: so `Gateway::newest_page` is the page for which the MCF is given, and who keeps it elsewhere finds it there.
 pub fn confirms_the_newest()
     ensures { ConfirmsTheNewest }
 {}
 
 /// The jobs that were closed are those into which the confirmations of each call are cut, call by call in the order of the
-/// rings, and each names the number that its ring was answered with: behind a page confirmed for EOP, behind the 999th page
+/// rings, and each names the number that its ring was answered with: after a page confirmed for EOP, after the 999th page
 /// and at the end of the call, and nowhere else. The jobs of restored calls, cut in the same way, are the first. So each confirmed page, of whatever format, stands in one job, at its place,
 /// no job has another page, and none has pages of two calls. While a call is on, the open job is the rest of it.
 pub fn jobs_are_cut()
@@ -107,14 +107,14 @@ pub fn jobs_have_states()
 
 /// Each report that a tick gives is of the job that was being sent. `delivered` is the number of its pages that went out and
 /// were answered with MCF or RTP until the call was over, one image each, and the outcome is Delivered exactly where they
-/// are all. Behind the end nothing was given. (A tick within 2 s of the last moment, 2^64 - 1 ms, may find a timer due and
+/// are all. After the end nothing was given. (A tick within 2 s of the last moment, 2^64 - 1 ms, may find a timer due and
 /// the pace not yet over: an answer that comes in that while may not be counted.)
 pub fn reports_the_job()
     ensures { ReportsTheJob }
 {}
 
 /// A job for which a DIS leaves no choice (the called machine receives no pages, lacks the width or the resolution of the page that
-/// is due, or has no rate left) is reported with that refusal, whatever comes behind it.
+/// is due, or has no rate left) is reported with that refusal, whatever comes after it.
 pub fn reports_the_refusal()
     ensures { ReportsTheRefusal }
 {}
@@ -167,7 +167,7 @@ pub fn hears_sent_frames()
     ensures { HearsSentFrames }
 {}
 
-/// On each leg, over all its calls, a datagram is given at least 40 ms behind the one before it, and where the packet of that one is
+/// On each leg, over all its calls, a datagram is given at least 40 ms after the one before it, and where the packet of that one is
 /// the preamble before a frame, at least so many milliseconds as the gateway is set to (`Settings::preamble_ms`).
 pub fn datagrams_are_apart()
     ensures { DatagramsAreApart }

@@ -1,8 +1,8 @@
 //! A gateway: it answers a fax call on one leg, confirms its pages, and sends them on in a call of its own on the other leg.
 //!
 //! Moments are milliseconds. What comes and what is answered is told in `specs/Events`, the two legs in `CallingLegs` and
-//! `CalledLegs`, both over one book and the order within a tick in `Sides`, and the answers in `Traces`; what the octets of
-//! an answer say, in `Told`; what a gateway keeps of a trace, in `Reached`; what is told of ticks and turns, in `Turns`.
+//! `CalledLegs`, both over one book and the order within a tick in `BothLegs`, and the answers in `Traces`; what the octets of
+//! an answer say, in `TickReport`; what a gateway keeps of a trace, in `Reached`; what is told of ticks and turns, in `Turns`.
 #![tactic(auto)]
 
 mod buffer;
@@ -10,6 +10,7 @@ mod called;
 mod calling;
 mod driven;
 mod driver;
+mod endpoint;
 mod engine;
 mod fault;
 mod gateway;
@@ -19,8 +20,7 @@ mod leg;
 mod restored;
 mod run;
 mod settings;
-mod side;
-mod turned;
+mod turn_report;
 mod wire;
 
 pub use buffer::Buffer;
@@ -29,10 +29,10 @@ pub use driver::Driver;
 pub use engine::Engine;
 pub use fault::{PlaceFault, RingFault};
 pub use gateway::Gateway;
-pub use given::{Given, Kept, Refused};
+pub use given::{Given, Kept, RefusedPage};
+pub use leg::Leg;
 pub use restored::RestoredCall;
 pub use run::drive;
 pub use settings::Settings;
-pub use side::Side;
-pub use turned::Turned;
+pub use turn_report::TurnReport;
 pub use wire::{Wire, WireFault};

@@ -1,4 +1,4 @@
-//! What a gateway is restored with behind a crash.
+//! What a gateway is restored with after a crash.
 use fax_answer::Confirmed;
 use fax_pagestore::RowStore;
 

@@ -1,7 +1,7 @@
 //! The settings of a gateway.
 ghost use Rattle.std.specs.Prelude.{◌≡◌};
 
-/// The pause behind a preamble that is usual: the pace of each other packet.
+/// The pause after a preamble that is usual: the pace of each other packet.
 pub(crate) const PREAMBLE_MS: u16 = 40;
 
 /// What is set for a gateway, on both legs, and of the calls on the called one.
@@ -9,7 +9,7 @@ pub(crate) const PREAMBLE_MS: u16 = 40;
 pub struct Settings {
     /// How many of the packets before its own each datagram has: at most 8.
     pub redundancy: u8,
-    /// How long the packet behind a preamble waits, in milliseconds: from 40, as behind each other packet, to 2,000. Behind a
+    /// How long the packet after a preamble waits, in milliseconds: from 40, as after each other packet, to 2,000. After a
     /// media gateway, which replays each signal over a modem, a called machine wants 1,000 (ITU-T T.30, 5.3.1).
     pub preamble_ms: u16,
     /// Whether the call of a job is asked for, and begins when it is placed. Where not, a tick begins it by itself.

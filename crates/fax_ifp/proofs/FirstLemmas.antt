@@ -4,7 +4,7 @@ use Rattle.std.proofs.lemmas.Nat.{and_mask}
 use Rattle.fax_bits.specs.Bits.{bit}
 use Rattle.fax_ifp.specs.declared.fault.IfpFault.{IfpFault}
 use Rattle.fax_ifp.specs.declared.fault.IfpFault.TheVariants.{Short, Extension, BadValue}
-use Rattle.fax_ifp.specs.Packets.{FieldText, Indicator, Message, fields_behind, packet_from, packet_of}
+use Rattle.fax_ifp.specs.Packets.{FieldText, Indicator, Message, fields_after, packet_from, packet_of}
 use Rattle.fax_ifp.proofs.ReadingLemmas.{rest_from, rest_from-drop, below, not_below}
 
 pub packet_of-none : (xs : List ℕ) → length xs < 1 → packet_of xs ≡ Err Short
@@ -45,15 +45,15 @@ pub data-value : (xs : List ℕ) → 1 ≤ length xs → bit (get_or xs 0 0) 5 �
 data-value xs t k d h = first xs t k ∙ rw (d, below 8 (get_or xs 0 0 / 2 % 16) h) refl
 
 pub indicator-read : (xs : List ℕ) (fields : List FieldText) → IsFirst xs → bit (get_or xs 0 0) 6 ≡ false →
-    fields_behind (get_or xs 0 0) (rest_from 1 xs) ≡ Ok fields → packet_of xs ≡ Ok (Indicator (get_or xs 0 0 / 2 % 16))
+    fields_after (get_or xs 0 0) (rest_from 1 xs) ≡ Ok fields → packet_of xs ≡ Ok (Indicator (get_or xs 0 0 / 2 % 16))
 indicator-read xs fields f i e = first xs f.there f.known ∙ rw (i, e) refl
 
 pub data-read : (xs : List ℕ) (fields : List FieldText) → IsFirst xs → bit (get_or xs 0 0) 6 ≡ true →
-    fields_behind (get_or xs 0 0) (rest_from 1 xs) ≡ Ok fields → packet_of xs ≡ Ok (Message (get_or xs 0 0 / 2 % 16) fields)
+    fields_after (get_or xs 0 0) (rest_from 1 xs) ≡ Ok fields → packet_of xs ≡ Ok (Message (get_or xs 0 0 / 2 % 16) fields)
 data-read xs fields f d e = first xs f.there f.known ∙ rw (d, not_below 8 (get_or xs 0 0 / 2 % 16) (f.value d), e) refl
 
 -- a fault of the fields is the packet's
-pub fields-fault : (xs : List ℕ) (fault : IfpFault) → IsFirst xs → fields_behind (get_or xs 0 0) (rest_from 1 xs) ≡ Err fault → packet_of xs ≡ Err fault
+pub fields-fault : (xs : List ℕ) (fault : IfpFault) → IsFirst xs → fields_after (get_or xs 0 0) (rest_from 1 xs) ≡ Err fault → packet_of xs ≡ Err fault
 fields-fault xs fault f e = by (bit (get_or xs 0 0) 6) refl
   where
     by : (is_data : Bool) → bit (get_or xs 0 0) 6 ≡ is_data → packet_of xs ≡ Err fault

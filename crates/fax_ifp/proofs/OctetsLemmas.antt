@@ -5,7 +5,7 @@ use Rattle.fax_ifp.specs.Packets.{Message, packet_of}
 use Rattle.fax_ifp.specs.WrittenPackets.{image_fields}
 use Rattle.fax_ifp.specs.Elements.{Slot, Element, Field, elements}
 use Rattle.fax_ifp.specs.Pieces.{Piece, Octets, Image, Since, has_octet, hdlc_since, kind_of_training, is_training, is_image_end, is_image_octets, is_image_part, since_indicator, with_later, image_since, open_image, octets_if, frame_if, frame_pieces, image_pieces, pieces_of}
-use Rattle.fax_ifp.specs.Tracked.{Tracked, IsLeftBy, Tracks, Gives, kept, with_octets}
+use Rattle.fax_ifp.specs.Tracked.{TrackState, IsLeftBy, Tracks, Gives, kept, with_octets}
 
 equal : (n : ℕ) → nat_eq n n ≡ true
 equal n = eq-eqb n n refl
@@ -67,14 +67,14 @@ octets_one (x ∷ xs) o = refl
 image_gives : (image : Image) (octets : List ℕ) → has_octet octets ≡ true → image_pieces (Some image) image.kind 6 octets ≡ Octets octets ∷ []
 image_gives image octets o = rw (equal image.kind) (octets_one octets o)
 
-pub leaves : (heard : List Element) (old : Tracked) (image : Image) (octets : List ℕ) → old.image ≡ Some image → has_octet octets ≡ true → IsLeftBy heard old
+pub leaves : (heard : List Element) (old : TrackState) (image : Image) (octets : List ℕ) → old.image ≡ Some image → has_octet octets ≡ true → IsLeftBy heard old
     → IsLeftBy (Field image.kind 6 octets ∷ heard) (with_octets old)
 leaves heard old image octets i o l = record {
   frame = l.frame ∙ ap kept (sym (frame_stays image.kind octets heard));
   image = ap (option_map (λ (it : Image). record it { started = true })) i ∙ sym (image_stays image octets heard o (sym l.image ∙ i));
 }
 
-pub gives : (heard : List Element) (old : Tracked) (image : Image) (octets : List ℕ) → old.image ≡ Some image → has_octet octets ≡ true → IsLeftBy heard old
+pub gives : (heard : List Element) (old : TrackState) (image : Image) (octets : List ℕ) → old.image ≡ Some image → has_octet octets ≡ true → IsLeftBy heard old
     → pieces_of (Field image.kind 6 octets ∷ heard) ≡ pieces_of heard ++ Octets octets ∷ []
 gives heard old image octets i o l =
     let under_way : open_image heard ≡ Some image = sym l.image ∙ i in
@@ -85,12 +85,12 @@ gives heard old image octets i o l =
 said : (before : List Slot) (packet octets : List ℕ) (kind : ℕ) → packet_of packet ≡ Ok (Message kind (image_fields false octets)) → elements (Some packet ∷ before) ≡ Field kind 6 octets ∷ elements before
 said before packet octets kind e = rw e refl
 
-pub slot_tracks : (packet octets : List ℕ) (old : Tracked) (image : Image) → old.image ≡ Some image → has_octet octets ≡ true → packet_of packet ≡ Ok (Message image.kind (image_fields false octets))
+pub slot_tracks : (packet octets : List ℕ) (old : TrackState) (image : Image) → old.image ≡ Some image → has_octet octets ≡ true → packet_of packet ≡ Ok (Message image.kind (image_fields false octets))
     → Tracks (Some packet) old (with_octets old)
 slot_tracks packet octets old image i o e before left =
     rw (said before packet octets image.kind e) (leaves (elements before) old image octets i o left)
 
-pub slot_gives : (packet octets : List ℕ) (old : Tracked) (image : Image) → old.image ≡ Some image → has_octet octets ≡ true → packet_of packet ≡ Ok (Message image.kind (image_fields false octets))
+pub slot_gives : (packet octets : List ℕ) (old : TrackState) (image : Image) → old.image ≡ Some image → has_octet octets ≡ true → packet_of packet ≡ Ok (Message image.kind (image_fields false octets))
     → Gives (Some packet) old (Octets octets ∷ [])
 slot_gives packet octets old image i o e before left =
     ap pieces_of (said before packet octets image.kind e) ∙ gives (elements before) old image octets i o left

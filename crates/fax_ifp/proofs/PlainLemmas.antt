@@ -3,7 +3,7 @@ use Rattle.std.proofs.Common.{◌≡◌, ℕ, ◌+◌, ◌-◌, ◌*◌, ◌/◌
 use Rattle.fax_bits.specs.Bits.{bit}
 use Rattle.fax_ifp.specs.declared.fault.IfpFault.{IfpFault}
 use Rattle.fax_ifp.specs.declared.fault.IfpFault.TheVariants.{Short, Extension, BadValue, BadCount}
-use Rattle.fax_ifp.specs.Packets.{FieldText, ReadField, Packet, Indicator, Message, ◌>>=◌, octets_at, field_at, fields_at, fields_behind, packet_of}
+use Rattle.fax_ifp.specs.Packets.{FieldText, ReadField, Packet, Indicator, Message, ◌>>=◌, octets_at, field_at, fields_at, fields_after, packet_of}
 use Rattle.fax_ifp.specs.Pieces.{has_octet}
 use Rattle.fax_ifp.proofs.ReadingLemmas.{rest_from, rest_from-drop}
 use Rattle.fax_ifp.proofs.FieldsLemmas.{one_more}
@@ -15,7 +15,7 @@ pub record IsData (xs : List ℕ) (kind : ℕ) (fields : List FieldText) : Type 
   pub tells : bit (get_or xs 0 0) 6 ≡ true
   pub value : get_or xs 0 0 / 2 % 16 ≡ kind
   pub few : kind ≤ 8
-  pub read : fields_behind (get_or xs 0 0) (rest_from 1 xs) ≡ Ok fields
+  pub read : fields_after (get_or xs 0 0) (rest_from 1 xs) ≡ Ok fields
 
 above : (m n : ℕ) → nat_lt m n ≡ false → n ≤ m
 above m n e = grind (arith)
@@ -44,7 +44,7 @@ pub is_data : (xs : List ℕ) (kind : ℕ) (fields : List FieldText) → packet_
 unfolding packet_of
 is_data [] kind fields h = cc
 is_data (x ∷ xs) kind fields h =
-    let t = tests (bit x 5) (bit x 6) (nat_lt 8 (x / 2 % 16)) (fields_behind x xs) (x / 2 % 16) kind fields h in
+    let t = tests (bit x 5) (bit x 6) (nat_lt 8 (x / 2 % 16)) (fields_after x xs) (x / 2 % 16) kind fields h in
     let low : x / 2 % 16 ≤ 8 = above 8 (x / 2 % 16) t.low in
     record {
       there = omega arith;
@@ -52,7 +52,7 @@ is_data (x ∷ xs) kind fields h =
       tells = t.yes;
       value = t.same;
       few = omega (arith, t.same);
-      read = ap (fields_behind x) (rest_from-drop 1 (x ∷ xs)) ∙ t.read;
+      read = ap (fields_after x) (rest_from-drop 1 (x ∷ xs)) ∙ t.read;
     }
 
 -- one field is read

@@ -5,13 +5,13 @@ use Rattle.std.proofs.lemmas.List.Elements.{recursion_from_All}
 use Rattle.std.specs.List.{AllByRecursion}
 use Rattle.fax_bits.specs.Bits.{bit}
 use Rattle.fax_ifp.specs.declared.fault.IfpFault.{IfpFault}
-use Rattle.fax_ifp.specs.Packets.{FieldText, ReadField, Indicator, Message, ◌>>=◌, octets_at, field_of, field_at, fields_at, fields_behind, packet_of}
-use Rattle.fax_ifp.specs.WrittenPackets.{counted, written_behind, written_message, IsWritableField}
+use Rattle.fax_ifp.specs.Packets.{FieldText, ReadField, Indicator, Message, ◌>>=◌, octets_at, field_of, field_at, fields_at, fields_after, packet_of}
+use Rattle.fax_ifp.specs.WrittenPackets.{counted, written_after, written_message, IsWritableField}
 use Rattle.fax_ifp.specs.PacketLaws.{IndicatorsAreReadBack, MessagesAreReadBack}
 use Rattle.fax_ifp.proofs.ReadingLemmas.{octets_by_all, below, not_below}
 use Rattle.fax_ifp.proofs.FieldsLemmas.{one_more}
 
--- octets behind their length word
+-- octets after their length word
 own_back : (own rest : List ℕ) → 1 ≤ length own → length own ≤ 65535 → octets_at (counted (Some own) ++ rest) ≡ Ok (own, rest)
 unfolding octets_at
 own_back own rest some few =
@@ -64,26 +64,26 @@ low_back low rest = refl
 
 -- fields are read back, and so is a field without octets in front of them whose octet is shared
 record ReadBack (fields : List FieldText) : Type 0 where
-  alone : fields_at (length fields) None (written_behind None fields) ≡ Ok fields
-  behind : (bits : ℕ) → bits ≤ 7 →
-      fields_at (suc (length fields)) None (written_behind (Some bits) fields) ≡ Ok (record { what = bits; octets = None } ∷ fields)
+  alone : fields_at (length fields) None (written_after None fields) ≡ Ok fields
+  after : (bits : ℕ) → bits ≤ 7 →
+      fields_at (suc (length fields)) None (written_after (Some bits) fields) ≡ Ok (record { what = bits; octets = None } ∷ fields)
 
 none_back : ReadBack []
-unfolding fields_at written_behind
+unfolding fields_at written_after
 none_back = record {
   alone = refl;
-  behind = λ bits h.
+  after = λ bits h.
       more_back 0 None (16 * bits ∷ []) (record { text = record { what = bits; octets = None }; half = Some 0; octets = [] }) []
       (alone_back bits [] (omega arith) ∙ type_back bits (Some 0) [] h) refl;
 }
 
 one_back : (what : ℕ) (octets : Option (List ℕ)) (fields : List FieldText) → IsWritableField (record { what = what; octets = octets }) →
     ReadBack fields → ReadBack (record { what = what; octets = octets } ∷ fields)
-unfolding written_behind
+unfolding written_after
 one_back what None fields w others = record {
-  alone = others.behind what w.what;
-  behind = λ bits h.
-      let rest : List ℕ = written_behind None fields in
+  alone = others.after what w.what;
+  after = λ bits h.
+      let rest : List ℕ = written_after None fields in
       more_back (suc (length fields)) None ((16 * bits + what) ∷ rest) (record { text = record { what = bits; octets = None }; half = Some what; octets = rest })
       (record { what = what; octets = None } ∷ fields)
       (high_back bits what rest (omega arith) (omega (arith, w.what)) ∙ type_back bits (Some what) rest h)
@@ -92,12 +92,12 @@ one_back what None fields w others = record {
 }
 one_back what (Some own) fields w others = record {
   alone =
-      let rest : List ℕ = written_behind None fields in
+      let rest : List ℕ = written_after None fields in
       more_back (length fields) None (16 * (8 + what) ∷ counted (Some own) ++ rest) (record { text = record { what = what; octets = Some own }; half = None; octets = rest }) fields
       (alone_back (8 + what) (counted (Some own) ++ rest) (omega (arith, w.what)) ∙ octets_back what (Some 0) own rest w.octets.0 w.octets.1)
       others.alone;
-  behind = λ bits h.
-      let rest : List ℕ = written_behind None fields in
+  after = λ bits h.
+      let rest : List ℕ = written_after None fields in
       more_back (suc (length fields)) None ((16 * bits + (8 + what)) ∷ counted (Some own) ++ rest)
       (record { text = record { what = bits; octets = None }; half = Some (8 + what); octets = counted (Some own) ++ rest }) (record { what = what; octets = Some own } ∷ fields)
       (high_back bits (8 + what) (counted (Some own) ++ rest) (omega arith) (omega (arith, w.what)) ∙ type_back bits (Some (8 + what)) (counted (Some own) ++ rest) h)
@@ -110,7 +110,7 @@ all_back [] all = none_back
 all_back (field ∷ fields) all = one_back field.what field.octets fields all.0 (all_back fields all.1)
 
 pub indicators : IndicatorsAreReadBack
-unfolding packet_of fields_behind bit
+unfolding packet_of fields_after bit
 indicators code h =
     let seventh : 2 * code / 128 % 2 ≡ 0 = omega arith in
     let sixth : 2 * code / 64 % 2 ≡ 0 = omega arith in
@@ -119,7 +119,7 @@ indicators code h =
     rw (fifth, sixth, seventh) (ap (λ (n : ℕ). Ok (Indicator n)) value)
 
 messages : (kind : ℕ) (fields : List FieldText) → kind ≤ 8 → length fields ≤ 127 → ReadBack fields → packet_of (written_message kind fields) ≡ Ok (Message kind fields)
-unfolding packet_of fields_behind bit
+unfolding packet_of fields_after bit
 messages kind [] k few back =
     let seventh : (64 + 2 * kind) / 128 % 2 ≡ 0 = omega arith in
     let sixth : (64 + 2 * kind) / 64 % 2 ≡ 1 = omega arith in

@@ -3,7 +3,7 @@ use Rattle.std.proofs.Common.{◌≡◌, ◌≢◌, ℕ, ◌+◌, ◌-◌, ◌*�
 use Rattle.fax_ifp.specs.declared.fault.IfpFault.{IfpFault}
 use Rattle.fax_ifp.specs.declared.fault.IfpFault.TheVariants.{Short, BadCount}
 use Rattle.fax_bits.specs.Bits.{bit}
-use Rattle.fax_ifp.specs.Packets.{octets_by, octets_at, field_of, field_at, fields_at, counted_fields, fields_behind}
+use Rattle.fax_ifp.specs.Packets.{octets_by, octets_at, field_of, field_at, fields_at, counted_fields, fields_after}
 
 -- octets from one on
 abbrev pub rest_from : ℕ → List ℕ → List ℕ
@@ -78,25 +78,25 @@ pub field_at_half : (half : ℕ) (xs : List ℕ) → field_at (Some half) xs ≡
 unfolding field_at
 field_at_half half xs = refl
 
-pub fields_behind_none : (first : ℕ) (xs : List ℕ) → bit first 7 ≡ false → fields_behind first xs ≡ fields_at 0 None xs
-unfolding fields_behind fields_at
-fields_behind_none first xs e = rw e refl
+pub fields_after_none : (first : ℕ) (xs : List ℕ) → bit first 7 ≡ false → fields_after first xs ≡ fields_at 0 None xs
+unfolding fields_after fields_at
+fields_after_none first xs e = rw e refl
 
 counted : (xs : List ℕ) → 1 ≤ length xs → counted_fields xs ≡ (if nat_lt 127 (get_or xs 0 0) then Err BadCount else fields_at (get_or xs 0 0) None (drop 1 xs))
 counted [] h = absurd (omega arith)
 counted (x ∷ xs) h = refl
 
-pub fields_behind_short : (first : ℕ) (xs : List ℕ) → bit first 7 ≡ true → length xs < 1 → fields_behind first xs ≡ Err Short
-unfolding fields_behind
-fields_behind_short first [] e h = rw e refl
-fields_behind_short first (x ∷ xs) e h = absurd (omega arith)
+pub fields_after_short : (first : ℕ) (xs : List ℕ) → bit first 7 ≡ true → length xs < 1 → fields_after first xs ≡ Err Short
+unfolding fields_after
+fields_after_short first [] e h = rw e refl
+fields_after_short first (x ∷ xs) e h = absurd (omega arith)
 
-pub fields_behind_many : (first : ℕ) (xs : List ℕ) → bit first 7 ≡ true → 1 ≤ length xs → 127 < get_or xs 0 0 → fields_behind first xs ≡ Err BadCount
-unfolding fields_behind
-fields_behind_many first xs e h m = rw (e, counted xs h, below 127 (get_or xs 0 0) m) refl
+pub fields_after_many : (first : ℕ) (xs : List ℕ) → bit first 7 ≡ true → 1 ≤ length xs → 127 < get_or xs 0 0 → fields_after first xs ≡ Err BadCount
+unfolding fields_after
+fields_after_many first xs e h m = rw (e, counted xs h, below 127 (get_or xs 0 0) m) refl
 
-pub fields_behind_counted : (first : ℕ) (xs : List ℕ) → bit first 7 ≡ true → 1 ≤ length xs → get_or xs 0 0 ≤ 127 →
-    fields_behind first xs ≡ fields_at (get_or xs 0 0) None (rest_from 1 xs)
-unfolding fields_behind
-fields_behind_counted first xs e h m =
+pub fields_after_counted : (first : ℕ) (xs : List ℕ) → bit first 7 ≡ true → 1 ≤ length xs → get_or xs 0 0 ≤ 127 →
+    fields_after first xs ≡ fields_at (get_or xs 0 0) None (rest_from 1 xs)
+unfolding fields_after
+fields_after_counted first xs e h m =
     rw (e, counted xs h, not_below 127 (get_or xs 0 0) m) (ap (fields_at (get_or xs 0 0) None) (sym (rest_from-drop 1 xs)))

@@ -321,7 +321,7 @@ ended_signal packets i s e rest ps octets b t c from gives ends =
     ∙ ends m.tail
 
 -- The receiver's side. What is kept beside the elements: those that the sender says next, and the next place.
-pub record Tracked (packets : List (List ℕ)) (es rest : List Element) (n : ℕ) (s : Since) : Type 0 where
+pub record TrackState (packets : List (List ℕ)) (es rest : List Element) (n : ℕ) (s : Since) : Type 0 where
   pub i : ℕ
   pub below : i < n
   pub begins : begins_signal (slice_get packets i) ≡ true
@@ -330,7 +330,7 @@ pub record Tracked (packets : List (List ℕ)) (es rest : List Element) (n : ℕ
   pub older : AreSignals packets (back es) i
 
 abbrev pub Follows : List (List ℕ) → List Element → List Element → ℕ → Type 0
-Follows packets es rest n = (s : Since) → since_indicator es ≡ Some s → is_training s.code ≡ true → IsClean (kind_of_training s.code) s.later → Tracked packets es rest n s
+Follows packets es rest n = (s : Since) → since_indicator es ≡ Some s → is_training s.code ≡ true → IsClean (kind_of_training s.code) s.later → TrackState packets es rest n s
 
 pub record Tracks (packets : List (List ℕ)) (es rest : List Element) (n : ℕ) : Type 0 where
   pub signals : AreSignals packets (back es) n
@@ -340,7 +340,7 @@ pub tracks_on : (packets : List (List ℕ)) (es rest : List Element) (n m : ℕ)
 tracks_on packets es rest n m l t =
     record {
       signals = raised packets (back es) n m l t.signals;
-      follows = λ s e tr c. let f : Tracked packets es rest n s = t.follows s e tr c in let b : f.i < n = f.below in
+      follows = λ s e tr c. let f : TrackState packets es rest n s = t.follows s e tr c in let b : f.i < n = f.below in
           record { i = f.i; below = omega arith; begins = f.begins; from = f.from; runs = f.runs; older = f.older };
     }
 
@@ -411,7 +411,7 @@ field_signals packets es rest n kind what o t = by (view es)
         quietly (quiet_field es kind what o (Some (clean_image c.s)) (opened es c.s c.is c.training c.clean)
         (quiet_clean (is_image_field (kind_of_training c.s.code) kind what) (nat_eq what 7) (has_octet (joined c.s.later) || has_octet o) o q))
     cleanly c true true p q =
-        let g : Tracked packets es (f ∷ rest) n c.s = t.follows c.s c.is c.training c.clean in
+        let g : TrackState packets es (f ∷ rest) n c.s = t.follows c.s c.is c.training c.clean in
         let os : List ℕ = joined c.s.later ++ o in
         subst (λ (ps : List Piece). AreSignals packets (onto ps (back es)) n) (sym (end_gives es c.s kind what o c.is c.training c.clean p q))
         (end_on packets (back es) n g.i o (joined c.s.later) os refl g.below g.runs g.older t.signals
@@ -424,9 +424,9 @@ field_signals packets es rest n kind what o t = by (view es)
     by (inr (inr c)) = cleanly c (nat_eq kind (kind_of_training c.s.code)) (nat_eq what 7) refl refl
 
 tracked_at : (packets : List (List ℕ)) (es rest : List Element) (n : ℕ) (s x : Since) → s ≡ x → is_training s.code ≡ true → IsClean (kind_of_training s.code) s.later →
-    (is_training x.code ≡ true → IsClean (kind_of_training x.code) x.later → Tracked packets es rest n x) → Tracked packets es rest n s
+    (is_training x.code ≡ true → IsClean (kind_of_training x.code) x.later → TrackState packets es rest n x) → TrackState packets es rest n s
 tracked_at packets es rest n s x e t c f =
-    subst (λ (y : Since). Tracked packets es rest n y) (sym e) (f (subst (λ (y : Since). is_training y.code ≡ true) e t) (subst (λ (y : Since). IsClean (kind_of_training y.code) y.later) e c))
+    subst (λ (y : Since). TrackState packets es rest n y) (sym e) (f (subst (λ (y : Since). is_training y.code ≡ true) e t) (subst (λ (y : Since). IsClean (kind_of_training y.code) y.later) e c))
 
 field_tracks : (packets : List (List ℕ)) (es rest : List Element) (n kind what : ℕ) (o : List ℕ) → Tracks packets es (Field kind what o ∷ rest) n → Tracks packets (Field kind what o ∷ es) rest n
 field_tracks packets es rest n kind what o t =
@@ -436,7 +436,7 @@ field_tracks packets es rest n kind what o t =
           let f : Element = Field kind what o in
           let w : WithLater f (since_indicator es) s = with_later_of f (since_indicator es) s e in
           tracked_at packets (f ∷ es) rest n s (record { code = w.t.code; later = f ∷ w.t.later }) w.same tr c (λ tr2 c2.
-          let g : Tracked packets es (f ∷ rest) n w.t = t.follows w.t w.was tr2 c2.2 in
+          let g : TrackState packets es (f ∷ rest) n w.t = t.follows w.t w.was tr2 c2.2 in
           let gives : octets_if o ≡ pieces_at es f = sym (clean_gives es w.t kind what o w.was tr2 c2.2 c2.0 c2.1) in
           record {
             i = g.i;
@@ -469,7 +469,7 @@ signal_signals packets es rest n code t = by (view es)
     by (inl e) = quietly None e tt
     by (inr (inl i)) = quietly (Some i.image) i.is (subst (λ (w : Bool). IsQuiet (end_if i.image.started w)) (sym i.faulty) (quiet_end i.image.started))
     by (inr (inr c)) =
-        let g : Tracked packets es (Signal code ∷ rest) n c.s = t.follows c.s c.is c.training c.clean in
+        let g : TrackState packets es (Signal code ∷ rest) n c.s = t.follows c.s c.is c.training c.clean in
         let os : List ℕ = joined c.s.later in
         subst (λ (ps : List Piece). AreSignals packets (onto ps (back es)) n) (sym (signal_gives es c.s code c.is c.training c.clean))
         (stop_on packets (back es) n g.i (kind_of_training code) (is_training code) os g.below g.runs g.older t.signals

@@ -6,9 +6,9 @@ use Rattle.fax_ifp.specs.Elements.{Slot, Element, Missing, elements, elements_of
 use Rattle.fax_ifp.specs.Inside.Hearing.{spoilt}
 use Rattle.fax_ifp.specs.Pieces.{Piece, Gap, Image, Since, is_training, kind_of_training, is_image_end, is_image_octets, is_image_part, since_indicator, image_since, with_later, pieces, pieces_of, pieces_at}
 use Rattle.fax_ifp.specs.SignalLaws.{PiecesGoOn, LostSlotsAreGaps, ExtensionsSayNothing, TrackedIsUnique}
-use Rattle.fax_ifp.specs.Tracked.{Tracked, IsTracked, lost_slots}
+use Rattle.fax_ifp.specs.Tracked.{TrackState, IsTracked, lost_slots}
 
--- elements that come later add pieces behind
+-- elements that come later add pieces after
 go_on : (later before : List Element) → (more : List Piece) × (pieces_of (later ++ before) ≡ pieces_of before ++ more)
 go_on [] before = ([], sym (append-nil (pieces_of before)))
 go_on (e ∷ later) before =
@@ -31,8 +31,8 @@ extensions_say_nothing later before octets refused =
     ap pieces_of (elements_append later (Some octets ∷ before) ∙ ap (λ (es : List Element). elements later ++ es) same ∙ sym (elements_append later before))
 
 -- the same two parts are the same
-same_parts : (f g : Option (List ℕ)) (i j : Option Image) → f ≡ g → i ≡ j → (let a : Tracked = record { frame = f; image = i } in a) ≡ record { frame = g; image = j }
-same_parts f g i j same_frame same_image = ap (λ (x : Option (List ℕ)). let a : Tracked = record { frame = x; image = i } in a) same_frame ∙ ap (λ (x : Option Image). let a : Tracked = record { frame = g; image = x } in a) same_image
+same_parts : (f g : Option (List ℕ)) (i j : Option Image) → f ≡ g → i ≡ j → (let a : TrackState = record { frame = f; image = i } in a) ≡ record { frame = g; image = j }
+same_parts f g i j same_frame same_image = ap (λ (x : Option (List ℕ)). let a : TrackState = record { frame = x; image = i } in a) same_frame ∙ ap (λ (x : Option Image). let a : TrackState = record { frame = g; image = x } in a) same_image
 
 pub tracked_is_unique : TrackedIsUnique
 tracked_is_unique slots a b left right = same_parts a.frame b.frame a.image b.image (left.frame ∙ sym right.frame) (left.image ∙ sym right.image)
@@ -42,7 +42,7 @@ replicate_last : (count : ℕ) (piece : Piece) → replicate count piece ++ piec
 replicate_last zero piece = refl
 replicate_last (suc count) piece = ap (λ (ps : List Piece). piece ∷ ps) (replicate_last count piece)
 
--- lost slots behind one another
+-- lost slots after one another
 pub lost_slots_are_gaps : LostSlotsAreGaps
 lost_slots_are_gaps zero before = sym (append-nil (pieces before))
 lost_slots_are_gaps (suc count) before =
@@ -69,7 +69,7 @@ spoilt_once None = refl
 spoilt_once (Some image) = refl
 
 -- what lost slots leave, one at least
-pub lost_slots_leave : (count : ℕ) (before : List Slot) (tracked : Tracked) → 0 < count → IsTracked before tracked
+pub lost_slots_leave : (count : ℕ) (before : List Slot) (tracked : TrackState) → 0 < count → IsTracked before tracked
     → IsTracked (lost_slots count ++ before) (record { frame = None; image = spoilt tracked.image })
 lost_slots_leave zero before tracked some left = absurd (omega (arith, some))
 lost_slots_leave (suc zero) before tracked some left =

@@ -1,11 +1,11 @@
--- Octets behind what is read are not read.
+-- Octets after what is read are not read.
 use Rattle.std.proofs.Common.{◌≡◌, ◌≢◌, ℕ, zero, suc, ◌+◌, ◌-◌, ◌*◌, ◌/◌, ◌%◌, ◌≤◌, nat_eq, nat_lt, Bool, true, false, List, [], ◌∷◌, ◌++◌, length, take, drop, Option, Some, None, Result, Ok, Err, refl, ◌∙◌, ap, ap₂, arith, length-append, if◌then◌else◌}
 use Rattle.std.proofs.lemmas.List.{take-append-le, drop-append-le}
 use Rattle.fax_bits.specs.Bits.{bit}
 use Rattle.fax_ifp.specs.declared.fault.IfpFault.{IfpFault}
 use Rattle.fax_ifp.specs.declared.fault.IfpFault.TheVariants.{BadCount, BadValue, Short, Extension}
-use Rattle.fax_ifp.specs.Packets.{FieldText, ReadField, Packet, Indicator, Message, ◌>>=◌, octets_by, octets_at, field_of, field_at, fields_at, counted_fields, fields_behind, packet_from, packet_of}
-use Rattle.fax_ifp.specs.PacketLaws.{OctetsBehindAreNotRead}
+use Rattle.fax_ifp.specs.Packets.{FieldText, ReadField, Packet, Indicator, Message, ◌>>=◌, octets_by, octets_at, field_of, field_at, fields_at, counted_fields, fields_after, packet_from, packet_of}
+use Rattle.fax_ifp.specs.PacketLaws.{OctetsAfterAreNotRead}
 use Rattle.fax_ifp.proofs.ReadingLemmas.{octets_by_all}
 
 unequal : (m n : ℕ) → nat_eq m n ≡ false → m ≢ n
@@ -36,7 +36,7 @@ octets_at-tail [] more read e = cc
 octets_at-tail (high ∷ []) more read e = cc
 octets_at-tail (high ∷ low ∷ octets) more read e = octets_by-tail (256 * high + low) octets more read e
 
--- a field that was read, with more octets behind it
+-- a field that was read, with more octets after it
 abbrev with_tail : List ℕ → ReadField → Result ReadField IfpFault
 with_tail more field = Ok (record { text = field.text; half = field.half; octets = field.octets ++ more })
 
@@ -90,9 +90,9 @@ counted_fields-tail (count ∷ octets) more fields e = by (nat_lt 127 count) e
     by true k = cc
     by false k = fields_at-tail count None octets more fields k
 
-fields_behind-tail : (first : ℕ) (octets more : List ℕ) (fields : List FieldText) → fields_behind first octets ≡ Ok fields → fields_behind first (octets ++ more) ≡ Ok fields
-unfolding fields_behind
-fields_behind-tail first octets more fields e = by (bit first 7) e
+fields_after-tail : (first : ℕ) (octets more : List ℕ) (fields : List FieldText) → fields_after first octets ≡ Ok fields → fields_after first (octets ++ more) ≡ Ok fields
+unfolding fields_after
+fields_after-tail first octets more fields e = by (bit first 7) e
   where
     by : (some : Bool) → if◌then◌else◌ {A = Result (List FieldText) IfpFault} some (counted_fields octets) (Ok []) ≡ Ok fields →
         if◌then◌else◌ {A = Result (List FieldText) IfpFault} some (counted_fields (octets ++ more)) (Ok []) ≡ Ok fields
@@ -100,12 +100,12 @@ fields_behind-tail first octets more fields e = by (bit first 7) e
     by false k = k
 
 then-tail : (first : ℕ) (octets more : List ℕ) (say : List FieldText → Packet) (packet : Packet) →
-    (fields_behind first octets >>= λ fields. Ok (say fields)) ≡ Ok packet → (fields_behind first (octets ++ more) >>= λ fields. Ok (say fields)) ≡ Ok packet
-then-tail first octets more say packet e = by (fields_behind first octets) refl e
+    (fields_after first octets >>= λ fields. Ok (say fields)) ≡ Ok packet → (fields_after first (octets ++ more) >>= λ fields. Ok (say fields)) ≡ Ok packet
+then-tail first octets more say packet e = by (fields_after first octets) refl e
   where
-    by : (read : Result (List FieldText) IfpFault) → fields_behind first octets ≡ read → (read >>= λ fields. Ok (say fields)) ≡ Ok packet →
-        (fields_behind first (octets ++ more) >>= λ fields. Ok (say fields)) ≡ Ok packet
-    by (Ok fields) h k = rw (fields_behind-tail first octets more fields h) k
+    by : (read : Result (List FieldText) IfpFault) → fields_after first octets ≡ read → (read >>= λ fields. Ok (say fields)) ≡ Ok packet →
+        (fields_after first (octets ++ more) >>= λ fields. Ok (say fields)) ≡ Ok packet
+    by (Ok fields) h k = rw (fields_after-tail first octets more fields h) k
     by (Err fault) h k = cc
 
 packet_from-tail : (first : ℕ) (octets more : List ℕ) (packet : Packet) → packet_from first octets ≡ Ok packet → packet_from first (octets ++ more) ≡ Ok packet
@@ -115,7 +115,7 @@ packet_from-tail first octets more packet e = by (bit first 6) (nat_lt 8 (first 
     value = first / 2 % 16
 
     read : List ℕ → (List FieldText → Packet) → Result Packet IfpFault
-    read rest say = fields_behind first rest >>= λ fields. Ok (say fields)
+    read rest say = fields_after first rest >>= λ fields. Ok (say fields)
 
     by : (is_data high : Bool)
         → if◌then◌else◌ {A = Result Packet IfpFault} is_data (if high then Err BadValue else read octets (λ fields. Message value fields)) (read octets (λ fields. Indicator value)) ≡ Ok packet
@@ -124,10 +124,10 @@ packet_from-tail first octets more packet e = by (bit first 6) (nat_lt 8 (first 
     by true false k = then-tail first octets more (λ fields. Message value fields) packet k
     by false high k = then-tail first octets more (λ fields. Indicator value) packet k
 
-pub octets_behind : OctetsBehindAreNotRead
+pub octets_after : OctetsAfterAreNotRead
 unfolding packet_of
-octets_behind [] more packet e = cc
-octets_behind (first ∷ octets) more packet e = by (bit first 5) e
+octets_after [] more packet e = cc
+octets_after (first ∷ octets) more packet e = by (bit first 5) e
   where
     by : (later : Bool) → if◌then◌else◌ {A = Result Packet IfpFault} later (Err Extension) (packet_from first octets) ≡ Ok packet →
         if◌then◌else◌ {A = Result Packet IfpFault} later (Err Extension) (packet_from first (octets ++ more)) ≡ Ok packet

@@ -8,9 +8,9 @@ use Rattle.std.specs.Option.{ForSome}
 use Rattle.fax_ifp.specs.declared.packet.Field.{Field}
 use Rattle.fax_ifp.specs.Packets.{FieldText}
 use Rattle.fax_ifp.specs.Seen.{text_of, texts_of}
-use Rattle.fax_ifp.specs.Inside.Halves.{half_behind, added}
+use Rattle.fax_ifp.specs.Inside.Halves.{half_after, added}
 use Rattle.fax_ifp.specs.PacketLaws.{IndicatorsHaveOneOctet, FramesHaveSixMore, ImagesHaveFiveMore}
-use Rattle.fax_ifp.specs.WrittenPackets.{four_bits, counted, written_behind, written_fields, IsWritableField}
+use Rattle.fax_ifp.specs.WrittenPackets.{four_bits, counted, written_after, written_fields, IsWritableField}
 
 -- field i
 abbrev pub field_of_index : List Field → ℕ → Field
@@ -28,38 +28,38 @@ each_at fields i all h =
 rest_is : (fields : List Field) (i : ℕ) → i < length fields → texts_of (drop i fields) ≡ text_of (field_of_index fields i) ∷ texts_of (drop (i + 1) fields)
 rest_is fields i h = ap texts_of (drop-cons fields i (record { what = 0; octets = None }) h) ∙ rw add-one refl
 
--- a field adds its octets, and the others stand behind it
-written_one : (half : Option ℕ) (field : FieldText) (rest : List FieldText) → written_behind half (field ∷ rest) ≡ added half field ++ written_behind (half_behind half field) rest
-unfolding written_behind
+-- a field adds its octets, and the others stand after it
+written_one : (half : Option ℕ) (field : FieldText) (rest : List FieldText) → written_after half (field ∷ rest) ≡ added half field ++ written_after (half_after half field) rest
+unfolding written_after
 written_one (Some bits) field rest = refl
 written_one None field rest = by (is_some field.octets) (16 * four_bits field ∷ counted field.octets)
   where
-    by : (b : Bool) (own : List ℕ) → (if b then (own ++ written_behind None rest) else written_behind (Some field.what) rest) ≡ (if b then own else []) ++ written_behind (if b then None else Some field.what) rest
+    by : (b : Bool) (own : List ℕ) → (if b then (own ++ written_after None rest) else written_after (Some field.what) rest) ≡ (if b then own else []) ++ written_after (if b then None else Some field.what) rest
     by true own = refl
     by false own = refl
 
 pub written_step : (half : Option ℕ) (fields : List Field) (i : ℕ) → i < length fields →
-    written_behind half (texts_of (drop i fields))
-    ≡ added half (text_of (field_of_index fields i)) ++ written_behind (half_behind half (text_of (field_of_index fields i))) (texts_of (drop (i + 1) fields))
-written_step half fields i h = ap (written_behind half) (rest_is fields i h) ∙ written_one half (text_of (field_of_index fields i)) (texts_of (drop (i + 1) fields))
+    written_after half (texts_of (drop i fields))
+    ≡ added half (text_of (field_of_index fields i)) ++ written_after (half_after half (text_of (field_of_index fields i))) (texts_of (drop (i + 1) fields))
+written_step half fields i h = ap (written_after half) (rest_is fields i h) ∙ written_one half (text_of (field_of_index fields i)) (texts_of (drop (i + 1) fields))
 
 no_rest : (fields : List Field) (i : ℕ) → length fields ≤ i → texts_of (drop i fields) ≡ []
 no_rest fields i h = ap texts_of (drop_all i fields h)
 
--- the octets behind the last field
+-- the octets after the last field
 abbrev pub last_octet : Option ℕ → List ℕ
 last_octet None = []
 last_octet (Some bits) = 16 * bits ∷ []
 
-written_none : (half : Option ℕ) → written_behind half [] ≡ last_octet half
-unfolding written_behind
+written_none : (half : Option ℕ) → written_after half [] ≡ last_octet half
+unfolding written_after
 written_none None = refl
 written_none (Some bits) = refl
 
-pub written_end : (half : Option ℕ) (fields : List Field) (i : ℕ) → length fields ≤ i → written_behind half (texts_of (drop i fields)) ≡ last_octet half
-written_end half fields i h = ap (written_behind half) (no_rest fields i h) ∙ written_none half
+pub written_end : (half : Option ℕ) (fields : List Field) (i : ℕ) → length fields ≤ i → written_after half (texts_of (drop i fields)) ≡ last_octet half
+written_end half fields i h = ap (written_after half) (no_rest fields i h) ∙ written_none half
 
-pub half-few : (half : Option ℕ) (field : FieldText) → IsWritableField field → ForSome (half_behind half field) (λ half. half ≤ 7)
+pub half-few : (half : Option ℕ) (field : FieldText) → IsWritableField field → ForSome (half_after half field) (λ half. half ≤ 7)
 half-few (Some bits) field w = λ x e. cc
 half-few None field w = by (is_some field.octets)
   where
@@ -90,11 +90,11 @@ text_room a b c d e f h k =
 -- how long packets are, whatever the types of their fields
 pub frame_octets : (what end : ℕ) (frame : List ℕ) →
     length (written_fields (record { what = what; octets = Some frame } ∷ record { what = end; octets = None } ∷ [])) ≡ 4 + length frame
-unfolding written_behind
+unfolding written_after
 frame_octets what end frame = omega (arith, length-append frame (16 * end ∷ []))
 
 pub image_octets : (what : ℕ) (own : List ℕ) → length (written_fields (record { what = what; octets = Some own } ∷ [])) ≡ 3 + length own
-unfolding written_behind
+unfolding written_after
 image_octets what own = omega (arith, length-append own [])
 
 pub indicator_length : IndicatorsHaveOneOctet

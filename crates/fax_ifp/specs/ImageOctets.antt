@@ -11,7 +11,7 @@ octets_in_image (Some image) kind what octets = if is_image_field image.kind kin
 
 -- the octets of the last high-speed signal: of the fields of types 6 and 7 in data of its training
 -- indicator's type, since that indicator, while its image is open: up to and with its sig-end, or until
--- the next indicator. What stands behind is in no image
+-- the next indicator. What stands after is in no image
 abbrev pub image_octets : List Element → List ℕ
 image_octets [] = []
 image_octets (Missing ∷ before) = image_octets before

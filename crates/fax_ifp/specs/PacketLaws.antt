@@ -11,9 +11,9 @@ IndicatorsAreReadBack = (code : ℕ) → code ≤ 15 → packet_of (written_indi
 abbrev pub MessagesAreReadBack : Type 0
 MessagesAreReadBack = (kind : ℕ) (fields : List FieldText) → IsWritable kind fields → packet_of (written_message kind fields) ≡ Ok (Message kind fields)
 
--- octets behind a packet are not read
-abbrev pub OctetsBehindAreNotRead : Type 0
-OctetsBehindAreNotRead = (octets more : List ℕ) (packet : Packet) → packet_of octets ≡ Ok packet → packet_of (octets ++ more) ≡ Ok packet
+-- octets after a packet are not read
+abbrev pub OctetsAfterAreNotRead : Type 0
+OctetsAfterAreNotRead = (octets more : List ℕ) (packet : Packet) → packet_of octets ≡ Ok packet → packet_of (octets ++ more) ≡ Ok packet
 
 -- how many octets packets have: that of an indicator one, those of a frame and of an image's octets so many more than these
 abbrev pub IndicatorsHaveOneOctet : Type 0

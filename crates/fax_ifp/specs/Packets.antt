@@ -20,19 +20,19 @@ abbrev pub ◌>>=◌ : {A B : Type 0} → Result A IfpFault → (A → Result B 
 (Ok x) >>= f = f x
 (Err fault) >>= f = Err fault
 
--- the octets of a field, one more than the word says, and what is behind them; a field has 65,535 at most (own)
+-- the octets of a field, one more than the word says, and what is after them; a field has 65,535 at most (own)
 abbrev pub octets_by : ℕ → List ℕ → Result (List ℕ × List ℕ) IfpFault
 octets_by word octets =
     if nat_eq word 0xFFFF then Err BadCount
     else if nat_lt (length octets) (word + 1) then Err Short
     else Ok (take (word + 1) octets, drop (word + 1) octets)
 
--- the octets of a field behind their length word: 16 bits, which are their number less one
+-- the octets of a field after their length word: 16 bits, which are their number less one
 unfoldable pub octets_at : List ℕ → Result (List ℕ × List ℕ) IfpFault
 octets_at (high ∷ low ∷ octets) = octets_by (256 * high + low) octets
 octets_at few = Err Short
 
--- a field, and what is behind it: the half octet that is left of an octet, if one is, and octets
+-- a field, and what is after it: the half octet that is left of an octet, if one is, and octets
 pub record ReadField : Type 0 where
   pub text : FieldText
   pub half : Option ℕ
@@ -50,7 +50,7 @@ field_at (Some half) octets = field_of half None octets
 field_at None (octet ∷ octets) = field_of (octet / 16) (Some (octet % 16)) octets
 field_at None [] = Err Short
 
--- n fields; octets behind the last are not read (own)
+-- n fields; octets after the last are not read (own)
 unfoldable pub fields_at : ℕ → Option ℕ → List ℕ → Result (List FieldText) IfpFault
 fields_at zero half octets = Ok []
 fields_at (suc n) half octets = do
@@ -58,22 +58,22 @@ fields_at (suc n) half octets = do
   others ← fields_at n field.half field.octets
   Ok (field.text ∷ others)
 
--- fields behind the octet that counts them, from 0 (own) to 127 (own)
+-- fields after the octet that counts them, from 0 (own) to 127 (own)
 abbrev pub counted_fields : List ℕ → Result (List FieldText) IfpFault
 counted_fields [] = Err Short
 counted_fields (count ∷ octets) = if nat_lt 127 count then Err BadCount else fields_at count None octets
 
--- the fields behind a first octet, whose bit 7 says whether there are some
-unfoldable pub fields_behind : ℕ → List ℕ → Result (List FieldText) IfpFault
-fields_behind first octets = if bit first 7 then counted_fields octets else Ok []
+-- the fields after a first octet, whose bit 7 says whether there are some
+unfoldable pub fields_after : ℕ → List ℕ → Result (List FieldText) IfpFault
+fields_after first octets = if bit first 7 then counted_fields octets else Ok []
 
 -- a first octet that is no extension: bit 6 says that it is data, bits 4 to 1 are the indicator or the type of the data
 abbrev pub packet_from : ℕ → List ℕ → Result Packet IfpFault
 packet_from first octets =
     let value = first / 2 % 16 in
     if bit first 6
-    then (if nat_lt 8 value then Err BadValue else (fields_behind first octets >>= λ fields. Ok (Message value fields)))
-    else (fields_behind first octets >>= λ fields. Ok (Indicator value))
+    then (if nat_lt 8 value then Err BadValue else (fields_after first octets >>= λ fields. Ok (Message value fields)))
+    else (fields_after first octets >>= λ fields. Ok (Indicator value))
 
 -- the packet that octets are, or what is wrong with them; bit 5 of the first octet marks an extension. Fields of an
 -- indicator have no meaning (own)

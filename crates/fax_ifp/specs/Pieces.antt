@@ -132,7 +132,7 @@ image_pieces (Some image) kind what octets =
 abbrev pub frame_pieces : List Element → ℕ → ℕ → List Piece
 frame_pieces before kind what = if is_frame_end kind what then frame_if (hdlc_since before) else []
 
--- what an element gives, behind those before it
+-- what an element gives, after those before it
 abbrev pub pieces_at : List Element → Element → List Piece
 pieces_at before Missing = Gap ∷ []
 pieces_at before (Signal code) = end_before (open_image before) ++ start_if code

@@ -45,7 +45,7 @@ octets_alone (Frame octets ∷ before) = None
 octets_alone (End whole ∷ before) = None
 octets_alone (Gap ∷ before) = None
 
--- An image that ends behind these pieces is the signal at a place, octet for octet: so it is joined of no two.
+-- An image that ends after these pieces is the signal at a place, octet for octet: so it is joined of no two.
 pub record IsSignalAt (packets : List (List ℕ)) (before : List Piece) (place : ℕ) : Type 0 where
   pub octets : List ℕ
   pub heard : octets_alone before ≡ Some octets

@@ -5,9 +5,9 @@ use Rattle.fax_ifp.specs.Packets.{packet_of}
 use Rattle.fax_ifp.specs.Elements.{Slot, Element}
 use Rattle.fax_ifp.specs.Pieces.{Piece, Gap, Image, has_octet, open_image, pieces_of, pieces}
 use Rattle.fax_ifp.specs.ImageOctets.{image_octets, octets_since}
-use Rattle.fax_ifp.specs.Tracked.{Tracked, IsTracked, lost_slots}
+use Rattle.fax_ifp.specs.Tracked.{TrackState, IsTracked, lost_slots}
 
--- slots that come later add pieces behind those of the slots before
+-- slots that come later add pieces after those of the slots before
 abbrev pub PiecesGoOn : Type 0
 PiecesGoOn = (later before : List Slot) → (more : List Piece) × (pieces (later ++ before) ≡ pieces before ++ more)
 
@@ -22,7 +22,7 @@ ExtensionsSayNothing = (later before : List Slot) (octets : List ℕ) → packet
 
 -- slots leave one thing alone to be kept
 abbrev pub TrackedIsUnique : Type 0
-TrackedIsUnique = (slots : List Slot) (a b : Tracked) → IsTracked slots a → IsTracked slots b → a ≡ b
+TrackedIsUnique = (slots : List Slot) (a b : TrackState) → IsTracked slots a → IsTracked slots b → a ≡ b
 
 -- the octets of the pieces since the last start are those of the last high-speed signal
 abbrev pub ImageOctetsArePieces : Type 0

@@ -9,24 +9,24 @@ written_indicator code = 2 * code ∷ []
 abbrev pub four_bits : FieldText → ℕ
 four_bits field = if is_some field.octets then 8 + field.what else field.what
 
--- the octets of a field, behind a word of 16 bits, which is their number less one
+-- the octets of a field, after a word of 16 bits, which is their number less one
 abbrev pub counted : Option (List ℕ) → List ℕ
 counted None = []
 counted (Some octets) = (length octets - 1) / 256 ∷ (length octets - 1) % 256 ∷ octets
 
 -- the octets of fields. Where bits are given, an octet begins with them: the four bits of a field without octets. Its
--- other half has the four bits of the next field, or zeros behind the last. Octets of a field begin at the next octet
-unfoldable pub written_behind : Option ℕ → List FieldText → List ℕ
-written_behind None [] = []
-written_behind (Some bits) [] = 16 * bits ∷ []
-written_behind (Some bits) (field ∷ fields) = (16 * bits + four_bits field) ∷ counted field.octets ++ written_behind None fields
-written_behind None (field ∷ fields) =
+-- other half has the four bits of the next field, or zeros after the last. Octets of a field begin at the next octet
+unfoldable pub written_after : Option ℕ → List FieldText → List ℕ
+written_after None [] = []
+written_after (Some bits) [] = 16 * bits ∷ []
+written_after (Some bits) (field ∷ fields) = (16 * bits + four_bits field) ∷ counted field.octets ++ written_after None fields
+written_after None (field ∷ fields) =
     if is_some field.octets
-    then (16 * four_bits field ∷ counted field.octets ++ written_behind None fields)
-    else written_behind (Some field.what) fields
+    then (16 * four_bits field ∷ counted field.octets ++ written_after None fields)
+    else written_after (Some field.what) fields
 
 abbrev pub written_fields : List FieldText → List ℕ
-written_fields fields = written_behind None fields
+written_fields fields = written_after None fields
 
 -- data; no fields are written without a count octet
 abbrev pub written_message : ℕ → List FieldText → List ℕ

@@ -6,7 +6,7 @@ use std::alloc::{AllocError, AllocFailed};
 use thiserror::Error;
 
 /// Why octets are no packet that can be read (this project's profile). They are looked for in this
-/// order; octets that run out behind the first one are found where they run out.
+/// order; octets that run out after the first one are found where they run out.
 #[derive(Clone, Copy, PartialEq, Eq, Debug, Error)]
 pub enum IfpFault {
     /// The octets end before the packet does.

@@ -1,6 +1,6 @@
 //! Laws of the definitions: functions that do nothing, each of whose contracts is a theorem.
 ghost use Rattle.fax_ifp.specs.CodeLaws.{IndicatorsStandAtTheirCodes, DataTypesStandAtTheirCodes, FieldTypesStandAtTheirCodes, IndicatorsHaveOneCode, DataTypesHaveOneCode, FieldTypesHaveOneCode, TrainingsAreIndicators, KindsAreDataTypes, TrainingsTrain, TrainingsBeginTheirData};
-ghost use Rattle.fax_ifp.specs.PacketLaws.{IndicatorsAreReadBack, MessagesAreReadBack, OctetsBehindAreNotRead, IndicatorsHaveOneOctet, FramesHaveSixMore, ImagesHaveFiveMore};
+ghost use Rattle.fax_ifp.specs.PacketLaws.{IndicatorsAreReadBack, MessagesAreReadBack, OctetsAfterAreNotRead, IndicatorsHaveOneOctet, FramesHaveSixMore, ImagesHaveFiveMore};
 ghost use Rattle.fax_ifp.specs.Schedules.{FramesAreSent, ImagesAreSignals};
 ghost use Rattle.fax_ifp.specs.SignalLaws.{PiecesGoOn, LostSlotsAreGaps, ExtensionsSayNothing, TrackedIsUnique, ImageOctetsArePieces, StartedIsAnOctet};
 
@@ -40,12 +40,12 @@ pub fn messages_are_read_back()
     ensures { MessagesAreReadBack }
 {}
 
-/// Octets behind a packet are not read.
-pub fn octets_behind_are_not_read()
-    ensures { OctetsBehindAreNotRead }
+/// Octets after a packet are not read.
+pub fn octets_after_are_not_read()
+    ensures { OctetsAfterAreNotRead }
 {}
 
-/// Slots that come later add pieces behind those of the slots before.
+/// Slots that come later add pieces after those of the slots before.
 pub fn pieces_go_on()
     ensures { PiecesGoOn }
 {}

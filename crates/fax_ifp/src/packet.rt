@@ -2,7 +2,7 @@
 ghost use Rattle.std.specs.Prelude.{ℕ, List, [], ◌∷◌, ◌≡◌, ◌≢◌, ◌<◌, ◌≤◌, true, false, Some, Ok, IsSome, IfSome, IfOk, IfErr, OnOk};
 ghost use Rattle.fax_bits.specs.Bits.{bit};
 ghost use Rattle.fax_ifp.specs.Inside.Content.{seen_octets, seen_field};
-ghost use Rattle.fax_ifp.specs.Packets.{FieldText, Message, octets_at, field_of, field_at, fields_at, fields_behind, packet_of, HasNinthField};
+ghost use Rattle.fax_ifp.specs.Packets.{FieldText, Message, octets_at, field_of, field_at, fields_at, fields_after, packet_of, HasNinthField};
 ghost use Rattle.fax_ifp.specs.Pieces.{has_octet};
 ghost use Rattle.fax_ifp.specs.Seen.{octets_in, text_of, texts_of, head_of, fields_in};
 ghost use Rattle.fax_ifp.specs.WrittenPackets.{image_fields};
@@ -83,7 +83,7 @@ impl<'a> Model for Ifp<'a> {
 }
 
 impl<'a> Ifp<'a> {
-    /// The packet that octets are. Octets behind it are not read. Memory is taken only where more than 8
+    /// The packet that octets are. Octets after it are not read. Memory is taken only where more than 8
     /// fields of data are counted, and want of it is told only where they can be read. Fields of an
     /// indicator have no meaning: they are read, since a fault in them refuses the packet, and none of
     /// them is kept.
@@ -157,10 +157,10 @@ fn has_bit(octet: u8, k: u32) -> bool
     (octet >> k) & 1 == 1
 }
 
-/// How many fields stand behind a first octet, and the octets from the first of them on.
+/// How many fields stand after a first octet, and the octets from the first of them on.
 fn count_of_fields(first: u8, octets: &[u8]) -> Result<(u8, &[u8]), IfpFault>
-    ensures count { IfOk result (λ read. fields_behind first octets.now ≡ fields_at read.0 None read.1.now) }
-    ensures fault { IfErr result (λ fault. fields_behind first octets.now ≡ Err fault) }
+    ensures count { IfOk result (λ read. fields_after first octets.now ≡ fields_at read.0 None read.1.now) }
+    ensures fault { IfErr result (λ fault. fields_after first octets.now ≡ Err fault) }
     ensures memory { result ≢ Err IfpFault.NoMemory }
 {
     if !has_bit(first, WITH_FIELDS) {
@@ -175,7 +175,7 @@ fn count_of_fields(first: u8, octets: &[u8]) -> Result<(u8, &[u8]), IfpFault>
     Ok((*count, fields))
 }
 
-/// The octets of a field behind their length word, and what is behind them.
+/// The octets of a field after their length word, and what is after them.
 fn own_octets(octets: &[u8]) -> Result<(&[u8], &[u8]), IfpFault>
     ensures { seen_octets result ≡ octets_at octets.now }
 {
@@ -193,7 +193,7 @@ fn own_octets(octets: &[u8]) -> Result<(&[u8], &[u8]), IfpFault>
     Ok(rest.split_at(count))
 }
 
-/// The next field, and the place behind it.
+/// The next field, and the place after it.
 fn next_field<'a>(place: Place<'a>) -> Result<(Field<'a>, Place<'a>), IfpFault>
     ensures { seen_field result ≡ field_at place.entry.half place.entry.octets.now }
 {
@@ -234,8 +234,8 @@ fn check_fields(count: u8, octets: &[u8]) -> Result<(), IfpFault>
 {
     let mut place = Place { half: None, octets };
     for _ in 0..count {
-        let (_, behind) = next_field(place)?;
-        place = behind;
+        let (_, after) = next_field(place)?;
+        place = after;
     }
     Ok(())
 }
@@ -256,9 +256,9 @@ fn read_fields<'a>(
     };
     let mut place = Place { half: None, octets };
     for _ in 0..count {
-        let (field, behind) = next_field(place)?;
+        let (field, after) = next_field(place)?;
         fields.push_reserved(field);
-        place = behind;
+        place = after;
     }
     Ok(fields)
 }

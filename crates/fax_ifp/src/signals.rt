@@ -38,10 +38,10 @@ pub struct Signals {
 }
 
 impl Model for Signals {
-    ghost use Rattle.fax_ifp.specs.Tracked.{Tracked};
+    ghost use Rattle.fax_ifp.specs.Tracked.{TrackState};
     ghost use Rattle.fax_ifp.specs.Shown.{image_shown};
 
-    ghost Value = { Tracked };
+    ghost Value = { TrackState };
 
     ghost view = { λ s. record { frame = s.frame; image = image_shown s.image } };
 }
@@ -343,7 +343,7 @@ impl Signals {
     }
 }
 
-/// The data type of the octets behind a training indicator (ITU-T T.38).
+/// The data type of the octets after a training indicator (ITU-T T.38).
 fn kind_of_training(code: u8) -> u8
     requires { 4 ≤ code }
     ensures { result ≡ kind_shown code }

@@ -3,8 +3,8 @@ ghost use Rattle.std.specs.Prelude.{ℕ, ◌≡◌, ◌+◌, ◌*◌, ◌≤◌,
 ghost use Rattle.std.specs.Option.{ForSome};
 ghost use Rattle.fax_ifp.specs.Packets.{FieldText};
 ghost use Rattle.fax_ifp.specs.Seen.{text_of, texts_of};
-ghost use Rattle.fax_ifp.specs.Inside.Halves.{added, half_behind};
-ghost use Rattle.fax_ifp.specs.WrittenPackets.{counted, written_behind, written_fields, written_indicator, written_message, IsWritableField, IsWritable, frame_fields, image_fields};
+ghost use Rattle.fax_ifp.specs.Inside.Halves.{added, half_after};
+ghost use Rattle.fax_ifp.specs.WrittenPackets.{counted, written_after, written_fields, written_indicator, written_message, IsWritableField, IsWritable, frame_fields, image_fields};
 
 use crate::codes::{DataType, FieldType};
 use crate::packet::Field;
@@ -153,8 +153,8 @@ fn length_of_fields(fields: &[Field<'_>]) -> usize
     let mut total = 0;
     let mut half = None;
     for field in fields {
-        total += length_behind(half, field);
-        half = half_behind(half, field);
+        total += length_after(half, field);
+        half = half_after(half, field);
     }
     match half {
         Some(_) => total + 1,
@@ -172,17 +172,17 @@ fn push_fields(octets: &mut Vec<u8>, fields: &[Field<'_>])
     let mut half = None;
     for field in fields {
         push_field(octets, half, field);
-        half = half_behind(half, field);
+        half = half_after(half, field);
     }
     if let Some(half) = half {
         octets.push_reserved(16 * half);
     }
 }
 
-/// The half octet that is left behind a field, where one was left before it or not: its other half is the
+/// The half octet that is left after a field, where one was left before it or not: its other half is the
 /// next field's.
-fn half_behind(half: Option<u8>, field: &Field<'_>) -> Option<u8>
-    ensures { result ≡ half_behind half (text_of field.now) }
+fn half_after(half: Option<u8>, field: &Field<'_>) -> Option<u8>
+    ensures { result ≡ half_after half (text_of field.now) }
 {
     match (half, field.octets) {
         (None, None) => Some(field.what),
@@ -191,7 +191,7 @@ fn half_behind(half: Option<u8>, field: &Field<'_>) -> Option<u8>
 }
 
 /// How many octets a field adds.
-fn length_behind(half: Option<u8>, field: &Field<'_>) -> usize
+fn length_after(half: Option<u8>, field: &Field<'_>) -> usize
     requires { IsWritableField (text_of field.now) }
     ensures { result ≡ length (added half (text_of field.now)) }
 {
@@ -224,7 +224,7 @@ fn push_field(octets: &mut Vec<u8>, half: Option<u8>, field: &Field<'_>)
     }
 }
 
-/// Adds octets behind their length word, for which there is room.
+/// Adds octets after their length word, for which there is room.
 fn push_counted(octets: &mut Vec<u8>, own: &[u8])
     requires some { 1 ≤ length own.now }
     requires few { length own.now ≤ 65535 }

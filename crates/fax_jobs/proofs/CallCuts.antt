@@ -4,7 +4,7 @@ use Rattle.std.proofs.lemmas.List.{append-nil}
 use Rattle.fax_jobs.specs.declared.outcome.Outcome.{Outcome}
 use Rattle.fax_jobs.specs.declared.report.Report.{Report}
 use Rattle.fax_jobs.specs.Jobs.{JobValue}
-use Rattle.fax_jobs.specs.Books.{Book, job_of, longer, joined, behind, joins, opened, added, closed, with_page, confirmed}
+use Rattle.fax_jobs.specs.Books.{Book, job_of, longer, joined, after, joins, opened, added, closed, with_page, confirmed}
 use Rattle.fax_jobs.specs.Pasts.{Step, Confirms, CallEnds, Sends, Ends, Past, as_list, sent_if, ended_if, after_step, after_steps, jobs_of}
 use Rattle.fax_jobs.specs.Cuts.{Confirmation, IsCutOf, IsRest, IsCutSoFar, confirmations, AreInCall, CutsEachCall, KeepsJobs}
 use Rattle.fax_jobs.proofs.CutLemmas.{UpTo, to_up, from_up, up_map, up_join, up_ends, up_more, EndsWith, first_page, further_page, other_job, stays_open, shut}
@@ -37,7 +37,7 @@ page_joins call cs c old now (Some job) t s =
       are = s.are;
     }
 
-page_opens : (call : ℕ) (cs : List Confirmation) (c : Confirmation) (old now : List JobValue) (o : Option JobValue) → joins o call ≡ false → SoFar call cs old now o → Paged call cs c old (behind now o) (Some (job_of call c.page))
+page_opens : (call : ℕ) (cs : List Confirmation) (c : Confirmation) (old now : List JobValue) (o : Option JobValue) → joins o call ≡ false → SoFar call cs old now o → Paged call cs c old (after now o) (Some (job_of call c.page))
 page_opens call cs c old now None t s =
     record {
       jobs = s.jobs;
@@ -66,7 +66,7 @@ command_leaves call cs c old now (Some job) e p =
       are = p.are;
     }
 
-command_closes : (call : ℕ) (cs : List Confirmation) (c : Confirmation) (old now : List JobValue) (o : Option JobValue) → c.closes ≡ true → Paged call cs c old now o → SoFar call (cs ++ c ∷ []) old (behind now o) None
+command_closes : (call : ℕ) (cs : List Confirmation) (c : Confirmation) (old now : List JobValue) (o : Option JobValue) → c.closes ≡ true → Paged call cs c old now o → SoFar call (cs ++ c ∷ []) old (after now o) None
 command_closes call cs c old now None e p = let q : None ≡ Some p.job = p.is_open in cc
 command_closes call cs c old now (Some job) e p =
     let same : p.job ≡ job = let q : Some job ≡ Some p.job = p.is_open in cc in
@@ -78,13 +78,13 @@ command_closes call cs c old now (Some job) e p =
     }
 
 -- what a book's steps do to the jobs that were closed
-behind_all : (ended sending waiting : List JobValue) (o : Option JobValue) → ended ++ (sending ++ behind waiting o) ≡ behind (ended ++ (sending ++ waiting)) o
-behind_all ended sending waiting None = refl
-behind_all ended sending waiting (Some job) =
+after_all : (ended sending waiting : List JobValue) (o : Option JobValue) → ended ++ (sending ++ after waiting o) ≡ after (ended ++ (sending ++ waiting)) o
+after_all ended sending waiting None = refl
+after_all ended sending waiting (Some job) =
     ap (λ (js : List JobValue). ended ++ js) (sym (append_assoc sending waiting (job ∷ []))) ∙ sym (append_assoc ended (sending ++ waiting) (job ∷ []))
 
-closed_jobs : (past : Past) → jobs_of (record past { book = closed past.book }) ≡ behind (jobs_of past) past.book.open_job
-closed_jobs past = behind_all past.ended (as_list past.book.sending) past.book.waiting past.book.open_job
+closed_jobs : (past : Past) → jobs_of (record past { book = closed past.book }) ≡ after (jobs_of past) past.book.open_job
+closed_jobs past = after_all past.ended (as_list past.book.sending) past.book.waiting past.book.open_job
 
 page_comes : (call : ℕ) (cs : List Confirmation) (c : Confirmation) (old : List JobValue) (past : Past) → SoFar call cs old (jobs_of past) past.book.open_job →
     Paged call cs c old (jobs_of (record past { book = with_page past.book call c.page })) (with_page past.book call c.page).open_job
@@ -155,7 +155,7 @@ record AtEnd (call : ℕ) (cs : List Confirmation) (old now : List JobValue) : T
   cut : IsCutOf call cs jobs
   are : now ≡ old ++ jobs
 
-end_comes : (call : ℕ) (cs : List Confirmation) (old now : List JobValue) (o : Option JobValue) → SoFar call cs old now o → AtEnd call cs old (behind now o)
+end_comes : (call : ℕ) (cs : List Confirmation) (old now : List JobValue) (o : Option JobValue) → SoFar call cs old now o → AtEnd call cs old (after now o)
 end_comes call cs old now None s =
     record { jobs = s.jobs ++ []; cut = up_ends call cs s.jobs [] (IsRest call None) (λ own r. r) (to_up call cs s.jobs None s.cut); are = s.are ∙ ap (λ (js : List JobValue). old ++ js) (sym (append-nil s.jobs)) }
 end_comes call cs old now (Some job) s =
@@ -174,7 +174,7 @@ cuts_each_call old call steps n a =
 
 -- between calls
 ends_again : (past : Past) → past.book.open_job ≡ None → jobs_of (record past { book = closed past.book }) ≡ jobs_of past
-ends_again past n = closed_jobs past ∙ ap (λ (o : Option JobValue). behind (jobs_of past) o) n
+ends_again past n = closed_jobs past ∙ ap (λ (o : Option JobValue). after (jobs_of past) o) n
 
 pub keeps_jobs : KeepsJobs
 keeps_jobs old [] n a = (refl, n)

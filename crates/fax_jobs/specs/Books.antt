@@ -44,13 +44,13 @@ joined (Some job) page = Some (longer job page)
 abbrev pub added : Book → PageValue → Book
 added book page = record book { open_job = joined book.open_job page }
 
--- the open job is closed, and waits behind the others
-abbrev pub behind : List JobValue → Option JobValue → List JobValue
-behind jobs None = jobs
-behind jobs (Some job) = jobs ++ job ∷ []
+-- the open job is closed, and waits after the others
+abbrev pub after : List JobValue → Option JobValue → List JobValue
+after jobs None = jobs
+after jobs (Some job) = jobs ++ job ∷ []
 
 abbrev pub closed : Book → Book
-closed book = record book { open_job = None; waiting = behind book.waiting book.open_job }
+closed book = record book { open_job = None; waiting = after book.waiting book.open_job }
 
 -- the job that was closed first is sent
 abbrev pub first_of : List JobValue → Option JobValue
@@ -83,7 +83,7 @@ ended book outcome delivered =
     record book { sending = None; reports = last_of kept_reports (reported book.reports book.sending outcome delivered) }
 
 -- A CONFIRMED PAGE, of any format, joins the open job where that is of its call and has fewer than 999 pages. Else the open
--- job is closed and another one opened. Behind EOP the job is closed.
+-- job is closed and another one opened. After EOP the job is closed.
 abbrev pub takes_page : JobValue → ℕ → Bool
 takes_page job call = nat_eq job.call call && nat_lt (length job.pages) most_pages
 

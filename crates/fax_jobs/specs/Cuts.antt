@@ -1,5 +1,5 @@
--- How the confirmations of a call are cut into jobs, as a relation. (This project's profile.) A cut stands behind a
--- confirmation for EOP, behind the 999th page of a job and at the end of the call, and nowhere else; pages of any formats
+-- How the confirmations of a call are cut into jobs, as a relation. (This project's profile.) A cut stands after a
+-- confirmation for EOP, after the 999th page of a job and at the end of the call, and nowhere else; pages of any formats
 -- stand in one job. Confirmations and jobs are in the order of time here.
 use Rattle.std.specs.Prelude.{◌≡◌, ℕ, ◌<◌, ◌≤◌, ◌⊎◌, Bool, true, false, List, [], ◌∷◌, ◌++◌, length, map, Option, Some, None}
 use Rattle.fax_pagestore.specs.Pages.{PageValue}
@@ -26,7 +26,7 @@ EndsByEop [] = ⊥
 EndsByEop (c ∷ []) = c.closes ≡ true
 EndsByEop (c ∷ d ∷ cs) = EndsByEop (d ∷ cs)
 
--- a job of the confirmations `own`, behind which `others` came in the same call
+-- a job of the confirmations `own`, after which `others` came in the same call
 pub record IsJobOf (call : ℕ) (own others : List Confirmation) (job : JobValue) : Type 0 where
   pub same_call : job.call ≡ call
   pub some : 0 < length own
@@ -72,21 +72,21 @@ AreInCall call (CallEnds ∷ before) = ⊥
 AreInCall call (Sends ∷ before) = AreInCall call before
 AreInCall call (Ends outcome delivered ∷ before) = AreInCall call before
 
--- these jobs were closed, one after another, behind those that were
-pub record ClosesBehind (old new : Past) (jobs : List JobValue) : Type 0 where
+-- these jobs were closed, one after another, after those that were
+pub record ClosesAfter (old new : Past) (jobs : List JobValue) : Type 0 where
   pub jobs_are : jobs_of new ≡ jobs_of old ++ jobs
 
 -- In a call that is on, whatever is sent and ends meanwhile, the jobs that were closed and the open one are the cut so far.
 pub record IsCutSince (call : ℕ) (old : Past) (steps : List Step) : Type 0 where
   pub jobs : List JobValue
   pub cut : IsCutSoFar call (confirmations steps) jobs (after_steps old steps).book.open_job
-  pub closes : ClosesBehind old (after_steps old steps) jobs
+  pub closes : ClosesAfter old (after_steps old steps) jobs
 
 -- Once it has ended, the jobs that were closed are the cut of its confirmations, and none is open.
 pub record IsCutAtEnd (call : ℕ) (old : Past) (steps : List Step) : Type 0 where
   pub jobs : List JobValue
   pub cut : IsCutOf call (confirmations steps) jobs
-  pub closes : ClosesBehind old (after_steps old (CallEnds ∷ steps)) jobs
+  pub closes : ClosesAfter old (after_steps old (CallEnds ∷ steps)) jobs
   pub none_open : (after_steps old (CallEnds ∷ steps)).book.open_job ≡ None
 
 abbrev pub CutsEachCall : Type 0

@@ -12,7 +12,7 @@ or_else (Some job) other = Some job
 abbrev pub closed_last : List JobValue → Option JobValue
 closed_last waiting = slice_get waiting (length waiting - 1)
 
--- a page joins the open job; behind that, the job that was closed last has the newest
+-- a page joins the open job; after that, the job that was closed last has the newest
 abbrev pub newest_job : Book → Option JobValue
 newest_job book = or_else book.open_job (or_else (closed_last book.waiting) book.sending)
 

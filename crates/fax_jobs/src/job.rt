@@ -55,7 +55,7 @@ impl<S: RowStore> Job<S> {
         })
     }
 
-    /// Adds a page behind the others, or hands it back for want of memory.
+    /// Adds a page after the others, or hands it back for want of memory.
     pub fn add_page(&mut self, page: Page<S>) -> Result<(), Page<S>>
         requires { length self.old.pages < most_pages }
         ensures added { OnOk result (self.new ≡ longer self.old page) }
@@ -67,7 +67,7 @@ impl<S: RowStore> Job<S> {
         self.pages.push(page)
     }
 
-    /// Adds a page behind the others, which move into a larger list where theirs is full: it takes no memory.
+    /// Adds a page after the others, which move into a larger list where theirs is full: it takes no memory.
     pub(crate) fn add_within(&mut self, larger: &mut Vec<Page<S>>, page: Page<S>)
         requires few { length self.old.pages < most_pages }
         requires empty { vec_len larger.old ≡ 0 }

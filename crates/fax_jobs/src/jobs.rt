@@ -126,7 +126,7 @@ impl<S: RowStore> Jobs<S> {
     }
 
     /// A page was confirmed in the call of this number: it joins the open job, or that is closed and another one opened
-    /// with it. Where it `closes`, as behind EOP, the job is closed. For want of memory nothing changes, and the page is
+    /// with it. Where it `closes`, as after EOP, the job is closed. For want of memory nothing changes, and the page is
     /// handed back.
     pub fn confirm(&mut self, call: u32, page: Page<S>, closes: bool) -> Result<(), Page<S>>
         ensures confirmed { OnOk result (self.new.book ≡ confirmed self.old.book call page closes) }
@@ -155,7 +155,7 @@ impl<S: RowStore> Jobs<S> {
         }
     }
 
-    /// Closes the open job, which waits behind the others then. It takes no memory.
+    /// Closes the open job, which waits after the others then. It takes no memory.
     pub fn close(&mut self)
         requires { IsSome self.old.book.open_job }
         ensures closed { self.new.book ≡ closed self.old.book }

@@ -3,8 +3,8 @@
 ghost use Rattle.fax_jobs.specs.Cuts.{CutsEachCall, KeepsJobs, CutsAreOne, HoldsEachPageOnce};
 ghost use Rattle.fax_jobs.specs.Pasts.{ReportsEachJob};
 
-/// The confirmations of a call, of pages of any formats, are cut into jobs behind one for EOP, behind the 999th page of a
-/// job and at the end of the call, and nowhere else; these jobs are closed behind those that were, whatever is sent and
+/// The confirmations of a call, of pages of any formats, are cut into jobs after one for EOP, after the 999th page of a
+/// job and at the end of the call, and nowhere else; these jobs are closed after those that were, whatever is sent and
 /// ends meanwhile. While the call is on, the open job is the rest of them; when it has ended, none is open.
 pub fn cuts_each_call()
     ensures { CutsEachCall }

@@ -1,4 +1,4 @@
-//! The book of jobs between the two sides of a gateway: pages that were confirmed are cut into jobs, each of which goes
+//! The book of jobs between the two legs of a gateway: pages that were confirmed are cut into jobs, each of which goes
 //! out in one call.
 #![tactic(auto)]
 

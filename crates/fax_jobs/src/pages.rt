@@ -43,7 +43,7 @@ impl<S: RowStore> Pages<S> {
         self.pages.as_slice()
     }
 
-    /// Adds a page behind the others, or hands it back for want of memory.
+    /// Adds a page after the others, or hands it back for want of memory.
     pub(crate) fn push(&mut self, page: Page<S>) -> Result<(), Page<S>>
         ensures pushed { OnOk result (self.new ≡ self.old ++ page ∷ []) }
         ensures back { IfErr result (λ back. back ≡ page) }
@@ -52,7 +52,7 @@ impl<S: RowStore> Pages<S> {
         self.pages.push(page).map_err(|refused| refused.value)
     }
 
-    /// Adds a page behind the others, which move into a larger list where theirs is full: it takes no memory.
+    /// Adds a page after the others, which move into a larger list where theirs is full: it takes no memory.
     pub(crate) fn push_within(&mut self, larger: &mut Vec<Page<S>>, page: Page<S>)
         requires empty { vec_len larger.old ≡ 0 }
         requires room { length self.old < vec_capacity larger.old }

@@ -86,8 +86,8 @@ long_here ps left p e h = ap are_short e ∙ ap (λ (b : Bool). b && are_short l
 pub short_first : (ps left : List (List ℕ)) (p : List ℕ) → ps ≡ p ∷ left → are_short ps ≡ true → length p ≤ 16383
 short_first ps left p e h = le_so (length p) 16383 (both_first (nat_le (length p) 16383) (are_short left) (sym (ap are_short e) ∙ h))
 
-pub short_behind_first : (ps left : List (List ℕ)) (p : List ℕ) → ps ≡ p ∷ left → are_short ps ≡ true → are_short left ≡ true
-short_behind_first ps left p e h = both_second (nat_le (length p) 16383) (are_short left) (sym (ap are_short e) ∙ h)
+pub short_after_first : (ps left : List (List ℕ)) (p : List ℕ) → ps ≡ p ∷ left → are_short ps ≡ true → are_short left ≡ true
+short_after_first ps left p e h = both_second (nat_le (length p) 16383) (are_short left) (sym (ap are_short e) ∙ h)
 
 one_less : (n : ℕ) → 0 < n → n ≡ suc (n - 1)
 one_less n h = omega arith

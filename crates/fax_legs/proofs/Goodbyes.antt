@@ -4,7 +4,7 @@ use Rattle.fax_udptl.specs.Datagrams.{DatagramValue}
 use Rattle.fax_udptl.specs.Slots.{IsNearest, greatest, nearest}
 use Rattle.fax_udptl.specs.Taking.{IsAfter}
 use Rattle.fax_udptl.proofs.SlotLemmas.{is_nearest}
-use Rattle.fax_legs.specs.HangUps.{HaveNumbers, is_late, newer_of, newest_of, number_behind}
+use Rattle.fax_legs.specs.HangUps.{HaveNumbers, is_late, newer_of, newest_of, number_after}
 
 late_so : (m n : ℕ) → nat_lt m n ≡ true → m < n
 late_so m n h = grind (arith)
@@ -12,7 +12,7 @@ late_so m n h = grind (arith)
 early_so : (m n : ℕ) → nat_lt m n ≡ false → n ≤ m
 early_so m n h = grind (arith)
 
--- what is nearest lies behind the greatest exactly where its number is not late
+-- what is nearest lies after the greatest exactly where its number is not late
 still : (n g near : ℕ) → n < 65536 → near % 65536 ≡ n → g + 1 ≤ near + 32768 → near ≤ g + 32768 → (65536 + g % 65536 - n) % 65536 < 32768 → max near g ≡ g
 still n g near low agrees above below late = omega arith
 
@@ -38,7 +38,7 @@ newest_is d (e ∷ earlier) low =
     ap (λ (o : Option ℕ). newer_of o d.number) (newest_is e earlier low.1)
     ∙ newer d.number g (nearest (g + 1) d.number) (is_late (g % 65536) d.number) refl low.0 near.agrees near.above (let under = near.below in omega (arith, under))
 
--- and so the number behind it is what the receiver expects
-pub expected_is : (arrived : List DatagramValue) (expected : ℕ) → HaveNumbers arrived → IsAfter arrived (Some expected) → number_behind (newest_of arrived) ≡ expected
+-- and so the number after it is what the receiver expects
+pub expected_is : (arrived : List DatagramValue) (expected : ℕ) → HaveNumbers arrived → IsAfter arrived (Some expected) → number_after (newest_of arrived) ≡ expected
 expected_is [] expected low after = cc
-expected_is (d ∷ earlier) expected low after = ap number_behind (newest_is d earlier low) ∙ (let same : expected ≡ (greatest (d ∷ earlier) + 1) % 65536 = cc in omega (arith, same))
+expected_is (d ∷ earlier) expected low after = ap number_after (newest_is d earlier low) ∙ (let same : expected ≡ (greatest (d ∷ earlier) + 1) % 65536 = cc in omega (arith, same))

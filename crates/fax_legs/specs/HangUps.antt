@@ -28,15 +28,15 @@ newer_of None number = Some number
 newer_of (Some newest) number = if is_late newest number then Some newest else Some number
 
 -- the number of the newest datagram, once these octets have come: the first two are a number
-abbrev pub newest_behind : Option ℕ → List ℕ → Option ℕ
-newest_behind newest [] = newest
-newest_behind newest (high ∷ []) = newest
-newest_behind newest (high ∷ low ∷ octets) = newer_of newest (256 * high + low)
+abbrev pub newest_after : Option ℕ → List ℕ → Option ℕ
+newest_after newest [] = newest
+newest_after newest (high ∷ []) = newest
+newest_after newest (high ∷ low ∷ octets) = newer_of newest (256 * high + low)
 
--- the number behind the newest one
-abbrev pub number_behind : Option ℕ → ℕ
-number_behind None = 0
-number_behind (Some newest) = (newest + 1) % 65536
+-- the number after the newest one
+abbrev pub number_after : Option ℕ → ℕ
+number_after None = 0
+number_after (Some newest) = (newest + 1) % 65536
 
 -- whether it is gone
 abbrev pub is_over : Standing → Bool
@@ -50,10 +50,10 @@ due_again standings.There = standings.There
 due_again standings.Gone = standings.Gone
 due_again standings.Told = standings.Gone
 
--- The goodbye behind the newest datagram is handed out, in the front of the buffer, and is the newest then.
+-- The goodbye after the newest datagram is handed out, in the front of the buffer, and is the newest then.
 pub record HandsOut (old new : PeerCall) (before after : List ℕ) : Type 0 where
-  pub octets : after ≡ goodbye (number_behind old.newest) ++ drop 14 before
-  pub call : new ≡ record { newest = Some (number_behind old.newest); standing = standings.Told }
+  pub octets : after ≡ goodbye (number_after old.newest) ++ drop 14 before
+  pub call : new ≡ record { newest = Some (number_after old.newest); standing = standings.Told }
 
 -- the number of the newest of the datagrams that came, where the last of them stands first
 abbrev pub newest_of : List DatagramValue → Option ℕ
@@ -69,4 +69,4 @@ HaveNumbers (d ∷ earlier) = (d.number < 65536) × HaveNumbers earlier
 -- slot is missing before it.
 abbrev pub GoodbyesAreExpected : Type 0
 GoodbyesAreExpected =
-    (arrived : List DatagramValue) (expected : ℕ) → HaveNumbers arrived → IsAfter arrived (Some expected) → number_behind (newest_of arrived) ≡ expected
+    (arrived : List DatagramValue) (expected : ℕ) → HaveNumbers arrived → IsAfter arrived (Some expected) → number_after (newest_of arrived) ≡ expected

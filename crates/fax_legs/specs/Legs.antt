@@ -1,14 +1,14 @@
 -- What is told of a leg, and of a wire of two (this project's profile).
 use Rattle.std.specs.Prelude.{◌≡◌, ℕ, Bool, true, false, List, take, Option, None, Some, Result, Ok, Err, option_map, unwrap_or}
 use Rattle.std.specs.declared.net.socket_addr.SocketAddr.{SocketAddr}
-use Rattle.fax_gateway.specs.declared.side.Side.{Side}
-use Rattle.fax_gateway.specs.declared.side.Side.TheVariants as side
+use Rattle.fax_gateway.specs.declared.leg.Leg.{Leg}
+use Rattle.fax_gateway.specs.declared.leg.Leg.TheVariants as legs
 use Rattle.fax_repeat.specs.Peers.{Hears, PeerValue, heard, learned, no_bounds, nobody}
 use Rattle.fax_repeat.specs.declared.peers.Peer.{Peer}
 use Rattle.fax_legs.specs.Bounding.{sent_as}
 use Rattle.fax_legs.specs.Counts.{no_counts, one_handed, one_not_received, one_received, one_unsent}
-use Rattle.fax_legs.specs.HangUps.{due_again, is_over, newest_behind}
-use Rattle.fax_legs.specs.Sockets.{Sent, SocketValue, connected, handed_to}
+use Rattle.fax_legs.specs.HangUps.{due_again, is_over, newest_after}
+use Rattle.fax_legs.specs.Sockets.{SentDatagram, SocketValue, connected, handed_to}
 use Rattle.fax_legs.specs.declared.bounding.Limits.{Limits}
 use Rattle.fax_legs.specs.declared.hang_up.PeerCall.{PeerCall}
 use Rattle.fax_legs.specs.declared.hang_up.Standing.TheVariants as standings
@@ -44,7 +44,7 @@ abbrev pub gone_call : PeerCall → PeerCall
 gone_call old = record old { standing = standings.Gone }
 
 abbrev pub heard_call : List ℕ → PeerCall → PeerCall
-heard_call octets old = record old { newest = newest_behind old.newest octets }
+heard_call octets old = record old { newest = newest_after old.newest octets }
 
 -- A turn begins. Where a call is on, a goodbye that was handed out is handed out once more; else all is forgotten.
 abbrev pub call_settled : Bool → PeerCall → PeerCall
@@ -109,7 +109,7 @@ HearsSystem buffer (Ok None) old new = new ≡ old
 HearsSystem buffer (Err fault) old new = new ≡ record old { counts = one_not_received old.counts }
 
 -- all that was handed to a socket
-abbrev pub all_sent : Option SocketValue → Option (List Sent)
+abbrev pub all_sent : Option SocketValue → Option (List SentDatagram)
 all_sent None = None
 all_sent (Some socket) = Some socket.sent
 
@@ -127,20 +127,20 @@ pub record UdpValue : Type 0 where
   pub called : LegValue
   pub failures : ℕ
 
-abbrev pub leg_on : Side → UdpValue → LegValue
-leg_on side.Calling wire = wire.calling
-leg_on side.Called wire = wire.called
+abbrev pub leg_on : Leg → UdpValue → LegValue
+leg_on legs.Calling wire = wire.calling
+leg_on legs.Called wire = wire.called
 
--- the leg of the other side
-abbrev pub other_leg : Side → UdpValue → LegValue
-other_leg side.Calling wire = wire.called
-other_leg side.Called wire = wire.calling
+-- the other leg
+abbrev pub other_leg : Leg → UdpValue → LegValue
+other_leg legs.Calling wire = wire.called
+other_leg legs.Called wire = wire.calling
 
 -- A receive or a send on a leg leaves the other one as it was.
-pub record ReceivesOn (at : Side) (old new : UdpValue) : Type 0 where
+pub record ReceivesOn (at : Leg) (old new : UdpValue) : Type 0 where
   pub leg : Receives (leg_on at old) (leg_on at new)
   pub beside : other_leg at new ≡ other_leg at old
 
-pub record SendsOn (at : Side) (octets : List ℕ) (is_sent : Bool) (old new : UdpValue) : Type 0 where
+pub record SendsOn (at : Leg) (octets : List ℕ) (is_sent : Bool) (old new : UdpValue) : Type 0 where
   pub leg : leg_on at new ≡ sent_by octets is_sent (leg_on at old).peer.address (leg_on at old)
   pub beside : other_leg at new ≡ other_leg at old

@@ -2,6 +2,6 @@ pub mod Bounding
 pub mod BoundingLaws
 pub mod Counts
 pub mod HangUps
-pub mod Keeping
+pub mod PeersKept
 pub mod Legs
 pub mod Sockets

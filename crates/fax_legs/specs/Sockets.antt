@@ -3,14 +3,14 @@ use Rattle.std.specs.Prelude.{◌≡◌, List, ◌∷◌, Option, None, Some, �
 use Rattle.std.specs.declared.net.socket_addr.SocketAddr.{SocketAddr}
 
 -- a datagram that was handed over, and where it was to go
-pub record Sent : Type 0 where
+pub record SentDatagram : Type 0 where
   pub to : Option SocketAddr
   pub octets : List ℕ
 
 -- where a socket is connected to, and all that it was handed
 pub record SocketValue : Type 0 where
   pub to : Option SocketAddr
-  pub sent : List Sent
+  pub sent : List SentDatagram
 
 abbrev pub connected : Option SocketAddr → SocketValue → SocketValue
 connected to old = record old { to = to }

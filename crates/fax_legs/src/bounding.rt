@@ -181,11 +181,11 @@ fn write(datagram: &Datagram<'_>, count: u8, room: &mut [u8]) -> usize
     let primary = put_packet(room, number, datagram.primary());
     // no error correction
     let choice = put(room, primary, &[0]);
-    let behind = put(room, choice, &[count]);
-    put_packets(room, behind, datagram.secondaries(), count)
+    let after = put(room, choice, &[count]);
+    put_packets(room, after, datagram.secondaries(), count)
 }
 
-/// Puts the first of these packets, so many, each behind its length, into a buffer from a place on, and answers the place behind
+/// Puts the first of these packets, so many, each after its length, into a buffer from a place on, and answers the place after
 /// them.
 fn put_packets(room: &mut [u8], from: usize, packets: Secondaries<'_>, count: u8) -> usize
     requires short { are_short packets ≡ true }
@@ -207,7 +207,7 @@ fn put_packets(room: &mut [u8], from: usize, packets: Secondaries<'_>, count: u8
     end
 }
 
-/// Puts a packet behind its length.
+/// Puts a packet after its length.
 fn put_packet(room: &mut [u8], from: usize, packet: &[u8]) -> usize
     requires short { length packet.now ≤ 16383 }
     requires room { from + length (written_packet packet.now) ≤ length room.old }
@@ -215,8 +215,8 @@ fn put_packet(room: &mut [u8], from: usize, packet: &[u8]) -> usize
     ensures front { take result room.new ≡ take from room.old ++ written_packet packet.now }
     ensures same_room { length room.new ≡ length room.old }
 {
-    let behind = put_length(room, from, packet.len());
-    put(room, behind, packet)
+    let after = put_length(room, from, packet.len());
+    put(room, after, packet)
 }
 
 /// Puts a length: below 128 one octet, else two that begin with the bits 10.

@@ -1,6 +1,6 @@
 //! How the end of a peer's call is brought in where a word says it: a datagram with a DCN is handed out, as if it had come.
 ghost use Rattle.std.specs.Prelude.{◌≡◌, ◌≤◌, ◌↔◌, true, false, length, IsTrue};
-ghost use Rattle.fax_legs.specs.HangUps.{HandsOut, due_again, goodbye, is_over, newest_behind, number_behind, is_late};
+ghost use Rattle.fax_legs.specs.HangUps.{HandsOut, due_again, goodbye, is_over, newest_after, number_after, is_late};
 
 /// How many octets a datagram with a DCN has.
 pub(crate) const GOODBYE_OCTETS: usize = 14;
@@ -60,7 +60,7 @@ impl PeerCall {
 
     /// A datagram came.
     pub(crate) fn note(&mut self, octets: &[u8])
-        ensures { self.new ≡ record self.old { newest = newest_behind self.old.newest octets.now } }
+        ensures { self.new ≡ record self.old { newest = newest_after self.old.newest octets.now } }
     {
         let [high, low, ..] = octets else {
             return;
@@ -72,7 +72,7 @@ impl PeerCall {
         }
     }
 
-    /// Where it is gone, and no DCN was handed out in this turn, hands one out: a datagram behind the newest, in the front of a
+    /// Where it is gone, and no DCN was handed out in this turn, hands one out: a datagram after the newest, in the front of a
     /// buffer that has room for it. It answers whether it did.
     pub(crate) fn hand_out(&mut self, buffer: &mut [u8]) -> bool
         ensures due { IsTrue result ↔ ((self.old.standing ≡ Standing.Gone) × (14 ≤ length buffer.old)) }
@@ -83,7 +83,7 @@ impl PeerCall {
         if self.standing != Standing::Gone || buffer.len() < GOODBYE_OCTETS {
             return false;
         }
-        let number = number_behind(self.newest);
+        let number = number_after(self.newest);
         buffer[..GOODBYE_OCTETS].copy_from_slice(&goodbye(number));
         self.newest = Some(number);
         self.standing = Standing::Told;
@@ -98,9 +98,9 @@ fn is_late(newest: u16, number: u16) -> bool
     newest.wrapping_sub(number) < 32_768
 }
 
-/// The number behind the newest one.
-fn number_behind(newest: Option<u16>) -> u16
-    ensures { result ≡ number_behind newest }
+/// The number after the newest one.
+fn number_after(newest: Option<u16>) -> u16
+    ensures { result ≡ number_after newest }
 {
     match newest {
         None => 0,

@@ -7,7 +7,7 @@ ghost use Rattle.fax_legs.specs.Sockets.{connected};
 
 use crate::leg_socket::LegSocket;
 use crate::socket::DatagramSocket;
-use fax_gateway::{Side, Wire, WireFault};
+use fax_gateway::{Leg, Wire, WireFault};
 use fax_repeat::{Bounds, LegState, LegWire, NoRoute, Peer};
 use std::io;
 use std::marker::Model;
@@ -43,12 +43,12 @@ impl<S: DatagramSocket + Drop> UdpWire<S> {
     }
 
     /// The socket of a leg.
-    pub fn leg(&self, side: Side) -> &LegSocket<S>
-        ensures { result.now ≡ leg_on side self.now }
+    pub fn leg(&self, leg: Leg) -> &LegSocket<S>
+        ensures { result.now ≡ leg_on leg self.now }
     {
-        match side {
-            Side::Calling => &self.calling,
-            Side::Called => &self.called,
+        match leg {
+            Leg::Calling => &self.calling,
+            Leg::Called => &self.called,
         }
     }
 }
@@ -90,24 +90,24 @@ impl<S: DatagramSocket + Drop> Wire for UdpWire<S> {
 
     ghost sends = { SendsOn };
 
-    fn receive(&mut self, side: Side, buffer: &mut [u8]) -> Result<Option<usize>, WireFault> {
-        match side {
-            Side::Calling => answered(self.calling.receive(buffer), &mut self.failures),
-            Side::Called => answered(self.called.receive(buffer), &mut self.failures),
+    fn receive(&mut self, leg: Leg, buffer: &mut [u8]) -> Result<Option<usize>, WireFault> {
+        match leg {
+            Leg::Calling => answered(self.calling.receive(buffer), &mut self.failures),
+            Leg::Called => answered(self.called.receive(buffer), &mut self.failures),
         }
     }
 
-    fn send(&mut self, side: Side, octets: &[u8]) -> Result<(), WireFault> {
-        match side {
-            Side::Calling => answered(self.calling.send(octets), &mut self.failures),
-            Side::Called => answered(self.called.send(octets), &mut self.failures),
+    fn send(&mut self, leg: Leg, octets: &[u8]) -> Result<(), WireFault> {
+        match leg {
+            Leg::Calling => answered(self.calling.send(octets), &mut self.failures),
+            Leg::Called => answered(self.called.send(octets), &mut self.failures),
         }
     }
 }
 
 /// The peers of both legs are told.
 impl<S: DatagramSocket + Drop> LegWire for UdpWire<S> {
-    ghost use Rattle.fax_legs.specs.Keeping.{keeps_on_receive as kept_on_receive, keeps_on_send as kept_on_send, told_peer};
+    ghost use Rattle.fax_legs.specs.PeersKept.{keeps_on_receive as kept_on_receive, keeps_on_send as kept_on_send, told_peer};
 
     ghost peer_at = { told_peer };
 
@@ -115,45 +115,45 @@ impl<S: DatagramSocket + Drop> LegWire for UdpWire<S> {
 
     ghost keeps_on_send = { kept_on_send };
 
-    fn set_peer(&mut self, side: Side, peer: Peer) -> Result<(), NoRoute> {
-        match side {
-            Side::Calling => set_peer_of(&mut self.calling, peer),
-            Side::Called => set_peer_of(&mut self.called, peer),
+    fn set_peer(&mut self, leg: Leg, peer: Peer) -> Result<(), NoRoute> {
+        match leg {
+            Leg::Calling => set_peer_of(&mut self.calling, peer),
+            Leg::Called => set_peer_of(&mut self.called, peer),
         }
     }
 
-    fn cut(&mut self, side: Side) {
-        match side {
-            Side::Calling => self.calling.cut(),
-            Side::Called => self.called.cut(),
+    fn cut(&mut self, leg: Leg) {
+        match leg {
+            Leg::Calling => self.calling.cut(),
+            Leg::Called => self.called.cut(),
         }
     }
 
-    fn begin(&mut self, side: Side, bounds: Bounds) {
-        match side {
-            Side::Calling => self.calling.begin(bounds),
-            Side::Called => self.called.begin(bounds),
+    fn begin(&mut self, leg: Leg, bounds: Bounds) {
+        match leg {
+            Leg::Calling => self.calling.begin(bounds),
+            Leg::Called => self.called.begin(bounds),
         }
     }
 
-    fn hang_up(&mut self, side: Side) {
-        match side {
-            Side::Calling => self.calling.hang_up(),
-            Side::Called => self.called.hang_up(),
+    fn hang_up(&mut self, leg: Leg) {
+        match leg {
+            Leg::Calling => self.calling.hang_up(),
+            Leg::Called => self.called.hang_up(),
         }
     }
 
-    fn settle(&mut self, side: Side, is_on: bool) {
-        match side {
-            Side::Calling => self.calling.settle(is_on),
-            Side::Called => self.called.settle(is_on),
+    fn settle(&mut self, leg: Leg, is_on: bool) {
+        match leg {
+            Leg::Calling => self.calling.settle(is_on),
+            Leg::Called => self.called.settle(is_on),
         }
     }
 
-    fn leg_state(&self, side: Side) -> LegState {
-        match side {
-            Side::Calling => self.calling.state(),
-            Side::Called => self.called.state(),
+    fn leg_state(&self, leg: Leg) -> LegState {
+        match leg {
+            Leg::Calling => self.calling.state(),
+            Leg::Called => self.called.state(),
         }
     }
 }

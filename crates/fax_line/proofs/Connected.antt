@@ -6,21 +6,21 @@ use Rattle.std.proofs.lemmas.List.Elements.{All-head, All-tail}
 use Rattle.fax_call.specs.Writings.{Writing}
 use Rattle.fax_gateway.specs.declared.fault.PlaceFault.{PlaceFault}
 use Rattle.fax_gateway.specs.declared.fault.RingFault.{RingFault}
-use Rattle.fax_gateway.specs.declared.side.Side.{Side}
-use Rattle.fax_gateway.specs.declared.side.Side.TheVariants as side
+use Rattle.fax_gateway.specs.declared.leg.Leg.{Leg}
+use Rattle.fax_gateway.specs.declared.leg.Leg.TheVariants as legs
 use Rattle.fax_gateway.specs.Asking.{CallsBeginWherePlaced, GivesInPlacedCalls}
-use Rattle.fax_gateway.specs.Driving.{Accepts, AreReceives, BringsNone, Comes, Entry, FailsToReceive, IsTick, IsTurn, ReceivesNothing, RefusesDatagram, RefusesRing, RefusesTick, Sends, events, events_in}
+use Rattle.fax_gateway.specs.Driving.{Accepts, AreReceives, Comes, Entry, FailsToReceive, GivesNoDatagram, IsTick, IsTurn, ReceivesNothing, RefusesDatagram, RefusesRing, RefusesTick, Sends, events, events_in}
 use Rattle.fax_gateway.specs.Events.{Event, FromCalled, FromCalling, Given, Placed, Ring, Tick}
 use Rattle.fax_gateway.specs.Setups.{Setup}
 use Rattle.fax_gateway.specs.Traces.{IsTrace}
 use Rattle.fax_gateway.proofs.DrivingLemmas.{sends_no_event}
-use Rattle.fax_line.specs.declared.asked.Answered.{Answered}
-use Rattle.fax_line.specs.declared.asked.Answered.TheVariants as answered
-use Rattle.fax_line.specs.declared.asked.Asked.{Asked}
-use Rattle.fax_line.specs.declared.asked.Asked.TheVariants as asked
-use Rattle.fax_line.specs.declared.asked.Connecting.{Connecting}
+use Rattle.fax_line.specs.declared.asked.LineAnswer.{LineAnswer}
+use Rattle.fax_line.specs.declared.asked.LineAnswer.TheVariants as answered
+use Rattle.fax_line.specs.declared.asked.LineRequest.{LineRequest}
+use Rattle.fax_line.specs.declared.asked.LineRequest.TheVariants as asked
+use Rattle.fax_line.specs.declared.asked.ConnectRequest.{ConnectRequest}
 use Rattle.fax_line.specs.Actions.{Action, AreSteps, Asks, IsAsked, IsStep, Rests, Turns, Wakes}
-use Rattle.fax_line.specs.Connects.{GivesBehindConnect, JobsWaitForConnects, WasConnected}
+use Rattle.fax_line.specs.Connects.{GivesAfterConnect, JobsWaitForConnects, WasConnected}
 
 -- a call is placed and connected at this moment
 abbrev Has : ℕ → List Event → Type 0
@@ -36,9 +36,9 @@ has_either at (event ∷ newer) older (inr has) = left (has_either at newer olde
     left (inl has) = inl (inr has)
     left (inr has) = inr has
 
-has_behind : (at : ℕ) (newer older : List Event) → Has at older → Has at (newer ++ older)
-has_behind at [] older has = has
-has_behind at (event ∷ newer) older has = inr (has_behind at newer older has)
+has_after : (at : ℕ) (newer older : List Event) → Has at older → Has at (newer ++ older)
+has_after at [] older has = has
+has_after at (event ∷ newer) older has = inr (has_after at newer older has)
 
 -- ---- in a turn none is
 
@@ -55,33 +55,33 @@ none_in newer older first second at has = either (has_either at (events newer) (
     either (inl has) = first at has
     either (inr has) = second at has
 
-comes_none : (side : Side) (now : ℕ) (e : Entry) → Comes side now e → HasNone (e ∷ [])
-comes_none side now (Accepts (Ring moment number)) comes at has = absurd comes
-comes_none side now (Accepts (FromCalling octets moment decided read)) comes at (inl is) = cc
-comes_none side now (Accepts (FromCalling octets moment decided read)) comes at (inr has) = has
-comes_none side now (Accepts (FromCalled octets moment decided)) comes at (inl is) = cc
-comes_none side now (Accepts (FromCalled octets moment decided)) comes at (inr has) = has
-comes_none side now (Accepts (Tick moment given)) comes at has = absurd comes
-comes_none side now (Accepts (Placed moment connected)) comes at has = absurd comes
-comes_none side now (RefusesRing fault) comes at has = absurd comes
-comes_none side now (RefusesDatagram on octets) comes at has = has
-comes_none side now (RefusesTick moment) comes at has = absurd comes
-comes_none side now (ReceivesNothing on) comes at has = absurd comes
-comes_none side now (FailsToReceive on) comes at has = absurd comes
-comes_none side now (Sends on octets fails) comes at has = absurd comes
+comes_none : (leg : Leg) (now : ℕ) (e : Entry) → Comes leg now e → HasNone (e ∷ [])
+comes_none leg now (Accepts (Ring moment number)) comes at has = absurd comes
+comes_none leg now (Accepts (FromCalling octets moment decided read)) comes at (inl is) = cc
+comes_none leg now (Accepts (FromCalling octets moment decided read)) comes at (inr has) = has
+comes_none leg now (Accepts (FromCalled octets moment decided)) comes at (inl is) = cc
+comes_none leg now (Accepts (FromCalled octets moment decided)) comes at (inr has) = has
+comes_none leg now (Accepts (Tick moment given)) comes at has = absurd comes
+comes_none leg now (Accepts (Placed moment connected)) comes at has = absurd comes
+comes_none leg now (RefusesRing fault) comes at has = absurd comes
+comes_none leg now (RefusesDatagram on octets) comes at has = has
+comes_none leg now (RefusesTick moment) comes at has = absurd comes
+comes_none leg now (ReceivesNothing on) comes at has = absurd comes
+comes_none leg now (FailsToReceive on) comes at has = absurd comes
+comes_none leg now (Sends on octets fails) comes at has = absurd comes
 
-all_none : (side : Side) (now : ℕ) (log : List Entry) → All (Comes side now) log → HasNone log
-all_none side now [] all = λ at has. has
-all_none side now (e ∷ log) all = none_in (e ∷ []) log (comes_none side now e (All-head (Comes side now) e log all)) (all_none side now log (All-tail (Comes side now) e log all))
+all_none : (leg : Leg) (now : ℕ) (log : List Entry) → All (Comes leg now) log → HasNone log
+all_none leg now [] all = λ at has. has
+all_none leg now (e ∷ log) all = none_in (e ∷ []) log (comes_none leg now e (All-head (Comes leg now) e log all)) (all_none leg now log (All-tail (Comes leg now) e log all))
 
-brings_no_event : (side : Side) (e : Entry) → BringsNone side e → events (e ∷ []) ≡ []
-brings_no_event side e (inl is) = ap (λ (x : Entry). events (x ∷ [])) is
-brings_no_event side e (inr is) = ap (λ (x : Entry). events (x ∷ [])) is
+gives_no_event : (leg : Leg) (e : Entry) → GivesNoDatagram leg e → events (e ∷ []) ≡ []
+gives_no_event leg e (inl is) = ap (λ (x : Entry). events (x ∷ [])) is
+gives_no_event leg e (inr is) = ap (λ (x : Entry). events (x ∷ [])) is
 
-receives_none : (side : Side) (now : ℕ) (log : List Entry) → AreReceives side now log → HasNone log
-receives_none side now log (inl (each, many)) = all_none side now log each
-receives_none side now log (inr (came, last, is, each, low, none)) =
-    subst (λ (l : List Entry). HasNone l) (sym is) (none_in (last ∷ []) came (none_by (last ∷ []) (brings_no_event side last none)) (all_none side now came each))
+receives_none : (leg : Leg) (now : ℕ) (log : List Entry) → AreReceives leg now log → HasNone log
+receives_none leg now log (inl (each, many)) = all_none leg now log each
+receives_none leg now log (inr (came, last, is, each, low, none)) =
+    subst (λ (l : List Entry). HasNone l) (sym is) (none_in (last ∷ []) came (none_by (last ∷ []) (gives_no_event leg last none)) (all_none leg now came each))
 
 ticks_none : (now : ℕ) (given : Given) → HasNone (Accepts (Tick now given) ∷ [])
 ticks_none now given at (inl is) = cc
@@ -90,15 +90,15 @@ ticks_none now given at (inr has) = has
 tick_none : (now : ℕ) (log : List Entry) → IsTick now log → HasNone log
 tick_none now log (inl (given, calling, called, first, second, is)) =
     subst (λ (l : List Entry). HasNone l) (sym is)
-    (none_in called (calling ++ Accepts (Tick now given) ∷ []) (none_by called (sends_no_event side.Called given.on_called called second))
-    (none_in calling (Accepts (Tick now given) ∷ []) (none_by calling (sends_no_event side.Calling given.on_calling calling first)) (ticks_none now given)))
+    (none_in called (calling ++ Accepts (Tick now given) ∷ []) (none_by called (sends_no_event legs.Called given.on_called called second))
+    (none_in calling (Accepts (Tick now given) ∷ []) (none_by calling (sends_no_event legs.Calling given.on_calling calling first)) (ticks_none now given)))
 tick_none now log (inr is) = none_by log (ap events is)
 
 turn_none : (now : ℕ) (log : List Entry) → IsTurn now log → HasNone log
 turn_none now log turn =
     subst (λ (l : List Entry). HasNone l) (sym turn.log_is)
     (none_in turn.tick (turn.called ++ turn.calling) (tick_none now turn.tick turn.ticks)
-    (none_in turn.called turn.calling (receives_none side.Called now turn.called turn.on_called) (receives_none side.Calling now turn.calling turn.on_calling)))
+    (none_in turn.called turn.calling (receives_none legs.Called now turn.called turn.on_called) (receives_none legs.Calling now turn.calling turn.on_calling)))
 
 -- ---- it was asked for
 
@@ -111,11 +111,11 @@ not_placed now at is = cc
 no_ring : (now number at : ℕ) → Ring now number ≡ Placed at true → ⊥
 no_ring now number at is = cc
 
-here : (now at : ℕ) (connecting : Connecting) (earlier : List Action) → now ≡ at → WasConnected (Asks now (asked.Connect connecting) (Some (answered.Placed (Ok tt))) ∷ earlier) at
+here : (now at : ℕ) (connecting : ConnectRequest) (earlier : List Action) → now ≡ at → WasConnected (Asks now (asked.Connect connecting) (Some (answered.Placed (Ok tt))) ∷ earlier) at
 here now at connecting earlier same =
     subst (λ (n : ℕ). WasConnected (Asks now (asked.Connect connecting) (Some (answered.Placed (Ok tt))) ∷ earlier) n) same record { later = []; connecting = connecting; earlier = earlier; split = refl }
 
-asked_for : (setup : Setup) (writes : Writing) (trace : List Event) (now : ℕ) (what : Asked) (answer : Option Answered) (log : List Entry) (earlier : List Action) (at : ℕ) → IsAsked setup writes trace now what answer log
+asked_for : (setup : Setup) (writes : Writing) (trace : List Event) (now : ℕ) (what : LineRequest) (answer : Option LineAnswer) (log : List Entry) (earlier : List Action) (at : ℕ) → IsAsked setup writes trace now what answer log
     → Has at (events log) → WasConnected (Asks now what answer ∷ earlier) at
 asked_for setup writes trace now (asked.Ring ringing) (Some (answered.Rung (Ok number))) log earlier at is has = rung (subst (λ (l : List Entry). Has at (events l)) is has)
   where
@@ -162,18 +162,18 @@ connects setup writes trace (action ∷ earlier) log at (newer, older, is, step,
 
 -- ---- the law
 
-trace_behind : (setup : Setup) (writes : Writing) (later earlier : List Event) → IsTrace setup writes (later ++ earlier) → IsTrace setup writes earlier
-trace_behind setup writes [] earlier t = t
-trace_behind setup writes (event ∷ later) earlier t = trace_behind setup writes later earlier t.1
+trace_after : (setup : Setup) (writes : Writing) (later earlier : List Event) → IsTrace setup writes (later ++ earlier) → IsTrace setup writes earlier
+trace_after setup writes [] earlier t = t
+trace_after setup writes (event ∷ later) earlier t = trace_after setup writes later earlier t.1
 
 has_split : (at : ℕ) (connected : Bool) (later earlier : List Event) → connected ≡ true → Has at (later ++ Placed at connected ∷ earlier)
-has_split at connected later earlier is = has_behind at later (Placed at connected ∷ earlier) (inl (ap (λ (b : Bool). Placed at b) is))
+has_split at connected later earlier is = has_after at later (Placed at connected ∷ earlier) (inl (ap (λ (b : Bool). Placed at b) is))
 
 pub jobs_wait_for_connects : CallsBeginWherePlaced → GivesInPlacedCalls → JobsWaitForConnects
 jobs_wait_for_connects begin_where_placed gives_in_calls setup writes actions log later at given earlier datagram asks steps trace is gives =
-    let behind : IsTrace setup writes (Tick at given ∷ earlier) = trace_behind setup writes later (Tick at given ∷ earlier) (subst (IsTrace setup writes) is trace) in
-    let call = gives_in_calls setup writes earlier at given datagram asks behind gives in
-    let placed = begin_where_placed setup writes earlier call.l asks behind.1 call.is_leg in
+    let after : IsTrace setup writes (Tick at given ∷ earlier) = trace_after setup writes later (Tick at given ∷ earlier) (subst (IsTrace setup writes) is trace) in
+    let call = gives_in_calls setup writes earlier at given datagram asks after gives in
+    let placed = begin_where_placed setup writes earlier call.l asks after.1 call.is_leg in
     let has : Has placed.at earlier = subst (λ (l : List Event). Has placed.at l) (sym placed.split) (has_split placed.at call.l.placed placed.later placed.earlier call.placed) in
-    let there : Has placed.at (events log) = subst (λ (l : List Event). Has placed.at l) (sym is) (has_behind placed.at later (Tick at given ∷ earlier) (inr has)) in
+    let there : Has placed.at (events log) = subst (λ (l : List Event). Has placed.at l) (sym is) (has_after placed.at later (Tick at given ∷ earlier) (inr has)) in
     record { gives = call; placed = placed; connected = connects setup writes [] actions log placed.at steps there }

@@ -3,30 +3,30 @@ use Rattle.std.proofs.Common.{◌≡◌, ◌<◌, ℕ, max, Bool, true, false, n
 use Rattle.std.specs.declared.net.socket_addr.SocketAddr.{SocketAddr}
 use Rattle.fax_call.specs.Writings.{IsWriting, Writing}
 use Rattle.fax_jobs.specs.declared.report.Report.{Report}
-use Rattle.fax_gateway.specs.declared.side.Side.{Side}
-use Rattle.fax_gateway.specs.declared.side.Side.TheVariants as side
+use Rattle.fax_gateway.specs.declared.leg.Leg.{Leg}
+use Rattle.fax_gateway.specs.declared.leg.Leg.TheVariants as legs
 use Rattle.fax_gateway.specs.Driving.{DriverValue, Entry, HasMade, events}
 use Rattle.fax_gateway.specs.Events.{Event}
 use Rattle.fax_gateway.specs.Reached.{GatewayValue, IsReachedBy}
 use Rattle.fax_gateway.specs.Setups.{Setup}
-use Rattle.fax_gateway.specs.Turns.{call_kept}
+use Rattle.fax_gateway.specs.Turns.{call_of_rep}
 use Rattle.fax_repeat.specs.declared.peers.Bounds.{Bounds}
 use Rattle.fax_repeat.specs.declared.peers.Peer.{Peer}
 use Rattle.fax_repeat.specs.Peers.{Hears, HearsWhere, PeerValue, Peers, bounded, change_on, cut_off, gone, heard, learned, no_bounds, said, settled}
-use Rattle.fax_line.specs.declared.asked.Answered.{Answered}
-use Rattle.fax_line.specs.declared.asked.Answered.TheVariants as answered
-use Rattle.fax_line.specs.declared.asked.Asked.{Asked}
-use Rattle.fax_line.specs.declared.asked.Asked.TheVariants as asked
-use Rattle.fax_line.specs.declared.settling.PageToKeep.{PageToKeep}
+use Rattle.fax_line.specs.declared.asked.LineAnswer.{LineAnswer}
+use Rattle.fax_line.specs.declared.asked.LineAnswer.TheVariants as answered
+use Rattle.fax_line.specs.declared.asked.LineRequest.{LineRequest}
+use Rattle.fax_line.specs.declared.asked.LineRequest.TheVariants as asked
+use Rattle.fax_line.specs.declared.settling.PageToStore.{PageToStore}
 use Rattle.fax_line.specs.declared.settling.SlotEnd.{SlotEnd}
 use Rattle.fax_line.specs.Actions.{Action, Asks, Goes, LineValue, Rests, TellsTurn, Turns, Wakes}
-use Rattle.fax_line.specs.Deeds.{AllStayHeld, AskFrees, AsksLine, IsFreed, SlotTells, TellsInSlot, TurnsSlot, WakesLine, Went, actions_of, slot_of}
-use Rattle.fax_line.specs.GivenPeers.{CalledPeersAreGiven, CalledPeersAreGivenWithout, IsAddressOf, IsGiven, IsGivenAs, IsSomewhere, given_behind, given_by, given_in, given_on, given_without, has_reported}
-use Rattle.fax_line.specs.KeptRuns.{IsSettled, Ran, RanWithout}
-use Rattle.fax_line.specs.LegPeers.{TurnsPeers, cut_if, peers_behind, settled_both}
+use Rattle.fax_line.specs.Operations.{AllStayHeld, AskFrees, AsksLine, IsFreed, LinesWent, SlotTells, TellsInSlot, TurnsSlot, WakesLine, actions_of, slot_of}
+use Rattle.fax_line.specs.GivenPeers.{CalledPeersAreGiven, CalledPeersAreGivenWithout, IsAddressOf, IsGiven, IsGivenAs, IsSomewhere, given_after, given_by, given_in, given_on, given_without, has_reported}
+use Rattle.fax_line.specs.StoredRuns.{IsRun, IsSettled, RanWithout}
+use Rattle.fax_line.specs.LegPeers.{TurnsPeers, cut_if, peers_after, settled_both}
 use Rattle.fax_line.specs.Places.{PlaceValue, StaysHeld, TellsOrRests}
-use Rattle.fax_line.specs.Runs.{AskedOf, Done, Turned, Woken, latest, next_slot}
-use Rattle.fax_line.specs.Settling.{EndsSlot, EndsWhere, is_kept_in, was_turned}
+use Rattle.fax_line.specs.Runs.{AskedOf, DoneOrder, Turned, Woken, latest, next_slot}
+use Rattle.fax_line.specs.Settling.{EndsSlot, EndsWhere, is_stored_in, was_turned}
 
 -- ---- one peer
 
@@ -89,19 +89,19 @@ given_said peer (Some old) = λ free. (said_as peer.address, refl)
 
 -- ---- what is asked, and a turn
 
-given_on_leg : (at : Side) (peer : Peer) (given : Option Peer) (old : Peers) → IsGiven given old.called → IsGiven (given_on at peer given) (change_on at (said peer) old).called
-given_on_leg side.Calling peer given old was = was
-given_on_leg side.Called peer given old was = given_said peer old.called
+given_on_leg : (at : Leg) (peer : Peer) (given : Option Peer) (old : Peers) → IsGiven given old.called → IsGiven (given_on at peer given) (change_on at (said peer) old).called
+given_on_leg legs.Calling peer given old was = was
+given_on_leg legs.Called peer given old was = given_said peer old.called
 
-gone_on_leg : (at : Side) (given : Option Peer) (old : Peers) → IsGiven given old.called → IsGiven given (change_on at gone old).called
-gone_on_leg side.Calling given old was = was
-gone_on_leg side.Called given old was = given_gone given old.called was
+gone_on_leg : (at : Leg) (given : Option Peer) (old : Peers) → IsGiven given old.called → IsGiven given (change_on at gone old).called
+gone_on_leg legs.Calling given old was = was
+gone_on_leg legs.Called given old was = given_gone given old.called was
 
-cut_calling : (b : Bool) (given : Option Peer) (old : Peers) → IsGiven given old.called → IsGiven given (cut_if side.Calling b old).called
+cut_calling : (b : Bool) (given : Option Peer) (old : Peers) → IsGiven given old.called → IsGiven given (cut_if legs.Calling b old).called
 cut_calling true given old was = was
 cut_calling false given old was = was
 
-pub given_asked : (what : Asked) (answer : Option Answered) (given : Option Peer) (old : Peers) → IsGiven given old.called → IsGiven (given_by what answer given) (peers_behind what answer old).called
+pub given_asked : (what : LineRequest) (answer : Option LineAnswer) (given : Option Peer) (old : Peers) → IsGiven given old.called → IsGiven (given_by what answer given) (peers_after what answer old).called
 given_asked (asked.Ring ringing) None given old was = was
 given_asked (asked.Ring ringing) (Some (answered.Rung (Ok number))) given old was = cut_calling ringing.forgets_peer given old was
 given_asked (asked.Ring ringing) (Some (answered.Rung (Err fault))) given old was = was
@@ -112,7 +112,7 @@ given_asked (asked.Peer peering) None given old was = was
 given_asked (asked.Peer peering) (Some (answered.Rung result)) given old was = was
 given_asked (asked.Peer peering) (Some (answered.Placed result)) given old was = was
 given_asked (asked.Peer peering) (Some answered.NoRoute) given old was = was
-given_asked (asked.Peer peering) (Some answered.Done) given old was = given_on_leg peering.side peering.peer given old was
+given_asked (asked.Peer peering) (Some answered.Done) given old was = given_on_leg peering.leg peering.peer given old was
 given_asked (asked.Connect connecting) None given old was = was
 given_asked (asked.Connect connecting) (Some (answered.Rung result)) given old was = was
 given_asked (asked.Connect connecting) (Some (answered.Placed (Ok done))) given old was = given_bounded (Some connecting.peer) no_bounds (option_map (said connecting.peer) old.called) (given_said connecting.peer old.called)
@@ -129,16 +129,16 @@ given_asked (asked.HangUp hanging_up) None given old was = was
 given_asked (asked.HangUp hanging_up) (Some (answered.Rung result)) given old was = was
 given_asked (asked.HangUp hanging_up) (Some (answered.Placed result)) given old was = was
 given_asked (asked.HangUp hanging_up) (Some answered.NoRoute) given old was = was
-given_asked (asked.HangUp hanging_up) (Some answered.Done) given old was = gone_on_leg hanging_up.side given old was
+given_asked (asked.HangUp hanging_up) (Some answered.Done) given old was = gone_on_leg hanging_up.leg given old was
 
-cut_behind : (b : Bool) (given : Option Peer) (peers : Peers) → IsGiven given peers.called → IsGiven (given_behind b given) (cut_if side.Called b peers).called
-cut_behind true given peers was = given_cut peers.called
-cut_behind false given peers was = was
+cut_after : (b : Bool) (given : Option Peer) (peers : Peers) → IsGiven given peers.called → IsGiven (given_after b given) (cut_if legs.Called b peers).called
+cut_after true given peers was = given_cut peers.called
+cut_after false given peers was = was
 
-pub given_turned : (given : Option Peer) (has_report is_on is_sending : Bool) (old new : Peers) → TurnsPeers has_report is_on is_sending old new → IsGiven given old.called → IsGiven (given_behind has_report given) new.called
+pub given_turned : (given : Option Peer) (has_report is_on is_sending : Bool) (old new : Peers) → TurnsPeers has_report is_on is_sending old new → IsGiven given old.called → IsGiven (given_after has_report given) new.called
 given_turned given has_report is_on is_sending old new turns was =
-    subst (λ (p : Peers). IsGiven (given_behind has_report given) p.called) (sym turns.behind)
-    (cut_behind has_report given turns.between
+    subst (λ (p : Peers). IsGiven (given_after has_report given) p.called) (sym turns.after)
+    (cut_after has_report given turns.between
     (given_heard_where given (settled_both is_on is_sending old).called turns.between.called turns.hear.called (given_settled given is_sending old.called was)))
 
 -- ---- a run
@@ -152,9 +152,9 @@ record Has (setup : Setup) (writes : Writing) (given : Option Peer) (line : Line
   pub somewhere : IsSomewhere setup writes line
   pub is_given : IsGiven given line.peers.called
 
-has_ended : (setup : Setup) (writes : Writing) (given : Option Peer) (b is_kept : Bool) (old new : PlaceValue) → EndsWhere b is_kept old new → Has setup writes given old.line → Has setup writes given new.line
-has_ended setup writes given false is_kept old new same has = subst (λ (p : PlaceValue). Has setup writes given p.line) (sym same) has
-has_ended setup writes given true is_kept old new (ends, turned) has = record {
+has_ended : (setup : Setup) (writes : Writing) (given : Option Peer) (b is_stored : Bool) (old new : PlaceValue) → EndsWhere b is_stored old new → Has setup writes given old.line → Has setup writes given new.line
+has_ended setup writes given false is_stored old new same has = subst (λ (p : PlaceValue). Has setup writes given p.line) (sym same) has
+has_ended setup writes given true is_stored old new (ends, turned) has = record {
   somewhere = (
     has.somewhere.0,
     has.somewhere.1,
@@ -172,17 +172,17 @@ has_stayed setup writes given actions old new writing goes stays has = record {
 }
 
 has_turned : (setup : Setup) (writes : Writing) (given : Option Peer) (b rests : Bool) (now : ℕ) (actions : List Action) (old new : PlaceValue) → IsWriting writes → Goes actions old.line new.line → TellsInSlot b now rests old new
-    → Has setup writes given old.line → Has setup writes (given_behind (b && (not rests && is_some new.line.turned.report)) given) new.line
+    → Has setup writes given old.line → Has setup writes (given_after (b && (not rests && is_some new.line.turned.report)) given) new.line
 has_turned setup writes given false rests now actions old new writing goes tells has = has_stayed setup writes given actions old new writing goes tells has
 has_turned setup writes given true true now actions old new writing goes tells has = has_stayed setup writes given actions old new writing goes tells.1 has
 has_turned setup writes given true false now actions old new writing goes tells has = record {
   somewhere = somewhere_on setup writes actions old.line new.line writing goes has.somewhere;
   is_given =
-      given_turned given (is_some new.line.turned.report) (is_some (call_kept old.line.gateway.calling)) (is_some old.line.gateway.book.sending) old.line.peers new.line.peers
+      given_turned given (is_some new.line.turned.report) (is_some (call_of_rep old.line.gateway.calling)) (is_some old.line.gateway.book.sending) old.line.peers new.line.peers
       (tells.1.peers setup writes has.somewhere.0 has.somewhere.1 writing has.somewhere.2 has.somewhere.3) has.is_given;
 }
 
-has_asked : (setup : Setup) (writes : Writing) (given : Option Peer) (b : Bool) (what : Asked) (answer : Option Answered) (actions : List Action) (old new : PlaceValue) → IsWriting writes → Goes actions old.line new.line
+has_asked : (setup : Setup) (writes : Writing) (given : Option Peer) (b : Bool) (what : LineRequest) (answer : Option LineAnswer) (actions : List Action) (old new : PlaceValue) → IsWriting writes → Goes actions old.line new.line
     → IsFreed b what answer old new → Has setup writes given old.line → Has setup writes (if b then given_by what answer given else given) new.line
 has_asked setup writes given true what answer actions old new writing goes freed has = record {
   somewhere = somewhere_on setup writes actions old.line new.line writing goes has.somewhere;
@@ -196,14 +196,14 @@ module _ (setup : Setup) (writes : Writing) (writing : IsWriting writes) (number
     pub there : number < length lines
     pub has : Has setup writes given (slice_index_or lines number other).line
 
-  stands_ended : (given : Option Peer) (slot : ℕ) (is_kept : ℕ → Bool) (old new : List PlaceValue) → EndsSlot slot is_kept old new → Stands given old → Stands given new
-  stands_ended given slot is_kept old new ends was = record {
+  stands_ended : (given : Option Peer) (slot : ℕ) (is_stored : ℕ → Bool) (old new : List PlaceValue) → EndsSlot slot is_stored old new → Stands given old → Stands given new
+  stands_ended given slot is_stored old new ends was = record {
     there = let low = was.there in omega (arith, low, ends.as_many);
-    has = has_ended setup writes given (was_turned slot number (slice_index_or old number other)) (is_kept number) (slice_index_or old number other) (slice_index_or new number other) (ends.each number other was.there) was.has;
+    has = has_ended setup writes given (was_turned slot number (slice_index_or old number other)) (is_stored number) (slice_index_or old number other) (slice_index_or new number other) (ends.each number other was.there) was.has;
   }
 
-  stands_turned : (given : Option Peer) (slot now : ℕ) (rests : ℕ → Bool) (old new : List PlaceValue) → Went (TurnsSlot slot now rests ∷ []) old new → SlotTells slot now rests old new → Stands given old
-      → Stands (given_behind (has_reported slot rests number (slice_index_or new number other)) given) new
+  stands_turned : (given : Option Peer) (slot now : ℕ) (rests : ℕ → Bool) (old new : List PlaceValue) → LinesWent (TurnsSlot slot now rests ∷ []) old new → SlotTells slot now rests old new → Stands given old
+      → Stands (given_after (has_reported slot rests number (slice_index_or new number other)) given) new
   stands_turned given slot now rests old new went tells was = record {
     there = let low = was.there in omega (arith, low, went.as_many);
     has =
@@ -211,7 +211,7 @@ module _ (setup : Setup) (writes : Writing) (writing : IsWriting writes) (number
         (went.each number other was.there).goes (tells.each number other was.there) was.has;
   }
 
-  stands_asked : (given : Option Peer) (line now : ℕ) (what : Asked) (answer : Option Answered) (old new : List PlaceValue) → Went (AsksLine line now what answer ∷ []) old new → AskFrees line what answer old new → Stands given old
+  stands_asked : (given : Option Peer) (line now : ℕ) (what : LineRequest) (answer : Option LineAnswer) (old new : List PlaceValue) → LinesWent (AsksLine line now what answer ∷ []) old new → AskFrees line what answer old new → Stands given old
       → Stands (if nat_eq number line then given_by what answer given else given) new
   stands_asked given line now what answer old new went frees was = record {
     there = let low = was.there in omega (arith, low, went.as_many);
@@ -220,7 +220,7 @@ module _ (setup : Setup) (writes : Writing) (writing : IsWriting writes) (number
         (went.each number other was.there).goes (frees.each number other was.there) was.has;
   }
 
-  stands_woken : (given : Option Peer) (line : ℕ) (old new : List PlaceValue) → Went (WakesLine line ∷ []) old new → AllStayHeld old new → Stands given old → Stands given new
+  stands_woken : (given : Option Peer) (line : ℕ) (old new : List PlaceValue) → LinesWent (WakesLine line ∷ []) old new → AllStayHeld old new → Stands given old → Stands given new
   stands_woken given line old new went stays was = record {
     there = let low = was.there in omega (arith, low, went.as_many);
     has =
@@ -228,33 +228,33 @@ module _ (setup : Setup) (writes : Writing) (writing : IsWriting writes) (number
         (stays.each number other was.there) was.has;
   }
 
-  module _ (K : Type 0) (same : K → K → Type 0) (puts : List PageToKeep → Bool → K → K → Type 0) (notes : ℕ → ℕ → K → K → Type 0) (ends : ℕ → Report → K → K → Type 0) (start : Option Peer) where
-    stands_in : (first : ℕ) (done : List Done) (settled : List SlotEnd) (old new : List PlaceValue) (k l : K) (ran : Ran same puts notes ends first done settled old new k l) → Stands start old
+  module _ (K : Type 0) (same : K → K → Type 0) (puts : List PageToStore → Bool → K → K → Type 0) (notes : ℕ → ℕ → K → K → Type 0) (ends : ℕ → Report → K → K → Type 0) (start : Option Peer) where
+    stands_in : (first : ℕ) (done : List DoneOrder) (settled : List SlotEnd) (old new : List PlaceValue) (k l : K) (ran : IsRun same puts notes ends first done settled old new k l) → Stands start old
         → Stands (given_in same puts notes ends number other start first done settled old new k l ran) new
     stands_in first [] [] old new k l ran was = subst (λ (p : List PlaceValue). Stands start p) (sym ran.0) was
     stands_in first [] (end ∷ settled) old new k l ran was = absurd ran
     stands_in first (Turned now rests ∷ done) [] old new k l ran was = absurd ran
     stands_in first (Turned now rests ∷ done) (end ∷ settled) old new k l ran was =
         let earlier = given_in same puts notes ends number other start first done settled old ran.0 k ran.2 ran.3 in
-        stands_ended (given_behind (has_reported (next_slot first done) rests number (slice_index_or ran.1 number other)) earlier) (next_slot first done) (is_kept_in end) ran.1 new ran.6.settled
+        stands_ended (given_after (has_reported (next_slot first done) rests number (slice_index_or ran.1 number other)) earlier) (next_slot first done) (is_stored_in end) ran.1 new ran.6.settled
         (stands_turned earlier (next_slot first done) (max (latest done) now) rests ran.0 ran.1 ran.4 ran.5 (stands_in first done settled old ran.0 k ran.2 ran.3 was))
     stands_in first (AskedOf line now what answer ∷ done) settled old new k l ran was =
         stands_asked (given_in same puts notes ends number other start first done settled old ran.0 k l ran.1) line (max (latest done) now) what answer ran.0 new ran.2 ran.3 (stands_in first done settled old ran.0 k l ran.1 was)
     stands_in first (Woken line ∷ done) settled old new k l ran was =
         stands_woken (given_in same puts notes ends number other start first done settled old ran.0 k l ran.1) line ran.0 new ran.2 ran.3 (stands_in first done settled old ran.0 k l ran.1 was)
 
-  stands_without : (start : Option Peer) (first : ℕ) (done : List Done) (old new : List PlaceValue) (ran : RanWithout first done old new) → Stands start old → Stands (given_without number other start first done old new ran) new
+  stands_without : (start : Option Peer) (first : ℕ) (done : List DoneOrder) (old new : List PlaceValue) (ran : RanWithout first done old new) → Stands start old → Stands (given_without number other start first done old new ran) new
   stands_without start first [] old new ran was = subst (λ (p : List PlaceValue). Stands start p) (sym ran) was
   stands_without start first (Turned now rests ∷ done) old new ran was =
       let earlier = given_without number other start first done old ran.0 ran.2 in
-      stands_ended (given_behind (has_reported (next_slot first done) rests number (slice_index_or ran.1 number other)) earlier) (next_slot first done) (λ number. true) ran.1 new ran.5
+      stands_ended (given_after (has_reported (next_slot first done) rests number (slice_index_or ran.1 number other)) earlier) (next_slot first done) (λ number. true) ran.1 new ran.5
       (stands_turned earlier (next_slot first done) (max (latest done) now) rests ran.0 ran.1 ran.3 ran.4 (stands_without start first done old ran.0 ran.2 was))
   stands_without start first (AskedOf line now what answer ∷ done) old new ran was =
       stands_asked (given_without number other start first done old ran.0 ran.1) line (max (latest done) now) what answer ran.0 new ran.2 ran.3 (stands_without start first done old ran.0 ran.1 was)
   stands_without start first (Woken line ∷ done) old new ran was =
       stands_woken (given_without number other start first done old ran.0 ran.1) line ran.0 new ran.2 ran.3 (stands_without start first done old ran.0 ran.1 was)
 
-pub called_peers_are_given : {K : Type 0} (same : K → K → Type 0) (puts : List PageToKeep → Bool → K → K → Type 0) (notes : ℕ → ℕ → K → K → Type 0) (ends : ℕ → Report → K → K → Type 0) → CalledPeersAreGiven same puts notes ends
+pub called_peers_are_given : {K : Type 0} (same : K → K → Type 0) (puts : List PageToStore → Bool → K → K → Type 0) (notes : ℕ → ℕ → K → K → Type 0) (ends : ℕ → Report → K → K → Type 0) → CalledPeersAreGiven same puts notes ends
 called_peers_are_given {K = K} same puts notes ends setup writes number other start first done settled old new before after writing there somewhere given ran =
     (stands_in setup writes writing number other K same puts notes ends start first done settled old new before after ran record { there = there; has = record { somewhere = somewhere; is_given = given } }).has.is_given
 

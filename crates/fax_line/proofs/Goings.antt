@@ -3,7 +3,7 @@ use Rattle.std.proofs.Common.{◌≡◌, ℕ, Bool, true, false, List, [], ◌�
 use Rattle.std.proofs.lemmas.Grind.{flat_map-append}
 use Rattle.fax_timers.specs.Moments.{earlier, is_due}
 use Rattle.fax_call.specs.Writings.{IsWriting, Writing}
-use Rattle.fax_gateway.specs.Asking.{asked_behind}
+use Rattle.fax_gateway.specs.Asking.{asked_after}
 use Rattle.fax_gateway.specs.Due.{due_at}
 use Rattle.fax_gateway.specs.declared.fault.PlaceFault.{PlaceFault}
 use Rattle.fax_gateway.specs.declared.fault.PlaceFault.TheVariants as place_faults
@@ -13,26 +13,26 @@ use Rattle.fax_gateway.specs.Events.{Event, Placed, Ring, rings}
 use Rattle.fax_gateway.specs.CallingLegs.{calling_leg, idle_after}
 use Rattle.fax_gateway.specs.Reached.{GatewayValue, IsReachedBy}
 use Rattle.fax_gateway.specs.Setups.{Setup}
-use Rattle.fax_gateway.specs.Wires.{Known}
-use Rattle.fax_gateway.specs.declared.turned.Turned.{Turned}
+use Rattle.fax_gateway.specs.Wires.{KnownWire}
+use Rattle.fax_gateway.specs.declared.turn_report.TurnReport.{TurnReport}
 use Rattle.fax_gateway.specs.Turns.{TellTicks}
 use Rattle.fax_gateway.specs.Driving.{Accepts, Carries, DriverValue, Entry, HasMade, Happens, IsTurn, RefusesRing, events, events_in, receipts_in}
 use Rattle.fax_gateway.proofs.DrivingLemmas.{carries_unseen, grows_none, happens_more, made_unseen, refused_so, refuses, steps_ring}
 use Rattle.fax_repeat.specs.Peers.{Peers}
 use Rattle.fax_repeat.specs.Policies.{IsToldAs}
-use Rattle.fax_hold.specs.Holding.{HoldingValue, IsToldTimeWhere}
-use Rattle.fax_hold.specs.Keeping.{HoldsByLog}
-use Rattle.fax_line.specs.declared.asked.Answered.{Answered}
-use Rattle.fax_line.specs.declared.asked.Answered.TheVariants as answered
-use Rattle.fax_line.specs.declared.asked.Asked.{Asked}
-use Rattle.fax_line.specs.declared.asked.Ringing.{Ringing}
-use Rattle.fax_line.specs.declared.asked.Asked.TheVariants as asked
+use Rattle.fax_holding_wire.specs.Holding.{HoldingValue, IsToldTimeWhere}
+use Rattle.fax_holding_wire.specs.Storing.{HoldsByLog}
+use Rattle.fax_line.specs.declared.asked.LineAnswer.{LineAnswer}
+use Rattle.fax_line.specs.declared.asked.LineAnswer.TheVariants as answered
+use Rattle.fax_line.specs.declared.asked.LineRequest.{LineRequest}
+use Rattle.fax_line.specs.declared.asked.RingRequest.{RingRequest}
+use Rattle.fax_line.specs.declared.asked.LineRequest.TheVariants as asked
 use Rattle.fax_line.specs.LegPeers.{HearBoth}
 use Rattle.fax_line.specs.Actions.{Action, AreSteps, Asks, Drives, Goes, IsAsked, IsPlaced, IsPlacing, IsStep, LineValue, Rests, TellsWire, Turns, Wakes}
 
--- the trace behind two logs
-behind_both : (newer older : List Entry) (trace : List Event) → events newer ++ (events older ++ trace) ≡ events (newer ++ older) ++ trace
-behind_both newer older trace = sym (append_assoc (events newer) (events older) trace) ∙ ap (λ (l : List Event). l ++ trace) (sym (flat_map-append events_in newer older))
+-- the trace after two logs
+after_both : (newer older : List Entry) (trace : List Event) → events newer ++ (events older ++ trace) ≡ events (newer ++ older) ++ trace
+after_both newer older trace = sym (append_assoc (events newer) (events older) trace) ∙ ap (λ (l : List Event). l ++ trace) (sym (flat_map-append events_in newer older))
 
 steps_append : (setup : Setup) (writes : Writing) (trace : List Event) (older newer : List Action) (a b : List Entry)
     → AreSteps setup writes trace older a → AreSteps setup writes (events a ++ trace) newer b → AreSteps setup writes trace (newer ++ older) (b ++ a)
@@ -41,7 +41,7 @@ steps_append setup writes trace older (action ∷ earlier) a b first (newer, res
   newer,
   rest ++ a,
   ap (λ (l : List Entry). l ++ a) is ∙ append_assoc newer rest a,
-  subst (λ (t : List Event). IsStep setup writes t action newer) (behind_both rest a trace) step,
+  subst (λ (t : List Event). IsStep setup writes t action newer) (after_both rest a trace) step,
   steps_append setup writes trace older earlier a rest first steps,
 )
 
@@ -53,21 +53,21 @@ one_step : (setup : Setup) (writes : Writing) (trace : List Event) (action : Act
 one_step setup writes trace action log step = (log, [], sym (entries_nil log), step, refl)
 
 -- the wire alone did something, and nothing is told of it
-carries_told : (a b : Known) → IsToldAs a b → Carries [] a b
+carries_told : (a b : KnownWire) → IsToldAs a b → Carries [] a b
 carries_told a b told = record { received = told.received; sent = told.sent; failures = λ low. omega (arith, told.failures) }
 
 -- a line, part by part
-abbrev pub line_of : GatewayValue → DriverValue → Known → Option ℕ → Option HoldingValue → Peers → Turned → LineValue
+abbrev pub line_of : GatewayValue → DriverValue → KnownWire → Option ℕ → Option HoldingValue → Peers → TurnReport → LineValue
 line_of gateway driver wire wire_due holding peers turned = record { gateway = gateway; driver = driver; wire = wire; wire_due = wire_due; holding = holding; peers = peers; turned = turned }
 
 pub goes_told :
-    (gateway : GatewayValue) (driver : DriverValue) (a b : Known) (m n : Option ℕ) (h k : Option HoldingValue) (p q : Peers) (x y : Turned) → IsToldAs a b
+    (gateway : GatewayValue) (driver : DriverValue) (a b : KnownWire) (m n : Option ℕ) (h k : Option HoldingValue) (p q : Peers) (x y : TurnReport) → IsToldAs a b
     → Goes [] (line_of gateway driver a m h p x) (line_of gateway driver b n k q y)
 goes_told gateway driver a b m n h k p q x y told = record {
   goes = λ setup writes trace earlier writing reached made. ([], refl, record { reached = reached; wanting = tt; carried = carries_told a b told }, made);
 }
 
-told_same : (a : Known) → IsToldAs a a
+told_same : (a : KnownWire) → IsToldAs a a
 told_same a = record { failures = refl; received = grows_none a.received; sent = grows_none a.sent }
 
 pub goes_none : (line : LineValue) → Goes [] line line
@@ -87,7 +87,7 @@ goes_more older newer a b c first second = record {
 
 -- a turn, by what a driver ensures of one
 turns_driven :
-    (now : ℕ) (old new : GatewayValue) (driver driven : DriverValue) (a b : Known) (m n : Option ℕ) (h k : Option HoldingValue) (p q : Peers) (x y : Turned)
+    (now : ℕ) (old new : GatewayValue) (driver driven : DriverValue) (a b : KnownWire) (m n : Option ℕ) (h k : Option HoldingValue) (p q : Peers) (x y : TurnReport)
     → ((setup : Setup) (writes : Writing) (trace : List Event) (earlier : List Entry) → IsWriting writes → IsReachedBy setup writes trace old → HasMade earlier driver
     → (turn : List Entry) × IsTurn now turn × Happens setup writes turn trace new a b × HasMade (turn ++ earlier) driven
     × TellTicks setup trace (events turn ++ trace) y.report y.kept y.refused y.gave_up)
@@ -98,7 +98,7 @@ turns_driven now old new driver driven a b m n h k p q x y turned = record {
 }
 
 pub goes_turn :
-    (now : ℕ) (old new : GatewayValue) (driver driven : DriverValue) (a b c : Known) (m n : Option ℕ) (h k : Option HoldingValue) (p q : Peers) (x y : Turned) → IsToldAs a b
+    (now : ℕ) (old new : GatewayValue) (driver driven : DriverValue) (a b c : KnownWire) (m n : Option ℕ) (h k : Option HoldingValue) (p q : Peers) (x y : TurnReport) → IsToldAs a b
     → ((setup : Setup) (writes : Writing) (trace : List Event) (earlier : List Entry) → IsWriting writes → IsReachedBy setup writes trace old → HasMade earlier driver
     → (turn : List Entry) × IsTurn now turn × Happens setup writes turn trace new b c × HasMade (turn ++ earlier) driven
     × TellTicks setup trace (events turn ++ trace) y.report y.kept y.refused y.gave_up)
@@ -108,14 +108,14 @@ goes_turn now old new driver driven a b c m n h k p q x y told turned =
     (goes_told old driver a b m m h h p p x x told) (turns_driven now old new driver driven b c m n h k p q x y turned)
 
 -- what is done with the wire alone before a turn is not seen in it
-pub wire_first : (setup : Setup) (writes : Writing) (log : List Entry) (trace : List Event) (old new : GatewayValue) (a b c : Known)
+pub wire_first : (setup : Setup) (writes : Writing) (log : List Entry) (trace : List Event) (old new : GatewayValue) (a b c : KnownWire)
     → IsReachedBy setup writes trace old → IsToldAs a b → Happens setup writes log trace new b c → Happens setup writes log trace new a c
 wire_first setup writes log trace old new a b c reached told happens =
     subst (λ (l : List Entry). Happens setup writes l trace new a c) (entries_nil log)
     (happens_more setup writes [] log trace old new a b c record { reached = reached; wanting = tt; carried = carries_told a b told } happens)
 
 pub drives_turn :
-    (now : ℕ) (old new : GatewayValue) (driver driven : DriverValue) (a b c : Known) (m n : Option ℕ) (h k : Option HoldingValue) (p q : Peers) (x y : Turned) → IsToldAs a b
+    (now : ℕ) (old new : GatewayValue) (driver driven : DriverValue) (a b c : KnownWire) (m n : Option ℕ) (h k : Option HoldingValue) (p q : Peers) (x y : TurnReport) → IsToldAs a b
     → ((setup : Setup) (writes : Writing) (trace : List Event) (earlier : List Entry) → IsWriting writes → IsReachedBy setup writes trace old → HasMade earlier driver
     → (turn : List Entry) × IsTurn now turn × Happens setup writes turn trace new b c × HasMade (turn ++ earlier) driven
     × TellTicks setup trace (events turn ++ trace) y.report y.kept y.refused y.gave_up × HoldsByLog turn h k)
@@ -134,7 +134,7 @@ drives_turn now old new driver driven a b c m n h k p q x y told turned hear tim
 
 -- a call begins by it: an event of the gateway, of which its wire sees nothing
 asks_accepted :
-    (now : ℕ) (what : Asked) (answer : Option Answered) (event : Event) (old new : GatewayValue) (driver : DriverValue) (a : Known) (m : Option ℕ) (h : Option HoldingValue) (p : Peers) (x : Turned)
+    (now : ℕ) (what : LineRequest) (answer : Option LineAnswer) (event : Event) (old new : GatewayValue) (driver : DriverValue) (a : KnownWire) (m : Option ℕ) (h : Option HoldingValue) (p : Peers) (x : TurnReport)
     → receipts_in (Accepts event) ≡ [] → ((setup : Setup) (writes : Writing) (trace : List Event) → IsAsked setup writes trace now what answer (Accepts event ∷ []))
     → ((setup : Setup) (writes : Writing) (trace : List Event) → IsReachedBy setup writes trace old → IsReachedBy setup writes (event ∷ trace) new)
     → Goes (Asks now what answer ∷ []) (line_of old driver a m h p x) (line_of new driver a m h p x)
@@ -150,7 +150,7 @@ asks_accepted now what answer event old new driver a m h p x unseen is comes = r
 
 -- and the wire is told of the call
 goes_asked :
-    (now : ℕ) (what : Asked) (answer : Option Answered) (event : Event) (old new : GatewayValue) (driver : DriverValue) (a b : Known) (m n : Option ℕ) (h k : Option HoldingValue) (p q : Peers) (x : Turned)
+    (now : ℕ) (what : LineRequest) (answer : Option LineAnswer) (event : Event) (old new : GatewayValue) (driver : DriverValue) (a b : KnownWire) (m n : Option ℕ) (h k : Option HoldingValue) (p q : Peers) (x : TurnReport)
     → receipts_in (Accepts event) ≡ [] → ((setup : Setup) (writes : Writing) (trace : List Event) → IsAsked setup writes trace now what answer (Accepts event ∷ [])) → IsToldAs a b
     → ((setup : Setup) (writes : Writing) (trace : List Event) → IsReachedBy setup writes trace old → IsReachedBy setup writes (event ∷ trace) new)
     → Goes (Asks now what answer ∷ []) (line_of old driver a m h p x) (line_of new driver b n k q x)
@@ -159,18 +159,18 @@ goes_asked now what answer event old new driver a b m n h k p q x unseen is told
     (asks_accepted now what answer event old new driver a m h p x unseen is comes) (goes_told new driver a b m n h k p q x x told)
 
 -- a ring that is accepted, and one that is refused
-abbrev pub rung_as : Result ℕ RingFault → Option Answered
+abbrev pub rung_as : Result ℕ RingFault → Option LineAnswer
 rung_as result = Some (answered.Rung result)
 
 pub goes_ring :
-    (now number : ℕ) (ringing : Ringing) (old new : GatewayValue) (driver : DriverValue) (a b : Known) (m n : Option ℕ) (h k : Option HoldingValue) (p q : Peers) (x : Turned) → IsToldAs a b
+    (now number : ℕ) (ringing : RingRequest) (old new : GatewayValue) (driver : DriverValue) (a b : KnownWire) (m n : Option ℕ) (h k : Option HoldingValue) (p q : Peers) (x : TurnReport) → IsToldAs a b
     → ((setup : Setup) (writes : Writing) (trace : List Event) → IsReachedBy setup writes trace old → IsReachedBy setup writes (Ring now number ∷ trace) new)
     → Goes (Asks now (asked.Ring ringing) (rung_as (Ok number)) ∷ []) (line_of old driver a m h p x) (line_of new driver b n k q x)
 goes_ring now number ringing old new driver a b m n h k p q x told rung =
     goes_asked now (asked.Ring ringing) (rung_as (Ok number)) (Ring now number) old new driver a b m n h k p q x refl (λ setup writes trace. refl) told rung
 
 pub goes_refused :
-    (now : ℕ) (ringing : Ringing) (line : LineValue) (fault : RingFault)
+    (now : ℕ) (ringing : RingRequest) (line : LineValue) (fault : RingFault)
     → ((setup : Setup) (writes : Writing) (trace : List Event) → IsReachedBy setup writes trace line.gateway
     → refuses fault ≡ refuses ring_faults.Busy ↔ idle_after (calling_leg setup trace) ≡ false)
     → ((setup : Setup) (writes : Writing) (trace : List Event) → IsReachedBy setup writes trace line.gateway → idle_after (calling_leg setup trace) ≡ true
@@ -185,13 +185,13 @@ goes_refused now ringing line fault busy none = record {
 }
 
 -- a placing that is done, and one that is refused
-abbrev pub placed_as : Result (Unit {0}) PlaceFault → Option Answered
+abbrev pub placed_as : Result (Unit {0}) PlaceFault → Option LineAnswer
 placed_as result = Some (answered.Placed result)
 
 abbrev pub not_placed : PlaceFault → Result (Unit {0}) PlaceFault
 not_placed fault = Err fault
 
-is_placing : (setup : Setup) (writes : Writing) (trace : List Event) (now : ℕ) (connected : Bool) (what : Asked) (result : Result (Unit {0}) PlaceFault) (log : List Entry)
+is_placing : (setup : Setup) (writes : Writing) (trace : List Event) (now : ℕ) (connected : Bool) (what : LineRequest) (result : Result (Unit {0}) PlaceFault) (log : List Entry)
     → IsPlacing connected what → IsPlaced setup writes trace now connected result log → IsAsked setup writes trace now what (placed_as result) log
 is_placing setup writes trace now true (asked.Ring ringing) result log asks is = absurd asks
 is_placing setup writes trace now true (asked.Peer peering) result log asks is = absurd asks
@@ -205,7 +205,7 @@ is_placing setup writes trace now false asked.NotConnected result log asks is = 
 is_placing setup writes trace now false (asked.HangUp hanging_up) result log asks is = absurd asks
 
 pub goes_placed :
-    (now : ℕ) (connected : Bool) (what : Asked) (old new : GatewayValue) (driver : DriverValue) (a b : Known) (m n : Option ℕ) (h k : Option HoldingValue) (p q : Peers) (x : Turned) → IsPlacing connected what → IsToldAs a b
+    (now : ℕ) (connected : Bool) (what : LineRequest) (old new : GatewayValue) (driver : DriverValue) (a b : KnownWire) (m n : Option ℕ) (h k : Option HoldingValue) (p q : Peers) (x : TurnReport) → IsPlacing connected what → IsToldAs a b
     → ((setup : Setup) (writes : Writing) (trace : List Event) → IsReachedBy setup writes trace old → IsReachedBy setup writes (Placed now connected ∷ trace) new)
     → Goes (Asks now what (placed_as (Ok tt)) ∷ []) (line_of old driver a m h p x) (line_of new driver b n k q x)
 goes_placed now connected what old new driver a b m n h k p q x asks told placed =
@@ -216,9 +216,9 @@ same_cause : (a b : PlaceFault) → not_placed a ≡ not_placed b → a ≡ b
 same_cause a b e = cc
 
 pub goes_unplaced :
-    (now : ℕ) (connected : Bool) (what : Asked) (line : LineValue) (fault : PlaceFault) → IsPlacing connected what
+    (now : ℕ) (connected : Bool) (what : LineRequest) (line : LineValue) (fault : PlaceFault) → IsPlacing connected what
     → ((setup : Setup) (writes : Writing) (trace : List Event) → IsReachedBy setup writes trace line.gateway
-    → not_placed fault ≡ not_placed place_faults.NotAsked ↔ asked_behind setup writes trace ≡ None)
+    → not_placed fault ≡ not_placed place_faults.NotAsked ↔ asked_after setup writes trace ≡ None)
     → Goes (Asks now what (placed_as (Err fault)) ∷ []) line line
 goes_unplaced now connected what line fault asks not_asked = record {
   goes = λ setup writes trace earlier writing reached made.
@@ -245,7 +245,7 @@ goes_peers old new tells = record {
 
 -- and nothing else is done: what was asked for is no event of the gateway
 pub goes_quiet :
-    (now : ℕ) (what : Asked) (answer : Option Answered) (old new : LineValue) → TellsWire old new → ((setup : Setup) (writes : Writing) (trace : List Event) → IsAsked setup writes trace now what answer [])
+    (now : ℕ) (what : LineRequest) (answer : Option LineAnswer) (old new : LineValue) → TellsWire old new → ((setup : Setup) (writes : Writing) (trace : List Event) → IsAsked setup writes trace now what answer [])
     → Goes (Asks now what answer ∷ []) old new
 unfolding goes_peers
 goes_quiet now what answer old new tells is = record {

@@ -1,9 +1,9 @@
-mod AllKept
+mod AllStored
 mod Connected
 mod Given
 mod Goings
 mod Heard
-mod KeptRunning
+mod StoredRunning
 mod Missing
 mod Places
 mod Slots

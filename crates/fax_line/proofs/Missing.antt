@@ -7,21 +7,21 @@ use Rattle.fax_timers.specs.Moments.{is_due}
 use Rattle.fax_call.specs.Writings.{Writing}
 use Rattle.fax_gateway.specs.declared.fault.PlaceFault.{PlaceFault}
 use Rattle.fax_gateway.specs.declared.fault.RingFault.{RingFault}
-use Rattle.fax_gateway.specs.declared.side.Side.{Side}
-use Rattle.fax_gateway.specs.declared.side.Side.TheVariants as side
-use Rattle.fax_gateway.specs.Driving.{Accepts, AreReceives, BringsNone, Comes, Entry, FailsToReceive, IsTick, IsTurn, ReceivesNothing, RefusesDatagram, RefusesRing, RefusesTick, Sends, events, events_in}
+use Rattle.fax_gateway.specs.declared.leg.Leg.{Leg}
+use Rattle.fax_gateway.specs.declared.leg.Leg.TheVariants as legs
+use Rattle.fax_gateway.specs.Driving.{Accepts, AreReceives, Comes, Entry, FailsToReceive, GivesNoDatagram, IsTick, IsTurn, ReceivesNothing, RefusesDatagram, RefusesRing, RefusesTick, Sends, events, events_in}
 use Rattle.fax_gateway.specs.Due.{due_at}
 use Rattle.fax_gateway.specs.Events.{Event, FromCalled, FromCalling, Placed, Ring, Tick, clock}
 use Rattle.fax_gateway.specs.Setups.{Setup}
 use Rattle.fax_gateway.proofs.DrivingLemmas.{sends_no_event}
-use Rattle.fax_line.specs.declared.asked.Answered.{Answered}
-use Rattle.fax_line.specs.declared.asked.Answered.TheVariants as answered
-use Rattle.fax_line.specs.declared.asked.Asked.{Asked}
-use Rattle.fax_line.specs.declared.asked.Asked.TheVariants as asked
+use Rattle.fax_line.specs.declared.asked.LineAnswer.{LineAnswer}
+use Rattle.fax_line.specs.declared.asked.LineAnswer.TheVariants as answered
+use Rattle.fax_line.specs.declared.asked.LineRequest.{LineRequest}
+use Rattle.fax_line.specs.declared.asked.LineRequest.TheVariants as asked
 use Rattle.fax_line.specs.Actions.{Action, AreSteps, Asks, IsAsked, IsPlaced, IsRung, Rests, Turns, Wakes}
 use Rattle.fax_line.specs.Laws.{RestsMissNothing, RiseTo}
 
--- behind these entries the clock stands at this moment at most, or where it stood
+-- after these entries the clock stands at this moment at most, or where it stood
 abbrev Keeps : ℕ → List Entry → Type 0
 Keeps now log = (trace : List Event) → clock (events log ++ trace) ≤ max now (clock trace)
 
@@ -36,7 +36,7 @@ both_keep now newer older first second trace =
     let b = second trace in
     subst (λ (l : List Event). clock l ≤ max now (clock trace)) same (omega (arith, a, b))
 
-come_keeps : (at : Side) (now : ℕ) (e : Entry) (trace : List Event) → Comes at now e → clock (events_in e ++ trace) ≤ max now (clock trace)
+come_keeps : (at : Leg) (now : ℕ) (e : Entry) (trace : List Event) → Comes at now e → clock (events_in e ++ trace) ≤ max now (clock trace)
 come_keeps at now (Accepts (Ring moment number)) trace h = absurd h
 come_keeps at now (Accepts (FromCalling octets moment decided read)) trace h = let is : moment ≡ now = h.1 in omega (arith, is)
 come_keeps at now (Accepts (FromCalled octets moment decided)) trace h = let is : moment ≡ now = h.1 in omega (arith, is)
@@ -49,36 +49,36 @@ come_keeps at now (ReceivesNothing on) trace h = absurd h
 come_keeps at now (FailsToReceive on) trace h = absurd h
 come_keeps at now (Sends on octets fails) trace h = absurd h
 
-all_keep : (at : Side) (now : ℕ) (log : List Entry) → All (Comes at now) log → Keeps now log
+all_keep : (at : Leg) (now : ℕ) (log : List Entry) → All (Comes at now) log → Keeps now log
 all_keep at now [] all trace = omega arith
 all_keep at now (e ∷ log) all trace =
     let a = come_keeps at now e (events log ++ trace) (All-head (Comes at now) e log all) in
     let b = all_keep at now log (All-tail (Comes at now) e log all) trace in
     subst (λ (l : List Event). clock l ≤ max now (clock trace)) (sym (append_assoc (events_in e) (events log) trace)) (omega (arith, a, b))
 
-brings_no_event : (at : Side) (e : Entry) → BringsNone at e → events (e ∷ []) ≡ []
-brings_no_event at e (inl is) = ap (λ (x : Entry). events (x ∷ [])) is
-brings_no_event at e (inr is) = ap (λ (x : Entry). events (x ∷ [])) is
+gives_no_event : (at : Leg) (e : Entry) → GivesNoDatagram at e → events (e ∷ []) ≡ []
+gives_no_event at e (inl is) = ap (λ (x : Entry). events (x ∷ [])) is
+gives_no_event at e (inr is) = ap (λ (x : Entry). events (x ∷ [])) is
 
-receives_keep : (at : Side) (now : ℕ) (log : List Entry) → AreReceives at now log → Keeps now log
+receives_keep : (at : Leg) (now : ℕ) (log : List Entry) → AreReceives at now log → Keeps now log
 receives_keep at now log (inl (each, many)) = all_keep at now log each
 receives_keep at now log (inr (came, last, is, each, low, none)) =
-    subst (λ (l : List Entry). Keeps now l) (sym is) (both_keep now (last ∷ []) came (none_keeps now (last ∷ []) (brings_no_event at last none)) (all_keep at now came each))
+    subst (λ (l : List Entry). Keeps now l) (sym is) (both_keep now (last ∷ []) came (none_keeps now (last ∷ []) (gives_no_event at last none)) (all_keep at now came each))
 
 tick_keeps : (now : ℕ) (log : List Entry) → IsTick now log → Keeps now log
 tick_keeps now log (inl (given, calling, called, first, second, is)) =
     let tick : List Entry = Accepts (Tick now given) ∷ [] in
     let ticks : Keeps now tick = λ trace. omega arith in
     subst (λ (l : List Entry). Keeps now l) (sym is)
-    (both_keep now called (calling ++ tick) (none_keeps now called (sends_no_event side.Called given.on_called called second))
-    (both_keep now calling tick (none_keeps now calling (sends_no_event side.Calling given.on_calling calling first)) ticks))
+    (both_keep now called (calling ++ tick) (none_keeps now called (sends_no_event legs.Called given.on_called called second))
+    (both_keep now calling tick (none_keeps now calling (sends_no_event legs.Calling given.on_calling calling first)) ticks))
 tick_keeps now log (inr is) = none_keeps now log (ap events is)
 
 turn_keeps : (now : ℕ) (log : List Entry) → IsTurn now log → Keeps now log
 turn_keeps now log turn =
     subst (λ (l : List Entry). Keeps now l) (sym turn.log_is)
     (both_keep now turn.tick (turn.called ++ turn.calling) (tick_keeps now turn.tick turn.ticks)
-    (both_keep now turn.called turn.calling (receives_keep side.Called now turn.called turn.on_called) (receives_keep side.Calling now turn.calling turn.on_calling)))
+    (both_keep now turn.called turn.calling (receives_keep legs.Called now turn.called turn.on_called) (receives_keep legs.Calling now turn.calling turn.on_calling)))
 
 ring_keeps : (now : ℕ) (result : Result ℕ RingFault) (log : List Entry) → IsRung now result log → Keeps now log
 ring_keeps now (Ok number) log is = subst (λ (l : List Entry). Keeps now l) (sym is) (λ t. omega arith)
@@ -89,7 +89,7 @@ place_keeps : (setup : Setup) (writes : Writing) (trace : List Event) (now : ℕ
 place_keeps setup writes trace now connected (Ok done) log is = subst (λ (l : List Entry). Keeps now l) (sym is) (λ t. omega arith)
 place_keeps setup writes trace now connected (Err fault) log is = none_keeps now log (ap events is.0)
 
-ask_keeps : (setup : Setup) (writes : Writing) (trace : List Event) (now : ℕ) (what : Asked) (answer : Option Answered) (log : List Entry) → IsAsked setup writes trace now what answer log → Keeps now log
+ask_keeps : (setup : Setup) (writes : Writing) (trace : List Event) (now : ℕ) (what : LineRequest) (answer : Option LineAnswer) (log : List Entry) → IsAsked setup writes trace now what answer log → Keeps now log
 ask_keeps setup writes trace now (asked.Ring ringing) (Some (answered.Rung result)) log is = ring_keeps now result log is
 ask_keeps setup writes trace now (asked.Peer peering) (Some answered.Done) log is = none_keeps now log (ap events is)
 ask_keeps setup writes trace now (asked.Peer peering) (Some answered.NoRoute) log is = none_keeps now log (ap events is)
@@ -103,10 +103,10 @@ ask_keeps setup writes trace now what answer log is = absurd is
 step_low : (now latest : ℕ) (log newer older : List Entry) (trace : List Event) → log ≡ newer ++ older → Keeps now newer → now ≤ latest
     → clock (events older ++ trace) ≤ max now (clock trace) → clock (events log ++ trace) ≤ max latest (clock trace)
 step_low now latest log newer older trace is keeps low before =
-    let behind : clock (events newer ++ (events older ++ trace)) ≤ max latest (clock trace) = let a = keeps (events older ++ trace) in omega (arith, a, before, low) in
+    let after : clock (events newer ++ (events older ++ trace)) ≤ max latest (clock trace) = let a = keeps (events older ++ trace) in omega (arith, a, before, low) in
     let same : events newer ++ (events older ++ trace) ≡ events log ++ trace =
     sym (append_assoc (events newer) (events older) trace) ∙ ap (λ (l : List Event). l ++ trace) (sym (flat_map-append events_in newer older)) ∙ ap (λ (l : List Entry). events l ++ trace) (sym is) in
-    subst (λ (l : List Event). clock l ≤ max latest (clock trace)) same behind
+    subst (λ (l : List Event). clock l ≤ max latest (clock trace)) same after
 
 clock_low : (setup : Setup) (writes : Writing) (actions : List Action) (latest : ℕ) (trace : List Event) (log : List Entry)
     → AreSteps setup writes trace actions log → RiseTo actions latest → clock (events log ++ trace) ≤ max latest (clock trace)
@@ -124,7 +124,7 @@ events_nil : (l : List Event) → l ++ [] ≡ l
 events_nil [] = refl
 events_nil (x ∷ xs) = ap (λ (l : List Event). x ∷ l) (events_nil xs)
 
--- so what is due lies behind what the clock reads
+-- so what is due lies after what the clock reads
 pub miss_nothing : RestsMissNothing
 miss_nothing setup writes earlier now log (newer, older, is, step, steps) rise =
     let none : newer ≡ [] = step.0 in

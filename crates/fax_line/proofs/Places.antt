@@ -6,8 +6,8 @@ use Rattle.fax_gateway.specs.Due.{due_at}
 use Rattle.fax_gateway.specs.Events.{Event}
 use Rattle.fax_gateway.specs.Reached.{IsReachedBy}
 use Rattle.fax_gateway.specs.Setups.{Setup}
-use Rattle.fax_line.specs.declared.asked.Answered.{Answered}
-use Rattle.fax_line.specs.declared.asked.Asked.{Asked}
+use Rattle.fax_line.specs.declared.asked.LineAnswer.{LineAnswer}
+use Rattle.fax_line.specs.declared.asked.LineRequest.{LineRequest}
 use Rattle.fax_line.specs.Actions.{Action, Asks, Goes, LineValue, Rests, Turns, Wakes}
 use Rattle.fax_line.specs.Places.{GoesInPlace, IsDueOn, PlaceValue, RestsAsleep, is_awake, visit_of}
 use Rattle.fax_line.proofs.Goings.{goes_more, goes_none, goes_rest, goes_wake}
@@ -75,7 +75,7 @@ place_rests now line due awake x y is rests = record {
   asleep = (asleep_is awake (is_due due now) rests, tt);
 }
 
-pub place_asks : (now : ℕ) (what : Asked) (answer : Option Answered) (old new : LineValue) (m n : Option ℕ) (awake x : Bool) → Goes (Asks now what answer ∷ []) old new
+pub place_asks : (now : ℕ) (what : LineRequest) (answer : Option LineAnswer) (old new : LineValue) (m n : Option ℕ) (awake x : Bool) → Goes (Asks now what answer ∷ []) old new
     → GoesInPlace (Asks now what answer ∷ []) (place_of old m awake x) (place_of new n awake x)
 place_asks now what answer old new m n awake x goes = record { goes = goes; awake = refl; asleep = tt }
 

@@ -1,4 +1,4 @@
--- The lines of a slot at the end of its turn, one behind the other.
+-- The lines of a slot at the end of its turn, one after the other.
 use Rattle.std.proofs.Common.{◌≡◌, ◌≢◌, ◌+◌, ◌*◌, ◌%◌, ℕ, ◌<◌, ◌≤◌, true, false, Bool, ◌&&◌, ◌||◌, nat_eq, nat_lt, List, [], ◌∷◌, ◌++◌, length, refl, sym, ◌∙◌, ap, subst, arith, slice_index_or, slice_set, inl, inr, ◌⊎◌, Option, Some, is_some}
 use Rattle.std.specs.List.{All, AllPairs}
 use Rattle.std.proofs.lemmas.Bool.{eq-eqb, eqb-false, eqb-true, ltb-false, ltb-true, ne_eqb}
@@ -8,25 +8,25 @@ use Rattle.std.proofs.lemmas.List.Elements.{All-append, All-cons}
 use Rattle.std.proofs.lemmas.List.Folds.{list_any-append, list_any_none}
 use Rattle.std.proofs.lemmas.List.Quantifiers.{all_pairs_push}
 use Rattle.fax_repeat.specs.Policies.{IsToldAs}
-use Rattle.fax_hold.specs.Holding.{HoldingValue}
-use Rattle.fax_hold.specs.Keeping.{Deed, HasDone, HoldsBehind, Turn}
-use Rattle.fax_line.specs.declared.settling.PageToKeep.{PageToKeep}
+use Rattle.fax_holding_wire.specs.Holding.{HoldingValue}
+use Rattle.fax_holding_wire.specs.Storing.{HasDone, HoldsAfter, LegAction, Turn}
+use Rattle.fax_line.specs.declared.settling.PageToStore.{PageToStore}
 use Rattle.fax_line.specs.Actions.{LineValue}
 use Rattle.fax_line.specs.Places.{PlaceValue}
-use Rattle.fax_line.specs.Deeds.{EachComes}
+use Rattle.fax_line.specs.Operations.{EachComes}
 use Rattle.fax_line.specs.Settling.{EndsAtOnce, EndsTurn, EndsWhere, HandsOver, IsOfTurn, IsPageOf, Waits, WaitsOrEnds, has_page, is_of, was_turned}
 
 -- by what ends the turn of its wire
 pub ends_by :
-    (is_kept confirms : Bool) (old new : LineValue) (before after : HoldingValue) → old.holding ≡ Some before → new.holding ≡ Some after → confirms ≡ is_some old.turned.kept
+    (is_stored confirms : Bool) (old new : LineValue) (before after : HoldingValue) → old.holding ≡ Some before → new.holding ≡ Some after → confirms ≡ is_some old.turned.kept
     → new.gateway ≡ old.gateway → new.driver ≡ old.driver → IsToldAs old.wire new.wire → new.peers ≡ old.peers → new.turned ≡ old.turned
-    → ((deeds : List Deed) (given : Option (List ℕ)) → HoldsBehind deeds given before → HasDone (Turn given confirms is_kept ∷ deeds) after) → EndsTurn is_kept old new
-ends_by is_kept confirms old new before after was is same gateway driver wire peers told done = record {
+    → ((operations : List LegAction) (given : Option (List ℕ)) → HoldsAfter operations given before → HasDone (Turn given confirms is_stored ∷ operations) after) → EndsTurn is_stored old new
+ends_by is_stored confirms old new before after was is same gateway driver wire peers told done = record {
   before = before;
   was = was;
   after = after;
   is = is;
-  done = λ deeds given holds. subst (λ (b : Bool). HasDone (Turn given b is_kept ∷ deeds) after) same (done deeds given holds);
+  done = λ operations given holds. subst (λ (b : Bool). HasDone (Turn given b is_stored ∷ operations) after) same (done operations given holds);
   gateway = gateway;
   driver = driver;
   wire = wire;
@@ -125,17 +125,17 @@ still_round comes slot round at olds lines is passes here before = record {
 
 -- ---- the pages of the lines are handed over
 
-abbrev pub waits : ℕ → List PageToKeep → ℕ → PlaceValue → PlaceValue → Type 0
+abbrev pub waits : ℕ → List PageToStore → ℕ → PlaceValue → PlaceValue → Type 0
 waits slot pages number place after = WaitsOrEnds (was_turned slot number place) (has_page pages number) place after
 
 -- the lines of so many rounds handed over these pages
-pub record HandedOver (slot round : ℕ) (olds lines : List PlaceValue) (pages : List PageToKeep) : Type 0 where
+pub record HandedOver (slot round : ℕ) (olds lines : List PlaceValue) (pages : List PageToStore) : Type 0 where
   pub rounds : Rounds (waits slot pages) round olds lines
   pub each : All (IsPageOf slot olds) pages
-  pub in_order : AllPairs (λ page behind. page.line < behind.line) pages
+  pub in_order : AllPairs (λ page after. page.line < after.line) pages
   pub early : All (λ page. page.line < round * 40) pages
 
-no_pages : (P : PageToKeep → Type 0) → All P []
+no_pages : (P : PageToStore → Type 0) → All P []
 no_pages P = λ k d low. absurd (omega arith)
 
 pub none_handed : (slot : ℕ) (lines : List PlaceValue) → HandedOver slot 0 lines lines []
@@ -147,7 +147,7 @@ none_handed slot lines = record {
 }
 
 -- none of a line of the rounds to come is among them
-none_early : (k i : ℕ) (pages : List PageToKeep) → All (λ page. page.line < k) pages → k ≤ i → has_page pages i ≡ false
+none_early : (k i : ℕ) (pages : List PageToStore) → All (λ page. page.line < k) pages → k ≤ i → has_page pages i ≡ false
 none_early k i pages early far =
     list_any_none (is_of i) pages (λ j d low. let lt : (slice_index_or pages j d).line < k = early j d low in ne_eqb (slice_index_or pages j d).line i (λ (same : (slice_index_or pages j d).line ≡ i). absurd (omega (arith, lt, same))))
 
@@ -161,11 +161,11 @@ or_so true y is = refl
 or_so false true is = refl
 or_so false false is = cc
 
-other_page : (pages : List PageToKeep) (page : PageToKeep) (i at : ℕ) → page.line ≡ at → i ≢ at → has_page (pages ++ page ∷ []) i ≡ has_page pages i
+other_page : (pages : List PageToStore) (page : PageToStore) (i at : ℕ) → page.line ≡ at → i ≢ at → has_page (pages ++ page ∷ []) i ≡ has_page pages i
 other_page pages page i at is other =
     list_any-append (is_of i) pages (page ∷ []) ∙ or_not (has_page pages i) (is_of i page) (ne_eqb page.line i (λ (same : page.line ≡ i). other (sym same ∙ is)))
 
-own_page : (pages : List PageToKeep) (page : PageToKeep) (at : ℕ) → page.line ≡ at → has_page (pages ++ page ∷ []) at ≡ true
+own_page : (pages : List PageToStore) (page : PageToStore) (at : ℕ) → page.line ≡ at → has_page (pages ++ page ∷ []) at ≡ true
 own_page pages page at is = list_any-append (is_of at) pages (page ∷ []) ∙ or_so (has_page pages at) (is_of at page) (eq-eqb page.line at is)
 
 passed_by : (a b has : Bool) (old new : PlaceValue) → a ≡ false ⊎ b ≡ false → has ≡ false → new ≡ old → WaitsOrEnds (a && b) has old new
@@ -176,7 +176,7 @@ passed_by true false false old new one none same = same
 passed_by false b true old new one none same = absurd (cc)
 passed_by false b false old new one none same = same
 
-passes : (slot round : ℕ) (pages : List PageToKeep) → All (λ page. page.line < round * 40) pages → PassesOver (waits slot pages) slot round
+passes : (slot round : ℕ) (pages : List PageToStore) → All (λ page. page.line < round * 40) pages → PassesOver (waits slot pages) slot round
 passes slot round pages early i place far off =
     passed_by (nat_eq (i % 40) slot) place.turned (has_page pages i) place place (inl (ne_eqb (i % 40) slot off)) (none_early (round * 40) i pages early far) refl
 
@@ -200,12 +200,12 @@ both_true false b x y = cc
 pub of_slot : (at round slot : ℕ) → at ≡ round * 40 + slot → slot < 40 → nat_eq (at % 40) slot ≡ true
 of_slot at round slot is low = eq-eqb (at % 40) slot (omega arith)
 
-later : (round : ℕ) (pages : List PageToKeep) → All (λ page. page.line < round * 40) pages → All (λ page. page.line < (round + 1) * 40) pages
+later : (round : ℕ) (pages : List PageToStore) → All (λ page. page.line < round * 40) pages → All (λ page. page.line < (round + 1) * 40) pages
 later round pages early k d low = let lt = early k d low in omega (arith, lt)
 
 -- no page joins those that are there
 none_joins :
-    (slot round at : ℕ) (olds lines : List PlaceValue) (new : PlaceValue) (pages : List PageToKeep) → at ≡ round * 40 + slot → slot < 40 → at < length lines
+    (slot round at : ℕ) (olds lines : List PlaceValue) (new : PlaceValue) (pages : List PageToStore) → at ≡ round * 40 + slot → slot < 40 → at < length lines
     → HandedOver slot round olds lines pages → ((d : PlaceValue) → waits slot pages at (slice_index_or olds at d) new) → HandedOver slot (round + 1) olds (slice_set lines at new) pages
 none_joins slot round at olds lines new pages is low inside before here = record {
   rounds = on_round (waits slot pages) slot round at olds lines new is low inside (passes slot round pages before.early) before.rounds here;
@@ -216,7 +216,7 @@ none_joins slot round at olds lines new pages is low inside before here = record
 
 -- or one does
 one_joins :
-    (slot round at : ℕ) (olds lines : List PlaceValue) (new : PlaceValue) (pages : List PageToKeep) (page : PageToKeep) → at ≡ round * 40 + slot → slot < 40 → at < length lines → page.line ≡ at
+    (slot round at : ℕ) (olds lines : List PlaceValue) (new : PlaceValue) (pages : List PageToStore) (page : PageToStore) → at ≡ round * 40 + slot → slot < 40 → at < length lines → page.line ≡ at
     → HandedOver slot round olds lines pages → IsPageOf slot olds page → ((d : PlaceValue) → waits slot (pages ++ page ∷ []) at (slice_index_or olds at d) new)
     → HandedOver slot (round + 1) olds (slice_set lines at new) (pages ++ page ∷ [])
 one_joins slot round at olds lines new pages page is low inside number before is_page here =
@@ -230,12 +230,12 @@ one_joins slot round at olds lines new pages page is low inside number before is
           before.rounds)
           here;
       each = All-append (IsPageOf slot olds) pages (page ∷ []) before.each (All-cons (IsPageOf slot olds) page [] is_page (no_pages (IsPageOf slot olds)));
-      in_order = all_pairs_push (λ (one behind : PageToKeep). one.line < behind.line) pages page before.in_order (λ k d there. let lt = before.early k d there in omega (arith, lt, number, is));
-      early = All-append (λ (p : PageToKeep). p.line < (round + 1) * 40) pages (page ∷ []) (later round pages before.early)
-          (All-cons (λ (p : PageToKeep). p.line < (round + 1) * 40) page [] high (no_pages (λ (p : PageToKeep). p.line < (round + 1) * 40)));
+      in_order = all_pairs_push (λ (one after : PageToStore). one.line < after.line) pages page before.in_order (λ k d there. let lt = before.early k d there in omega (arith, lt, number, is));
+      early = All-append (λ (p : PageToStore). p.line < (round + 1) * 40) pages (page ∷ []) (later round pages before.early)
+          (All-cons (λ (p : PageToStore). p.line < (round + 1) * 40) page [] high (no_pages (λ (p : PageToStore). p.line < (round + 1) * 40)));
     }
 
-page_of : (slot at : ℕ) (olds : List PlaceValue) (old : PlaceValue) (page : PageToKeep) → at < length olds → page.line ≡ at → ((d : PlaceValue) → old ≡ slice_index_or olds at d)
+page_of : (slot at : ℕ) (olds : List PlaceValue) (old : PlaceValue) (page : PageToStore) → at < length olds → page.line ≡ at → ((d : PlaceValue) → old ≡ slice_index_or olds at d)
     → nat_eq (at % 40) slot ≡ true → old.turned ≡ true → IsOfTurn old.line page → IsPageOf slot olds page
 page_of slot at olds old page there number is of_the turned is_of_turn =
     subst (λ (k : ℕ). k < length olds → IsPageOf slot olds page) number (λ inside. record {
@@ -247,45 +247,45 @@ page_of slot at olds old page there number is of_the turned is_of_turn =
     }) there
 
 handed_turned :
-    (slot round at : ℕ) (olds lines : List PlaceValue) (old new : PlaceValue) (pages after : List PageToKeep) → at ≡ round * 40 + slot → slot < 40 → at < length lines
+    (slot round at : ℕ) (olds lines : List PlaceValue) (old new : PlaceValue) (pages after : List PageToStore) → at ≡ round * 40 + slot → slot < 40 → at < length lines
     → ((d : PlaceValue) → old ≡ slice_index_or olds at d) → HandedOver slot round olds lines pages → old.turned ≡ true
     → Waits at old new pages after ⊎ EndsAtOnce old new pages after → HandedOver slot (round + 1) olds (slice_set lines at new) after
 handed_turned slot round at olds lines old new pages after is low inside was before turned (inl w) =
     let own = own_page pages w.page at w.number_is in
     let the_slot = of_slot at round slot is low in
     let there : at < length olds = omega (arith, before.rounds.as_many) in
-    subst (λ (l : List PageToKeep). HandedOver slot (round + 1) olds (slice_set lines at new) l) (sym w.joins)
+    subst (λ (l : List PageToStore). HandedOver slot (round + 1) olds (slice_set lines at new) l) (sym w.joins)
     (one_joins slot round at olds lines new pages w.page is low inside w.number_is before
     (page_of slot at olds old w.page there w.number_is was the_slot turned w.is_of_turn)
     (λ d. subst (λ (p : PlaceValue). waits slot (pages ++ w.page ∷ []) at p new) (was d) (waited (nat_eq (at % 40) slot) old.turned (has_page (pages ++ w.page ∷ []) at) old new the_slot turned own w.same)))
 handed_turned slot round at olds lines old new pages after is low inside was before turned (inr e) =
     let none = none_early (round * 40) at pages before.early (omega (arith, is)) in
-    subst (λ (l : List PageToKeep). HandedOver slot (round + 1) olds (slice_set lines at new) l) (sym e.same)
+    subst (λ (l : List PageToStore). HandedOver slot (round + 1) olds (slice_set lines at new) l) (sym e.same)
     (none_joins slot round at olds lines new pages is low inside before
     (λ d. subst (λ (p : PlaceValue). waits slot pages at p new) (was d) (ended (nat_eq (at % 40) slot) old.turned (has_page pages at) old new (of_slot at round slot is low) turned none e.ends)))
 
 handed_case :
-    (slot round at : ℕ) (olds lines : List PlaceValue) (old new : PlaceValue) (pages after : List PageToKeep) → at ≡ round * 40 + slot → slot < 40 → at < length lines
+    (slot round at : ℕ) (olds lines : List PlaceValue) (old new : PlaceValue) (pages after : List PageToStore) → at ≡ round * 40 + slot → slot < 40 → at < length lines
     → ((d : PlaceValue) → old ≡ slice_index_or olds at d) → HandedOver slot round olds lines pages → (b : Bool) → old.turned ≡ b
     → HandsOver b at old new pages after → HandedOver slot (round + 1) olds (slice_set lines at new) after
 handed_case slot round at olds lines old new pages after is low inside was before true turned hands =
     handed_turned slot round at olds lines old new pages after is low inside was before turned hands
 handed_case slot round at olds lines old new pages after is low inside was before false turned hands =
     let none = none_early (round * 40) at pages before.early (omega (arith, is)) in
-    subst (λ (l : List PageToKeep). HandedOver slot (round + 1) olds (slice_set lines at new) l) (sym hands.0)
+    subst (λ (l : List PageToStore). HandedOver slot (round + 1) olds (slice_set lines at new) l) (sym hands.0)
     (none_joins slot round at olds lines new pages is low inside before
     (λ d. subst (λ (p : PlaceValue). waits slot pages at p new) (was d) (passed_by (nat_eq (at % 40) slot) old.turned (has_page pages at) old new (inr turned) none hands.1)))
 
 -- the line of a round hands its page over, where it has one
 pub hands_on :
-    (slot round at : ℕ) (olds lines : List PlaceValue) (old new : PlaceValue) (pages after : List PageToKeep) → at ≡ round * 40 + slot → slot < 40 → at < length lines
+    (slot round at : ℕ) (olds lines : List PlaceValue) (old new : PlaceValue) (pages after : List PageToStore) → at ≡ round * 40 + slot → slot < 40 → at < length lines
     → ((d : PlaceValue) → old ≡ slice_index_or lines at d) → HandedOver slot round olds lines pages
     → HandsOver old.turned at old new pages after → HandedOver slot (round + 1) olds (slice_set lines at new) after
 hands_on slot round at olds lines old new pages after is low inside was before hands =
     handed_case slot round at olds lines old new pages after is low inside (λ d. was d ∙ before.rounds.to_come at d (omega (arith, is))) before old.turned refl hands
 
 -- or there is none
-pub hands_off : (slot round at : ℕ) (olds lines : List PlaceValue) (pages : List PageToKeep) → at ≡ round * 40 + slot → length lines ≤ at
+pub hands_off : (slot round at : ℕ) (olds lines : List PlaceValue) (pages : List PageToStore) → at ≡ round * 40 + slot → length lines ≤ at
     → HandedOver slot round olds lines pages → HandedOver slot (round + 1) olds lines pages
 hands_off slot round at olds lines pages is gone before = record {
   rounds = off_round (waits slot pages) slot round at olds lines is gone (passes slot round pages before.early) before.rounds;
@@ -296,60 +296,60 @@ hands_off slot round at olds lines pages is gone before = record {
 
 -- ---- the lines that wait end their turns
 
-abbrev pub ends_if : ℕ → List PageToKeep → Bool → ℕ → PlaceValue → PlaceValue → Type 0
-ends_if slot pages is_kept number = EndsWhere (nat_eq (number % 40) slot && has_page pages number) is_kept
+abbrev pub ends_if : ℕ → List PageToStore → Bool → ℕ → PlaceValue → PlaceValue → Type 0
+ends_if slot pages is_stored number = EndsWhere (nat_eq (number % 40) slot && has_page pages number) is_stored
 
-left_alone : (a b is_kept : Bool) (place : PlaceValue) → a ≡ false ⊎ b ≡ false → EndsWhere (a && b) is_kept place place
-left_alone true true is_kept place (inl e) = absurd (cc)
-left_alone true true is_kept place (inr e) = absurd (cc)
-left_alone true false is_kept place one = refl
-left_alone false b is_kept place one = refl
+left_alone : (a b is_stored : Bool) (place : PlaceValue) → a ≡ false ⊎ b ≡ false → EndsWhere (a && b) is_stored place place
+left_alone true true is_stored place (inl e) = absurd (cc)
+left_alone true true is_stored place (inr e) = absurd (cc)
+left_alone true false is_stored place one = refl
+left_alone false b is_stored place one = refl
 
-pub ends_passes : (slot round : ℕ) (pages : List PageToKeep) (is_kept : Bool) → PassesOver (ends_if slot pages is_kept) slot round
-ends_passes slot round pages is_kept i place far off = left_alone (nat_eq (i % 40) slot) (has_page pages i) is_kept place (inl (ne_eqb (i % 40) slot off))
+pub ends_passes : (slot round : ℕ) (pages : List PageToStore) (is_stored : Bool) → PassesOver (ends_if slot pages is_stored) slot round
+ends_passes slot round pages is_stored i place far off = left_alone (nat_eq (i % 40) slot) (has_page pages i) is_stored place (inl (ne_eqb (i % 40) slot off))
 
-ends_so : (a b is_kept : Bool) (old new : PlaceValue) → a ≡ true → b ≡ true → EndsWhere true is_kept old new → EndsWhere (a && b) is_kept old new
-ends_so true true is_kept old new x y ends = ends
-ends_so true false is_kept old new x y ends = absurd (cc)
-ends_so false b is_kept old new x y ends = absurd (cc)
+ends_so : (a b is_stored : Bool) (old new : PlaceValue) → a ≡ true → b ≡ true → EndsWhere true is_stored old new → EndsWhere (a && b) is_stored old new
+ends_so true true is_stored old new x y ends = ends
+ends_so true false is_stored old new x y ends = absurd (cc)
+ends_so false b is_stored old new x y ends = absurd (cc)
 
 -- the line of a round waits
 pub ends_on :
-    (slot round at : ℕ) (olds lines : List PlaceValue) (old new : PlaceValue) (pages : List PageToKeep) (is_kept : Bool) → at ≡ round * 40 + slot → slot < 40 → at < length lines
-    → ((d : PlaceValue) → old ≡ slice_index_or lines at d) → Rounds (ends_if slot pages is_kept) round olds lines → has_page pages at ≡ true
-    → EndsWhere true is_kept old new → Rounds (ends_if slot pages is_kept) (round + 1) olds (slice_set lines at new)
-ends_on slot round at olds lines old new pages is_kept is low inside was before has ends =
-    on_round (ends_if slot pages is_kept) slot round at olds lines new is low inside (ends_passes slot round pages is_kept) before
-    (λ d. subst (λ (p : PlaceValue). ends_if slot pages is_kept at p new) (was d ∙ before.to_come at d (omega (arith, is)))
-    (ends_so (nat_eq (at % 40) slot) (has_page pages at) is_kept old new (of_slot at round slot is low) has ends))
+    (slot round at : ℕ) (olds lines : List PlaceValue) (old new : PlaceValue) (pages : List PageToStore) (is_stored : Bool) → at ≡ round * 40 + slot → slot < 40 → at < length lines
+    → ((d : PlaceValue) → old ≡ slice_index_or lines at d) → Rounds (ends_if slot pages is_stored) round olds lines → has_page pages at ≡ true
+    → EndsWhere true is_stored old new → Rounds (ends_if slot pages is_stored) (round + 1) olds (slice_set lines at new)
+ends_on slot round at olds lines old new pages is_stored is low inside was before has ends =
+    on_round (ends_if slot pages is_stored) slot round at olds lines new is low inside (ends_passes slot round pages is_stored) before
+    (λ d. subst (λ (p : PlaceValue). ends_if slot pages is_stored at p new) (was d ∙ before.to_come at d (omega (arith, is)))
+    (ends_so (nat_eq (at % 40) slot) (has_page pages at) is_stored old new (of_slot at round slot is low) has ends))
 
 -- or it does not
-pub ends_off : (slot round at : ℕ) (olds lines : List PlaceValue) (pages : List PageToKeep) (is_kept : Bool) → at ≡ round * 40 + slot → has_page pages at ≡ false
-    → Rounds (ends_if slot pages is_kept) round olds lines → Rounds (ends_if slot pages is_kept) (round + 1) olds lines
-ends_off slot round at olds lines pages is_kept is none before =
-    still_round (ends_if slot pages is_kept) slot round at olds lines is (ends_passes slot round pages is_kept)
-    (λ d. left_alone (nat_eq (at % 40) slot) (has_page pages at) is_kept (slice_index_or olds at d) (inr none)) before
+pub ends_off : (slot round at : ℕ) (olds lines : List PlaceValue) (pages : List PageToStore) (is_stored : Bool) → at ≡ round * 40 + slot → has_page pages at ≡ false
+    → Rounds (ends_if slot pages is_stored) round olds lines → Rounds (ends_if slot pages is_stored) (round + 1) olds lines
+ends_off slot round at olds lines pages is_stored is none before =
+    still_round (ends_if slot pages is_stored) slot round at olds lines is (ends_passes slot round pages is_stored)
+    (λ d. left_alone (nat_eq (at % 40) slot) (has_page pages at) is_stored (slice_index_or olds at d) (inr none)) before
 
--- ---- one behind the other
+-- ---- one after the other
 
-joined : (a b has is_kept : Bool) (old mid new : PlaceValue) → WaitsOrEnds (a && b) has old mid → EndsWhere (a && has) is_kept mid new → EndsWhere (a && b) (has && is_kept) old new
-joined true true true is_kept old mid new same ends = subst (λ (p : PlaceValue). EndsWhere true is_kept p new) same ends
-joined true true false is_kept old mid new ends same = subst (λ (p : PlaceValue). EndsWhere true false old p) (sym same) ends
-joined true false true is_kept old mid new none ends = absurd none
-joined true false false is_kept old mid new first then = then ∙ first
-joined false b true is_kept old mid new none ends = absurd none
-joined false b false is_kept old mid new first then = then ∙ first
+joined : (a b has is_stored : Bool) (old mid new : PlaceValue) → WaitsOrEnds (a && b) has old mid → EndsWhere (a && has) is_stored mid new → EndsWhere (a && b) (has && is_stored) old new
+joined true true true is_stored old mid new same ends = subst (λ (p : PlaceValue). EndsWhere true is_stored p new) same ends
+joined true true false is_stored old mid new ends same = subst (λ (p : PlaceValue). EndsWhere true false old p) (sym same) ends
+joined true false true is_stored old mid new none ends = absurd none
+joined true false false is_stored old mid new first then = then ∙ first
+joined false b true is_stored old mid new none ends = absurd none
+joined false b false is_stored old mid new first then = then ∙ first
 
 pub slot_ends :
-    (slot : ℕ) (pages : List PageToKeep) (is_kept : Bool) (olds mids news : List PlaceValue) → EachComes (waits slot pages) olds mids → EachComes (ends_if slot pages is_kept) mids news
-    → EachComes (λ number place. EndsWhere (was_turned slot number place) (has_page pages number && is_kept) place) olds news
-slot_ends slot pages is_kept olds mids news first then = record {
+    (slot : ℕ) (pages : List PageToStore) (is_stored : Bool) (olds mids news : List PlaceValue) → EachComes (waits slot pages) olds mids → EachComes (ends_if slot pages is_stored) mids news
+    → EachComes (λ number place. EndsWhere (was_turned slot number place) (has_page pages number && is_stored) place) olds news
+slot_ends slot pages is_stored olds mids news first then = record {
   as_many = then.as_many ∙ first.as_many;
-  each = λ i d there. joined (nat_eq (i % 40) slot) (slice_index_or olds i d).turned (has_page pages i) is_kept (slice_index_or olds i d) (slice_index_or mids i d) (slice_index_or news i d)
+  each = λ i d there. joined (nat_eq (i % 40) slot) (slice_index_or olds i d).turned (has_page pages i) is_stored (slice_index_or olds i d) (slice_index_or mids i d) (slice_index_or news i d)
       (first.each i d there) (then.each i d (omega (arith, first.as_many)));
 }
 
--- ---- where pages are not kept
+-- ---- where pages are not stored
 
 abbrev pub out_if : ℕ → ℕ → PlaceValue → PlaceValue → Type 0
 out_if slot number place = EndsWhere (was_turned slot number place) true place

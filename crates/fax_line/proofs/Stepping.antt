@@ -5,7 +5,7 @@ use Rattle.std.proofs.lemmas.Grind.{get_or-set_at}
 use Rattle.std.proofs.lemmas.List.{get_or-map, get_or-set_other, length-set}
 use Rattle.std.proofs.lemmas.List.Elements.{All-append, All-cons}
 use Rattle.fax_line.specs.Actions.{Action}
-use Rattle.fax_line.specs.Deeds.{AreBegun, AreNew, EachGoes, rests_at}
+use Rattle.fax_line.specs.Operations.{AreBegun, AreNew, EachGoes, rests_at}
 use Rattle.fax_line.specs.Places.{GoesInPlace, IsBegun, IsNewPlace, PlaceValue, is_at_rest}
 use Rattle.fax_line.proofs.Places.{place_more, place_none}
 
@@ -58,7 +58,7 @@ none_goes actions at lines high = record {
   each = λ i d lt. none_of actions at lines high i d (nat_eq i at) refl lt;
 }
 
--- ---- the lines of a slot, one behind the other
+-- ---- the lines of a slot, one after the other
 
 -- those of the first rounds
 abbrev pub done_of : (ℕ → List Action) → ℕ → ℕ → ℕ → List Action
@@ -169,11 +169,11 @@ one_settled at lines new there goes = told_on at lines lines new there goes (eac
 none_new : AreNew []
 none_new = λ k d low. absurd (omega arith)
 
-pub new_behind : (lines : List PlaceValue) (line : PlaceValue) → AreNew lines → IsNewPlace line → AreNew (lines ++ line ∷ [])
-new_behind lines line are is = All-append IsNewPlace lines (line ∷ []) are (All-cons IsNewPlace line [] is none_new)
+pub new_after : (lines : List PlaceValue) (line : PlaceValue) → AreNew lines → IsNewPlace line → AreNew (lines ++ line ∷ [])
+new_after lines line are is = All-append IsNewPlace lines (line ∷ []) are (All-cons IsNewPlace line [] is none_new)
 
 none_begun : AreBegun []
 none_begun = λ k d low. absurd (omega arith)
 
-pub begun_behind : (lines : List PlaceValue) (line : PlaceValue) → AreBegun lines → IsBegun line → AreBegun (lines ++ line ∷ [])
-begun_behind lines line are is = All-append IsBegun lines (line ∷ []) are (All-cons IsBegun line [] is none_begun)
+pub begun_after : (lines : List PlaceValue) (line : PlaceValue) → AreBegun lines → IsBegun line → AreBegun (lines ++ line ∷ [])
+begun_after lines line are is = All-append IsBegun lines (line ∷ []) are (All-cons IsBegun line [] is none_begun)

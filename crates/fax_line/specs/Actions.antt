@@ -5,26 +5,26 @@ use Rattle.fax_call.specs.Writings.{IsWriting, Writing}
 use Rattle.fax_gateway.specs.declared.fault.PlaceFault.{PlaceFault}
 use Rattle.fax_gateway.specs.declared.fault.PlaceFault.TheVariants as place_faults
 use Rattle.fax_gateway.specs.declared.fault.RingFault.{RingFault}
-use Rattle.fax_gateway.specs.declared.side.Side.{Side}
-use Rattle.fax_gateway.specs.declared.side.Side.TheVariants as side
-use Rattle.fax_gateway.specs.declared.turned.Turned.{Turned}
-use Rattle.fax_gateway.specs.Asking.{asked_behind}
+use Rattle.fax_gateway.specs.declared.leg.Leg.{Leg}
+use Rattle.fax_gateway.specs.declared.leg.Leg.TheVariants as legs
+use Rattle.fax_gateway.specs.declared.turn_report.TurnReport.{TurnReport}
+use Rattle.fax_gateway.specs.Asking.{asked_after}
 use Rattle.fax_gateway.specs.Due.{due_at}
 use Rattle.fax_gateway.specs.Events.{Event, Placed, Ring}
 use Rattle.fax_gateway.specs.Reached.{GatewayValue, IsReachedBy}
 use Rattle.fax_gateway.specs.Restored.{RestoredCall}
 use Rattle.fax_gateway.specs.Setups.{AreSetWith, Setup}
-use Rattle.fax_gateway.specs.Wires.{Known}
+use Rattle.fax_gateway.specs.Wires.{KnownWire}
 use Rattle.fax_gateway.specs.Driving.{Accepts, DriverValue, Entry, HasMade, Happens, IsTurn, RefusesRing, events, failed_in_a_row, most_failed, receipts}
-use Rattle.fax_gateway.specs.Turns.{TellTicks, call_kept}
+use Rattle.fax_gateway.specs.Turns.{TellTicks, call_of_rep}
 use Rattle.fax_repeat.specs.Peers.{Peers}
 use Rattle.fax_repeat.specs.Policies.{IsToldAs}
-use Rattle.fax_hold.specs.Holding.{CeasesWhere, HoldingValue, IsToldTimeWhere, StaysWhere, TellsWhere}
-use Rattle.fax_hold.specs.Keeping.{HoldsByLog}
-use Rattle.fax_line.specs.declared.asked.Answered.{Answered}
-use Rattle.fax_line.specs.declared.asked.Answered.TheVariants as answered
-use Rattle.fax_line.specs.declared.asked.Asked.{Asked}
-use Rattle.fax_line.specs.declared.asked.Asked.TheVariants as asked
+use Rattle.fax_holding_wire.specs.Holding.{CeasesWhere, HoldingValue, IsToldTimeWhere, StaysWhere, TellsWhere}
+use Rattle.fax_holding_wire.specs.Storing.{HoldsByLog}
+use Rattle.fax_line.specs.declared.asked.LineAnswer.{LineAnswer}
+use Rattle.fax_line.specs.declared.asked.LineAnswer.TheVariants as answered
+use Rattle.fax_line.specs.declared.asked.LineRequest.{LineRequest}
+use Rattle.fax_line.specs.declared.asked.LineRequest.TheVariants as asked
 use Rattle.fax_line.specs.LegPeers.{HearBoth, TurnsPeers}
 
 -- its gateway, what drives that, what is known of its wire and from when on that has something to do, what the wire holds back
@@ -32,14 +32,14 @@ use Rattle.fax_line.specs.LegPeers.{HearBoth, TurnsPeers}
 pub record LineValue : Type 0 where
   pub gateway : GatewayValue
   pub driver : DriverValue
-  pub wire : Known
+  pub wire : KnownWire
   pub wire_due : Option ℕ
   pub holding : Option HoldingValue
   pub peers : Peers
-  pub turned : Turned
+  pub turned : TurnReport
 
 -- before the first turn
-abbrev pub no_turn : Turned
+abbrev pub no_turn : TurnReport
 no_turn = record { goes_on = true; report = None; kept = None; refused = None; ended = None; gave_up = None; dialled = None; asked = None }
 
 -- What is done with a line: it is turned, or left at rest where it has its turn; something is asked of it, which it answers; or it
@@ -47,7 +47,7 @@ no_turn = record { goes_on = true; report = None; kept = None; refused = None; e
 pub data Action : Type 0 where
   Turns : (now : ℕ) → Action
   Rests : (now : ℕ) → Action
-  Asks : (now : ℕ) → (what : Asked) → (answer : Option Answered) → Action
+  Asks : (now : ℕ) → (what : LineRequest) → (answer : Option LineAnswer) → Action
   Wakes : Action
 
 -- the log of a ring: the call of this number begins, or it is refused for this cause
@@ -55,25 +55,25 @@ abbrev pub IsRung : ℕ → Result ℕ RingFault → List Entry → Type 0
 IsRung now (Ok number) log = log ≡ Accepts (Ring now number) ∷ []
 IsRung now (Err fault) log = log ≡ RefusesRing fault ∷ []
 
--- The log of a placing, behind this trace: the call of the job that is asked for begins, connected or not. Refused it is where none is
+-- The log of a placing, after this trace: the call of the job that is asked for begins, connected or not. Refused it is where none is
 -- asked for, or for want of memory; then nothing happens.
 abbrev pub IsPlaced : Setup → Writing → List Event → ℕ → Bool → Result (Unit {0}) PlaceFault → List Entry → Type 0
 IsPlaced setup writes trace now connected (Ok done) log = log ≡ Accepts (Placed now connected) ∷ []
-IsPlaced setup writes trace now connected (Err fault) log = (log ≡ []) × (fault ≡ place_faults.NotAsked ↔ asked_behind setup writes trace ≡ None)
+IsPlaced setup writes trace now connected (Err fault) log = (log ≡ []) × (fault ≡ place_faults.NotAsked ↔ asked_after setup writes trace ≡ None)
 
 -- what a placing answers
 abbrev pub Placing : Type 0
 Placing = Result (Unit {0}) PlaceFault
 
 -- what asks for a placing, connected or not
-abbrev pub IsPlacing : Bool → Asked → Type 0
+abbrev pub IsPlacing : Bool → LineRequest → Type 0
 IsPlacing true (asked.Connect connecting) = Unit {0}
 IsPlacing false asked.NotConnected = Unit {0}
 IsPlacing connected what = ⊥
 
--- THE LOG OF WHAT IS ASKED OF A LINE, behind this trace: a line that is there answers, and to what it was asked. A peer, and that its
+-- THE LOG OF WHAT IS ASKED OF A LINE, after this trace: a line that is there answers, and to what it was asked. A peer, and that its
 -- call is gone, are no events of the gateway; and where there is no way to a peer nothing happens.
-abbrev pub IsAsked : Setup → Writing → List Event → ℕ → Asked → Option Answered → List Entry → Type 0
+abbrev pub IsAsked : Setup → Writing → List Event → ℕ → LineRequest → Option LineAnswer → List Entry → Type 0
 IsAsked setup writes trace now (asked.Ring ringing) (Some (answered.Rung result)) log = IsRung now result log
 IsAsked setup writes trace now (asked.Peer peering) (Some answered.Done) log = log ≡ []
 IsAsked setup writes trace now (asked.Peer peering) (Some answered.NoRoute) log = log ≡ []
@@ -83,7 +83,7 @@ IsAsked setup writes trace now asked.NotConnected (Some (answered.Placed result)
 IsAsked setup writes trace now (asked.HangUp hanging_up) (Some answered.Done) log = log ≡ []
 IsAsked setup writes trace now what answer log = ⊥
 
--- Left at rest, behind this trace: nothing is done, and what is due lies later, so that a tick would have given nothing.
+-- Left at rest, after this trace: nothing is done, and what is due lies later, so that a tick would have given nothing.
 abbrev pub IsRest : Setup → Writing → List Event → ℕ → List Entry → Type 0
 IsRest setup writes trace now log = (log ≡ []) × (is_due (due_at setup writes trace) now ≡ false)
 
@@ -93,7 +93,7 @@ IsStep setup writes trace (Rests now) log = IsRest setup writes trace now log
 IsStep setup writes trace (Asks now what answer) log = IsAsked setup writes trace now what answer log
 IsStep setup writes trace Wakes log = log ≡ []
 
--- the log of these actions, one after the other, behind this trace
+-- the log of these actions, one after the other, after this trace
 abbrev pub AreSteps : Setup → Writing → List Event → List Action → List Entry → Type 0
 AreSteps setup writes trace [] log = log ≡ []
 AreSteps setup writes trace (action ∷ earlier) log =
@@ -129,7 +129,7 @@ pub record TellsTurn (now : ℕ) (old new : LineValue) : Type 0 where
       × TellTicks setup trace (events log ++ trace) new.turned.report new.turned.kept new.turned.refused new.turned.gave_up × HoldsByLog log old.holding new.holding
   pub peers :
       (setup : Setup) (writes : Writing) (trace : List Event) (earlier : List Entry) → IsWriting writes → IsReachedBy setup writes trace old.gateway → HasMade earlier old.driver
-      → TurnsPeers (is_some new.turned.report) (is_some (call_kept old.gateway.calling)) (is_some old.gateway.book.sending) old.peers new.peers
+      → TurnsPeers (is_some new.turned.report) (is_some (call_of_rep old.gateway.calling)) (is_some old.gateway.book.sending) old.peers new.peers
   pub time :
       (setup : Setup) (writes : Writing) (trace : List Event) (earlier : List Entry) → IsWriting writes → IsReachedBy setup writes trace old.gateway → HasMade earlier old.driver
       → IsToldTimeWhere now old.holding new.holding
@@ -143,24 +143,24 @@ pub record TellsWire (old new : LineValue) : Type 0 where
   pub turned : new.turned ≡ old.turned
 
 -- the leg on which a call begins by what was asked: by a ring the calling one, by a placing the called one
-abbrev pub side_begun : Option Answered → Option Side
-side_begun (Some (answered.Rung (Ok number))) = Some side.Calling
-side_begun (Some (answered.Rung (Err fault))) = None
-side_begun (Some (answered.Placed (Ok done))) = Some side.Called
-side_begun (Some (answered.Placed (Err fault))) = None
-side_begun (Some answered.NoRoute) = None
-side_begun (Some answered.Done) = None
-side_begun None = None
+abbrev pub leg_begun : Option LineAnswer → Option Leg
+leg_begun (Some (answered.Rung (Ok number))) = Some legs.Calling
+leg_begun (Some (answered.Rung (Err fault))) = None
+leg_begun (Some (answered.Placed (Ok done))) = Some legs.Called
+leg_begun (Some (answered.Placed (Err fault))) = None
+leg_begun (Some answered.NoRoute) = None
+leg_begun (Some answered.Done) = None
+leg_begun None = None
 
--- What was handed over there before is sent no more; of the calling leg nothing is held back then, and it is not mute. Where no call
+-- What was handed over there before is sent no more; of the calling leg nothing is held back then, and it is not silenced. Where no call
 -- begins what the wire holds back stays.
-abbrev pub Frees : Option Side → Option HoldingValue → Option HoldingValue → Type 0
+abbrev pub Frees : Option Leg → Option HoldingValue → Option HoldingValue → Type 0
 Frees (Some at) old new = CeasesWhere at old new
 Frees None old new = StaysWhere old new
 
 -- Where no call begins nothing changes of the line by a ring, or where a machine was not reached; by anything else nothing but the
 -- peers of its legs, and what its wire makes of that.
-abbrev pub IsRefused : Asked → LineValue → LineValue → Type 0
+abbrev pub IsRefused : LineRequest → LineValue → LineValue → Type 0
 IsRefused (asked.Ring ringing) old new = new ≡ old
 IsRefused asked.NotConnected old new = new ≡ old
 IsRefused what old new = TellsWire old new

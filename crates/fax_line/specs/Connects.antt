@@ -6,20 +6,20 @@ use Rattle.fax_gateway.specs.Driving.{Entry, events}
 use Rattle.fax_gateway.specs.Events.{Event, Given, Tick}
 use Rattle.fax_gateway.specs.Setups.{Setup}
 use Rattle.fax_gateway.specs.Traces.{IsTrace}
-use Rattle.fax_line.specs.declared.asked.Answered.TheVariants as answered
-use Rattle.fax_line.specs.declared.asked.Asked.TheVariants as asked
-use Rattle.fax_line.specs.declared.asked.Connecting.{Connecting}
+use Rattle.fax_line.specs.declared.asked.LineAnswer.TheVariants as answered
+use Rattle.fax_line.specs.declared.asked.LineRequest.TheVariants as asked
+use Rattle.fax_line.specs.declared.asked.ConnectRequest.{ConnectRequest}
 use Rattle.fax_line.specs.Actions.{Action, AreSteps, Asks, Placing}
 
 -- Among these actions it was asked of the line at this moment that the call which it asks for begins, and that was done.
 pub record WasConnected (actions : List Action) (at : ℕ) : Type 0 where
   pub later : List Action
-  pub connecting : Connecting
+  pub connecting : ConnectRequest
   pub earlier : List Action
   pub split : actions ≡ later ++ Asks at (asked.Connect connecting) (Some (answered.Placed (Ok tt))) ∷ earlier
 
 -- A datagram leaves in the call of a job, which has not ended: at its placing the job was asked for, and there it was connected.
-pub record GivesBehindConnect (setup : Setup) (writes : Writing) (actions : List Action) (earlier : List Event) : Type 0 where
+pub record GivesAfterConnect (setup : Setup) (writes : Writing) (actions : List Action) (earlier : List Event) : Type 0 where
   pub gives : GivesInCall setup writes earlier
   pub placed : WasPlaced setup writes earlier gives.l
   pub connected : WasConnected actions placed.at
@@ -28,4 +28,4 @@ pub record GivesBehindConnect (setup : Setup) (writes : Writing) (actions : List
 abbrev pub JobsWaitForConnects : Type 0
 JobsWaitForConnects =
     (setup : Setup) (writes : Writing) (actions : List Action) (log : List Entry) (later : List Event) (at : ℕ) (given : Given) (earlier : List Event) (datagram : List ℕ) → setup.asks ≡ true
-    → AreSteps setup writes [] actions log → IsTrace setup writes (events log) → events log ≡ later ++ Tick at given ∷ earlier → given.on_called ≡ Some datagram → GivesBehindConnect setup writes actions earlier
+    → AreSteps setup writes [] actions log → IsTrace setup writes (events log) → events log ≡ later ++ Tick at given ∷ earlier → given.on_called ≡ Some datagram → GivesAfterConnect setup writes actions earlier

@@ -4,8 +4,8 @@ use Rattle.std.specs.Prelude.{◌≡◌, ◌<◌, ℕ, max, Bool, true, false, n
 use Rattle.std.specs.declared.net.socket_addr.SocketAddr.{SocketAddr}
 use Rattle.fax_call.specs.Writings.{IsWriting, Writing}
 use Rattle.fax_jobs.specs.declared.report.Report.{Report}
-use Rattle.fax_gateway.specs.declared.side.Side.{Side}
-use Rattle.fax_gateway.specs.declared.side.Side.TheVariants as side
+use Rattle.fax_gateway.specs.declared.leg.Leg.{Leg}
+use Rattle.fax_gateway.specs.declared.leg.Leg.TheVariants as legs
 use Rattle.fax_gateway.specs.Driving.{Entry, HasMade}
 use Rattle.fax_gateway.specs.Events.{Event}
 use Rattle.fax_gateway.specs.Reached.{IsReachedBy}
@@ -13,50 +13,50 @@ use Rattle.fax_gateway.specs.Setups.{Setup}
 use Rattle.fax_repeat.specs.declared.peers.Bounds.{Bounds}
 use Rattle.fax_repeat.specs.declared.peers.Peer.{Peer}
 use Rattle.fax_repeat.specs.Peers.{PeerValue}
-use Rattle.fax_line.specs.declared.asked.Answered.{Answered}
-use Rattle.fax_line.specs.declared.asked.Answered.TheVariants as answered
-use Rattle.fax_line.specs.declared.asked.Asked.{Asked}
-use Rattle.fax_line.specs.declared.asked.Asked.TheVariants as asked
-use Rattle.fax_line.specs.declared.settling.PageToKeep.{PageToKeep}
+use Rattle.fax_line.specs.declared.asked.LineAnswer.{LineAnswer}
+use Rattle.fax_line.specs.declared.asked.LineAnswer.TheVariants as answered
+use Rattle.fax_line.specs.declared.asked.LineRequest.{LineRequest}
+use Rattle.fax_line.specs.declared.asked.LineRequest.TheVariants as asked
+use Rattle.fax_line.specs.declared.settling.PageToStore.{PageToStore}
 use Rattle.fax_line.specs.declared.settling.SlotEnd.{SlotEnd}
 use Rattle.fax_line.specs.Actions.{LineValue}
-use Rattle.fax_line.specs.Deeds.{slot_of}
-use Rattle.fax_line.specs.KeptRuns.{Ran, RanWithout}
+use Rattle.fax_line.specs.Operations.{slot_of}
+use Rattle.fax_line.specs.StoredRuns.{IsRun, RanWithout}
 use Rattle.fax_line.specs.Places.{PlaceValue}
-use Rattle.fax_line.specs.Runs.{AskedOf, Done, Turned, Woken, next_slot}
+use Rattle.fax_line.specs.Runs.{AskedOf, DoneOrder, Turned, Woken, next_slot}
 
 -- a peer that a leg was given, if it is the called one
-abbrev pub given_on : Side → Peer → Option Peer → Option Peer
-given_on side.Calling peer before = before
-given_on side.Called peer before = Some peer
+abbrev pub given_on : Leg → Peer → Option Peer → Option Peer
+given_on legs.Calling peer before = before
+given_on legs.Called peer before = Some peer
 
 -- WHAT THE CALLED LEG IS GIVEN by what is asked of a line, which it answered so: the peer that was said, or of which it was said that it
 -- answered; and none where no call began to it, or where the machine was not reached.
-abbrev pub given_by : Asked → Option Answered → Option Peer → Option Peer
-given_by (asked.Peer peering) (Some answered.Done) before = given_on peering.side peering.peer before
+abbrev pub given_by : LineRequest → Option LineAnswer → Option Peer → Option Peer
+given_by (asked.Peer peering) (Some answered.Done) before = given_on peering.leg peering.peer before
 given_by (asked.Connect connecting) (Some (answered.Placed (Ok done))) before = Some connecting.peer
 given_by (asked.Connect connecting) (Some (answered.Placed (Err fault))) before = None
 given_by asked.NotConnected (Some (answered.Placed (Ok done))) before = None
 given_by what answer before = before
 
 -- in a turn, in which a job was reported or not
-abbrev pub given_behind : Bool → Option Peer → Option Peer
-given_behind true before = None
-given_behind false before = before
+abbrev pub given_after : Bool → Option Peer → Option Peer
+given_after true before = None
+given_after false before = before
 
 -- whether the line of this number, which was turned or left at rest in the turn of a slot, reported a job in it
 abbrev pub has_reported : ℕ → (ℕ → Bool) → ℕ → PlaceValue → Bool
 has_reported slot rests number turned = nat_eq (slot_of number) slot && (not (rests number) && is_some turned.line.turned.report)
 
 -- what it is given in a whole run, which begins with this
-abbrev pub given_in : {K : Type 0} (same : K → K → Type 0) (puts : List PageToKeep → Bool → K → K → Type 0) (notes : ℕ → ℕ → K → K → Type 0) (ends : ℕ → Report → K → K → Type 0)
-    (number : ℕ) (other : PlaceValue) (start : Option Peer) (first : ℕ) (done : List Done) (settled : List SlotEnd) (old new : List PlaceValue) (before after : K)
-    → Ran same puts notes ends first done settled old new before after → Option Peer
+abbrev pub given_in : {K : Type 0} (same : K → K → Type 0) (puts : List PageToStore → Bool → K → K → Type 0) (notes : ℕ → ℕ → K → K → Type 0) (ends : ℕ → Report → K → K → Type 0)
+    (number : ℕ) (other : PlaceValue) (start : Option Peer) (first : ℕ) (done : List DoneOrder) (settled : List SlotEnd) (old new : List PlaceValue) (before after : K)
+    → IsRun same puts notes ends first done settled old new before after → Option Peer
 given_in same puts notes ends number other start first [] [] old new before after ran = start
 given_in same puts notes ends number other start first [] (end ∷ settled) old new before after ran = start
 given_in same puts notes ends number other start first (Turned now rests ∷ done) [] old new before after ran = start
 given_in same puts notes ends number other start first (Turned now rests ∷ done) (end ∷ settled) old new before after ran =
-    given_behind (has_reported (next_slot first done) rests number (slice_index_or ran.1 number other)) (given_in same puts notes ends number other start first done settled old ran.0 before ran.2 ran.3)
+    given_after (has_reported (next_slot first done) rests number (slice_index_or ran.1 number other)) (given_in same puts notes ends number other start first done settled old ran.0 before ran.2 ran.3)
 given_in same puts notes ends number other start first (AskedOf line now what answer ∷ done) settled old new before after ran =
     let earlier = given_in same puts notes ends number other start first done settled old ran.0 before after ran.1 in
     if nat_eq number line then given_by what answer earlier else earlier
@@ -82,18 +82,18 @@ abbrev pub IsSomewhere : Setup → Writing → LineValue → Type 0
 IsSomewhere setup writes line = (trace : List Event) × (earlier : List Entry) × IsReachedBy setup writes trace line.gateway × HasMade earlier line.driver
 
 -- OVER A RUN THE PEER OF A CALLED LEG IS THE ONE THAT IT WAS GIVEN last, with no report of a job since; else there is none.
-abbrev pub CalledPeersAreGiven : {K : Type 0} → (K → K → Type 0) → (List PageToKeep → Bool → K → K → Type 0) → (ℕ → ℕ → K → K → Type 0) → (ℕ → Report → K → K → Type 0) → Type 0
+abbrev pub CalledPeersAreGiven : {K : Type 0} → (K → K → Type 0) → (List PageToStore → Bool → K → K → Type 0) → (ℕ → ℕ → K → K → Type 0) → (ℕ → Report → K → K → Type 0) → Type 0
 CalledPeersAreGiven {K} same puts notes ends =
-    (setup : Setup) (writes : Writing) (number : ℕ) (other : PlaceValue) (start : Option Peer) (first : ℕ) (done : List Done) (settled : List SlotEnd) (old new : List PlaceValue) (before after : K)
+    (setup : Setup) (writes : Writing) (number : ℕ) (other : PlaceValue) (start : Option Peer) (first : ℕ) (done : List DoneOrder) (settled : List SlotEnd) (old new : List PlaceValue) (before after : K)
     → IsWriting writes → number < length old → IsSomewhere setup writes (slice_index_or old number other).line → IsGiven start (slice_index_or old number other).line.peers.called
-    → (ran : Ran same puts notes ends first done settled old new before after)
+    → (ran : IsRun same puts notes ends first done settled old new before after)
     → IsGiven (given_in same puts notes ends number other start first done settled old new before after ran) (slice_index_or new number other).line.peers.called
 
--- the same where there is no keeper
-abbrev pub given_without : (number : ℕ) (other : PlaceValue) (start : Option Peer) (first : ℕ) (done : List Done) (old new : List PlaceValue) → RanWithout first done old new → Option Peer
+-- the same where there is no store
+abbrev pub given_without : (number : ℕ) (other : PlaceValue) (start : Option Peer) (first : ℕ) (done : List DoneOrder) (old new : List PlaceValue) → RanWithout first done old new → Option Peer
 given_without number other start first [] old new ran = start
 given_without number other start first (Turned now rests ∷ done) old new ran =
-    given_behind (has_reported (next_slot first done) rests number (slice_index_or ran.1 number other)) (given_without number other start first done old ran.0 ran.2)
+    given_after (has_reported (next_slot first done) rests number (slice_index_or ran.1 number other)) (given_without number other start first done old ran.0 ran.2)
 given_without number other start first (AskedOf line now what answer ∷ done) old new ran =
     let earlier = given_without number other start first done old ran.0 ran.1 in
     if nat_eq number line then given_by what answer earlier else earlier
@@ -101,6 +101,6 @@ given_without number other start first (Woken line ∷ done) old new ran = given
 
 abbrev pub CalledPeersAreGivenWithout : Type 0
 CalledPeersAreGivenWithout =
-    (setup : Setup) (writes : Writing) (number : ℕ) (other : PlaceValue) (start : Option Peer) (first : ℕ) (done : List Done) (old new : List PlaceValue)
+    (setup : Setup) (writes : Writing) (number : ℕ) (other : PlaceValue) (start : Option Peer) (first : ℕ) (done : List DoneOrder) (old new : List PlaceValue)
     → IsWriting writes → number < length old → IsSomewhere setup writes (slice_index_or old number other).line → IsGiven start (slice_index_or old number other).line.peers.called
     → (ran : RanWithout first done old new) → IsGiven (given_without number other start first done old new ran) (slice_index_or new number other).line.peers.called

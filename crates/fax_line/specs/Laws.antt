@@ -6,10 +6,10 @@ use Rattle.fax_gateway.specs.Driving.{Entry, events}
 use Rattle.fax_gateway.specs.Due.{due_at}
 use Rattle.fax_gateway.specs.Events.{clock}
 use Rattle.fax_gateway.specs.Setups.{Setup}
-use Rattle.fax_line.specs.declared.asked.Answered.{Answered}
-use Rattle.fax_line.specs.declared.asked.Asked.{Asked}
+use Rattle.fax_line.specs.declared.asked.LineAnswer.{LineAnswer}
+use Rattle.fax_line.specs.declared.asked.LineRequest.{LineRequest}
 use Rattle.fax_line.specs.Actions.{Action, AreSteps, Asks, Rests, Turns, Wakes}
-use Rattle.fax_line.specs.Deeds.{AskFrees}
+use Rattle.fax_line.specs.Operations.{AskFrees}
 use Rattle.fax_line.specs.Places.{PlaceValue}
 
 -- the moments of what is done with a line never go back, up to this one
@@ -31,5 +31,5 @@ RestsMissNothing =
 -- WHAT IS ASKED OF ONE LINE leaves every other one as it was.
 abbrev pub OthersStay : Type 0
 OthersStay =
-    (line : ℕ) (what : Asked) (answer : Option Answered) (old new : List PlaceValue) → AskFrees line what answer old new
+    (line : ℕ) (what : LineRequest) (answer : Option LineAnswer) (old new : List PlaceValue) → AskFrees line what answer old new
     → (number : ℕ) (other : PlaceValue) → number < length old → nat_eq number line ≡ false → slice_index_or new number other ≡ slice_index_or old number other

@@ -1,8 +1,8 @@
 pub mod Actions
 pub mod Connects
-pub mod Deeds
+pub mod Operations
 pub mod GivenPeers
-pub mod KeptRuns
+pub mod StoredRuns
 pub mod Laws
 pub mod LegPeers
 pub mod Pacing

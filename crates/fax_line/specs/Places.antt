@@ -7,7 +7,7 @@ use Rattle.fax_gateway.specs.Events.{Event}
 use Rattle.fax_gateway.specs.Reached.{IsReachedBy}
 use Rattle.fax_gateway.specs.Setups.{Setup}
 use Rattle.fax_gateway.specs.Restored.{RestoredCall}
-use Rattle.fax_hold.specs.Holding.{StaysWhere}
+use Rattle.fax_holding_wire.specs.Holding.{StaysWhere}
 use Rattle.fax_line.specs.Actions.{Action, Asks, BeginsWith, Goes, LineValue, Rests, TellsTurn, Turns, Wakes}
 
 -- the line, from when on something is due on it, whether it was woken since it was turned last, and whether it was turned in
@@ -39,7 +39,7 @@ abbrev pub TellsOrRests : ℕ → Bool → PlaceValue → PlaceValue → Type 0
 TellsOrRests now true old new = (new.turned ≡ false) × StaysHeld old new
 TellsOrRests now false old new = (new.turned ≡ true) × TellsTurn now old.line new.line
 
--- whether it is awake behind these actions: woken, and not turned since
+-- whether it is awake after these actions: woken, and not turned since
 abbrev pub is_awake : Bool → List Action → Bool
 is_awake before [] = before
 is_awake before (Turns now ∷ earlier) = false

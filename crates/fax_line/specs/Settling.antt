@@ -1,5 +1,5 @@
--- What is kept of the pages that the turns of a slot confirmed, and what goes out behind that. Lists have the oldest first, but
--- those of deeds. (This project's profile.)
+-- What is stored of the pages that the turns of a slot confirmed, and what goes out after that. Lists have the oldest first, but
+-- those of operations. (This project's profile.)
 use Rattle.std.specs.Prelude.{◌≡◌, ◌<◌, ℕ, Bool, true, false, ◌&&◌, nat_eq, List, [], ◌∷◌, ◌++◌, length, slice_index_or, Option, Some, None, is_some, is_ok, ◌⊎◌}
 use Rattle.std.specs.List.{All, AllPairs, list_any}
 use Rattle.fax_bits.specs.Writing.{IsPadded}
@@ -9,42 +9,42 @@ use Rattle.fax_pagestore.specs.WrittenPages.{WritesPage}
 use Rattle.fax_jobs.specs.Newest.{newest_page}
 use Rattle.fax_gateway.specs.declared.given.Kept.{Kept}
 use Rattle.fax_repeat.specs.Policies.{IsToldAs}
-use Rattle.fax_hold.specs.Holding.{HoldingValue}
-use Rattle.fax_hold.specs.Keeping.{Deed, HasDone, HoldsBehind, Turn}
+use Rattle.fax_holding_wire.specs.Holding.{HoldingValue}
+use Rattle.fax_holding_wire.specs.Storing.{HasDone, HoldsAfter, LegAction, Turn}
 use Rattle.fax_line.specs.Actions.{LineValue}
 use Rattle.fax_line.specs.Places.{PlaceValue}
-use Rattle.fax_line.specs.Deeds.{EachComes, slot_of}
-use Rattle.fax_line.specs.declared.settling.PageToKeep.{PageToKeep}
+use Rattle.fax_line.specs.Operations.{EachComes, slot_of}
+use Rattle.fax_line.specs.declared.settling.PageToStore.{PageToStore}
 use Rattle.fax_line.specs.declared.settling.SlotEnd.{SlotEnd}
 
 -- what the turn told of it, and its text in two-dimensional coding, without fill: it is the newest page of the gateway's book
-pub record IsKeptAs (kept : Kept) (newest : Option PageValue) (to_keep : PageToKeep) : Type 0 where
-  pub told : to_keep.kept ≡ kept
+pub record IsStoredAs (kept : Kept) (newest : Option PageValue) (to_store : PageToStore) : Type 0 where
+  pub told : to_store.kept ≡ kept
   pub page : PageValue
   pub newest_is : newest ≡ Some page
   pub text : List Bool
   pub writes : WritesPage codings.Mr page.format.fine 0 page.rows text
-  pub octets : IsPadded to_keep.text text
+  pub octets : IsPadded to_store.text text
 
 -- the last turn of a line confirmed this page
-pub record IsOfTurn (line : LineValue) (page : PageToKeep) : Type 0 where
+pub record IsOfTurn (line : LineValue) (page : PageToStore) : Type 0 where
   pub kept : Kept
   pub told : line.turned.kept ≡ Some kept
-  pub is_kept_as : IsKeptAs kept (newest_page line.gateway.book) page
+  pub is_stored_as : IsStoredAs kept (newest_page line.gateway.book) page
 
 -- what the last turn of the line of this number confirmed: a page, or none
-abbrev pub IsOfTurnIf : ℕ → LineValue → Option PageToKeep → Type 0
+abbrev pub IsOfTurnIf : ℕ → LineValue → Option PageToStore → Type 0
 IsOfTurnIf number line None = line.turned.kept ≡ None
 IsOfTurnIf number line (Some page) = (page.line ≡ number) × IsOfTurn line page
 
--- THE END OF A LINE'S TURN, whose page is kept or not: its wire has done one turn more, whatever it did before, of which that tells
+-- THE END OF A LINE'S TURN, whose page is stored or not: its wire has done one turn more, whatever it did before, of which that tells
 -- nothing; the rest of the line is as it was.
-pub record EndsTurn (is_kept : Bool) (old new : LineValue) : Type 0 where
+pub record EndsTurn (is_stored : Bool) (old new : LineValue) : Type 0 where
   pub before : HoldingValue
   pub was : old.holding ≡ Some before
   pub after : HoldingValue
   pub is : new.holding ≡ Some after
-  pub done : (deeds : List Deed) (given : Option (List ℕ)) → HoldsBehind deeds given before → HasDone (Turn given (is_some old.turned.kept) is_kept ∷ deeds) after
+  pub done : (operations : List LegAction) (given : Option (List ℕ)) → HoldsAfter operations given before → HasDone (Turn given (is_some old.turned.kept) is_stored ∷ operations) after
   pub gateway : new.gateway ≡ old.gateway
   pub driver : new.driver ≡ old.driver
   pub wire : IsToldAs old.wire new.wire
@@ -52,71 +52,71 @@ pub record EndsTurn (is_kept : Bool) (old new : LineValue) : Type 0 where
   pub told : new.turned ≡ old.turned
 
 -- whether a page is of the line of this number, and whether one of these is
-abbrev pub is_of : ℕ → PageToKeep → Bool
+abbrev pub is_of : ℕ → PageToStore → Bool
 is_of number page = nat_eq page.line number
 
-abbrev pub has_page : List PageToKeep → ℕ → Bool
+abbrev pub has_page : List PageToStore → ℕ → Bool
 has_page pages number = list_any (is_of number) pages
 
--- a page was kept where it was handed to the keeper, and that kept what it was handed
-abbrev pub is_kept_in : SlotEnd → ℕ → Bool
-is_kept_in end number = has_page end.pages.items number && is_ok end.answer
+-- a page was stored where it was handed to the store, and that stored what it was handed
+abbrev pub is_stored_in : SlotEnd → ℕ → Bool
+is_stored_in end number = has_page end.pages.items number && is_ok end.answer
 
 -- whether the line of this number was turned in the last turn of this slot
 abbrev pub was_turned : ℕ → ℕ → PlaceValue → Bool
 was_turned slot number place = nat_eq (slot_of number) slot && place.turned
 
 -- a line of a slot confirmed this page in the slot's last turn
-pub record IsPageOf (slot : ℕ) (lines : List PlaceValue) (page : PageToKeep) : Type 0 where
+pub record IsPageOf (slot : ℕ) (lines : List PlaceValue) (page : PageToStore) : Type 0 where
   pub there : page.line < length lines
   pub turned : (other : PlaceValue) → was_turned slot page.line (slice_index_or lines page.line other) ≡ true
   pub is_of_turn : (other : PlaceValue) → IsOfTurn (slice_index_or lines page.line other).line page
 
 -- PAGES OF A SLOT'S TURN, in the order of its lines, one of a line at most
-pub record ArePagesOf (slot : ℕ) (lines : List PlaceValue) (pages : List PageToKeep) : Type 0 where
+pub record ArePagesOf (slot : ℕ) (lines : List PlaceValue) (pages : List PageToStore) : Type 0 where
   pub each : All (IsPageOf slot lines) pages
-  pub in_order : AllPairs (λ page behind. page.line < behind.line) pages
+  pub in_order : AllPairs (λ page after. page.line < after.line) pages
 
 -- where a line had a turn, that ends; else the line stays as it was
 abbrev pub EndsWhere : Bool → Bool → PlaceValue → PlaceValue → Type 0
-EndsWhere true is_kept old new = EndsTurn is_kept old.line new.line × (new.turned ≡ old.turned)
-EndsWhere false is_kept old new = new ≡ old
+EndsWhere true is_stored old new = EndsTurn is_stored old.line new.line × (new.turned ≡ old.turned)
+EndsWhere false is_stored old new = new ≡ old
 
--- THE END OF A SLOT'S TURN, where the pages of these lines are kept: the turn of each line that had one ends by itself, and no
+-- THE END OF A SLOT'S TURN, where the pages of these lines are stored: the turn of each line that had one ends by itself, and no
 -- other line is touched.
 abbrev pub EndsSlot : ℕ → (ℕ → Bool) → List PlaceValue → List PlaceValue → Type 0
-EndsSlot slot is_kept old new = EachComes (λ number place. EndsWhere (was_turned slot number place) (is_kept number) place) old new
+EndsSlot slot is_stored old new = EachComes (λ number place. EndsWhere (was_turned slot number place) (is_stored number) place) old new
 
--- Where pages are not kept it ends as where all of them are: what each line gave goes out.
+-- Where pages are not stored it ends as where all of them are: what each line gave goes out.
 abbrev pub LetsOutSlot : ℕ → List PlaceValue → List PlaceValue → Type 0
 LetsOutSlot slot old new = EndsSlot slot (λ number. true) old new
 
--- ---- before the pages are kept
+-- ---- before the pages are stored
 
--- The page that a line's turn confirmed joins those that are to be kept, and the line waits for that;
-pub record Waits (number : ℕ) (old new : PlaceValue) (before after : List PageToKeep) : Type 0 where
-  pub page : PageToKeep
+-- The page that a line's turn confirmed joins those that are to be stored, and the line waits for that;
+pub record Waits (number : ℕ) (old new : PlaceValue) (before after : List PageToStore) : Type 0 where
+  pub page : PageToStore
   pub joins : after ≡ before ++ page ∷ []
   pub number_is : page.line ≡ number
   pub is_of_turn : IsOfTurn old.line page
   pub same : new ≡ old
 
 -- or its turn ends without one.
-pub record EndsAtOnce (old new : PlaceValue) (before after : List PageToKeep) : Type 0 where
+pub record EndsAtOnce (old new : PlaceValue) (before after : List PageToStore) : Type 0 where
   pub same : after ≡ before
   pub ends : EndsWhere true false old new
 
 -- where a line had a turn
-abbrev pub HandsOver : Bool → ℕ → PlaceValue → PlaceValue → List PageToKeep → List PageToKeep → Type 0
+abbrev pub HandsOver : Bool → ℕ → PlaceValue → PlaceValue → List PageToStore → List PageToStore → Type 0
 HandsOver true number old new before after = Waits number old new before after ⊎ EndsAtOnce old new before after
 HandsOver false number old new before after = (after ≡ before) × (new ≡ old)
 
--- A line that had a turn waits where its page is to be kept, and its turn has ended where it has none.
+-- A line that had a turn waits where its page is to be stored, and its turn has ended where it has none.
 abbrev pub WaitsOrEnds : Bool → Bool → PlaceValue → PlaceValue → Type 0
 WaitsOrEnds true true old new = new ≡ old
 WaitsOrEnds true false old new = EndsWhere true false old new
 WaitsOrEnds false true old new = ⊥
 WaitsOrEnds false false old new = new ≡ old
 
-abbrev pub HandsOverSlot : ℕ → List PageToKeep → List PlaceValue → List PlaceValue → Type 0
+abbrev pub HandsOverSlot : ℕ → List PageToStore → List PlaceValue → List PlaceValue → Type 0
 HandsOverSlot slot pages old new = EachComes (λ number place. WaitsOrEnds (was_turned slot number place) (has_page pages number) place) old new

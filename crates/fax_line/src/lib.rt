@@ -2,13 +2,12 @@
 //!
 //! What is done with a line, and what comes of it, is told in `specs/Actions`; when it is left at rest, in `specs/Places`; who
 //! the peers of its legs are, in `specs/LegPeers`, `specs/GivenPeers` and `specs/Connects`; what is done with all lines, in
-//! `specs/Deeds`; what is ordered and answered in a whole run, in `specs/Runs`; what is kept of the pages that a slot's turns
-//! confirmed, before what confirms them goes out, in `specs/Settling`; and that a run does so behind each turn, in
-//! `specs/KeptRuns`.
+//! `specs/Operations`; what is ordered and answered in a whole run, in `specs/Runs`; what is stored of the pages that a slot's turns
+//! confirmed, before what confirms them goes out, in `specs/Settling`; and that a run does so after each turn, in
+//! `specs/StoredRuns`.
 #![tactic(auto)]
 
 mod asked;
-mod keeper;
 pub mod laws;
 mod line;
 mod lines;
@@ -16,11 +15,12 @@ mod order;
 mod place;
 mod run;
 mod settling;
+mod store;
 
-pub use asked::{Answered, Asked, Connecting, HangingUp, Peering, Ringing};
-pub use keeper::RunKeeper;
+pub use asked::{ConnectRequest, HangingUp, LineAnswer, LineRequest, PeerRequest, RingRequest};
 pub use line::Line;
 pub use lines::{Lines, SLOTS};
 pub use order::{Order, Pace};
 pub use run::serve;
-pub use settling::{PageToKeep, SlotEnd};
+pub use settling::{PageToStore, SlotEnd};
+pub use store::RunStore;

@@ -2,36 +2,36 @@
 ghost use Rattle.std.specs.Prelude.{◌≡◌, List, [], ◌∷◌, ℕ, Some, None, IfOk, OnErr, OnOk, Err, IsTrue, ◌↔◌, ◌<◌, ◌≤◌, false, true, length, is_some, option_copied, map, slice_get};
 ghost use Rattle.fax_timers.specs.Moments.{earlier};
 ghost use Rattle.fax_call.specs.Writings.{Writing};
-ghost use Rattle.fax_gateway.specs.Asking.{asked_behind};
+ghost use Rattle.fax_gateway.specs.Asking.{asked_after};
 ghost use Rattle.fax_gateway.specs.CallingLegs.{calling_leg, idle_after};
 ghost use Rattle.fax_gateway.specs.Due.{due_at};
 ghost use Rattle.fax_gateway.specs.Driving.{Entry, HasMade, failed_in_a_row, most_failed, receipts};
 ghost use Rattle.fax_gateway.specs.Events.{Event, Placed, rings};
 ghost use Rattle.fax_gateway.specs.Reached.{IsReachedBy};
 ghost use Rattle.fax_gateway.specs.Setups.{AreAllowed, Setup};
-ghost use Rattle.fax_gateway.specs.Sides.{job_asked};
-ghost use Rattle.fax_gateway.specs.Turns.{call_asked, call_dialled, call_ended, call_if_new, call_kept};
+ghost use Rattle.fax_gateway.specs.BothLegs.{job_asked};
+ghost use Rattle.fax_gateway.specs.Turns.{call_asked, call_dialled, call_ended, call_if_new, call_of_rep};
 ghost use Rattle.fax_gateway.specs.Restored.{call_shown};
-ghost use Rattle.fax_line.specs.Actions.{Asks, BeginsWith, Drives, Frees, Goes, IsNew, IsPlacing, IsRefused, Placing, TellsTurn, TellsWire, Turns, no_turn, side_begun};
-ghost use Rattle.fax_line.specs.LegPeers.{cut_if, peers_behind, settled_both};
-ghost use Rattle.fax_line.specs.declared.asked.Answered.TheVariants as answered;
-ghost use Rattle.fax_line.specs.declared.asked.Asked.{Asked as AskedShown};
-ghost use Rattle.fax_line.specs.declared.asked.Asked.TheVariants as asked;
-ghost use Rattle.fax_line.specs.declared.asked.Connecting.{Connecting as ConnectingShown};
-ghost use Rattle.fax_line.specs.declared.asked.Ringing.{Ringing as RingingShown};
-ghost use Rattle.fax_gateway.specs.declared.side.Side.TheVariants as side_shown;
-ghost use Rattle.fax_hold.specs.Holding.{CeasesWhere, IsToldTimeWhere, StaysWhere};
+ghost use Rattle.fax_line.specs.Actions.{Asks, BeginsWith, Drives, Frees, Goes, IsNew, IsPlacing, IsRefused, Placing, TellsTurn, TellsWire, Turns, leg_begun, no_turn};
+ghost use Rattle.fax_line.specs.LegPeers.{cut_if, peers_after, settled_both};
+ghost use Rattle.fax_line.specs.declared.asked.LineAnswer.TheVariants as answered;
+ghost use Rattle.fax_line.specs.declared.asked.LineRequest.{LineRequest as AskedShown};
+ghost use Rattle.fax_line.specs.declared.asked.LineRequest.TheVariants as asked;
+ghost use Rattle.fax_line.specs.declared.asked.ConnectRequest.{ConnectRequest as ConnectingShown};
+ghost use Rattle.fax_line.specs.declared.asked.RingRequest.{RingRequest as RingingShown};
+ghost use Rattle.fax_gateway.specs.declared.leg.Leg.TheVariants as leg_shown;
+ghost use Rattle.fax_holding_wire.specs.Holding.{CeasesWhere, IsToldTimeWhere, StaysWhere};
 ghost use Rattle.fax_repeat.specs.Peers.{bounded, change_on, cut_off, gone, no_bounds, peer_on, peers_of, said, settled, state_of};
 ghost use Rattle.fax_repeat.specs.Policies.{due_of};
 ghost use Rattle.fax_line.specs.Settling.{EndsTurn, IsOfTurnIf};
 
-use crate::asked::{Answered, Asked, Connecting, HangingUp, Peering, Ringing};
-use crate::settling::{PageToKeep, page_to_keep};
+use crate::asked::{ConnectRequest, HangingUp, LineAnswer, LineRequest, PeerRequest, RingRequest};
+use crate::settling::{PageToStore, page_to_store};
 use fax_bits::NoMemory;
 use fax_gateway::{
-    Buffer, Engine, Gateway, PlaceFault, RestoredCall, RingFault, Settings, Side, Turned,
+    Buffer, Engine, Gateway, Leg, PlaceFault, RestoredCall, RingFault, Settings, TurnReport,
 };
-use fax_hold::{HoldingWire, KeepFault, LineWire, end_turn};
+use fax_holding_wire::{HoldingWire, LineWire, StoreFault, end_turn};
 use fax_jobs::{Job, Report};
 use fax_pagestore::PackedRows;
 use fax_repeat::{Bounds, LegState, NoRoute, Peer, TimedWire};
@@ -46,7 +46,7 @@ pub struct Line<W: LineWire + Drop> {
     engine: Engine,
     wire: W,
     /// What the last turn told.
-    turned: Turned,
+    turned: TurnReport,
 }
 
 impl<W: LineWire + Drop> Model for Line<W> {
@@ -76,7 +76,7 @@ impl<W: LineWire + Drop> Line<W> {
         Line::restore(alloc, settings, Vec::new(alloc), wire)
     }
 
-    /// The same behind a crash: it begins with the pages that an earlier life of it confirmed and whose jobs had not ended, the
+    /// The same after a crash: it begins with the pages that an earlier life of it confirmed and whose jobs had not ended, the
     /// oldest call first, and takes a ring at once.
     pub fn restore(
         alloc: Global,
@@ -98,7 +98,7 @@ impl<W: LineWire + Drop> Line<W> {
             gateway,
             engine: Engine::new(),
             wire,
-            turned: Turned {
+            turned: TurnReport {
                 goes_on: true,
                 report: None,
                 kept: None,
@@ -111,26 +111,26 @@ impl<W: LineWire + Drop> Line<W> {
         })
     }
 
-    /// A turn: both legs are settled, the wire is told the time, and the gateway is driven, with this buffer. What it told is kept
+    /// A turn: both legs are settled, the wire is told the time, and the gateway is driven, with this buffer. What it told is stored
     /// until the next. Where a job was reported the called leg is cut.
     pub fn turn(&mut self, buffer: &mut Buffer, now: u64)
         ensures goes { Goes (Turns now ∷ []) self.old self.new }
         ensures tells { TellsTurn now self.old self.new }
-        ensures ended { self.new.turned.ended ≡ call_ended (call_kept self.old.gateway.calling) (call_kept self.new.gateway.calling) }
+        ensures ended { self.new.turned.ended ≡ call_ended (call_of_rep self.old.gateway.calling) (call_of_rep self.new.gateway.calling) }
         ensures dialled { self.new.turned.dialled ≡ call_dialled (is_some self.old.gateway.book.sending) self.new.gateway.book.sending }
         ensures asked { self.new.turned.asked ≡ call_if_new (call_asked (job_asked self.old.gateway.settings.asks self.old.gateway.book)) (call_asked (job_asked self.new.gateway.settings.asks self.new.gateway.book)) }
     {
         self.settle_peers();
         self.drive(buffer, now);
         let has_report = self.has_report();
-        self.cut_if(Side::Called, has_report);
+        self.cut_if(Leg::Called, has_report);
     }
 
     /// The wire is told the time, and the gateway is driven.
     fn drive(&mut self, buffer: &mut Buffer, now: u64)
         ensures goes { Goes (Turns now ∷ []) self.old self.new }
         ensures drives { Drives now self.old self.new }
-        ensures ended { self.new.turned.ended ≡ call_ended (call_kept self.old.gateway.calling) (call_kept self.new.gateway.calling) }
+        ensures ended { self.new.turned.ended ≡ call_ended (call_of_rep self.old.gateway.calling) (call_of_rep self.new.gateway.calling) }
         ensures dialled { self.new.turned.dialled ≡ call_dialled (is_some self.old.gateway.book.sending) self.new.gateway.book.sending }
         ensures asked { self.new.turned.asked ≡ call_if_new (call_asked (job_asked self.old.gateway.settings.asks self.old.gateway.book)) (call_asked (job_asked self.new.gateway.settings.asks self.new.gateway.book)) }
     {
@@ -143,12 +143,12 @@ impl<W: LineWire + Drop> Line<W> {
     /// Of the calls of its peers no more is known where no call is on.
     fn settle_peers(&mut self)
         ensures tells { TellsWire self.old self.new }
-        ensures peers { self.new.peers ≡ settled_both (is_some (call_kept self.old.gateway.calling)) (is_some self.old.gateway.book.sending) self.old.peers }
+        ensures peers { self.new.peers ≡ settled_both (is_some (call_of_rep self.old.gateway.calling)) (is_some self.old.gateway.book.sending) self.old.peers }
     {
         let is_on = self.is_on();
         let is_sending = self.is_sending();
-        self.settle(Side::Calling, is_on);
-        self.settle(Side::Called, is_sending);
+        self.settle(Leg::Calling, is_on);
+        self.settle(Leg::Called, is_sending);
     }
 
     /// Whether the last turn reported a job.
@@ -160,7 +160,7 @@ impl<W: LineWire + Drop> Line<W> {
 
     /// Whether a call is on on the calling leg.
     fn is_on(&self) -> bool
-        ensures { result ≡ is_some (call_kept self.now.gateway.calling) }
+        ensures { result ≡ is_some (call_of_rep self.now.gateway.calling) }
     {
         self.call().is_some()
     }
@@ -173,125 +173,125 @@ impl<W: LineWire + Drop> Line<W> {
     }
 
     /// A leg is cut, or not.
-    fn cut_if(&mut self, side: Side, is_cut: bool)
+    fn cut_if(&mut self, leg: Leg, is_cut: bool)
         ensures tells { TellsWire self.old self.new }
-        ensures peers { self.new.peers ≡ cut_if side is_cut self.old.peers }
+        ensures peers { self.new.peers ≡ cut_if leg is_cut self.old.peers }
     {
         if is_cut {
-            self.cut(side);
+            self.cut(leg);
         }
     }
 
     /// From now on a leg has this peer. An `Err`: there is no way to it, and the leg has the peer that it had.
-    fn set_peer(&mut self, side: Side, peer: Peer) -> Result<(), NoRoute>
+    fn set_peer(&mut self, leg: Leg, peer: Peer) -> Result<(), NoRoute>
         ensures tells { TellsWire self.old self.new }
-        ensures said { OnOk result (self.new.peers ≡ change_on side (said peer) self.old.peers) }
+        ensures said { OnOk result (self.new.peers ≡ change_on leg (said peer) self.old.peers) }
         ensures err { OnErr result (self.new.peers ≡ self.old.peers) }
     {
-        self.wire.set_peer(side, peer)
+        self.wire.set_peer(leg, peer)
     }
 
     /// From now on a leg has no peer, but where the line has one for ever.
-    fn cut(&mut self, side: Side)
+    fn cut(&mut self, leg: Leg)
         ensures tells { TellsWire self.old self.new }
-        ensures peers { self.new.peers ≡ change_on side cut_off self.old.peers }
+        ensures peers { self.new.peers ≡ change_on leg cut_off self.old.peers }
     {
-        self.wire.cut(side);
+        self.wire.cut(leg);
     }
 
     /// A call begins on a leg, whose datagrams are bounded so.
-    fn begin(&mut self, side: Side, bounds: Bounds)
+    fn begin(&mut self, leg: Leg, bounds: Bounds)
         ensures tells { TellsWire self.old self.new }
-        ensures peers { self.new.peers ≡ change_on side (bounded bounds) self.old.peers }
+        ensures peers { self.new.peers ≡ change_on leg (bounded bounds) self.old.peers }
     {
-        self.wire.begin(side, bounds);
+        self.wire.begin(leg, bounds);
     }
 
     /// The call of the peer of a leg is gone.
-    fn hang_up(&mut self, side: Side)
+    fn hang_up(&mut self, leg: Leg)
         ensures tells { TellsWire self.old self.new }
-        ensures peers { self.new.peers ≡ change_on side gone self.old.peers }
+        ensures peers { self.new.peers ≡ change_on leg gone self.old.peers }
     {
-        self.wire.hang_up(side);
+        self.wire.hang_up(leg);
     }
 
     /// A turn begins, and the call of a leg is on or not.
-    fn settle(&mut self, side: Side, is_on: bool)
+    fn settle(&mut self, leg: Leg, is_on: bool)
         ensures tells { TellsWire self.old self.new }
-        ensures peers { self.new.peers ≡ change_on side (settled is_on) self.old.peers }
+        ensures peers { self.new.peers ≡ change_on leg (settled is_on) self.old.peers }
     {
-        self.wire.settle(side, is_on);
+        self.wire.settle(leg, is_on);
     }
 
     /// The wire is told the time, between two turns.
-    pub fn tell_time(&mut self, now: u64)
+    pub fn tell_time(&mut self, moment: u64)
         ensures goes { Goes [] self.old self.new }
-        ensures time { IsToldTimeWhere now self.old.holding self.new.holding }
+        ensures time { IsToldTimeWhere moment self.old.holding self.new.holding }
         ensures stays { StaysWhere self.old.holding self.new.holding }
         ensures peers { self.new.peers ≡ self.old.peers }
         ensures turned { self.new.turned ≡ self.old.turned }
     {
-        self.wire.go_on(now);
+        self.wire.go_on(moment);
     }
 
     /// This is asked of it. Where a call begins, what was handed over on its leg before is sent no more; where none does, nothing
     /// changes but the peers of its legs, where it was told of them.
-    pub fn ask(&mut self, what: Asked, now: u64) -> Answered
+    pub fn ask(&mut self, what: LineRequest, now: u64) -> LineAnswer
         ensures goes { Goes (Asks now what (Some result) ∷ []) self.old self.new }
-        ensures frees { Frees (side_begun (Some result)) self.old.holding self.new.holding }
-        ensures peers { self.new.peers ≡ peers_behind what (Some result) self.old.peers }
-        ensures refused { side_begun (Some result) ≡ None → IsRefused what self.old self.new }
+        ensures frees { Frees (leg_begun (Some result)) self.old.holding self.new.holding }
+        ensures peers { self.new.peers ≡ peers_after what (Some result) self.old.peers }
+        ensures refused { leg_begun (Some result) ≡ None → IsRefused what self.old self.new }
         ensures turned { self.new.turned ≡ self.old.turned }
     {
         match what {
-            Asked::Ring(ringing) => Answered::Rung(self.ring(ringing, now)),
-            Asked::Peer(peering) => self.take_peer(peering, now),
-            Asked::Connect(connecting) => self.connect(connecting, now),
-            Asked::NotConnected => Answered::Placed(self.not_connected(now)),
-            Asked::HangUp(hanging_up) => self.hear_gone(hanging_up, now),
+            LineRequest::Ring(ringing) => LineAnswer::Rung(self.ring(ringing, now)),
+            LineRequest::Peer(peering) => self.take_peer(peering, now),
+            LineRequest::Connect(connecting) => self.connect(connecting, now),
+            LineRequest::NotConnected => LineAnswer::Placed(self.not_connected(now)),
+            LineRequest::HangUp(hanging_up) => self.hear_gone(hanging_up, now),
         }
     }
 
     /// From now on a leg has this peer.
-    fn take_peer(&mut self, peering: Peering, now: u64) -> Answered
+    fn take_peer(&mut self, peering: PeerRequest, now: u64) -> LineAnswer
         ensures goes { Goes (Asks now (asked.Peer peering) (Some result) ∷ []) self.old self.new }
-        ensures begun { side_begun (Some result) ≡ None }
-        ensures peers { self.new.peers ≡ peers_behind (asked.Peer peering) (Some result) self.old.peers }
+        ensures begun { leg_begun (Some result) ≡ None }
+        ensures peers { self.new.peers ≡ peers_after (asked.Peer peering) (Some result) self.old.peers }
         ensures tells { TellsWire self.old self.new }
     {
-        match self.set_peer(peering.side, peering.peer) {
-            Ok(()) => Answered::Done,
-            Err(NoRoute) => Answered::NoRoute,
+        match self.set_peer(peering.leg, peering.peer) {
+            Ok(()) => LineAnswer::Done,
+            Err(NoRoute) => LineAnswer::NoRoute,
         }
     }
 
     /// The call of the peer of a leg is gone.
-    fn hear_gone(&mut self, hanging_up: HangingUp, now: u64) -> Answered
+    fn hear_gone(&mut self, hanging_up: HangingUp, now: u64) -> LineAnswer
         ensures goes { Goes (Asks now (asked.HangUp hanging_up) (Some result) ∷ []) self.old self.new }
-        ensures begun { side_begun (Some result) ≡ None }
-        ensures peers { self.new.peers ≡ peers_behind (asked.HangUp hanging_up) (Some result) self.old.peers }
+        ensures begun { leg_begun (Some result) ≡ None }
+        ensures peers { self.new.peers ≡ peers_after (asked.HangUp hanging_up) (Some result) self.old.peers }
         ensures tells { TellsWire self.old self.new }
     {
-        self.hang_up(hanging_up.side);
-        Answered::Done
+        self.hang_up(hanging_up.leg);
+        LineAnswer::Done
     }
 
     /// A ring. It answers the number of the call that begins; what was handed over on the calling leg before is sent no more.
-    pub fn ring(&mut self, ringing: Ringing, now: u64) -> Result<u32, RingFault>
+    pub fn ring(&mut self, ringing: RingRequest, now: u64) -> Result<u32, RingFault>
         ensures goes { Goes (Asks now (asked.Ring ringing) (Some (answered.Rung result)) ∷ []) self.old self.new }
         ensures busy { (setup : Setup) (writes : Writing) (trace : List Event) → IsReachedBy setup writes trace self.old.gateway
             → result ≡ Err RingFault.Busy ↔ (idle_after (calling_leg setup trace) ≡ false) }
         ensures no_number { (setup : Setup) (writes : Writing) (trace : List Event) → IsReachedBy setup writes trace self.old.gateway → idle_after (calling_leg setup trace) ≡ true
             → result ≡ Err RingFault.NoNumber ↔ (4294967296 ≤ rings trace) }
-        ensures freed { OnOk result (CeasesWhere side_shown.Calling self.old.holding self.new.holding) }
-        ensures peers { self.new.peers ≡ peers_behind (asked.Ring ringing) (Some (answered.Rung result)) self.old.peers }
+        ensures freed { OnOk result (CeasesWhere leg_shown.Calling self.old.holding self.new.holding) }
+        ensures peers { self.new.peers ≡ peers_after (asked.Ring ringing) (Some (answered.Rung result)) self.old.peers }
         ensures err { OnErr result (self.new ≡ self.old) }
         ensures turned { self.new.turned ≡ self.old.turned }
     {
         match self.accept_ring(now) {
             Ok(number) => {
-                self.cut_if(Side::Calling, ringing.forgets_peer);
-                self.begin(Side::Calling, ringing.bounds);
+                self.cut_if(Leg::Calling, ringing.forgets_peer);
+                self.begin(Leg::Calling, ringing.bounds);
                 Ok(number)
             }
             Err(fault) => Err(fault),
@@ -305,14 +305,14 @@ impl<W: LineWire + Drop> Line<W> {
             → result ≡ Err RingFault.Busy ↔ (idle_after (calling_leg setup trace) ≡ false) }
         ensures no_number { (setup : Setup) (writes : Writing) (trace : List Event) → IsReachedBy setup writes trace self.old.gateway → idle_after (calling_leg setup trace) ≡ true
             → result ≡ Err RingFault.NoNumber ↔ (4294967296 ≤ rings trace) }
-        ensures freed { OnOk result (CeasesWhere side_shown.Calling self.old.holding self.new.holding) }
+        ensures freed { OnOk result (CeasesWhere leg_shown.Calling self.old.holding self.new.holding) }
         ensures peers { self.new.peers ≡ self.old.peers }
         ensures err { OnErr result (self.new ≡ self.old) }
         ensures turned { self.new.turned ≡ self.old.turned }
     {
         match self.gateway.ring(now) {
             Ok(number) => {
-                self.wire.cease(Side::Calling);
+                self.wire.cease(Leg::Calling);
                 Ok(number)
             }
             Err(fault) => Err(fault),
@@ -321,19 +321,19 @@ impl<W: LineWire + Drop> Line<W> {
 
     /// The called machine of the job whose call is asked for has answered, and is this peer: the call begins, and what was handed
     /// over on the called leg before is sent no more. Where there is no way to the peer nothing is done; where no call begins the leg
-    /// has no peer behind it.
-    pub fn connect(&mut self, connecting: Connecting, now: u64) -> Answered
+    /// has no peer after it.
+    pub fn connect(&mut self, connecting: ConnectRequest, now: u64) -> LineAnswer
         ensures goes { Goes (Asks now (asked.Connect connecting) (Some result) ∷ []) self.old self.new }
         ensures not_asked { (placed : Placing) → result ≡ answered.Placed placed → (setup : Setup) (writes : Writing) (trace : List Event) → IsReachedBy setup writes trace self.old.gateway
-            → placed ≡ Err PlaceFault.NotAsked ↔ (asked_behind setup writes trace ≡ None) }
-        ensures frees { Frees (side_begun (Some result)) self.old.holding self.new.holding }
-        ensures peers { self.new.peers ≡ peers_behind (asked.Connect connecting) (Some result) self.old.peers }
-        ensures refused { side_begun (Some result) ≡ None → TellsWire self.old self.new }
+            → placed ≡ Err PlaceFault.NotAsked ↔ (asked_after setup writes trace ≡ None) }
+        ensures frees { Frees (leg_begun (Some result)) self.old.holding self.new.holding }
+        ensures peers { self.new.peers ≡ peers_after (asked.Connect connecting) (Some result) self.old.peers }
+        ensures refused { leg_begun (Some result) ≡ None → TellsWire self.old self.new }
         ensures turned { self.new.turned ≡ self.old.turned }
     {
-        match self.set_peer(Side::Called, connecting.peer) {
-            Ok(()) => Answered::Placed(self.place_to_peer(now)),
-            Err(NoRoute) => Answered::NoRoute,
+        match self.set_peer(Leg::Called, connecting.peer) {
+            Ok(()) => LineAnswer::Placed(self.place_to_peer(now)),
+            Err(NoRoute) => LineAnswer::NoRoute,
         }
     }
 
@@ -341,10 +341,10 @@ impl<W: LineWire + Drop> Line<W> {
     fn place_to_peer(&mut self, now: u64) -> Result<(), PlaceFault>
         ensures goes { (connecting : ConnectingShown) → Goes (Asks now (asked.Connect connecting) (Some (answered.Placed result)) ∷ []) self.old self.new }
         ensures not_asked { (setup : Setup) (writes : Writing) (trace : List Event) → IsReachedBy setup writes trace self.old.gateway
-            → result ≡ Err PlaceFault.NotAsked ↔ (asked_behind setup writes trace ≡ None) }
-        ensures freed { OnOk result (CeasesWhere side_shown.Called self.old.holding self.new.holding) }
-        ensures ok { OnOk result (self.new.peers ≡ change_on side_shown.Called (bounded no_bounds) self.old.peers) }
-        ensures cut { OnErr result (self.new.peers ≡ change_on side_shown.Called cut_off self.old.peers) }
+            → result ≡ Err PlaceFault.NotAsked ↔ (asked_after setup writes trace ≡ None) }
+        ensures freed { OnOk result (CeasesWhere leg_shown.Called self.old.holding self.new.holding) }
+        ensures ok { OnOk result (self.new.peers ≡ change_on leg_shown.Called (bounded no_bounds) self.old.peers) }
+        ensures cut { OnErr result (self.new.peers ≡ change_on leg_shown.Called cut_off self.old.peers) }
         ensures err { OnErr result (TellsWire self.old self.new) }
         ensures turned { self.new.turned ≡ self.old.turned }
     {
@@ -354,11 +354,11 @@ impl<W: LineWire + Drop> Line<W> {
                     redundancy: None,
                     octets: None,
                 };
-                self.begin(Side::Called, bounds);
+                self.begin(Leg::Called, bounds);
                 Ok(())
             }
             Err(fault) => {
-                self.cut(Side::Called);
+                self.cut(Leg::Called);
                 Err(fault)
             }
         }
@@ -369,15 +369,15 @@ impl<W: LineWire + Drop> Line<W> {
     pub fn not_connected(&mut self, now: u64) -> Result<(), PlaceFault>
         ensures goes { Goes (Asks now asked.NotConnected (Some (answered.Placed result)) ∷ []) self.old self.new }
         ensures not_asked { (setup : Setup) (writes : Writing) (trace : List Event) → IsReachedBy setup writes trace self.old.gateway
-            → result ≡ Err PlaceFault.NotAsked ↔ (asked_behind setup writes trace ≡ None) }
-        ensures freed { OnOk result (CeasesWhere side_shown.Called self.old.holding self.new.holding) }
-        ensures peers { self.new.peers ≡ peers_behind asked.NotConnected (Some (answered.Placed result)) self.old.peers }
+            → result ≡ Err PlaceFault.NotAsked ↔ (asked_after setup writes trace ≡ None) }
+        ensures freed { OnOk result (CeasesWhere leg_shown.Called self.old.holding self.new.holding) }
+        ensures peers { self.new.peers ≡ peers_after asked.NotConnected (Some (answered.Placed result)) self.old.peers }
         ensures err { OnErr result (self.new ≡ self.old) }
         ensures turned { self.new.turned ≡ self.old.turned }
     {
         match self.place(false, now) {
             Ok(()) => {
-                self.cut(Side::Called);
+                self.cut(Leg::Called);
                 Ok(())
             }
             Err(fault) => Err(fault),
@@ -388,15 +388,15 @@ impl<W: LineWire + Drop> Line<W> {
     fn place(&mut self, connected: bool, now: u64) -> Result<(), PlaceFault>
         ensures goes { (what : AskedShown) → IsPlacing connected what → Goes (Asks now what (Some (answered.Placed result)) ∷ []) self.old self.new }
         ensures not_asked { (setup : Setup) (writes : Writing) (trace : List Event) → IsReachedBy setup writes trace self.old.gateway
-            → result ≡ Err PlaceFault.NotAsked ↔ (asked_behind setup writes trace ≡ None) }
-        ensures freed { OnOk result (CeasesWhere side_shown.Called self.old.holding self.new.holding) }
+            → result ≡ Err PlaceFault.NotAsked ↔ (asked_after setup writes trace ≡ None) }
+        ensures freed { OnOk result (CeasesWhere leg_shown.Called self.old.holding self.new.holding) }
         ensures peers { self.new.peers ≡ self.old.peers }
         ensures err { OnErr result (self.new ≡ self.old) }
         ensures turned { self.new.turned ≡ self.old.turned }
     {
         match place(&mut self.gateway, connected, now) {
             Ok(()) => {
-                self.wire.cease(Side::Called);
+                self.wire.cease(Leg::Called);
                 Ok(())
             }
             Err(fault) => Err(fault),
@@ -421,7 +421,7 @@ impl<W: LineWire + Drop> Line<W> {
     }
 
     /// What the last turn told. Before the first one: that it goes on, and nothing else.
-    pub fn turned(&self) -> Turned
+    pub fn turned(&self) -> TurnReport
         ensures { result ≡ self.now.turned }
     {
         self.turned
@@ -429,7 +429,7 @@ impl<W: LineWire + Drop> Line<W> {
 
     /// The number of the call that is on on the calling leg.
     pub fn call(&self) -> Option<u32>
-        ensures { result ≡ call_kept self.now.gateway.calling }
+        ensures { result ≡ call_of_rep self.now.gateway.calling }
     {
         self.gateway.call()
     }
@@ -445,7 +445,7 @@ impl<W: LineWire + Drop> Line<W> {
     pub fn asked(&self) -> Option<u32>
         ensures asked { result ≡ call_asked (job_asked self.now.gateway.settings.asks self.now.gateway.book) }
         ensures told { (setup : Setup) (writes : Writing) (trace : List Event) → IsReachedBy setup writes trace self.now.gateway
-            → result ≡ call_asked (asked_behind setup writes trace) }
+            → result ≡ call_asked (asked_after setup writes trace) }
     {
         self.gateway.asked()
     }
@@ -457,7 +457,7 @@ impl<W: LineWire + Drop> Line<W> {
         self.gateway.job_asked()
     }
 
-    /// Report i of those that are kept, counted from 0, the oldest.
+    /// Report i of those that are stored, counted from 0, the oldest.
     pub fn report(&self, i: usize) -> Option<Report>
         ensures { result ≡ slice_get self.now.gateway.book.reports i }
     {
@@ -472,10 +472,10 @@ impl<W: LineWire + Drop> Line<W> {
     }
 
     /// What is known of the peer of a leg.
-    pub fn leg_state(&self, side: Side) -> LegState
-        ensures { result ≡ state_of (peer_on side self.now.peers) }
+    pub fn leg_state(&self, leg: Leg) -> LegState
+        ensures { result ≡ state_of (peer_on leg self.now.peers) }
     {
-        self.wire.leg_state(side)
+        self.wire.leg_state(leg)
     }
 
     /// Its wire.
@@ -490,35 +490,35 @@ impl<W: LineWire + Drop> Line<W> {
 impl<W: TimedWire + Drop> Line<HoldingWire<W>> {
     /// The page that its last turn confirmed, as that of the line of this number; none where it confirmed none. An `Err`: it confirmed
     /// one, and memory was refused for its text.
-    pub fn page_to_keep(
+    pub fn page_to_store(
         &self,
         alloc: Global,
         number: usize,
-    ) -> Result<Option<PageToKeep>, KeepFault>
+    ) -> Result<Option<PageToStore>, StoreFault>
         ensures ok { IfOk result (IsOfTurnIf number self.now) }
         ensures err { OnErr result (is_some self.now.turned.kept ≡ true) }
     {
         match self.turned.kept {
             None => Ok(None),
-            Some(kept) => match page_to_keep(alloc, number, &self.gateway, kept) {
+            Some(kept) => match page_to_store(alloc, number, &self.gateway, kept) {
                 Ok(page) => Ok(Some(page)),
                 Err(fault) => Err(fault),
             },
         }
     }
 
-    /// The end of a turn, whose page is kept or not, where it confirmed one: what it gave on the calling leg goes out, but where its
-    /// page was not kept; then the leg is mute until the next call begins on it, and the page's job is sent all the same. The line
+    /// The end of a turn, whose page is stored or not, where it confirmed one: what it gave on the calling leg goes out, but where its
+    /// page was not stored; then the leg is silenced until the next call begins on it, and the page's job is sent all the same. The line
     /// goes through nothing in it.
-    pub fn end_turn(&mut self, is_kept: bool)
-        ensures ends { EndsTurn is_kept self.old self.new }
+    pub fn end_turn(&mut self, is_stored: bool)
+        ensures ends { EndsTurn is_stored self.old self.new }
         ensures goes { Goes [] self.old self.new }
         ensures turned { self.new.turned ≡ self.old.turned }
     {
-        end_turn(&mut self.wire, self.turned.kept.is_some(), is_kept);
+        end_turn(&mut self.wire, self.turned.kept.is_some(), is_stored);
     }
 
-    /// The end of a turn where pages are not kept: what it gave on the calling leg goes out, as where its page is kept. The line goes
+    /// The end of a turn where pages are not stored: what it gave on the calling leg goes out, as where its page is stored. The line goes
     /// through nothing in it.
     pub fn let_out(&mut self)
         ensures ends { EndsTurn true self.old self.new }
@@ -534,7 +534,7 @@ fn place(gateway: &mut Gateway<PackedRows>, connected: bool, now: u64) -> Result
     ensures placed { OnOk result ((setup : Setup) (writes : Writing) (trace : List Event) → IsReachedBy setup writes trace gateway.old
         → IsReachedBy setup writes (Placed now connected ∷ trace) gateway.new) }
     ensures not_asked { (setup : Setup) (writes : Writing) (trace : List Event) → IsReachedBy setup writes trace gateway.old
-        → result ≡ Err PlaceFault.NotAsked ↔ (asked_behind setup writes trace ≡ None) }
+        → result ≡ Err PlaceFault.NotAsked ↔ (asked_after setup writes trace ≡ None) }
     ensures err { OnErr result (gateway.new ≡ gateway.old) }
 {
     if connected {

@@ -1,22 +1,22 @@
 //! All lines of a server, in forty slots.
 ghost use Rattle.std.specs.Prelude.{◌≡◌, ◌≢◌, ◌+◌, ◌<◌, ◌&&◌, List, [], ◌∷◌, ◌++◌, ℕ, Bool, true, false, IsTrue, IfOk, OnOk, OnErr, IsSome, ◌≤◌, ◌↔◌, MatchOption, is_ok, length, map, nat_eq, slice_index_or, if◌then◌else◌};
 ghost use Rattle.fax_gateway.specs.Restored.{RestoredCall};
-ghost use Rattle.fax_hold.specs.Keeping.{PutsIf};
+ghost use Rattle.fax_holding_wire.specs.Storing.{PutsIf};
 ghost use Rattle.fax_line.specs.Actions.{Asks, BeginsWith, IsNew, Wakes};
 ghost use Rattle.fax_line.specs.Places.{StaysHeld, visit_of};
-ghost use Rattle.fax_line.specs.Deeds.{AllStayHeld, AreBegun, AreNew, AskFrees, AsksLine, EachComes, EachGoes, IsAdded, IsLineAt, SlotTells, TurnsSlot, WakesLine, Went, have_turned, most_slots, rests_at, slot_after, slot_before, slot_of};
-ghost use Rattle.fax_line.specs.KeptRuns.{EndsIf, NotesIf, TellsLine, TellsSlot, TellsWhere};
-ghost use Rattle.fax_line.specs.Settling.{ArePagesOf, EndsSlot, EndsWhere, HandsOverSlot, LetsOutSlot, has_page, is_kept_in};
-ghost use Rattle.fax_line.specs.declared.settling.PageToKeep.{PageToKeep as ToKeep};
+ghost use Rattle.fax_line.specs.Operations.{AllStayHeld, AreBegun, AreNew, AskFrees, AsksLine, EachComes, EachGoes, IsAdded, IsLineAt, LinesWent, SlotTells, TurnsSlot, WakesLine, have_turned, most_slots, rests_at, slot_after, slot_before, slot_of};
+ghost use Rattle.fax_line.specs.StoredRuns.{EndsIf, NotesIf, TellsLine, TellsSlot, TellsWhere};
+ghost use Rattle.fax_line.specs.Settling.{ArePagesOf, EndsSlot, EndsWhere, HandsOverSlot, LetsOutSlot, has_page, is_stored_in};
+ghost use Rattle.fax_line.specs.declared.settling.PageToStore.{PageToStore as ToStore};
 
-use crate::asked::{Answered, Asked};
-use crate::keeper::RunKeeper;
+use crate::asked::{LineAnswer, LineRequest};
 use crate::line::Line;
 use crate::place::Place;
-use crate::settling::{PageToKeep, SlotEnd, has_page};
+use crate::settling::{PageToStore, SlotEnd, has_page};
+use crate::store::RunStore;
 use fax_bits::NoMemory;
-use fax_gateway::{Buffer, Kept, Turned};
-use fax_hold::{HoldingWire, Keeper, LineWire, keep};
+use fax_gateway::{Buffer, Kept, TurnReport};
+use fax_holding_wire::{HoldingWire, LineWire, PageStore, store_pages};
 use fax_jobs::Report;
 use fax_repeat::TimedWire;
 use std::alloc::{AllocError, Global};
@@ -25,7 +25,7 @@ use std::marker::Model;
 /// How many slots there are.
 pub const SLOTS: usize = 40;
 
-/// The lines of a server. Line i stands in slot i mod 40; a slot has its turn each millisecond, one behind the other, so that
+/// The lines of a server. Line i stands in slot i mod 40; a slot has its turn each millisecond, one after the other, so that
 /// each line has one each 40 ms: there it is turned, or left at rest where nothing is due on it and it was not woken since it
 /// was turned last. All share one buffer, which is lent to the line whose turn it is.
 #[derive(Drop)]
@@ -39,7 +39,7 @@ pub struct Lines<W: LineWire + Drop> {
 
 impl<W: LineWire + Drop> Model for Lines<W> {
     ghost use Rattle.std.specs.Prelude.{◌<◌};
-    ghost use Rattle.fax_line.specs.Deeds.{LinesValue, most_slots};
+    ghost use Rattle.fax_line.specs.Operations.{LinesValue, most_slots};
 
     ghost Value = { LinesValue };
 
@@ -62,7 +62,7 @@ impl<W: LineWire + Drop> Lines<W> {
         })
     }
 
-    /// Adds a line behind the others. Without memory nothing is changed, and the line is let go.
+    /// Adds a line after the others. Without memory nothing is changed, and the line is let go.
     pub fn add(&mut self, line: Line<W>) -> Result<(), AllocError>
         ensures added { OnOk result (IsAdded line self.old.lines self.new.lines) }
         ensures err { OnErr result (self.new.lines ≡ self.old.lines) }
@@ -124,17 +124,17 @@ impl<W: LineWire + Drop> Lines<W> {
     /// The turn of the slot that is next: its lines are turned, or left at rest. The wires of the slot half a round away are told
     /// the time, where something is due.
     pub fn turn(&mut self, now: u64)
-        ensures went { Went (TurnsSlot self.old.slot now (rests_at now self.old.lines) ∷ []) self.old.lines self.new.lines }
+        ensures went { LinesWent (TurnsSlot self.old.slot now (rests_at now self.old.lines) ∷ []) self.old.lines self.new.lines }
         ensures tells { SlotTells self.old.slot now (rests_at now self.old.lines) self.old.lines self.new.lines }
         ensures slot { self.new.slot ≡ slot_after self.old.slot }
     {
         serve_slot(self.places.as_mut_slice(), &mut self.buffer, self.slot, now);
-        self.slot = slot_behind(self.slot);
+        self.slot = slot_after_it(self.slot);
     }
 
     /// This is asked of line i, counted from 0, where there is one. Every other line is left as it was.
-    pub fn ask(&mut self, i: usize, what: Asked, now: u64) -> Option<Answered>
-        ensures went { Went (AsksLine i now what result ∷ []) self.old.lines self.new.lines }
+    pub fn ask(&mut self, i: usize, what: LineRequest, now: u64) -> Option<LineAnswer>
+        ensures went { LinesWent (AsksLine i now what result ∷ []) self.old.lines self.new.lines }
         ensures frees { AskFrees i what result self.old.lines self.new.lines }
         ensures there { IsSome result ↔ (i < length self.old.lines) }
         ensures slot { self.new.slot ≡ self.old.slot }
@@ -144,45 +144,45 @@ impl<W: LineWire + Drop> Lines<W> {
 
     /// Something may have come for line i, counted from 0, where there is one: it is turned in the next turn of its slot.
     pub fn wake(&mut self, i: usize)
-        ensures went { Went (WakesLine i ∷ []) self.old.lines self.new.lines }
+        ensures went { LinesWent (WakesLine i ∷ []) self.old.lines self.new.lines }
         ensures stays { AllStayHeld self.old.lines self.new.lines }
         ensures slot { self.new.slot ≡ self.old.slot }
     {
         wake_one(self.places.as_mut_slice(), i);
     }
 
-    /// Behind the end of the turn of the slot that had the last one: a keeper is told which of the pages that its lines confirmed were
+    /// After the end of the turn of the slot that had the last one: a store is told which of the pages that its lines confirmed were
     /// not handed over, and which jobs ended, line by line.
-    pub fn tell_keeper<K: RunKeeper>(&self, end: &SlotEnd, keeper: &mut K)
-        ensures { TellsSlot K.notes K.ends (slot_before self.now.slot) end.now.pages.items self.now.lines keeper.old keeper.new }
+    pub fn tell_store<K: RunStore>(&self, end: &SlotEnd, store: &mut K)
+        ensures { TellsSlot K.notes K.ends (slot_before self.now.slot) end.now.pages.items self.now.lines store.old store.new }
     {
         let slot = slot_before(self.slot);
-        tell_places(self.places.as_slice(), end.pages.as_slice(), slot, keeper);
+        tell_places(self.places.as_slice(), end.pages.as_slice(), slot, store);
     }
 }
 
 impl<W: TimedWire + Drop> Lines<HoldingWire<W>> {
-    /// The end of the turn of the slot that had the last one. The pages that its lines confirmed are kept, all of them at once; then
-    /// what these lines gave on their calling legs goes out. Where the pages were not kept none of that does, and these legs are mute
+    /// The end of the turn of the slot that had the last one. The pages that its lines confirmed are stored, all of them at once; then
+    /// what these lines gave on their calling legs goes out. Where the pages were not stored none of that does, and these legs are silenced
     /// until the next calls begin on them; where memory was refused for a page's text that is so of its line alone. What a line gave
     /// that confirmed none goes out before. A line of the slot that was left at rest, and a line of another slot, is not touched.
-    pub fn settle_slot<K: Keeper<PageToKeep>>(&mut self, keeper: &mut K) -> SlotEnd
-        ensures went { Went [] self.old.lines self.new.lines }
+    pub fn settle_slot<K: PageStore<PageToStore>>(&mut self, store: &mut K) -> SlotEnd
+        ensures went { LinesWent [] self.old.lines self.new.lines }
         ensures slot { self.new.slot ≡ self.old.slot }
         ensures pages { ArePagesOf (slot_before self.old.slot) self.old.lines result.pages.items }
-        ensures kept { OnOk result.answer ((before : List ToKeep) → K.keeps keeper.old before → K.keeps keeper.new (before ++ result.pages.items)) }
-        ensures settled { EndsSlot (slot_before self.old.slot) (is_kept_in result) self.old.lines self.new.lines }
-        ensures put { PutsIf K.puts result.pages.items (is_ok result.answer) keeper.old keeper.new }
+        ensures kept { OnOk result.answer ((before : List ToStore) → K.keeps store.old before → K.keeps store.new (before ++ result.pages.items)) }
+        ensures settled { EndsSlot (slot_before self.old.slot) (is_stored_in result) self.old.lines self.new.lines }
+        ensures put { PutsIf K.puts result.pages.items (is_ok result.answer) store.old store.new }
     {
         let slot = slot_before(self.slot);
-        settle_places(self.places.as_mut_slice(), self.alloc, slot, keeper)
+        settle_places(self.places.as_mut_slice(), self.alloc, slot, store)
     }
 
-    /// The end of the turn of the slot that had the last one, where pages are not kept: what its lines gave on their calling legs
+    /// The end of the turn of the slot that had the last one, where pages are not stored: what its lines gave on their calling legs
     /// goes out.
     pub fn let_out_slot(&mut self)
         ensures ends { LetsOutSlot (slot_before self.old.slot) self.old.lines self.new.lines }
-        ensures went { Went [] self.old.lines self.new.lines }
+        ensures went { LinesWent [] self.old.lines self.new.lines }
         ensures slot { self.new.slot ≡ self.old.slot }
     {
         let slot = slot_before(self.slot);
@@ -190,8 +190,8 @@ impl<W: TimedWire + Drop> Lines<HoldingWire<W>> {
     }
 }
 
-/// The slot behind a slot.
-fn slot_behind(slot: usize) -> usize
+/// The slot after a slot.
+fn slot_after_it(slot: usize) -> usize
     requires { slot < most_slots }
     ensures next { result ≡ slot_after slot }
     ensures low { result < most_slots }
@@ -225,7 +225,7 @@ fn serve_slot<W: LineWire + Drop>(
     now: u64,
 )
     requires { slot < most_slots }
-    ensures went { Went (TurnsSlot slot now (rests_at now places.old) ∷ []) places.old places.new }
+    ensures went { LinesWent (TurnsSlot slot now (rests_at now places.old) ∷ []) places.old places.new }
     ensures tells { SlotTells slot now (rests_at now places.old) places.old places.new }
 {
     turn_slot(places, buffer, slot, now);
@@ -271,9 +271,9 @@ fn tell_slot<W: LineWire + Drop>(places: &mut [Place<W>], slot: usize, now: u64)
 fn ask_one<W: LineWire + Drop>(
     places: &mut [Place<W>],
     i: usize,
-    what: Asked,
+    what: LineRequest,
     now: u64,
-) -> Option<Answered>
+) -> Option<LineAnswer>
     ensures went { EachGoes (λ line. if nat_eq line i then Asks now what result ∷ [] else []) places.old places.new }
     ensures frees { AskFrees i what result places.old places.new }
     ensures there { IsSome result ↔ (i < length places.old) }
@@ -295,32 +295,32 @@ fn wake_one<W: LineWire + Drop>(places: &mut [Place<W>], i: usize)
 }
 
 /// The end of a slot's turn.
-fn settle_places<K: Keeper<PageToKeep>, W: TimedWire + Drop>(
+fn settle_places<K: PageStore<PageToStore>, W: TimedWire + Drop>(
     places: &mut [Place<HoldingWire<W>>],
     alloc: Global,
     slot: usize,
-    keeper: &mut K,
+    store: &mut K,
 ) -> SlotEnd
     requires { slot < most_slots }
     ensures went { EachGoes (λ i. []) places.old places.new }
     ensures pages { ArePagesOf slot places.old result.pages.items }
-    ensures kept { OnOk result.answer ((before : List ToKeep) → K.keeps keeper.old before → K.keeps keeper.new (before ++ result.pages.items)) }
-    ensures settled { EndsSlot slot (is_kept_in result) places.old places.new }
-    ensures put { PutsIf K.puts result.pages.items (is_ok result.answer) keeper.old keeper.new }
+    ensures kept { OnOk result.answer ((before : List ToStore) → K.keeps store.old before → K.keeps store.new (before ++ result.pages.items)) }
+    ensures settled { EndsSlot slot (is_stored_in result) places.old places.new }
+    ensures put { PutsIf K.puts result.pages.items (is_ok result.answer) store.old store.new }
 {
     let pages = hand_over_slot(places, alloc, slot);
-    let answer = keep(keeper, pages.as_slice());
+    let answer = store_pages(store, pages.as_slice());
     end_slot(places, pages.as_slice(), slot, answer.is_ok());
     SlotEnd { pages, answer }
 }
 
-/// The pages that the lines of a slot confirmed in its turn, one behind the other. The lines that confirmed none, and those whose
+/// The pages that the lines of a slot confirmed in its turn, one after the other. The lines that confirmed none, and those whose
 /// pages memory was refused for, end their turns.
 fn hand_over_slot<W: TimedWire + Drop>(
     places: &mut [Place<HoldingWire<W>>],
     alloc: Global,
     slot: usize,
-) -> Vec<PageToKeep>
+) -> Vec<PageToStore>
     requires { slot < most_slots }
     ensures went { EachGoes (λ i. []) places.old places.new }
     ensures pages { ArePagesOf slot places.old result.items }
@@ -340,19 +340,19 @@ fn hand_over_slot<W: TimedWire + Drop>(
 /// The lines of a slot that wait for these pages end their turns.
 fn end_slot<W: TimedWire + Drop>(
     places: &mut [Place<HoldingWire<W>>],
-    pages: &[PageToKeep],
+    pages: &[PageToStore],
     slot: usize,
-    is_kept: bool,
+    is_stored: bool,
 )
     requires { slot < most_slots }
     ensures went { EachGoes (λ i. []) places.old places.new }
-    ensures ends { EachComes (λ i. EndsWhere (nat_eq (slot_of i) slot && has_page pages.now i) is_kept) places.old places.new }
+    ensures ends { EachComes (λ i. EndsWhere (nat_eq (slot_of i) slot && has_page pages.now i) is_stored) places.old places.new }
 {
     let rounds = places.len() / SLOTS + 1;
     for round in 0..rounds {
         let i = round * SLOTS + slot;
         if i < places.len() && has_page(pages, i) {
-            places[i].end_turn(is_kept);
+            places[i].end_turn(is_stored);
         }
     }
 }
@@ -372,67 +372,67 @@ fn let_out_places<W: TimedWire + Drop>(places: &mut [Place<HoldingWire<W>>], slo
     }
 }
 
-/// A keeper is told of the turns of a slot's lines, one behind the other.
-fn tell_places<W: LineWire + Drop, K: RunKeeper>(
+/// A store is told of the turns of a slot's lines, one after the other.
+fn tell_places<W: LineWire + Drop, K: RunStore>(
     places: &[Place<W>],
-    pages: &[PageToKeep],
+    pages: &[PageToStore],
     slot: usize,
-    keeper: &mut K,
+    store: &mut K,
 )
     requires { slot < most_slots }
-    ensures { TellsSlot K.notes K.ends slot pages.now places.now keeper.old keeper.new }
+    ensures { TellsSlot K.notes K.ends slot pages.now places.now store.old store.new }
 {
     let rounds = places.len() / SLOTS + 1;
     for round in 0..rounds {
         let i = round * SLOTS + slot;
         if let Some(place) = places.get(i) {
-            tell_place(i, place, has_page(pages, i), keeper);
+            tell_place(i, place, has_page(pages, i), store);
         }
     }
 }
 
-/// A keeper is told of the turn of a line, where it had one, whose page was handed over or not.
-fn tell_place<W: LineWire + Drop, K: RunKeeper>(
+/// A store is told of the turn of a line, where it had one, whose page was handed over or not.
+fn tell_place<W: LineWire + Drop, K: RunStore>(
     number: usize,
     place: &Place<W>,
     was_handed: bool,
-    keeper: &mut K,
+    store: &mut K,
 )
-    ensures { TellsWhere K.notes K.ends number place.now.turned place.now.line.turned was_handed keeper.old keeper.new }
+    ensures { TellsWhere K.notes K.ends number place.now.turned place.now.line.turned was_handed store.old store.new }
 {
     if place.has_turned() {
-        tell_turn(number, place.line().turned(), was_handed, keeper);
+        tell_turn(number, place.line().turned(), was_handed, store);
     }
 }
 
-/// A keeper is told of what the turn of a line told.
-fn tell_turn<K: RunKeeper>(number: usize, turned: Turned, was_handed: bool, keeper: &mut K)
-    ensures { TellsLine K.notes K.ends number turned was_handed keeper.old keeper.new }
+/// A store is told of what the turn of a line told.
+fn tell_turn<K: RunStore>(number: usize, turned: TurnReport, was_handed: bool, store: &mut K)
+    ensures { TellsLine K.notes K.ends number turned was_handed store.old store.new }
 {
-    tell_kept(number, turned.kept, was_handed, keeper);
-    tell_report(number, turned.report, keeper);
+    tell_kept(number, turned.kept, was_handed, store);
+    tell_report(number, turned.report, store);
 }
 
-/// A keeper is told of a page that was confirmed, where it was not handed over.
-fn tell_kept<K: RunKeeper>(number: usize, kept: Option<Kept>, was_handed: bool, keeper: &mut K)
-    ensures { NotesIf K.notes number kept was_handed keeper.old keeper.new }
+/// A store is told of a page that was confirmed, where it was not handed over.
+fn tell_kept<K: RunStore>(number: usize, kept: Option<Kept>, was_handed: bool, store: &mut K)
+    ensures { NotesIf K.notes number kept was_handed store.old store.new }
 {
     match kept {
         Some(kept) => {
             if !was_handed {
-                keeper.note(number, kept.call);
+                store.note(number, kept.call);
             }
         }
         None => {}
     }
 }
 
-/// A keeper is told of a job that ended.
-fn tell_report<K: RunKeeper>(number: usize, report: Option<Report>, keeper: &mut K)
-    ensures { EndsIf K.ends number report keeper.old keeper.new }
+/// A store is told of a job that ended.
+fn tell_report<K: RunStore>(number: usize, report: Option<Report>, store: &mut K)
+    ensures { EndsIf K.ends number report store.old store.new }
 {
     match report {
-        Some(report) => keeper.end_job(number, report),
+        Some(report) => store.end_job(number, report),
         None => {}
     }
 }

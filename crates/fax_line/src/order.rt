@@ -2,24 +2,32 @@
 ghost use Rattle.std.specs.Prelude.{◌≡◌, ℕ, List, [], ◌∷◌, Option, option_copied};
 ghost use Rattle.fax_gateway.specs.Wires.{Grows};
 ghost use Rattle.fax_line.specs.Words.{Answers, Asks, Word};
-ghost use Rattle.fax_line.specs.declared.asked.Answered.{Answered as AnsweredShown};
+ghost use Rattle.fax_line.specs.declared.asked.LineAnswer.{LineAnswer as AnsweredShown};
 ghost use Rattle.fax_line.specs.declared.order.Order.{Order as OrderShown};
 
-use crate::asked::{Answered, Asked};
-use crate::keeper::RunKeeper;
+use crate::asked::{LineAnswer, LineRequest};
 use crate::lines::Lines;
 use crate::settling::SlotEnd;
-use fax_hold::LineWire;
+use crate::store::RunStore;
+use fax_holding_wire::LineWire;
 
 /// What is to be done next, and when.
 #[derive(Clone, Copy, PartialEq, Eq, Debug)]
 pub enum Order {
     /// The next slot has its turn.
-    Turn { now: u64 },
+    Turn {
+        now: u64,
+    },
     /// This is asked of a line, counted from 0.
-    Ask { line: usize, now: u64, what: Asked },
+    Ask {
+        line: usize,
+        now: u64,
+        what: LineRequest,
+    },
     /// Something may have come over the wire of a line, counted from 0: it is not left at rest in the next turn of its slot.
-    Wake { line: usize },
+    Wake {
+        line: usize,
+    },
 }
 
 /// What says what is to be done next: a clock, and those who give orders. It sees the lines, and may report of them. Lines do
@@ -27,7 +35,7 @@ pub enum Order {
 /// before the turn of its slot.
 ///
 /// It is shown what keeps the pages of the run, where there is one, and changes nothing of what that keeps.
-pub trait Pace<W: LineWire + Drop, K: RunKeeper> {
+pub trait Pace<W: LineWire + Drop, K: RunStore> {
     /// Of one that tells it: what it answered to `next`, and what it was told of that which it asked of lines, the newest first.
     ghost words: { Self → Option (List Word) };
 
@@ -42,33 +50,33 @@ pub trait Pace<W: LineWire + Drop, K: RunKeeper> {
 
     /// What is made of it where it sees the end of a turn, and with it what keeps the pages as that is then. By default nothing is
     /// told of that.
-    ghost sees_kept: { Option K → Self → Self → Type 0 } = { λ keeper old new. Unit {0} };
+    ghost sees_stored: { Option K → Self → Self → Type 0 } = { λ store old new. Unit {0} };
 
     /// What is to be done next, once it is due. `None`: the run ends.
-    fn next(&mut self, lines: &Lines<W>, keeper: Option<&K>) -> Option<Order>
+    fn next(&mut self, lines: &Lines<W>, store: Option<&K>) -> Option<Order>
         ensures words { Grows (Asks result ∷ []) (words self.old) (words self.new) }
         ensures gives { gives result self.old self.new };
 
     /// A slot had its turn, and the pages that its lines confirmed are about to be put. What goes with them, as the tags of their
-    /// calls, may be told to the keeper.
-    fn before_put(&mut self, lines: &Lines<W>, keeper: &mut K)
-        ensures same { K.is_same keeper.old keeper.new }
+    /// calls, may be told to the store.
+    fn before_put(&mut self, lines: &Lines<W>, store: &mut K)
+        ensures same { K.is_same store.old store.new }
         ensures words { words self.new ≡ words self.old }
         ensures sees { sees self.old self.new };
 
     /// They were put, and what came of that.
-    fn behind_put(&mut self, lines: &Lines<W>, end: &SlotEnd)
+    fn after_put(&mut self, lines: &Lines<W>, end: &SlotEnd)
         ensures words { words self.new ≡ words self.old }
         ensures sees { sees self.old self.new };
 
-    /// The turn of a slot has ended. The jobs that ended in it wait on the keeper still.
-    fn turned(&mut self, lines: &Lines<W>, keeper: Option<&K>)
+    /// The turn of a slot has ended. The jobs that ended in it wait on the store still.
+    fn turned(&mut self, lines: &Lines<W>, store: Option<&K>)
         ensures words { words self.new ≡ words self.old }
         ensures sees { sees self.old self.new }
-        ensures sees_kept { sees_kept (option_copied keeper.entry) self.old self.new };
+        ensures sees_stored { sees_stored (option_copied store.entry) self.old self.new };
 
     /// What was asked of a line by an order is done, and the line answered so. `None`: there is no such line.
-    fn done(&mut self, line: usize, answer: Option<Answered>)
+    fn done(&mut self, line: usize, answer: Option<LineAnswer>)
         ensures words { Grows (Answers line answer ∷ []) (words self.old) (words self.new) }
         ensures hears { hears line answer self.old self.new };
 }

@@ -2,17 +2,17 @@
 ghost use Rattle.std.specs.Prelude.{◌≡◌, List, [], ◌∷◌, Some, not, true, false, IfOk, OnErr};
 ghost use Rattle.fax_timers.specs.Moments.{is_due};
 ghost use Rattle.fax_gateway.specs.Restored.{RestoredCall};
-ghost use Rattle.fax_hold.specs.Holding.{IsToldTimeWhere};
-ghost use Rattle.fax_line.specs.Actions.{Asks, BeginsWith, Frees, Wakes, side_begun};
-ghost use Rattle.fax_line.specs.LegPeers.{peers_behind};
+ghost use Rattle.fax_holding_wire.specs.Holding.{IsToldTimeWhere};
+ghost use Rattle.fax_line.specs.Actions.{Asks, BeginsWith, Frees, Wakes, leg_begun};
+ghost use Rattle.fax_line.specs.LegPeers.{peers_after};
 ghost use Rattle.fax_line.specs.Places.{BeginsInPlace, GoesInPlace, StaysHeld, TellsOrRests, is_at_rest, visit_of};
 ghost use Rattle.fax_line.specs.Settling.{EndsTurn, HandsOver};
 
-use crate::asked::{Answered, Asked};
+use crate::asked::{LineAnswer, LineRequest};
 use crate::line::Line;
-use crate::settling::PageToKeep;
+use crate::settling::PageToStore;
 use fax_gateway::Buffer;
-use fax_hold::{HoldingWire, LineWire};
+use fax_holding_wire::{HoldingWire, LineWire};
 use fax_repeat::TimedWire;
 use std::alloc::{AllocError, Global};
 use std::marker::Model;
@@ -109,10 +109,10 @@ impl<W: LineWire + Drop> Place<W> {
     }
 
     /// This is asked of it.
-    pub fn ask(&mut self, what: Asked, now: u64) -> Answered
+    pub fn ask(&mut self, what: LineRequest, now: u64) -> LineAnswer
         ensures goes { GoesInPlace (Asks now what (Some result) ∷ []) self.old self.new }
-        ensures frees { Frees (side_begun (Some result)) self.old.line.holding self.new.line.holding }
-        ensures peers { self.new.line.peers ≡ peers_behind what (Some result) self.old.line.peers }
+        ensures frees { Frees (leg_begun (Some result)) self.old.line.holding self.new.line.holding }
+        ensures peers { self.new.line.peers ≡ peers_after what (Some result) self.old.line.peers }
         ensures turned { self.new.turned ≡ self.old.turned }
     {
         let answer = self.line.ask(what, now);
@@ -131,9 +131,9 @@ impl<W: LineWire + Drop> Place<W> {
 }
 
 impl<W: TimedWire + Drop> Place<HoldingWire<W>> {
-    /// The page that the turn of the line confirmed joins those that are to be kept, as that of the line of this number. Where it
+    /// The page that the turn of the line confirmed joins those that are to be stored, as that of the line of this number. Where it
     /// confirmed none, or memory was refused for it, the turn ends at once.
-    pub fn hand_over(&mut self, alloc: Global, number: usize, pages: &mut Vec<PageToKeep>)
+    pub fn hand_over(&mut self, alloc: Global, number: usize, pages: &mut Vec<PageToStore>)
         ensures goes { GoesInPlace [] self.old self.new }
         ensures turned { self.new.turned ≡ self.old.turned }
         ensures hands { HandsOver self.old.turned number self.old self.new pages.old.items pages.new.items }
@@ -141,7 +141,7 @@ impl<W: TimedWire + Drop> Place<HoldingWire<W>> {
         if !self.has_turned {
             return;
         }
-        if let Ok(Some(page)) = self.line.page_to_keep(alloc, number)
+        if let Ok(Some(page)) = self.line.page_to_store(alloc, number)
             && pages.push(page).is_ok()
         {
             return;
@@ -149,17 +149,17 @@ impl<W: TimedWire + Drop> Place<HoldingWire<W>> {
         self.end_turn(false);
     }
 
-    /// The end of a turn of the line, whose page is kept or not, where it confirmed one.
-    pub fn end_turn(&mut self, is_kept: bool)
-        ensures ends { EndsTurn is_kept self.old.line self.new.line }
+    /// The end of a turn of the line, whose page is stored or not, where it confirmed one.
+    pub fn end_turn(&mut self, is_stored: bool)
+        ensures ends { EndsTurn is_stored self.old.line self.new.line }
         ensures goes { GoesInPlace [] self.old self.new }
         ensures turned { self.new.turned ≡ self.old.turned }
     {
-        self.line.end_turn(is_kept);
+        self.line.end_turn(is_stored);
         self.due = self.line.next_due();
     }
 
-    /// The end of a turn of the line, where pages are not kept.
+    /// The end of a turn of the line, where pages are not stored.
     pub fn let_out(&mut self)
         ensures ends { EndsTurn true self.old.line self.new.line }
         ensures goes { GoesInPlace [] self.old self.new }

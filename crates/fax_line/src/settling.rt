@@ -1,17 +1,17 @@
-//! The end of a slot's turn: the pages that its lines confirmed are kept, before what confirms them goes out.
+//! The end of a slot's turn: the pages that its lines confirmed are stored, before what confirms them goes out.
 ghost use Rattle.std.specs.Prelude.{◌≡◌, IfOk};
 ghost use Rattle.fax_jobs.specs.Newest.{newest_page};
-ghost use Rattle.fax_line.specs.Settling.{IsKeptAs, has_page, is_kept_in};
+ghost use Rattle.fax_line.specs.Settling.{IsStoredAs, has_page, is_stored_in};
 
 use fax_bits::Octets;
 use fax_gateway::{Gateway, Kept};
-use fax_hold::KeepFault;
+use fax_holding_wire::StoreFault;
 use fax_pagestore::{Coding, PackedRows, write_page};
 use std::alloc::Global;
 
-/// A page that a turn confirmed, as it is handed to a keeper.
+/// A page that a turn confirmed, as it is handed to a store.
 #[derive(Drop)]
-pub struct PageToKeep {
+pub struct PageToStore {
     /// The line whose turn confirmed it, counted from 0.
     pub line: usize,
     /// What the turn told of it.
@@ -23,50 +23,50 @@ pub struct PageToKeep {
 /// What came of the pages that the lines of a slot confirmed in its turn.
 #[derive(Drop)]
 pub struct SlotEnd {
-    /// Those that were handed to the keeper, in the order of their lines. A page whose text memory was refused for is not among them.
-    pub pages: Vec<PageToKeep>,
-    /// What the keeper answered to all of them at once.
-    pub answer: Result<(), KeepFault>,
+    /// Those that were handed to the store, in the order of their lines. A page whose text memory was refused for is not among them.
+    pub pages: Vec<PageToStore>,
+    /// What the store answered to all of them at once.
+    pub answer: Result<(), StoreFault>,
 }
 
 impl SlotEnd {
-    /// Whether a page of this line was handed to the keeper.
+    /// Whether a page of this line was handed to the store.
     pub fn has_page(&self, line: usize) -> bool
         ensures { result ≡ has_page self.now.pages.items line }
     {
         has_page(self.pages.as_slice(), line)
     }
 
-    /// Whether a page of this line was kept.
-    pub fn is_kept(&self, line: usize) -> bool
-        ensures { result ≡ is_kept_in self.now line }
+    /// Whether a page of this line was stored.
+    pub fn is_stored(&self, line: usize) -> bool
+        ensures { result ≡ is_stored_in self.now line }
     {
         self.has_page(line) && self.answer.is_ok()
     }
 }
 
 /// Whether one of these pages is of this line.
-pub(crate) fn has_page(pages: &[PageToKeep], line: usize) -> bool
+pub(crate) fn has_page(pages: &[PageToStore], line: usize) -> bool
     ensures { result ≡ has_page pages.now line }
 {
     pages.iter().any(|page| page.line == line)
 }
 
 /// The page that the turn of a line confirmed, of which it told this. An `Err`: memory was refused for its text.
-pub(crate) fn page_to_keep(
+pub(crate) fn page_to_store(
     alloc: Global,
     line: usize,
     gateway: &Gateway<PackedRows>,
     kept: Kept,
-) -> Result<PageToKeep, KeepFault>
+) -> Result<PageToStore, StoreFault>
     ensures line { IfOk result (λ page. page.line ≡ line) }
-    ensures page { IfOk result (IsKeptAs kept (newest_page gateway.now.book)) }
+    ensures page { IfOk result (IsStoredAs kept (newest_page gateway.now.book)) }
 {
     let Some(page) = gateway.newest_page() else {
-        return Err(KeepFault);
+        return Err(StoreFault);
     };
     match write_page(alloc, page, Coding::Mr, 0) {
-        Ok(text) => Ok(PageToKeep { line, kept, text }),
-        Err(_) => Err(KeepFault),
+        Ok(text) => Ok(PageToStore { line, kept, text }),
+        Err(_) => Err(StoreFault),
     }
 }

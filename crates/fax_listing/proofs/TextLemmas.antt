@@ -1,4 +1,4 @@
--- Tokens that are written one behind the other.
+-- Tokens that are written one after the other.
 use Rattle.std.proofs.Common.{◌≡◌, ℕ, List, ◌++◌, codes, Option, Result, Ok, Err, ◌∙◌, ap, append_assoc}
 use Rattle.std.specs.Result.{OnOk}
 use Rattle.json.specs.Token.{Token}
@@ -7,7 +7,7 @@ use Rattle.fax_runcodes.specs.declared.format.Format.{Format}
 use Rattle.fax_listing.specs.Jobs.{JobValue, state_name}
 use Rattle.fax_listing.specs.Lines.{Adds, format_members, job_members, number_member, tag_member, tag_shown, text_member}
 
--- tokens behind others
+-- tokens after others
 pub Adds-then : (old mid new : Written) (s t : List Token) → Adds old mid s → Adds mid new t → Adds old new (s ++ t)
 Adds-then old mid new s t a b = record {
   before = b.before ∙ a.before;

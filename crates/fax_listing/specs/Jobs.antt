@@ -32,14 +32,14 @@ job_of torn pages page = record { state = state_of torn page; first = page; page
 abbrev pub jobs_by : List CallName → (pages before : List PageValue) → PageValue → List JobValue
 jobs_by torn pages before page = if is_first before page then job_of torn pages page ∷ [] else []
 
--- those that begin behind some pages
-abbrev pub jobs_behind : List CallName → (pages before rest : List PageValue) → List JobValue
-jobs_behind torn pages before [] = []
-jobs_behind torn pages before (page ∷ rest) = jobs_by torn pages before page ++ jobs_behind torn pages (before ++ page ∷ []) rest
+-- those that begin after some pages
+abbrev pub jobs_after : List CallName → (pages before rest : List PageValue) → List JobValue
+jobs_after torn pages before [] = []
+jobs_after torn pages before (page ∷ rest) = jobs_by torn pages before page ++ jobs_after torn pages (before ++ page ∷ []) rest
 
 -- THE JOBS OF THE PAGES THAT WAIT: one for each call of a line, where its first page stands.
 abbrev pub jobs_of : List CallName → List PageValue → List JobValue
-jobs_of torn pages = jobs_behind torn pages [] pages
+jobs_of torn pages = jobs_after torn pages [] pages
 
 -- a page is looked at: each, where no job is chosen
 abbrev pub is_chosen : Option Choice → PageValue → Bool

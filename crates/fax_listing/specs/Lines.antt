@@ -47,7 +47,7 @@ job_tokens job = begin_object ∷ (job_members (utf8_lossy job.first.line) job +
 abbrev pub job_line : JobValue → List ℕ
 job_line job = shown (print (job_tokens job)) ++ 10 ∷ []
 
--- Some tokens were written behind those before.
+-- Some tokens were written after those before.
 pub record Adds (old new : Written) (tokens : List Token) : Type 0 where
   pub before : new.before ≡ old.before
   pub added : new.tokens ≡ old.tokens ++ tokens

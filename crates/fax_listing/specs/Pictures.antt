@@ -71,7 +71,7 @@ told_where prefix page (Some file) = []
 abbrev pub told_of : (prefix : List ℕ) → Pictured → List ℕ
 told_of prefix pictured = told_where prefix pictured.page pictured.file
 
--- A page is pictured, or it is told that it means none: what was told and made before, and behind.
+-- A page is pictured, or it is told that it means none: what was told and made before, and after.
 pub record KeepsPicture (prefix : List ℕ) (page : PageValue) (made : Bool) (old_told told : List ℕ) (before after : Option (List FileValue)) : Type 0 where
   pub file : Option FileValue
   pub is : IsPictured prefix (record { page = page; file = file })

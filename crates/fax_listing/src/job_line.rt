@@ -10,7 +10,7 @@ use fax_pagestore::Format;
 use json::Writer;
 use std::alloc::{AllocError, Global};
 
-/// The lines of some jobs, one behind the other.
+/// The lines of some jobs, one after the other.
 pub fn write_jobs(alloc: Global, jobs: &[SpooledJob<'_>]) -> Result<Vec<u8>, AllocError>
     ensures { IfOk result (λ text. text.items ≡ flat_map job_line jobs.now) }
 {

@@ -9,10 +9,10 @@ use crate::fault::LookFault;
 use crate::picture_files::PictureFiles;
 use crate::telling::tell_no_page;
 use fax_bits::NoMemory;
-use fax_keep::read_waiting_page;
 use fax_pagestore::{PackedRows, Page, PageFault};
 use fax_pbm::write_pbm;
 use fax_spool::WaitingPage;
+use fax_spool_folder::read_waiting_page;
 use percent_encoding::{AsciiSet, NON_ALPHANUMERIC, ascii_set, percent_encode};
 use std::alloc::{AllocError, Global};
 

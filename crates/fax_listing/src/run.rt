@@ -20,7 +20,7 @@ pub struct Looked {
     pub told: String,
 }
 
-/// Reads the files `pages` and `pages-wal` of a spool whole, one behind the other, makes pictures of the pages that are chosen, where they
+/// Reads the files `pages` and `pages-wal` of a spool whole, one after the other, makes pictures of the pages that are chosen, where they
 /// are wanted, and writes the lines of their jobs and nothing else; where a picture cannot be made, nothing is written.
 pub fn run_spool<I: Source, O: Sink, F: PictureFiles>(
     alloc: Global,

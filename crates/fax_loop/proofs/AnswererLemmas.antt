@@ -13,8 +13,8 @@ use Rattle.fax_answer.specs.declared.state.State.TheVariants.{Idle, Identify, Li
 use Rattle.fax_answer.specs.declared.step.Confirmed.{Confirmed}
 use Rattle.fax_answer.specs.declared.step.Step.{Step}
 use Rattle.fax_answer.specs.Table.{Reading}
-use Rattle.fax_answer.specs.Replies.{ConfirmedPage, Waiting}
-use Rattle.fax_answer.specs.Calls.{Answering, CallEvent, Comes, new_answering, rung}
+use Rattle.fax_answer.specs.Replies.{ConfirmedPage, WaitingPacket}
+use Rattle.fax_answer.specs.Calls.{AnswererCore, CallEvent, Comes, new_answering, rung}
 use Rattle.fax_answer.specs.Readings.{comes_all}
 use Rattle.fax_answer.specs.Reached as answer
 use Rattle.fax_answer.specs.Sent.{confirmed_in_tick, confirmed_with, pages_confirmed}
@@ -27,19 +27,19 @@ use Rattle.fax_gateway.specs.Reached.{IsLeg, confirmed_on, given_on, ticked_on}
 use Rattle.fax_gateway.specs.Wires.{Grows}
 use Rattle.fax_gateway.proofs.DrivingLemmas.{grows_as, grows_more, grows_none}
 use Rattle.fax_loop.proofs.LegsHear.{hears_calling}
-use Rattle.fax_loop.proofs.LegsTick.{Answers, Gives, side_ticks, side_tells}
+use Rattle.fax_loop.proofs.LegsTick.{Answers, Gives, leg_ticks, leg_tells}
 use Rattle.fax_loop.specs.declared.answering_machine.AnsweringMachine.{AnsweringMachine}
 use Rattle.fax_loop.specs.declared.link.Link.{Link}
-use Rattle.fax_loop.specs.Ends.{Told, handed}
-use Rattle.fax_loop.specs.Machines.{Came, called_turned, called_with, datagrams_of, octets_of, pages_on, rung_once}
-use Rattle.fax_loop.specs.Kept.{AnswererHears, AnswererListens, AnswererTurns, IsAnswering, answerer_of, leg_of, pages_in}
+use Rattle.fax_loop.specs.Ends.{EndTraffic, handed}
+use Rattle.fax_loop.specs.Machines.{ReadDatagram, called_turned, called_with, datagrams_of, octets_of, pages_on, rung_once}
+use Rattle.fax_loop.specs.Rep.{AnswererHears, AnswererListens, AnswererTurns, IsAnswering, answerer_of, leg_of, pages_in}
 
 -- ---- a datagram, by whether the call is over
 abbrev heard_by : Bool → CallingLeg → ℕ → Reading → Result DatagramValue UdptlFault → Option CallingLeg
 heard_by b l now read r = if b then Some l else Some (leg_with l now read r)
 
 -- pieces confirm nothing
-pages_confirmed-comes : (a : Answering) (given : List Piece) (now : ℕ) (read : Reading) (events : List CallEvent)
+pages_confirmed-comes : (a : AnswererCore) (given : List Piece) (now : ℕ) (read : Reading) (events : List CallEvent)
     → pages_confirmed a (comes_all given now read events) ≡ pages_confirmed a events
 pages_confirmed-comes a [] now read events = refl
 pages_confirmed-comes a (piece ∷ more) now read events = pages_confirmed-comes a more now read (Comes piece now read ∷ events)
@@ -70,7 +70,7 @@ on_leg Closing h = refl
 -- slots are heard
 pub listens : {S : Type 0} (setup : Setup) (l : CallingLeg) (now : ℕ) (octets : List ℕ) (x : DecidedValue) (old new : AnsweringMachine S) → (old.answerer.procedure.state ≡ Idle → ⊥)
     → Takes octets old.link.receiver new.link.receiver x → new.link.sender ≡ old.link.sender → new.has_rung ≡ old.has_rung → new.confirmed.items ≡ old.confirmed.items
-    → ((heard : List Slot) (core : Answering) → answer.IsReached heard core old.answerer → answer.Hears (slots_in x) now heard core new.answerer)
+    → ((heard : List Slot) (core : AnswererCore) → answer.IsReached heard core old.answerer → answer.Hears (slots_in x) now heard core new.answerer)
     → IsAnswering setup (Some l) old → AnswererListens setup l now octets new
 listens setup l now octets x old new off takes sender has_rung confirmed hears r =
     let is_on : is_idle (core_of l).state ≡ false = on_leg (core_of l).state (λ idle. off (r.calling.core.stands.follows.state ∙ idle)) in
@@ -89,7 +89,7 @@ listens setup l now octets x old new off takes sender has_rung confirmed hears r
 -- ---- the ring
 -- it is rung
 pub answers_ring : {S : Type 0} (setup : Setup) (leg : Option CallingLeg) (now : ℕ) (old new : AnsweringMachine S) → old.has_rung ≡ false
-    → ((heard : List Slot) (core : Answering) → answer.IsReached heard core old.answerer → answer.IsReached [] (rung core now) new.answerer)
+    → ((heard : List Slot) (core : AnswererCore) → answer.IsReached heard core old.answerer → answer.IsReached [] (rung core now) new.answerer)
     → new.link ≡ old.link → new.has_rung ≡ true → new.confirmed.items ≡ old.confirmed.items
     → IsAnswering setup leg old → IsAnswering setup (Some (rung_once setup now leg)) new
 unfolding newest_slots slots
@@ -105,12 +105,12 @@ answers_ring setup None now old new has rings link rung_now confirmed r = record
 answers_ring setup (Some l) now old new has rings link rung_now confirmed r = let no : true ≡ false = sym r.rung ∙ has in cc
 
 -- ---- what is heard in a turn
-pub answerer_hears_none : {S : Type 0} (setup : Setup) (leg : Option CallingLeg) (now : ℕ) (told : Told) (machine : AnsweringMachine S) → IsAnswering setup leg machine
+pub answerer_hears_none : {S : Type 0} (setup : Setup) (leg : Option CallingLeg) (now : ℕ) (told : EndTraffic) (machine : AnsweringMachine S) → IsAnswering setup leg machine
     → AnswererHears setup leg now 0 told told machine
 answerer_hears_none setup leg now told machine r = record { came = []; few = omega arith; read = tt; received = grows_none told.received; answering = r }
 
 -- one datagram more
-pub answerer_hears_more : {S : Type 0} (setup : Setup) (leg : Option CallingLeg) (now most : ℕ) (octets : List ℕ) (a b c : Told) (old mid new : AnsweringMachine S) → Grows (octets ∷ []) b.received c.received
+pub answerer_hears_more : {S : Type 0} (setup : Setup) (leg : Option CallingLeg) (now most : ℕ) (octets : List ℕ) (a b c : EndTraffic) (old mid new : AnsweringMachine S) → Grows (octets ∷ []) b.received c.received
     → ((k : Option CallingLeg) → IsAnswering setup k old → IsAnswering setup (Some (rung_once setup now k)) mid)
     → ((k : CallingLeg) → IsAnswering setup (Some k) mid → AnswererListens setup k now octets new)
     → AnswererHears setup leg now most a b old → AnswererHears setup leg now (most + 1) a c new
@@ -126,7 +126,7 @@ answerer_hears_more setup leg now most octets a b c old mid new grew rings heard
     }
 
 -- and then none
-pub answerer_hears_all : {S : Type 0} (setup : Setup) (leg : Option CallingLeg) (now some most : ℕ) (a b c : Told) (machine : AnsweringMachine S) → some ≤ most → Grows [] b.received c.received
+pub answerer_hears_all : {S : Type 0} (setup : Setup) (leg : Option CallingLeg) (now some most : ℕ) (a b c : EndTraffic) (machine : AnsweringMachine S) → some ≤ most → Grows [] b.received c.received
     → AnswererHears setup leg now some a b machine → AnswererHears setup leg now most a c machine
 answerer_hears_all setup leg now some most a b c machine low grew h = record {
   came = h.came;
@@ -142,7 +142,7 @@ confirmed-shown : {S : Type 0} (o : Option ConfirmedPage) (s : Option (Confirmed
 confirmed-shown o None pages e = ap (λ x. confirmed_with x pages) (sym e)
 confirmed-shown o (Some c) pages e = ap (λ x. confirmed_with x pages) (sym e)
 
-confirmed-by : (o : Option Waiting) (pages : List PageValue) → confirmed_in_tick o pages ≡ confirmed_with (confirmed_by o) pages
+confirmed-by : (o : Option WaitingPacket) (pages : List PageValue) → confirmed_in_tick o pages ≡ confirmed_with (confirmed_by o) pages
 confirmed-by None pages = refl
 confirmed-by (Some w) pages = refl
 
@@ -160,7 +160,7 @@ is_some-ticked None now = refl
 is_some-ticked (Some l) now = refl
 
 -- a tick: it keeps the page that it confirms, and what it gives is handed over
-pub answerer_turns : {S : Type 0} (setup : Setup) (leg : Option CallingLeg) (now : ℕ) (a b c : Told) (old new : AnsweringMachine S) (step : Step S) (datagram : Option (List ℕ))
+pub answerer_turns : {S : Type 0} (setup : Setup) (leg : Option CallingLeg) (now : ℕ) (a b c : EndTraffic) (old new : AnsweringMachine S) (step : Step S) (datagram : Option (List ℕ))
     → Answers now old.answerer new.answerer step → Gives setup step.packet (leg_of old.link) (leg_of new.link) datagram
     → new.has_rung ≡ old.has_rung → new.confirmed.items ≡ old.confirmed.items ++ pages_in step.confirmed
     → Grows [] a.sent b.sent → Grows [] b.received c.received → Grows (handed datagram) b.sent c.sent
@@ -169,7 +169,7 @@ answerer_turns {S} setup leg now a b c old new step datagram ticks gives has_run
     let k : Option CallingLeg = called_with setup now h.came leg in
     let r = h.answering in
     let told : Step S = record { packet = datagram; confirmed = step.confirmed; refused = step.refused; ended = step.ended } in
-    let t = side_tells setup k now (answerer_of old) (answerer_of new) step told ticks gives refl refl refl r.calling in
+    let t = leg_tells setup k now (answerer_of old) (answerer_of new) step told ticks gives refl refl refl r.calling in
     record {
       came = h.came;
       few = h.few;
@@ -179,7 +179,7 @@ answerer_turns {S} setup leg now a b c old new step datagram ticks gives has_run
           grows_as (handed datagram) _ a.sent c.sent (ap handed t.packet)
           (grows_as (handed datagram ++ []) (handed datagram) a.sent c.sent (append-nil (handed datagram)) (grows_more [] (handed datagram) a.sent b.sent c.sent quiet grew));
       answering = record {
-        calling = side_ticks setup k now (answerer_of old) (answerer_of new) step datagram refl ticks gives r.calling;
+        calling = leg_ticks setup k now (answerer_of old) (answerer_of new) step datagram refl ticks gives r.calling;
         rung = has_rung ∙ r.rung ∙ sym (is_some-ticked k now);
         pages_are = ap reverse kept ∙ reverse-pages step.confirmed old.confirmed.items ∙ ap (λ pages. pages_in step.confirmed ++ pages) r.pages_are ∙ sym (pages_on-ticked k now step.confirmed t.confirmed);
       };
@@ -190,13 +190,13 @@ rung-given : (setup : Setup) (now : ℕ) (leg : Option CallingLeg) → (rung_onc
 rung-given setup now None = refl
 rung-given setup now (Some l) = refl
 
-pub called_with-given : (setup : Setup) (now : ℕ) (came : List Came) (leg : Option CallingLeg) → given_on (called_with setup now came leg) ≡ given_on leg
+pub called_with-given : (setup : Setup) (now : ℕ) (came : List ReadDatagram) (leg : Option CallingLeg) → given_on (called_with setup now came leg) ≡ given_on leg
 called_with-given setup now [] leg = refl
 called_with-given setup now (c ∷ came) leg =
     let l : CallingLeg = rung_once setup now (called_with setup now came leg) in
     heard-given (is_idle (core_of l).state) l now c.read (datagram_of c.octets) ∙ rung-given setup now (called_with setup now came leg) ∙ called_with-given setup now came leg
 
-datagrams_of-given : (setup : Setup) (o : Option Waiting) (given : List (List ℕ)) → datagrams_of setup (packets_with o given) ≡ handed (told_by setup given o) ++ datagrams_of setup given
+datagrams_of-given : (setup : Setup) (o : Option WaitingPacket) (given : List (List ℕ)) → datagrams_of setup (packets_with o given) ≡ handed (told_by setup given o) ++ datagrams_of setup given
 datagrams_of-given setup None given = refl
 datagrams_of-given setup (Some w) given = refl
 
@@ -204,7 +204,7 @@ pub datagrams_of-ticked : (setup : Setup) (leg : Option CallingLeg) (now : ℕ) 
 datagrams_of-ticked setup None now = refl
 datagrams_of-ticked setup (Some l) now = datagrams_of-given setup (answers l now).given l.given
 
-pub answerer_sends : (setup : Setup) (now : ℕ) (came : List Came) (leg : Option CallingLeg) (a b c : Told) → Grows (datagrams_of setup (given_on leg)) a.sent b.sent
+pub answerer_sends : (setup : Setup) (now : ℕ) (came : List ReadDatagram) (leg : Option CallingLeg) (a b c : EndTraffic) → Grows (datagrams_of setup (given_on leg)) a.sent b.sent
     → Grows (handed (told_calling setup (called_with setup now came leg) now)) b.sent c.sent
     → Grows (datagrams_of setup (given_on (called_turned setup now came leg))) a.sent c.sent
 answerer_sends setup now came leg a b c first second =

@@ -10,10 +10,10 @@ use Rattle.fax_gateway.specs.Events.{Event, Ring, FromCalling, Tick, Given, cloc
 use Rattle.fax_gateway.specs.CallingLegs.{CallingLeg, calling_after, calling_leg, core_of, decided_calling, idle_after, is_idle, leg_with, question, rung_leg, told_calling}
 use Rattle.fax_gateway.specs.CalledLegs.{told_called, told_report}
 use Rattle.fax_gateway.specs.Reached.{heard_on, ticked_on}
-use Rattle.fax_gateway.specs.Sides.{in_tick}
+use Rattle.fax_gateway.specs.BothLegs.{in_tick}
 use Rattle.fax_gateway.specs.Traces.{IsTrace}
-use Rattle.fax_loop.specs.Exchanges.{AreRounds, Round, answerer_behind, moment_behind}
-use Rattle.fax_loop.specs.Machines.{AreCame, Came, called_turned, called_with, rung_once}
+use Rattle.fax_loop.specs.Exchanges.{AreRounds, Round, answerer_after, moment_after}
+use Rattle.fax_loop.specs.Machines.{AreCame, ReadDatagram, called_turned, called_with, rung_once}
 
 -- before the ring there was none
 abbrev Unrung : Option CallingLeg → ℕ → Type 0
@@ -88,7 +88,7 @@ comes_one setup writes now l octets read right t =
       },
     )
 
-comes_all : (setup : Setup) (writes : Writing) (now : ℕ) (came : List Came) (leg : Option CallingLeg) → AreCame setup now came leg → IsFollowed setup writes now leg → IsFollowed setup writes now (called_with setup now came leg)
+comes_all : (setup : Setup) (writes : Writing) (now : ℕ) (came : List ReadDatagram) (leg : Option CallingLeg) → AreCame setup now came leg → IsFollowed setup writes now leg → IsFollowed setup writes now (called_with setup now came leg)
 comes_all setup writes now [] leg a t = t
 comes_all setup writes now (c ∷ earlier) leg a t =
     comes_one setup writes now (rung_once setup now (called_with setup now earlier leg)) c.octets c.read a.0 (rings_once setup writes now (called_with setup now earlier leg) (comes_all setup writes now earlier leg a.1 t))
@@ -131,13 +131,13 @@ later_on setup writes now next leg l t = (t.0, record { is_trace = t.1.is_trace;
     le_trans : (a b c : ℕ) → a ≤ b → b ≤ c → a ≤ c
     le_trans a b c h k = omega arith
 
-moments_rise : (round : Round) (earlier : List Round) → moment_behind earlier ≤ moment_behind (round ∷ earlier)
+moments_rise : (round : Round) (earlier : List Round) → moment_after earlier ≤ moment_after (round ∷ earlier)
 moments_rise round earlier = omega arith
 
-pub answerer_followed : (setup : Setup) (writes others : Writing) (rounds : List Round) → AreRounds setup others rounds → IsFollowed setup writes (moment_behind rounds) (answerer_behind setup rounds)
+pub answerer_followed : (setup : Setup) (writes others : Writing) (rounds : List Round) → AreRounds setup others rounds → IsFollowed setup writes (moment_after rounds) (answerer_after setup rounds)
 answerer_followed setup writes others [] a = ([], record { is_trace = tt; is_leg = refl; at = omega arith; unrung = refl })
 answerer_followed setup writes others (round ∷ earlier) a =
-    let now : ℕ = moment_behind earlier in
-    let leg : Option CallingLeg = answerer_behind setup earlier in
-    later_on setup writes now (moment_behind (round ∷ earlier)) (called_turned setup now round.called leg) (moments_rise round earlier)
+    let now : ℕ = moment_after earlier in
+    let leg : Option CallingLeg = answerer_after setup earlier in
+    later_on setup writes now (moment_after (round ∷ earlier)) (called_turned setup now round.called leg) (moments_rise round earlier)
     (ticks_once setup writes now (called_with setup now round.called leg) (comes_all setup writes now round.called leg a.0.read (answerer_followed setup writes others earlier a.1)))

@@ -6,21 +6,21 @@ use Rattle.fax_udptl.specs.Datagrams.{DatagramValue, datagram_of}
 use Rattle.fax_jobs.specs.Jobs.{JobValue}
 use Rattle.fax_answer.specs.Table.{Reading}
 use Rattle.fax_call.specs.Writings.{Writing}
-use Rattle.fax_call.specs.Calls.{Calling}
+use Rattle.fax_call.specs.Calls.{CallerCore}
 use Rattle.fax_call.specs.Delivery.{is_over}
-use Rattle.fax_gateway.specs.declared.side.Side.TheVariants as side
+use Rattle.fax_gateway.specs.declared.leg.Leg.TheVariants as legs
 use Rattle.fax_gateway.specs.Setups.{Setup}
 use Rattle.fax_gateway.specs.Events.{Event, Ring, FromCalling, FromCalled, Tick, Placed, Given, clock}
 use Rattle.fax_gateway.specs.CallingLegs.{CallingLeg, calling_after, calling_leg, core_of, is_idle, leg_with}
 use Rattle.fax_gateway.specs.CalledLegs as called
 use Rattle.fax_gateway.specs.CalledLegs.{CalledLeg}
-use Rattle.fax_gateway.specs.Sides.{Sides, begins_next, book_of, heard_in_tick, in_tick, leg_of, sends, sends_if, sides}
+use Rattle.fax_gateway.specs.BothLegs.{BothLegs, begins_next, book_of, both_legs, heard_in_tick, in_tick, leg_of, sends, sends_if}
 use Rattle.fax_gateway.specs.Driving.{Entry, Accepts, RefusesRing, RefusesDatagram, RefusesTick, ReceivesNothing, FailsToReceive, Sends, events, receipts}
 use Rattle.fax_gateway.specs.Reached.{arrived_on, ticked_on}
-use Rattle.fax_loop.specs.Exchanges.{Round, answerer_behind, moment_behind}
+use Rattle.fax_loop.specs.Exchanges.{Round, answerer_after, moment_after}
 use Rattle.fax_loop.specs.Faithful.{arrived_by}
 use Rattle.fax_loop.specs.Links.{came_called, came_calling}
-use Rattle.fax_loop.specs.Machines.{Came, called_with, octets_of, rung_once}
+use Rattle.fax_loop.specs.Machines.{ReadDatagram, called_with, octets_of, rung_once}
 use Rattle.fax_loop.proofs.Linked.{AreIn, AreReadOf, IsIn, in_both}
 
 -- ---- one datagram
@@ -82,8 +82,8 @@ logged_from others (Accepts (FromCalled octets at decided) ∷ log) a = logged_f
 logged_from others (Accepts (Tick at given) ∷ log) a = logged_from others log a
 logged_from others (Accepts (Placed at connected) ∷ log) a = logged_from others log a
 logged_from others (RefusesRing fault ∷ log) a = logged_from others log a
-logged_from others (RefusesDatagram side.Calling octets ∷ log) a = logged_from others log a.1
-logged_from others (RefusesDatagram side.Called octets ∷ log) a = logged_from others log a
+logged_from others (RefusesDatagram legs.Calling octets ∷ log) a = logged_from others log a.1
+logged_from others (RefusesDatagram legs.Called octets ∷ log) a = logged_from others log a
 logged_from others (RefusesTick now ∷ log) a = logged_from others log a
 logged_from others (ReceivesNothing at ∷ log) a = logged_from others log a
 logged_from others (FailsToReceive at ∷ log) a = logged_from others log a
@@ -97,7 +97,7 @@ rung_read : (setup : Setup) (others : List (List ℕ)) (now : ℕ) (o : Option C
 rung_read setup others now None a = tt
 rung_read setup others now (Some l) a = a
 
-came_read : (setup : Setup) (others : List (List ℕ)) (now : ℕ) (came : List Came) (leg : Option CallingLeg) → AreIn others (octets_of came) → AreReadOf others (arrived_on leg) → AreReadOf others (arrived_on (called_with setup now came leg))
+came_read : (setup : Setup) (others : List (List ℕ)) (now : ℕ) (came : List ReadDatagram) (leg : Option CallingLeg) → AreIn others (octets_of came) → AreReadOf others (arrived_on leg) → AreReadOf others (arrived_on (called_with setup now came leg))
 came_read setup others now [] leg i a = a
 came_read setup others now (c ∷ earlier) leg i a =
     let before : Option CallingLeg = called_with setup now earlier leg in
@@ -107,13 +107,13 @@ ticked_read : (others : List (List ℕ)) (o : Option CallingLeg) (now : ℕ) →
 ticked_read others None now a = a
 ticked_read others (Some l) now a = a
 
-pub answerer_read : (setup : Setup) (others : List (List ℕ)) (rounds : List Round) → AreIn others (flat_map (λ round. octets_of round.called) rounds) → AreReadOf others (arrived_on (answerer_behind setup rounds))
+pub answerer_read : (setup : Setup) (others : List (List ℕ)) (rounds : List Round) → AreIn others (flat_map (λ round. octets_of round.called) rounds) → AreReadOf others (arrived_on (answerer_after setup rounds))
 answerer_read setup others [] i = tt
 answerer_read setup others (round ∷ earlier) i =
-    let now : ℕ = moment_behind earlier in
+    let now : ℕ = moment_after earlier in
     let b = in_both others (octets_of round.called) (flat_map (λ round. octets_of round.called) earlier) i in
-    ticked_read others (called_with setup now round.called (answerer_behind setup earlier)) now
-    (came_read setup others now round.called (answerer_behind setup earlier) b.0 (answerer_read setup others earlier b.1))
+    ticked_read others (called_with setup now round.called (answerer_after setup earlier)) now
+    (came_read setup others now round.called (answerer_after setup earlier) b.0 (answerer_read setup others earlier b.1))
 
 -- ---- THE GATEWAY's called leg, in its last call
 abbrev ReadBy : List (List ℕ) → Option CalledLeg → Type 0
@@ -139,17 +139,17 @@ ticked_by writes others (Some l) now a = by l.entered
     by true = a
     by false = a
 
-begun_by : (others : List (List ℕ)) (connected : Bool) (o : Option JobValue) (leg : Option CalledLeg) (before : Calling) (now : ℕ) → ReadBy others leg → ReadBy others (leg_of connected o before now leg)
+begun_by : (others : List (List ℕ)) (connected : Bool) (o : Option JobValue) (leg : Option CalledLeg) (before : CallerCore) (now : ℕ) → ReadBy others leg → ReadBy others (leg_of connected o before now leg)
 begun_by others connected None leg before now a = a
 begun_by others connected (Some job) leg before now a = tt
 
-placed_by : (connected : Bool) (setup : Setup) (writes : Writing) (others : List (List ℕ)) (now : ℕ) (s : Sides) → ReadBy others s.leg → ReadBy others (sends connected setup writes now s).leg
+placed_by : (connected : Bool) (setup : Setup) (writes : Writing) (others : List (List ℕ)) (now : ℕ) (s : BothLegs) → ReadBy others s.leg → ReadBy others (sends connected setup writes now s).leg
 placed_by connected setup writes others now s a = begun_by others connected (book_of (sends connected setup writes now s)).sending s.leg (called.core_left setup writes s.leg) now a
 
-sends_by : (setup : Setup) (writes : Writing) (others : List (List ℕ)) (now : ℕ) (s : Sides) → ReadBy others s.leg → ReadBy others (sends_if setup writes now s).leg
+sends_by : (setup : Setup) (writes : Writing) (others : List (List ℕ)) (now : ℕ) (s : BothLegs) → ReadBy others s.leg → ReadBy others (sends_if setup writes now s).leg
 sends_by setup writes others now s a = by (begins_next setup s.leg)
   where
-    by : (b : Bool) → ReadBy others (if◌then◌else◌ {A = Sides} b (sends true setup writes now s) s).leg
+    by : (b : Bool) → ReadBy others (if◌then◌else◌ {A = BothLegs} b (sends true setup writes now s) s).leg
     by true = placed_by true setup writes others now s a
     by false = a
 
@@ -161,19 +161,19 @@ AreBack others (FromCalled octets at decided ∷ earlier) = IsIn others octets �
 AreBack others (Tick at given ∷ earlier) = AreBack others earlier
 AreBack others (Placed at connected ∷ earlier) = AreBack others earlier
 
-back_read : (setup : Setup) (writes : Writing) (others : List (List ℕ)) (trace : List Event) → AreBack others trace → ReadBy others (sides setup writes trace).leg
+back_read : (setup : Setup) (writes : Writing) (others : List (List ℕ)) (trace : List Event) → AreBack others trace → ReadBy others (both_legs setup writes trace).leg
 back_read setup writes others [] b = tt
 back_read setup writes others (Ring at number ∷ earlier) b = back_read setup writes others earlier b
 back_read setup writes others (FromCalling octets at decided read ∷ earlier) b = back_read setup writes others earlier b
 back_read setup writes others (FromCalled octets at decided ∷ earlier) b =
-    hears_read writes others (sides setup writes earlier).leg octets (clock (FromCalled octets at decided ∷ earlier)) b.0 (back_read setup writes others earlier b.1)
+    hears_read writes others (both_legs setup writes earlier).leg octets (clock (FromCalled octets at decided ∷ earlier)) b.0 (back_read setup writes others earlier b.1)
 back_read setup writes others (Tick at given ∷ earlier) b =
     let now : ℕ = max at (clock earlier) in
-    let old : Sides = sides setup writes earlier in
-    let z : Sides = record old { steps = heard_in_tick (calling_leg setup earlier) now old.steps } in
+    let old : BothLegs = both_legs setup writes earlier in
+    let z : BothLegs = record old { steps = heard_in_tick (calling_leg setup earlier) now old.steps } in
     ticked_by writes others (in_tick setup writes earlier at).leg now (sends_by setup writes others now z (back_read setup writes others earlier b))
 back_read setup writes others (Placed at connected ∷ earlier) b =
-    placed_by connected setup writes others (clock (Placed at connected ∷ earlier)) (sides setup writes earlier) (back_read setup writes others earlier b)
+    placed_by connected setup writes others (clock (Placed at connected ∷ earlier)) (both_legs setup writes earlier) (back_read setup writes others earlier b)
 
 logged_back : (others : List (List ℕ)) (log : List Entry) → AreIn others (came_called (receipts log)) → AreBack others (events log ++ Ring 0 0 ∷ [])
 logged_back others [] a = tt
@@ -183,12 +183,12 @@ logged_back others (Accepts (FromCalled octets at decided) ∷ log) a = (a.0, lo
 logged_back others (Accepts (Tick at given) ∷ log) a = logged_back others log a
 logged_back others (Accepts (Placed at connected) ∷ log) a = logged_back others log a
 logged_back others (RefusesRing fault ∷ log) a = logged_back others log a
-logged_back others (RefusesDatagram side.Calling octets ∷ log) a = logged_back others log a
-logged_back others (RefusesDatagram side.Called octets ∷ log) a = logged_back others log a.1
+logged_back others (RefusesDatagram legs.Calling octets ∷ log) a = logged_back others log a
+logged_back others (RefusesDatagram legs.Called octets ∷ log) a = logged_back others log a.1
 logged_back others (RefusesTick now ∷ log) a = logged_back others log a
 logged_back others (ReceivesNothing at ∷ log) a = logged_back others log a
 logged_back others (FailsToReceive at ∷ log) a = logged_back others log a
 logged_back others (Sends at octets fails ∷ log) a = logged_back others log a
 
-pub called_leg_read : (setup : Setup) (writes : Writing) (others : List (List ℕ)) (log : List Entry) → AreIn others (came_called (receipts log)) → AreReadOf others (arrived_by (sides setup writes (events log ++ Ring 0 0 ∷ [])).leg)
+pub called_leg_read : (setup : Setup) (writes : Writing) (others : List (List ℕ)) (log : List Entry) → AreIn others (came_called (receipts log)) → AreReadOf others (arrived_by (both_legs setup writes (events log ++ Ring 0 0 ∷ [])).leg)
 called_leg_read setup writes others log a = back_read setup writes others (events log ++ Ring 0 0 ∷ []) (logged_back others log a)

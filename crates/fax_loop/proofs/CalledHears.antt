@@ -12,20 +12,20 @@ use Rattle.fax_ifp.proofs.SlotLaws.{pieces_go_on}
 use Rattle.fax_ifp.proofs.SentSignals.{onto, onto_both}
 use Rattle.fax_jobs.specs.Jobs.{JobValue}
 use Rattle.fax_call.specs.Writings.{Writing}
-use Rattle.fax_call.specs.Calls.{Calling, CallEvent, Comes}
+use Rattle.fax_call.specs.Calls.{CallerCore, CallEvent, Comes}
 use Rattle.fax_call.specs.Delivery.{is_over}
 use Rattle.fax_gateway.specs.Setups.{Setup}
 use Rattle.fax_gateway.specs.Events.{Event, Ring, FromCalling, FromCalled, Tick, Placed, clock}
 use Rattle.fax_gateway.specs.Legs.{new_pieces}
 use Rattle.fax_gateway.specs.CallingLegs.{calling_leg}
 use Rattle.fax_gateway.specs.CalledLegs.{CalledLeg, calls, comes_to, core_left, core_of, hears, leg_ticked, leg_with, with_tick}
-use Rattle.fax_gateway.specs.Sides.{Sides, begins_next, book_of, heard_in_tick, in_tick, leg_of, sends, sends_if, sides}
+use Rattle.fax_gateway.specs.BothLegs.{BothLegs, begins_next, book_of, both_legs, heard_in_tick, in_tick, leg_of, sends, sends_if}
 use Rattle.fax_loop.proofs.McfHeard.{came_pieces}
 
 -- as in `fax_gateway`, which keeps these lemmas to itself
-behind_more : (old : List DatagramValue) (d : DatagramValue) (more : List Slot) → newest_slots (d ∷ old) ≡ more ++ newest_slots old → pieces (newest_slots (d ∷ old)) ≡ pieces (newest_slots old) ++ new_pieces old d
+after_more : (old : List DatagramValue) (d : DatagramValue) (more : List Slot) → newest_slots (d ∷ old) ≡ more ++ newest_slots old → pieces (newest_slots (d ∷ old)) ≡ pieces (newest_slots old) ++ new_pieces old d
 unfolding new_pieces
-behind_more old d more e =
+after_more old d more e =
     let go = pieces_go_on more (newest_slots old) in
     let is : pieces (newest_slots (d ∷ old)) ≡ pieces (newest_slots old) ++ go.0 = ap pieces e ∙ go.1 in
     is ∙ ap (λ (x : List Piece). pieces (newest_slots old) ++ x)
@@ -33,16 +33,16 @@ behind_more old d more e =
 
 more_newest : (old : List DatagramValue) (d : DatagramValue) → (more : List Slot) × (newest_slots (d ∷ old) ≡ more ++ newest_slots old)
 unfolding newest_slots slots
-more_newest [] d = (newest_slots (d ∷ []), sym (none_behind (newest_slots (d ∷ []))))
+more_newest [] d = (newest_slots (d ∷ []), sym (none_after (newest_slots (d ∷ []))))
   where
-    none_behind : (xs : List Slot) → xs ++ [] ≡ xs
-    none_behind [] = refl
-    none_behind (x ∷ xs) = ap (λ (ys : List Slot). x ∷ ys) (none_behind xs)
+    none_after : (xs : List Slot) → xs ++ [] ≡ xs
+    none_after [] = refl
+    none_after (x ∷ xs) = ap (λ (ys : List Slot). x ∷ ys) (none_after xs)
 more_newest (e ∷ old) d =
     (reverse (decided_now d (e ∷ old)), ap (λ (s : List Slot). reverse s) (slots_go_on d e old) ∙ reverse-append (slots (e ∷ old)) (decided_now d (e ∷ old)))
 
 go_on : (old : List DatagramValue) (d : DatagramValue) → pieces (newest_slots (d ∷ old)) ≡ pieces (newest_slots old) ++ new_pieces old d
-go_on old d = let m = more_newest old d in behind_more old d m.0 m.1
+go_on old d = let m = more_newest old d in after_more old d m.0 m.1
 
 none_newest : [] ≡ reverse (pieces (newest_slots []))
 unfolding newest_slots slots
@@ -81,29 +81,29 @@ ticked_heard writes (Some l) now h = by l.entered
     by true = h
     by false = h
 
-begun_heard : (connected : Bool) (o : Option JobValue) (leg : Option CalledLeg) (before : Calling) (now : ℕ) → HeardSo leg → HeardSo (leg_of connected o before now leg)
+begun_heard : (connected : Bool) (o : Option JobValue) (leg : Option CalledLeg) (before : CallerCore) (now : ℕ) → HeardSo leg → HeardSo (leg_of connected o before now leg)
 begun_heard connected None leg before now h = h
 begun_heard connected (Some job) leg before now h = none_newest
 
-placed_heard : (connected : Bool) (setup : Setup) (writes : Writing) (now : ℕ) (s : Sides) → HeardSo s.leg → HeardSo (sends connected setup writes now s).leg
+placed_heard : (connected : Bool) (setup : Setup) (writes : Writing) (now : ℕ) (s : BothLegs) → HeardSo s.leg → HeardSo (sends connected setup writes now s).leg
 placed_heard connected setup writes now s h = begun_heard connected (book_of (sends connected setup writes now s)).sending s.leg (core_left setup writes s.leg) now h
 
-sends_heard : (setup : Setup) (writes : Writing) (now : ℕ) (s : Sides) → HeardSo s.leg → HeardSo (sends_if setup writes now s).leg
+sends_heard : (setup : Setup) (writes : Writing) (now : ℕ) (s : BothLegs) → HeardSo s.leg → HeardSo (sends_if setup writes now s).leg
 sends_heard setup writes now s h = by (begins_next setup s.leg)
   where
-    by : (b : Bool) → HeardSo (if◌then◌else◌ {A = Sides} b (sends true setup writes now s) s).leg
+    by : (b : Bool) → HeardSo (if◌then◌else◌ {A = BothLegs} b (sends true setup writes now s) s).leg
     by true = placed_heard true setup writes now s h
     by false = h
 
-pub called_heard : (setup : Setup) (writes : Writing) (trace : List Event) → HeardSo (sides setup writes trace).leg
+pub called_heard : (setup : Setup) (writes : Writing) (trace : List Event) → HeardSo (both_legs setup writes trace).leg
 called_heard setup writes [] = tt
 called_heard setup writes (Ring at number ∷ earlier) = called_heard setup writes earlier
 called_heard setup writes (FromCalling octets at decided read ∷ earlier) = called_heard setup writes earlier
 called_heard setup writes (FromCalled octets at decided ∷ earlier) =
-    hears_heard writes (sides setup writes earlier).leg octets (clock (FromCalled octets at decided ∷ earlier)) (called_heard setup writes earlier)
+    hears_heard writes (both_legs setup writes earlier).leg octets (clock (FromCalled octets at decided ∷ earlier)) (called_heard setup writes earlier)
 called_heard setup writes (Tick at given ∷ earlier) =
     let now : ℕ = max at (clock earlier) in
-    let old : Sides = sides setup writes earlier in
-    let z : Sides = record old { steps = heard_in_tick (calling_leg setup earlier) now old.steps } in
+    let old : BothLegs = both_legs setup writes earlier in
+    let z : BothLegs = record old { steps = heard_in_tick (calling_leg setup earlier) now old.steps } in
     ticked_heard writes (in_tick setup writes earlier at).leg now (sends_heard setup writes now z (called_heard setup writes earlier))
-called_heard setup writes (Placed at connected ∷ earlier) = placed_heard connected setup writes (clock (Placed at connected ∷ earlier)) (sides setup writes earlier) (called_heard setup writes earlier)
+called_heard setup writes (Placed at connected ∷ earlier) = placed_heard connected setup writes (clock (Placed at connected ∷ earlier)) (both_legs setup writes earlier) (called_heard setup writes earlier)

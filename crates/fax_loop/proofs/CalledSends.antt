@@ -8,19 +8,19 @@ use Rattle.fax_pagestore.specs.Pages.{PageValue}
 use Rattle.fax_jobs.specs.Jobs.{JobValue, IsJob}
 use Rattle.fax_call.specs.Writings.{Writing, IsWriting}
 use Rattle.fax_call.specs.Replies.{Packet, written}
-use Rattle.fax_call.specs.Calls.{Calling, CallEvent, Comes, after_events, ticked}
+use Rattle.fax_call.specs.Calls.{CallerCore, CallEvent, Comes, after_events, ticked}
 use Rattle.fax_call.specs.Delivery.{is_over}
 use Rattle.fax_call.specs.Given as call
 use Rattle.fax_call.proofs.ClosedPackets.{gives_closed_packets}
 use Rattle.fax_gateway.specs.Setups.{Setup}
 use Rattle.fax_gateway.specs.Legs.{new_pieces}
 use Rattle.fax_gateway.specs.CalledLegs.{CalledLeg, begun_leg, calls, comes_to, core_of, hears, leg_ticked, leg_with, packets_given, with_tick}
-use Rattle.fax_loop.specs.Exchanges.{Round, caller_behind, moment_behind}
+use Rattle.fax_loop.specs.Exchanges.{Round, caller_after, moment_after}
 use Rattle.fax_loop.specs.Machines.{calling_turned, calling_with}
 use Rattle.fax_loop.proofs.OnePage.{AreAll, Gives, begun_is, call_begun}
 
 -- it begins
-pub begun_gives : (writes : Writing) (page : PageValue) (job : JobValue) (before : Calling) (now : ℕ) → IsJob job → AreAll page job.pages → Gives writes page (begun_leg job before now)
+pub begun_gives : (writes : Writing) (page : PageValue) (job : JobValue) (before : CallerCore) (now : ℕ) → IsJob job → AreAll page job.pages → Gives writes page (begun_leg job before now)
 begun_gives writes page job before now is all = record { is_job = is; pages = all; placed = refl; given_is = refl; closed = tt }
 
 -- a tick
@@ -37,7 +37,7 @@ one_given (Some packet) given packets e = ap (λ (xs : List (List ℕ)). written
 
 with_tick_gives : (writes : Writing) (page : PageValue) (l : CalledLeg) (now : ℕ) → IsWriting writes → Gives writes page l → Gives writes page (with_tick (calls writes l now) now l)
 with_tick_gives writes page l now w g =
-    let same : (calls writes l now).given ≡ call_gives writes l now = ap (λ (a : Calling). (ticked writes l.job (after_events writes l.job a l.events) now).given) (begun_is l g.placed) in
+    let same : (calls writes l now).given ≡ call_gives writes l now = ap (λ (a : CallerCore). (ticked writes l.job (after_events writes l.job a l.events) now).given) (begun_is l g.placed) in
     record {
       is_job = g.is_job;
       pages = g.pages;
@@ -55,7 +55,7 @@ ticked_gives writes page l now w g = by l.entered
     by false = with_tick_gives writes page l now w g
 
 -- pieces that come give nothing
-comes_given : (writes : Writing) (job : JobValue) (a : Calling) (ps : List Piece) (now : ℕ) (events : List CallEvent) → call.packets_given writes job a events ≡ call.packets_given writes job a (comes_to ps now events)
+comes_given : (writes : Writing) (job : JobValue) (a : CallerCore) (ps : List Piece) (now : ℕ) (events : List CallEvent) → call.packets_given writes job a events ≡ call.packets_given writes job a (comes_to ps now events)
 comes_given writes job a [] now events = refl
 comes_given writes job a (p ∷ ps) now events = comes_given writes job a ps now (Comes p now ∷ events)
 
@@ -84,7 +84,7 @@ came_gives writes page now (octets ∷ earlier) l g = hears_gives writes page (c
 turned_gives : (writes : Writing) (page : PageValue) (now : ℕ) (came : List (List ℕ)) (l : CalledLeg) → IsWriting writes → Gives writes page l → Gives writes page (calling_turned writes now came l)
 turned_gives writes page now came l w g = with_tick_gives writes page (calling_with writes now came l) now w (came_gives writes page now came l g)
 
-pub caller_gives : (setup : Setup) (writes : Writing) (page : PageValue) (job : JobValue) (rounds : List Round) → IsWriting writes → IsJob job → AreAll page job.pages → Gives writes page (caller_behind setup writes job rounds)
+pub caller_gives : (setup : Setup) (writes : Writing) (page : PageValue) (job : JobValue) (rounds : List Round) → IsWriting writes → IsJob job → AreAll page job.pages → Gives writes page (caller_after setup writes job rounds)
 caller_gives setup writes page job [] w is all = begun_gives writes page job _ 0 is all
 caller_gives setup writes page job (round ∷ earlier) w is all =
-    turned_gives writes page (moment_behind earlier) round.calling (caller_behind setup writes job earlier) w (caller_gives setup writes page job earlier w is all)
+    turned_gives writes page (moment_after earlier) round.calling (caller_after setup writes job earlier) w (caller_gives setup writes page job earlier w is all)

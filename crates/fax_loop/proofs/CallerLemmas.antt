@@ -6,21 +6,21 @@ use Rattle.fax_ifp.specs.Elements.{Slot}
 use Rattle.fax_jobs.specs.Jobs.{JobValue}
 use Rattle.fax_call.specs.Writings.{Writing}
 use Rattle.fax_call.specs.Replies.{Packet}
-use Rattle.fax_call.specs.Calls.{Calling, ticked}
+use Rattle.fax_call.specs.Calls.{CallerCore, ticked}
 use Rattle.fax_call.specs.Delivery.{is_over}
 use Rattle.fax_call.specs.Reached as call
-use Rattle.fax_gateway.specs.declared.called.CalledSide.{CalledSide}
+use Rattle.fax_gateway.specs.declared.called.CalledEndpoint.{CalledEndpoint}
 use Rattle.fax_gateway.specs.Setups.{Setup}
 use Rattle.fax_gateway.specs.CalledLegs.{CalledLeg, calls, core_of, hears, leg_with, packets_given, told_by}
 use Rattle.fax_gateway.specs.Driving.{most_datagrams}
 use Rattle.fax_gateway.specs.Reached.{IsCalled}
 use Rattle.fax_gateway.specs.Wires.{Grows}
 use Rattle.fax_gateway.proofs.DrivingLemmas.{grows_as, grows_more, grows_none}
-use Rattle.fax_loop.proofs.LegsTick.{Gives, side_ticks_on}
-use Rattle.fax_loop.specs.Ends.{Told, handed}
+use Rattle.fax_loop.proofs.LegsTick.{Gives, leg_ticks_on}
+use Rattle.fax_loop.specs.Ends.{EndTraffic, handed}
 use Rattle.fax_loop.specs.Machines.{calling_turned, calling_with, datagrams_of}
-use Rattle.fax_loop.specs.Exchanges.{Round, caller_behind, moment_behind}
-use Rattle.fax_loop.specs.Kept.{CallerHears, CallerTurns}
+use Rattle.fax_loop.specs.Exchanges.{Round, caller_after, moment_after}
+use Rattle.fax_loop.specs.Rep.{CallerHears, CallerTurns}
 
 -- a datagram, by whether the call is over
 abbrev hears_by : Bool → CalledLeg → ℕ → Result DatagramValue UdptlFault → CalledLeg
@@ -47,17 +47,17 @@ calling_with-given writes now (octets ∷ came) l =
     hears-given (is_over (core_of writes (calling_with writes now came l)).state) (calling_with writes now came l) now (datagram_of octets) ∙ calling_with-given writes now came l
 
 -- the job is that of the call
-pub caller_behind-job : (setup : Setup) (writes : Writing) (job : JobValue) (rounds : List Round) → (caller_behind setup writes job rounds).job ≡ job
-caller_behind-job setup writes job [] = refl
-caller_behind-job setup writes job (round ∷ rounds) = calling_with-job writes (moment_behind rounds) round.calling (caller_behind setup writes job rounds) ∙ caller_behind-job setup writes job rounds
+pub caller_after-job : (setup : Setup) (writes : Writing) (job : JobValue) (rounds : List Round) → (caller_after setup writes job rounds).job ≡ job
+caller_after-job setup writes job [] = refl
+caller_after-job setup writes job (round ∷ rounds) = calling_with-job writes (moment_after rounds) round.calling (caller_after setup writes job rounds) ∙ caller_after-job setup writes job rounds
 
 -- nothing came yet
-pub caller_hears_none : (setup : Setup) (writes : Writing) (l : CalledLeg) (now : ℕ) (told : Told) (side : CalledSide) → IsCalled setup writes (Some l) side
-    → CallerHears setup writes l now 0 told told side
-caller_hears_none setup writes l now told side r = record { came = []; few = omega arith; received = grows_none told.received; called = r }
+pub caller_hears_none : (setup : Setup) (writes : Writing) (l : CalledLeg) (now : ℕ) (told : EndTraffic) (endpoint : CalledEndpoint) → IsCalled setup writes (Some l) endpoint
+    → CallerHears setup writes l now 0 told told endpoint
+caller_hears_none setup writes l now told endpoint r = record { came = []; few = omega arith; received = grows_none told.received; called = r }
 
 -- one datagram more
-pub caller_hears_more : (setup : Setup) (writes : Writing) (l : CalledLeg) (now most : ℕ) (octets : List ℕ) (a b c : Told) (old new : CalledSide) → Grows (octets ∷ []) b.received c.received
+pub caller_hears_more : (setup : Setup) (writes : Writing) (l : CalledLeg) (now most : ℕ) (octets : List ℕ) (a b c : EndTraffic) (old new : CalledEndpoint) → Grows (octets ∷ []) b.received c.received
     → ((k : CalledLeg) → IsCalled setup writes (Some k) old → IsCalled setup writes (Some (hears writes octets now k)) new)
     → CallerHears setup writes l now most a b old → CallerHears setup writes l now (most + 1) a c new
 caller_hears_more setup writes l now most octets a b c old new grew heard h = record {
@@ -68,9 +68,9 @@ caller_hears_more setup writes l now most octets a b c old new grew heard h = re
 }
 
 -- and then none
-pub caller_hears_all : (setup : Setup) (writes : Writing) (l : CalledLeg) (now some most : ℕ) (a b c : Told) (side : CalledSide) → some ≤ most → Grows [] b.received c.received
-    → CallerHears setup writes l now some a b side → CallerHears setup writes l now most a c side
-caller_hears_all setup writes l now some most a b c side low grew h = record {
+pub caller_hears_all : (setup : Setup) (writes : Writing) (l : CalledLeg) (now some most : ℕ) (a b c : EndTraffic) (endpoint : CalledEndpoint) → some ≤ most → Grows [] b.received c.received
+    → CallerHears setup writes l now some a b endpoint → CallerHears setup writes l now most a c endpoint
+caller_hears_all setup writes l now some most a b c endpoint low grew h = record {
   came = h.came;
   few = let few = h.few in omega arith;
   received = grows_more h.came [] a.received b.received c.received h.received grew;
@@ -78,13 +78,13 @@ caller_hears_all setup writes l now some most a b c side low grew h = record {
 }
 
 -- a turn: then a tick, and what it gives is handed over
-pub caller_turns : (setup : Setup) (writes : Writing) (l : CalledLeg) (now : ℕ) (job : JobValue) (a b c : Told) (old new : CalledSide) (packet datagram : Option (List ℕ)) → l.job ≡ job
-    → ((heard : List Slot) (core : Calling) → call.IsReached writes job heard core old.caller → call.IsReached writes job heard (ticked writes job core now).core new.caller × call.IsGiven (ticked writes job core now) packet)
+pub caller_turns : (setup : Setup) (writes : Writing) (l : CalledLeg) (now : ℕ) (job : JobValue) (a b c : EndTraffic) (old new : CalledEndpoint) (packet datagram : Option (List ℕ)) → l.job ≡ job
+    → ((heard : List Slot) (core : CallerCore) → call.IsReached writes job heard core old.caller → call.IsReached writes job heard (ticked writes job core now).core new.caller × call.IsGiven (ticked writes job core now) packet)
     → Gives setup packet old.leg new.leg datagram → Grows [] a.sent b.sent → Grows [] b.received c.received → Grows (handed datagram) b.sent c.sent
     → CallerHears setup writes l now most_datagrams a b old → CallerTurns setup writes l now a c new
 caller_turns setup writes l now job a b c old new packet datagram same ticks gives quiet still grew h =
     let k : CalledLeg = calling_with writes now h.came l in
-    let t = side_ticks_on setup writes k now job old new packet datagram (calling_with-job writes now h.came l ∙ same) ticks gives h.called in
+    let t = leg_ticks_on setup writes k now job old new packet datagram (calling_with-job writes now h.came l ∙ same) ticks gives h.called in
     record {
       came = h.came;
       few = h.few;
@@ -100,7 +100,7 @@ pub datagrams_of-given : (setup : Setup) (o : Option Packet) (given : List (List
 datagrams_of-given setup None given = refl
 datagrams_of-given setup (Some packet) given = refl
 
-pub caller_sends : (setup : Setup) (writes : Writing) (now : ℕ) (came : List (List ℕ)) (l : CalledLeg) (a b c : Told) → Grows (datagrams_of setup l.given) a.sent b.sent
+pub caller_sends : (setup : Setup) (writes : Writing) (now : ℕ) (came : List (List ℕ)) (l : CalledLeg) (a b c : EndTraffic) → Grows (datagrams_of setup l.given) a.sent b.sent
     → Grows (handed (told_by setup (calling_with writes now came l).given (calls writes (calling_with writes now came l) now).given)) b.sent c.sent
     → Grows (datagrams_of setup (calling_turned writes now came l).given) a.sent c.sent
 caller_sends setup writes now came l a b c first second =

@@ -18,11 +18,11 @@ use Rattle.fax_jobs.specs.declared.outcome.Outcome.TheVariants as outcomes
 use Rattle.fax_jobs.specs.declared.report.Report.{Report}
 use Rattle.fax_jobs.specs.Books.{job_of, kept_reports, last_of}
 use Rattle.fax_answer.specs.Table.{Reading}
-use Rattle.fax_answer.specs.Replies.{Waiting}
-use Rattle.fax_answer.specs.Calls.{Answering, CallEvent, Comes, rung}
+use Rattle.fax_answer.specs.Replies.{WaitingPacket}
+use Rattle.fax_answer.specs.Calls.{AnswererCore, CallEvent, Comes, rung}
 use Rattle.fax_answer.specs.Readings.{comes_all}
 use Rattle.fax_call.specs.Writings.{Writing, IsWriting}
-use Rattle.fax_call.specs.Calls.{Calling, after_events}
+use Rattle.fax_call.specs.Calls.{CallerCore, after_events}
 use Rattle.fax_call.specs.Delivery.{is_over}
 use Rattle.fax_call.specs.Replies.{written}
 use Rattle.fax_call.proofs.SignalsGiven.{map_back}
@@ -36,9 +36,9 @@ use Rattle.fax_gateway.specs.Driving.{events}
 use Rattle.fax_gateway.specs.Origins.{JobsAreOfTheirCalls}
 use Rattle.fax_gateway.specs.Reached.{given_on}
 use Rattle.fax_gateway.specs.Reports.{JobsHaveStates, report_list, reports_given}
-use Rattle.fax_gateway.specs.Sides.{book_of, in_tick, sides}
+use Rattle.fax_gateway.specs.BothLegs.{book_of, both_legs, in_tick}
 use Rattle.fax_gateway.specs.Traces.{IsTrace}
-use Rattle.fax_loop.specs.Exchanges.{AreRounds, Round, answerer_behind, caller_behind, moment_behind, reported, trace_behind}
+use Rattle.fax_loop.specs.Exchanges.{AreRounds, Round, answerer_after, caller_after, moment_after, reported, trace_after}
 use Rattle.fax_loop.specs.Faithful.{AreCarried, ConfirmsIfDelivered, arrived_by}
 use Rattle.fax_loop.specs.Machines.{pages_on}
 use Rattle.fax_loop.proofs.AnswererTrace.{IsFollowed, answerer_followed}
@@ -48,7 +48,7 @@ use Rattle.fax_loop.proofs.Faithfully.{is_job_of, one_ring}
 use Rattle.fax_loop.proofs.FramesTold.{said, told_frames}
 use Rattle.fax_loop.proofs.McfGiven.{IsNoAck, TellsNoMcf, given_of, tells_no_mcf}
 use Rattle.fax_loop.proofs.McfHeard.{HasAckFrame, acks_frame, came_pieces, delivered_acks, is_idle as is_idle_call, turned_frame}
-use Rattle.fax_loop.proofs.OneCall.{IsTicked, IsTurned, OnlyComes, behind_is, is_turned, none_reported, trace_before}
+use Rattle.fax_loop.proofs.OneCall.{IsTicked, IsTurned, OnlyComes, after_is, is_turned, none_reported, trace_before}
 use Rattle.fax_loop.proofs.OnePage.{Gives, begun_is, call_begun}
 use Rattle.fax_loop.proofs.Relayed.{Carries, IfGives, called_gives, sends_of}
 
@@ -57,7 +57,7 @@ abbrev GivenSo : Option CallingLeg → Type 0
 GivenSo None = Unit {0}
 GivenSo (Some l) = l.given ≡ given_of (rung l.before l.begun) l.events
 
-comes_given : (a : Answering) (ps : List Piece) (now : ℕ) (read : Reading) (events : List CallEvent) → given_of a (comes_all ps now read events) ≡ given_of a events
+comes_given : (a : AnswererCore) (ps : List Piece) (now : ℕ) (read : Reading) (events : List CallEvent) → given_of a (comes_all ps now read events) ≡ given_of a events
 comes_given a [] now read events = refl
 comes_given a (p ∷ ps) now read events = comes_given a ps now read (Comes p now read ∷ events)
 
@@ -65,7 +65,7 @@ with_given : (l : CallingLeg) (now : ℕ) (read : Reading) (r : Result DatagramV
 with_given l now read (Err f) h = h
 with_given l now read (Ok d) h = h ∙ sym (comes_given (rung l.before l.begun) (new_pieces l.arrived d) now read l.events)
 
-ticked_packets : (l : CallingLeg) (now : ℕ) (o : Option Waiting) → GivenSo (Some l) → packets_with o l.given ≡ packets_with o (given_of (rung l.before l.begun) l.events)
+ticked_packets : (l : CallingLeg) (now : ℕ) (o : Option WaitingPacket) → GivenSo (Some l) → packets_with o l.given ≡ packets_with o (given_of (rung l.before l.begun) l.events)
 ticked_packets l now o h = ap (packets_with o) h
 
 step_given : (setup : Setup) (o : Option CallingLeg) (now : ℕ) (e : Event) → GivenSo o → GivenSo (calling_after setup o now e)
@@ -112,13 +112,13 @@ none_heard given arrived t c h =
     told_frames IsNoAck t.packets h.octets t.fine t.told (contained (pieces.pieces_of (said t.packets)) h.octets of_packets.0 of_packets.1 of_packets.2) h.ack
 
 -- ---- THE CALL THAT IS REPORTED
-record Ended (writes : Writing) (leg : Option CalledLeg) : Type 0 where
+record CallEnd (writes : Writing) (leg : Option CalledLeg) : Type 0 where
   l : CalledLeg
   is_leg : leg ≡ Some l
   over : is_over (called.core_of writes l).state ≡ true
   outcome : (called.core_of writes l).outcome ≡ Some outcomes.Delivered
 
-core_ended : (core : Calling) (outcome : Outcome) → outcome_of core ≡ Some outcome → (is_over core.state ≡ true) × (core.outcome ≡ Some outcome)
+core_ended : (core : CallerCore) (outcome : Outcome) → outcome_of core ≡ Some outcome → (is_over core.state ≡ true) × (core.outcome ≡ Some outcome)
 core_ended core outcome e = by (is_over core.state) refl e
   where
     by : (b : Bool) → is_over core.state ≡ b → (if◌then◌else◌ {A = Option Outcome} b core.outcome None) ≡ Some outcome → (is_over core.state ≡ true) × (core.outcome ≡ Some outcome)
@@ -128,14 +128,14 @@ core_ended core outcome e = by (is_over core.state) refl e
 same_report : (a b : Report) → ◌≡◌ {A = Option Report} (Some a) (Some b) → a ≡ b
 same_report a b e = cc
 
-served_ended : (writes : Writing) (leg : Option CalledLeg) (now : ℕ) (report : Report) → told_report writes leg now ≡ Some report → report.outcome ≡ outcomes.Delivered → Ended writes (option_map (leg_ticked writes now) leg)
+served_ended : (writes : Writing) (leg : Option CalledLeg) (now : ℕ) (report : Report) → told_report writes leg now ≡ Some report → report.outcome ≡ outcomes.Delivered → CallEnd writes (option_map (leg_ticked writes now) leg)
 served_ended writes None now report e d = cc
 served_ended writes (Some k) now report e d = by k.entered e
   where
     delivered : ℕ
     delivered = delivered_told writes (Some k) now
 
-    core : Calling
+    core : CallerCore
     core = (calls writes k now).core
 
     outcome_is : (o : Option Outcome) → report_by k delivered o ≡ Some report → o ≡ Some outcomes.Delivered
@@ -145,7 +145,7 @@ served_ended writes (Some k) now report e d = by k.entered e
         ap (λ (x : Outcome). Some x) (same ∙ d)
 
     by : (b : Bool) → report_by k delivered (if◌then◌else◌ {A = Option Outcome} b None (outcome_of core)) ≡ Some report
-        → Ended writes (Some (if◌then◌else◌ {A = CalledLeg} b k (with_tick (calls writes k now) now k)))
+        → CallEnd writes (Some (if◌then◌else◌ {A = CalledLeg} b k (with_tick (calls writes k now) now k)))
     by true e = cc
     by false e =
         let ended = core_ended core outcomes.Delivered (outcome_is (outcome_of core) e) in
@@ -167,22 +167,22 @@ one_report None report e = cc
 one_report (Some r) report e = e
 
 tick_ended : (setup : Setup) (writes : Writing) (now : ℕ) (given : Given) (earlier : List Event) (report : Report) → IsTrace setup writes (Tick now given ∷ earlier) → given.report ≡ Some report → report.outcome ≡ outcomes.Delivered
-    → Ended writes (sides setup writes (Tick now given ∷ earlier)).leg
+    → CallEnd writes (both_legs setup writes (Tick now given ∷ earlier)).leg
 tick_ended setup writes now given earlier report t e d =
     served_ended writes (in_tick setup writes earlier now).leg (max now (clock earlier)) report (sym (ap (λ (g : Given). g.report) t.0) ∙ e) d
 
-first_report : JobsHaveStates → (setup : Setup) (writes : Writing) (trace : List Event) (report : Report) → IsTrace setup writes trace → slice_get (book_of (sides setup writes trace)).reports 0 ≡ Some report
+first_report : JobsHaveStates → (setup : Setup) (writes : Writing) (trace : List Event) (report : Report) → IsTrace setup writes trace → slice_get (book_of (both_legs setup writes trace)).reports 0 ≡ Some report
     → slice_get (last_of kept_reports (reports_given trace)) 0 ≡ Some report
 first_report law setup writes trace report t e = subst (λ (rs : List Report). slice_get rs 0 ≡ Some report) (law setup writes trace t).last_reports e
 
 turn_ended : JobsHaveStates → (setup : Setup) (writes : Writing) (before trace : List Event) (report : Report) → IsTrace setup writes trace → reports_given before ≡ [] → IsTurned before trace
-    → slice_get (book_of (sides setup writes trace)).reports 0 ≡ Some report → report.outcome ≡ outcomes.Delivered → Ended writes (sides setup writes trace).leg
+    → slice_get (book_of (both_legs setup writes trace)).reports 0 ≡ Some report → report.outcome ≡ outcomes.Delivered → CallEnd writes (both_legs setup writes trace).leg
 turn_ended law setup writes before trace report t none turned e d = by turned.tick
   where
     quiet : reports_given (turned.came ++ before) ≡ []
     quiet = comes_reports turned.came before turned.only ∙ none
 
-    by : (trace ≡ turned.came ++ before) ⊎ IsTicked (turned.came ++ before) trace → Ended writes (sides setup writes trace).leg
+    by : (trace ≡ turned.came ++ before) ⊎ IsTicked (turned.came ++ before) trace → CallEnd writes (both_legs setup writes trace).leg
     by (inl is) =
         let first : slice_get (last_of kept_reports (reports_given trace)) 0 ≡ Some report = first_report law setup writes trace report t e in
         let nothing : slice_get (last_of kept_reports []) 0 ≡ Some report = subst (λ (rs : List Report). slice_get (last_of kept_reports rs) 0 ≡ Some report) (ap reports_given is ∙ quiet) first in
@@ -194,40 +194,40 @@ turn_ended law setup writes before trace report t none turned e d = by turned.ti
         subst (λ (es : List Event). slice_get (last_of kept_reports (reports_given es)) 0 ≡ Some report) k.is (first_report law setup writes trace report t e) in
         let given : k.given.report ≡ Some report =
         one_report k.given.report report (subst (λ (rs : List Report). slice_get (last_of kept_reports (rs ++ report_list k.given.report)) 0 ≡ Some report) quiet first) in
-        subst (λ (es : List Event). Ended writes (sides setup writes es).leg) (sym k.is) (tick_ended setup writes k.now k.given (turned.came ++ before) report on given d)
+        subst (λ (es : List Event). CallEnd writes (both_legs setup writes es).leg) (sym k.is) (tick_ended setup writes k.now k.given (turned.came ++ before) report on given d)
 
-rounds_ended : JobsHaveStates → (setup : Setup) (writes : Writing) (rounds : List Round) (report : Report) → AreRounds setup writes rounds → IsTrace setup writes (trace_behind rounds)
-    → reported setup writes rounds ≡ Some report → report.outcome ≡ outcomes.Delivered → Ended writes (sides setup writes (trace_behind rounds)).leg
+rounds_ended : JobsHaveStates → (setup : Setup) (writes : Writing) (rounds : List Round) (report : Report) → AreRounds setup writes rounds → IsTrace setup writes (trace_after rounds)
+    → reported setup writes rounds ≡ Some report → report.outcome ≡ outcomes.Delivered → CallEnd writes (both_legs setup writes (trace_after rounds)).leg
 rounds_ended law setup writes [] report a t e d =
-    absurd (no_report report (first_report law setup writes (trace_behind []) report t e))
+    absurd (no_report report (first_report law setup writes (trace_after []) report t e))
 rounds_ended law setup writes (round ∷ earlier) report a t e d =
-    let on : IsTrace setup writes (events round.gateway ++ trace_behind earlier) = subst (IsTrace setup writes) (behind_is round earlier) t in
-    let old : IsTrace setup writes (trace_behind earlier) = trace_before setup writes (events round.gateway) (trace_behind earlier) on in
-    turn_ended law setup writes (trace_behind earlier) (trace_behind (round ∷ earlier)) report t (none_reported law setup writes (trace_behind earlier) old a.0.unreported)
-    (is_turned (moment_behind earlier) round.gateway (trace_behind earlier) (trace_behind (round ∷ earlier)) a.0.turn (behind_is round earlier)) e d
+    let on : IsTrace setup writes (events round.gateway ++ trace_after earlier) = subst (IsTrace setup writes) (after_is round earlier) t in
+    let old : IsTrace setup writes (trace_after earlier) = trace_before setup writes (events round.gateway) (trace_after earlier) on in
+    turn_ended law setup writes (trace_after earlier) (trace_after (round ∷ earlier)) report t (none_reported law setup writes (trace_after earlier) old a.0.unreported)
+    (is_turned (moment_after earlier) round.gateway (trace_after earlier) (trace_after (round ∷ earlier)) a.0.turn (after_is round earlier)) e d
 
 -- its leg heard an acknowledgement
 leg_acks : (writes : Writing) (page : PageValue) (l : CalledLeg) → IsWriting writes → Gives writes page l → is_over (called.core_of writes l).state ≡ true → (called.core_of writes l).outcome ≡ Some outcomes.Delivered
     → HasAckFrame (came_pieces l.events)
 leg_acks writes page l w g over delivered =
-    let core : Calling = after_events writes l.job (call_begun l) l.events in
-    let same : called.core_of writes l ≡ core = ap (λ (a : Calling). after_events writes l.job a l.events) (begun_is l g.placed) in
+    let core : CallerCore = after_events writes l.job (call_begun l) l.events in
+    let same : called.core_of writes l ≡ core = ap (λ (a : CallerCore). after_events writes l.job a l.events) (begun_is l g.placed) in
     acks_frame l.events
-    (delivered_acks writes l w g.is_job (is_idle_call core.state (subst (λ (a : Calling). is_over a.state ≡ true) same over)) (subst (λ (a : Calling). a.outcome ≡ Some outcomes.Delivered) same delivered))
+    (delivered_acks writes l w g.is_job (is_idle_call core.state (subst (λ (a : CallerCore). is_over a.state ≡ true) same over)) (subst (λ (a : CallerCore). a.outcome ≡ Some outcomes.Delivered) same delivered))
 
 -- ---- THE LAW
 pub confirms_if_delivered : JobsAreOfTheirCalls → JobsHaveStates → ConfirmsIfDelivered
 confirms_if_delivered law states setup writes page rounds report new w is rounds_are t h back e d none =
-    let caller : CalledLeg = caller_behind setup writes (job_of 0 page) rounds in
-    let leg : Option CalledLeg = (sides setup writes (trace_behind rounds)).leg in
+    let caller : CalledLeg = caller_after setup writes (job_of 0 page) rounds in
+    let leg : Option CalledLeg = (both_legs setup writes (trace_after rounds)).leg in
     let gives : Gives writes page caller = caller_gives setup writes page (job_of 0 page) rounds w (is_job_of page is) (refl, tt) in
-    let carries : Carries setup writes caller.given (trace_behind rounds) = record { is_trace = t; rings = one_ring setup writes rounds rounds_are; carried = h.to_gateway } in
-    let leg_gives : IfGives writes page leg = called_gives law setup writes (trace_behind rounds) page caller.given new w (sends_of page writes caller w gives) carries in
-    let ended : Ended writes leg = rounds_ended states setup writes rounds report rounds_are t e d in
+    let carries : Carries setup writes caller.given (trace_after rounds) = record { is_trace = t; rings = one_ring setup writes rounds rounds_are; carried = h.to_gateway } in
+    let leg_gives : IfGives writes page leg = called_gives law setup writes (trace_after rounds) page caller.given new w (sends_of page writes caller w gives) carries in
+    let ended : CallEnd writes leg = rounds_ended states setup writes rounds report rounds_are t e d in
     let l : CalledLeg = ended.l in
     let own : Gives writes page l = subst (IfGives writes page) ended.is_leg leg_gives in
-    let heard : came_pieces l.events ≡ reverse (pieces.pieces (newest_slots l.arrived)) = subst HeardSo ended.is_leg (called_heard setup writes (trace_behind rounds)) in
+    let heard : came_pieces l.events ≡ reverse (pieces.pieces (newest_slots l.arrived)) = subst HeardSo ended.is_leg (called_heard setup writes (trace_after rounds)) in
     let frame : HasAckFrame (pieces.pieces (newest_slots l.arrived)) =
     turned_frame (pieces.pieces (newest_slots l.arrived)) (subst HasAckFrame heard (leg_acks writes page l w own ended.over ended.outcome)) in
-    let carried : AreCarried (given_on (answerer_behind setup rounds)) l.arrived = subst (λ (o : Option CalledLeg). AreCarried (given_on (answerer_behind setup rounds)) (arrived_by o)) ended.is_leg back in
-    none_heard (given_on (answerer_behind setup rounds)) l.arrived (none_told setup writes (moment_behind rounds) (answerer_behind setup rounds) (answerer_followed setup writes writes rounds rounds_are) none) carried frame
+    let carried : AreCarried (given_on (answerer_after setup rounds)) l.arrived = subst (λ (o : Option CalledLeg). AreCarried (given_on (answerer_after setup rounds)) (arrived_by o)) ended.is_leg back in
+    none_heard (given_on (answerer_after setup rounds)) l.arrived (none_told setup writes (moment_after rounds) (answerer_after setup rounds) (answerer_followed setup writes writes rounds rounds_are) none) carried frame

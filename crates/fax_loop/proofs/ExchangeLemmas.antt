@@ -11,13 +11,13 @@ use Rattle.fax_gateway.specs.Reached.{IsReachedBy}
 use Rattle.fax_gateway.proofs.DrivingLemmas.{carries_more, carries_none, grows_more, grows_none, has_failed, reached_more}
 use Rattle.fax_loop.specs.declared.exchange.Parties.{Parties}
 use Rattle.fax_loop.specs.Machines.{octets_of}
-use Rattle.fax_loop.specs.Exchanges.{Carried, IsPlayed, Lines, Round, answerer_behind, caller_behind, log_behind, moment_behind, most_rounds, reported, trace_behind}
-use Rattle.fax_loop.specs.Kept.{AnswererTurns, CallerTurns, HasEnded, HasGone, HasPlayed, caller_of}
+use Rattle.fax_loop.specs.Exchanges.{CarriesRounds, IsPlayed, Lines, Round, answerer_after, caller_after, log_after, moment_after, most_rounds, reported, trace_after}
+use Rattle.fax_loop.specs.Rep.{AnswererTurns, CallerTurns, HasEnded, HasGone, HasPlayed, caller_of}
 use Rattle.fax_loop.proofs.AnswererLemmas.{answerer_sends}
 use Rattle.fax_loop.proofs.CallerLemmas.{caller_sends}
 
 -- nothing was carried yet
-pub carried_none : (setup : Setup) (writes : Writing) (job : JobValue) (lines : Lines) → Carried setup writes job [] lines lines
+pub carried_none : (setup : Setup) (writes : Writing) (job : JobValue) (lines : Lines) → CarriesRounds setup writes job [] lines lines
 carried_none setup writes job lines = record {
   came_to_caller = grows_none lines.caller.received;
   caller_sent = grows_none lines.caller.sent;
@@ -27,20 +27,20 @@ carried_none setup writes job lines = record {
 }
 
 -- the moment of a round
-pub moment_is : (rounds : List Round) (n now : ℕ) → length rounds ≡ n → n < most_rounds → now ≡ 40 * n → now ≡ moment_behind rounds
+pub moment_is : (rounds : List Round) (n now : ℕ) → length rounds ≡ n → n < most_rounds → now ≡ 40 * n → now ≡ moment_after rounds
 moment_is rounds n now many low is = omega arith
 
 -- one round more
 pub round_more : (setup : Setup) (writes : Writing) (job : JobValue) (rounds : List Round) (now : ℕ) (before a b : Lines) (old new : Parties) (turn : List Entry)
-    → now ≡ moment_behind rounds → length rounds < most_rounds → reported setup writes rounds ≡ None → failed_in_a_row (receipts (log_behind rounds)) < most_failed
+    → now ≡ moment_after rounds → length rounds < most_rounds → reported setup writes rounds ≡ None → failed_in_a_row (receipts (log_after rounds)) < most_failed
     → HasPlayed setup writes job rounds before a old
-    → CallerTurns setup writes (caller_behind setup writes job rounds) now a.caller b.caller (caller_of new.caller)
-    → IsTurn now turn → Happens setup writes turn (trace_behind rounds) new.gateway a.wire b.wire → HasMade (turn ++ log_behind rounds) new.driver
-    → AnswererTurns setup (answerer_behind setup rounds) now a.answerer b.answerer new.answerer
+    → CallerTurns setup writes (caller_after setup writes job rounds) now a.caller b.caller (caller_of new.caller)
+    → IsTurn now turn → Happens setup writes turn (trace_after rounds) new.gateway a.wire b.wire → HasMade (turn ++ log_after rounds) new.driver
+    → AnswererTurns setup (answerer_after setup rounds) now a.answerer b.answerer new.answerer
     → (round : Round) × (round.gateway ≡ turn) × HasPlayed setup writes job (round ∷ rounds) before b new
 round_more setup writes job rounds now before a b old new turn at few unreported goes p calling turned happens made called =
-    let c = subst (λ n. CallerTurns setup writes (caller_behind setup writes job rounds) n a.caller b.caller (caller_of new.caller)) at calling in
-    let d = subst (λ n. AnswererTurns setup (answerer_behind setup rounds) n a.answerer b.answerer new.answerer) at called in
+    let c = subst (λ n. CallerTurns setup writes (caller_after setup writes job rounds) n a.caller b.caller (caller_of new.caller)) at calling in
+    let d = subst (λ n. AnswererTurns setup (answerer_after setup rounds) n a.answerer b.answerer new.answerer) at called in
     let round : Round = record { calling = c.came; gateway = turn; called = d.came } in (
       round,
       refl,
@@ -49,16 +49,16 @@ round_more setup writes job rounds now before a b old new turn at few unreported
           record { few = few; unreported = unreported; receives = goes; few_calling = c.few; turn = subst (λ n. IsTurn n turn) at turned; few_called = d.few; read = d.read },
           p.are_rounds,
         );
-        gateway = reached_more setup writes (log_behind rounds) turn (Ring 0 0 ∷ []) new.gateway happens.reached;
+        gateway = reached_more setup writes (log_after rounds) turn (Ring 0 0 ∷ []) new.gateway happens.reached;
         driver = made;
         caller = c.called;
         answerer = d.answering;
         carried = record {
           came_to_caller = grows_more _ c.came before.caller.received a.caller.received b.caller.received p.carried.came_to_caller c.received;
-          caller_sent = caller_sends setup writes (moment_behind rounds) c.came (caller_behind setup writes job rounds) before.caller a.caller b.caller p.carried.caller_sent c.sent;
-          wire = carries_more (log_behind rounds) turn before.wire a.wire b.wire p.carried.wire happens.carried;
+          caller_sent = caller_sends setup writes (moment_after rounds) c.came (caller_after setup writes job rounds) before.caller a.caller b.caller p.carried.caller_sent c.sent;
+          wire = carries_more (log_after rounds) turn before.wire a.wire b.wire p.carried.wire happens.carried;
           came_to_answerer = grows_more _ (octets_of d.came) before.answerer.received a.answerer.received b.answerer.received p.carried.came_to_answerer d.received;
-          answerer_sent = answerer_sends setup (moment_behind rounds) d.came (answerer_behind setup rounds) before.answerer a.answerer b.answerer p.carried.answerer_sent d.sent;
+          answerer_sent = answerer_sends setup (moment_after rounds) d.came (answerer_after setup rounds) before.answerer a.answerer b.answerer p.carried.answerer_sent d.sent;
         };
       },
     )
@@ -68,19 +68,19 @@ pub gone_none : (setup : Setup) (writes : Writing) (job : JobValue) (before afte
     → HasGone setup writes job 0 true before after parties
 gone_none setup writes job before after parties p = record { rounds = []; many = refl; receives = (λ e. omega arith, λ low. refl); played = p }
 
--- no more are played where the last 100 receives failed, where the job is reported, and behind the last
+-- no more are played where the last 100 receives failed, where the job is reported, and after the last
 pub ended_failed : (setup : Setup) (writes : Writing) (job : JobValue) (count : ℕ) (goes_on : Bool) (before after : Lines) (parties : Parties) → goes_on ≡ false
     → HasGone setup writes job count goes_on before after parties → HasEnded setup writes job before after parties
 ended_failed setup writes job count goes_on before after parties off g = record {
   rounds = g.rounds;
   over =
-      let row = failed_in_a_row (receipts (log_behind g.rounds)) in
+      let row = failed_in_a_row (receipts (log_after g.rounds)) in
       inr (inl (has_failed row (subst (λ b. IsTrue b ↔ (row < most_failed)) off g.receives)));
   played = g.played;
 }
 
 pub ended_reported : (setup : Setup) (writes : Writing) (job : JobValue) (count : ℕ) (goes_on : Bool) (before after : Lines) (parties : Parties) (report : Option Report) → IsSome report
-    → ((rounds : List Round) → IsReachedBy setup writes (trace_behind rounds) parties.gateway → report ≡ reported setup writes rounds)
+    → ((rounds : List Round) → IsReachedBy setup writes (trace_after rounds) parties.gateway → report ≡ reported setup writes rounds)
     → HasGone setup writes job count goes_on before after parties → HasEnded setup writes job before after parties
 ended_reported setup writes job count goes_on before after parties report some told g = record {
   rounds = g.rounds;
@@ -94,7 +94,7 @@ ended_last setup writes job count goes_on before after parties last g = record {
 
 -- how it ended
 pub played_ended : (setup : Setup) (writes : Writing) (job : JobValue) (before after : Lines) (parties : Parties) (report : Option Report) (pages : List PageValue)
-    → ((rounds : List Round) → IsReachedBy setup writes (trace_behind rounds) parties.gateway → report ≡ reported setup writes rounds)
+    → ((rounds : List Round) → IsReachedBy setup writes (trace_after rounds) parties.gateway → report ≡ reported setup writes rounds)
     → pages ≡ parties.answerer.confirmed.items → HasEnded setup writes job before after parties → IsPlayed setup writes job before after report pages
 played_ended setup writes job before after parties report pages told same e = record {
   rounds = e.rounds;
@@ -113,9 +113,9 @@ none (Some report) h = cc
 -- one round more of those that are played until the job is reported
 pub gone_more : (setup : Setup) (writes : Writing) (job : JobValue) (count now : ℕ) (goes_on after : Bool) (before a b : Lines) (old new : Parties) (report : Option Report)
     → count < most_rounds → now ≡ 40 * count → IsTrue goes_on → is_some report ≡ false
-    → ((rounds : List Round) → IsReachedBy setup writes (trace_behind rounds) old.gateway → report ≡ reported setup writes rounds)
-    → ((rounds : List Round) → now ≡ moment_behind rounds → length rounds < most_rounds → reported setup writes rounds ≡ None → failed_in_a_row (receipts (log_behind rounds)) < most_failed → HasPlayed setup writes job rounds before a old
-    → (round : Round) × (IsTrue after ↔ (failed_in_a_row (receipts (log_behind (round ∷ rounds))) < most_failed)) × HasPlayed setup writes job (round ∷ rounds) before b new)
+    → ((rounds : List Round) → IsReachedBy setup writes (trace_after rounds) old.gateway → report ≡ reported setup writes rounds)
+    → ((rounds : List Round) → now ≡ moment_after rounds → length rounds < most_rounds → reported setup writes rounds ≡ None → failed_in_a_row (receipts (log_after rounds)) < most_failed → HasPlayed setup writes job rounds before a old
+    → (round : Round) × (IsTrue after ↔ (failed_in_a_row (receipts (log_after (round ∷ rounds))) < most_failed)) × HasPlayed setup writes job (round ∷ rounds) before b new)
     → HasGone setup writes job count goes_on before a old → HasGone setup writes job (count + 1) after before b new
 gone_more setup writes job count now goes_on after before a b old new report low at on unreported told plays g =
     let (round, receives, played) = plays g.rounds (moment_is g.rounds count now g.many low at) (subst (λ (n : ℕ). n < most_rounds) (sym g.many) low) (sym (told g.rounds g.played.gateway) ∙ none report unreported) (g.receives.0 on) g.played in

@@ -12,18 +12,18 @@ use Rattle.fax_answer.specs.History.{Entry}
 use Rattle.fax_answer.specs.Sent.{Rises, RisesBy, page_accepted, page_with, pages_accepted, pages_waiting}
 use Rattle.fax_answer.proofs.Accepted.{confirms_what_it_accepted}
 use Rattle.fax_call.specs.Writings.{Writing, IsWriting}
-use Rattle.fax_gateway.specs.declared.side.Side.{Side}
+use Rattle.fax_gateway.specs.declared.leg.Leg.{Leg}
 use Rattle.fax_gateway.specs.Setups.{Setup}
 use Rattle.fax_gateway.specs.Events.{Event, Ring, FromCalling, FromCalled, Tick, Placed}
-use Rattle.fax_gateway.specs.Driving.{Entry as Logged, Accepts as AcceptsEvent, RefusesRing, RefusesDatagram, RefusesTick, ReceivesNothing, FailsToReceive, Sends as SendsOut, AreReceives, BringsNone, Comes, IsSent, IsTick, IsTurn, events}
+use Rattle.fax_gateway.specs.Driving.{Entry as Logged, Accepts as AcceptsEvent, RefusesRing, RefusesDatagram, RefusesTick, ReceivesNothing, FailsToReceive, Sends as SendsOut, AreReceives, GivesNoDatagram, Comes, IsSent, IsTick, IsTurn, events}
 use Rattle.fax_gateway.specs.CallingLegs.{CallingLeg, calling_leg, core_of}
 use Rattle.fax_gateway.specs.CalledLegs.{CalledLeg}
 use Rattle.fax_gateway.specs.Origins.{JobsAreOfTheirCalls}
 use Rattle.fax_gateway.specs.Reached.{arrived_on}
-use Rattle.fax_gateway.specs.Sides.{sides}
+use Rattle.fax_gateway.specs.BothLegs.{both_legs}
 use Rattle.fax_gateway.specs.Traces.{IsTrace}
 use Rattle.fax_gateway.proofs.SentPages.{leg_confirms_signals}
-use Rattle.fax_loop.specs.Exchanges.{AreRounds, Round, answerer_behind, caller_behind, log_behind, moment_behind, trace_behind}
+use Rattle.fax_loop.specs.Exchanges.{AreRounds, Round, answerer_after, caller_after, log_after, moment_after, trace_after}
 use Rattle.fax_loop.specs.Faithful.{AreCarried, AreThePage, ConfirmsThePage, given_by}
 use Rattle.fax_loop.specs.Machines.{pages_on}
 use Rattle.fax_loop.proofs.AnswererTrace.{IsFollowed, answerer_followed}
@@ -56,7 +56,7 @@ both : (log more : List Logged) → NoRings log → NoRings more → NoRings (lo
 both [] more a b = b
 both (entry ∷ log) more a b = (a.0, both log more a.1 b)
 
-comes_none : (at : Side) (now : ℕ) (entry : Logged) → Comes at now entry → NoRingIn entry
+comes_none : (at : Leg) (now : ℕ) (entry : Logged) → Comes at now entry → NoRingIn entry
 comes_none at now (AcceptsEvent (Ring moment number)) c = absurd c
 comes_none at now (AcceptsEvent (FromCalling octets moment decided read)) c = tt
 comes_none at now (AcceptsEvent (FromCalled octets moment decided)) c = tt
@@ -69,19 +69,19 @@ comes_none at now (ReceivesNothing on) c = tt
 comes_none at now (FailsToReceive on) c = tt
 comes_none at now (SendsOut on octets fails) c = tt
 
-all_none : (at : Side) (now : ℕ) (log : List Logged) → AllByRecursion (Comes at now) log → NoRings log
+all_none : (at : Leg) (now : ℕ) (log : List Logged) → AllByRecursion (Comes at now) log → NoRings log
 all_none at now [] a = tt
 all_none at now (entry ∷ log) a = (comes_none at now entry a.0, all_none at now log a.1)
 
-brings_none : (at : Side) (entry : Logged) → BringsNone at entry → NoRingIn entry
-brings_none at entry (inl e) = subst NoRingIn (sym e) tt
-brings_none at entry (inr e) = subst NoRingIn (sym e) tt
+gives_none : (at : Leg) (entry : Logged) → GivesNoDatagram at entry → NoRingIn entry
+gives_none at entry (inl e) = subst NoRingIn (sym e) tt
+gives_none at entry (inr e) = subst NoRingIn (sym e) tt
 
-receives_none : (at : Side) (now : ℕ) (log : List Logged) → AreReceives at now log → NoRings log
+receives_none : (at : Leg) (now : ℕ) (log : List Logged) → AreReceives at now log → NoRings log
 receives_none at now log (inl a) = all_none at now log (recursion_from_All (Comes at now) log a.0)
-receives_none at now log (inr r) = subst NoRings (sym r.2) (brings_none at r.1 r.5, all_none at now r.0 (recursion_from_All (Comes at now) r.0 r.3))
+receives_none at now log (inr r) = subst NoRings (sym r.2) (gives_none at r.1 r.5, all_none at now r.0 (recursion_from_All (Comes at now) r.0 r.3))
 
-sent_none : (at : Side) (o : Option (List ℕ)) (log : List Logged) → IsSent at o log → NoRings log
+sent_none : (at : Leg) (o : Option (List ℕ)) (log : List Logged) → IsSent at o log → NoRings log
 sent_none at None log e = subst NoRings (sym e) tt
 sent_none at (Some octets) log e = subst NoRings (sym e.1) (tt, tt)
 
@@ -92,9 +92,9 @@ tick_none now log (inr e) = subst NoRings (sym e) (tt, tt)
 turn_none : (now : ℕ) (log : List Logged) → IsTurn now log → NoRings log
 turn_none now log t = subst NoRings (sym t.log_is) (both t.tick _ (tick_none now t.tick t.ticks) (both t.called t.calling (receives_none _ now t.called t.on_called) (receives_none _ now t.calling t.on_calling)))
 
-rounds_none : (setup : Setup) (writes : Writing) (rounds : List Round) → AreRounds setup writes rounds → NoRings (log_behind rounds)
+rounds_none : (setup : Setup) (writes : Writing) (rounds : List Round) → AreRounds setup writes rounds → NoRings (log_after rounds)
 rounds_none setup writes [] a = tt
-rounds_none setup writes (round ∷ earlier) a = both round.gateway (log_behind earlier) (turn_none (moment_behind earlier) round.gateway a.0.turn) (rounds_none setup writes earlier a.1)
+rounds_none setup writes (round ∷ earlier) a = both round.gateway (log_after earlier) (turn_none (moment_after earlier) round.gateway a.0.turn) (rounds_none setup writes earlier a.1)
 
 rings_first : (log : List Logged) → NoRings log → RingsFirst (events log ++ Ring 0 0 ∷ [])
 rings_first [] n = refl
@@ -110,8 +110,8 @@ rings_first (ReceivesNothing at ∷ log) n = rings_first log n.1
 rings_first (FailsToReceive at ∷ log) n = rings_first log n.1
 rings_first (SendsOut at octets fails ∷ log) n = rings_first log n.1
 
-pub one_ring : (setup : Setup) (writes : Writing) (rounds : List Round) → AreRounds setup writes rounds → RingsFirst (trace_behind rounds)
-one_ring setup writes rounds a = rings_first (log_behind rounds) (rounds_none setup writes rounds a)
+pub one_ring : (setup : Setup) (writes : Writing) (rounds : List Round) → AreRounds setup writes rounds → RingsFirst (trace_after rounds)
+one_ring setup writes rounds a = rings_first (log_after rounds) (rounds_none setup writes rounds a)
 
 -- ---- THE MACHINE THAT IS CALLED
 -- where nothing was given, nothing is confirmed
@@ -138,9 +138,9 @@ accepted_all page (e ∷ h) a = by (page_accepted e.decision) a.0 (accepted_all 
     by None i rest = rest
     by (Some p) i rest = (i, rest)
 
-behind_all : (page : PageValue) (xs ys : List PageValue) → AreAll page (xs ++ ys) → AreAll page ys
-behind_all page [] ys a = a
-behind_all page (x ∷ xs) ys a = behind_all page xs ys a.1
+after_all : (page : PageValue) (xs ys : List PageValue) → AreAll page (xs ++ ys) → AreAll page ys
+after_all page [] ys a = a
+after_all page (x ∷ xs) ys a = after_all page xs ys a.1
 
 as_all : (page : PageValue) (pages : List PageValue) → AreAll page pages → AreThePage page pages
 as_all page [] a = All-nil (λ p. p ≡ page)
@@ -149,7 +149,7 @@ as_all page (p ∷ pages) a = All-cons (λ q. q ≡ page) p pages a.0 (as_all pa
 confirmed_all : (page : PageValue) (l : CallingLeg) → Accepts page (core_of l).history → AreThePage page (pages_on (Some l))
 confirmed_all page l a =
     let e = confirms_what_it_accepted l.before l.begun l.events in
-    as_all page (pages_on (Some l)) (behind_all page (pages_waiting (core_of l).waiting) (pages_on (Some l)) (subst (AreAll page) e.0 (accepted_all page (core_of l).history a)))
+    as_all page (pages_on (Some l)) (after_all page (pages_waiting (core_of l).waiting) (pages_on (Some l)) (subst (AreAll page) e.0 (accepted_all page (core_of l).history a)))
 
 answered : (setup : Setup) (writes others : Writing) (page : PageValue) (leg : Option CalledLeg) (o : Option CallingLeg) (now : ℕ) → IsWriting others → IsFollowed setup writes now o
     → IfGives others page leg → AreCarried (given_by leg) (arrived_on o) → AreThePage page (pages_on o)
@@ -162,11 +162,11 @@ is_job_of page is = record { some = omega arith; few = omega arith; of_first = r
 
 pub confirms_the_page : JobsAreOfTheirCalls → ConfirmsThePage
 confirms_the_page law setup writes page rounds new w is rounds_are t h =
-    let caller : CalledLeg = caller_behind setup writes (job_of 0 page) rounds in
+    let caller : CalledLeg = caller_after setup writes (job_of 0 page) rounds in
     let gives : Gives writes page caller = caller_gives setup writes page (job_of 0 page) rounds w (is_job_of page is) (refl, tt) in
-    let carries : Carries setup writes caller.given (trace_behind rounds) = record { is_trace = t; rings = one_ring setup writes rounds rounds_are; carried = h.to_gateway } in
-    let called : IfGives writes page (sides setup writes (trace_behind rounds)).leg = called_gives law setup writes (trace_behind rounds) page caller.given new w (sends_of page writes caller w gives) carries in
-    answered setup writes writes page (sides setup writes (trace_behind rounds)).leg (answerer_behind setup rounds) (moment_behind rounds) w (answerer_followed setup writes writes rounds rounds_are) called h.to_answerer
+    let carries : Carries setup writes caller.given (trace_after rounds) = record { is_trace = t; rings = one_ring setup writes rounds rounds_are; carried = h.to_gateway } in
+    let called : IfGives writes page (both_legs setup writes (trace_after rounds)).leg = called_gives law setup writes (trace_after rounds) page caller.given new w (sends_of page writes caller w gives) carries in
+    answered setup writes writes page (both_legs setup writes (trace_after rounds)).leg (answerer_after setup rounds) (moment_after rounds) w (answerer_followed setup writes writes rounds rounds_are) called h.to_answerer
 
 -- ---- OF AN EXCHANGE
 from_all : (page : PageValue) (pages : List PageValue) → AreThePage page pages → AreAll page pages

@@ -1,4 +1,4 @@
--- What one more datagram brings to a leg, and what a side makes of it. As in `fax_gateway`, which keeps these lemmas to itself.
+-- What one more datagram brings to a leg, and what an endpoint makes of it. As in `fax_gateway`, which keeps these lemmas to itself.
 use Rattle.std.proofs.Common.{◌≡◌, ℕ, Bool, false, List, [], ◌∷◌, ◌++◌, length, drop, reverse, Option, Some, None, option_map, Result, Ok, refl, sym, ◌∙◌, ap, subst, if◌then◌else◌}
 use Rattle.std.proofs.Math.Seq.{drop-append_seam}
 use Rattle.std.proofs.lemmas.List.{reverse-append}
@@ -12,7 +12,7 @@ use Rattle.fax_ifp.specs.Pieces.{Piece, pieces}
 use Rattle.fax_jobs.specs.Jobs.{JobValue}
 use Rattle.fax_answer.specs.Table.{Reading, Question}
 use Rattle.fax_answer.specs.Calls as answer_calls
-use Rattle.fax_answer.specs.Calls.{Answering, first_asked, came_all, rung}
+use Rattle.fax_answer.specs.Calls.{AnswererCore, first_asked, came_all, rung}
 use Rattle.fax_answer.specs.Confirmation.{IsRead}
 use Rattle.fax_answer.specs.Readings.{comes_all}
 use Rattle.fax_answer.specs.Reached as answer
@@ -20,11 +20,11 @@ use Rattle.fax_call.specs.declared.state.State.{State}
 use Rattle.fax_call.specs.declared.state.State.TheVariants.{Idle, AwaitDis, AwaitCfr, AwaitMcf, Closing}
 use Rattle.fax_call.specs.Writings.{Writing}
 use Rattle.fax_call.specs.Calls as call_calls
-use Rattle.fax_call.specs.Calls.{Calling}
+use Rattle.fax_call.specs.Calls.{CallerCore}
 use Rattle.fax_call.specs.Delivery.{is_over}
 use Rattle.fax_call.specs.Reached as call
 use Rattle.fax_gateway.specs.Setups.{Setup}
-use Rattle.fax_gateway.specs.declared.called.CalledSide.{CalledSide}
+use Rattle.fax_gateway.specs.declared.called.CalledEndpoint.{CalledEndpoint}
 use Rattle.fax_gateway.specs.Legs.{new_pieces}
 use Rattle.fax_gateway.specs.CallingLegs as calling_legs
 use Rattle.fax_gateway.specs.CallingLegs.{CallingLeg, is_idle, idle_after, decided_calling, asked_by}
@@ -44,8 +44,8 @@ pieces_new arrived d x given h p =
     let before : List Piece = pieces (newest_slots arrived) in
     ap (λ (ss : List Slot). drop (length before) (pieces ss)) (newest_more arrived d x h) ∙ ap (λ (ps : List Piece). drop (length before) ps) p ∙ drop-append_seam before given
 
--- THE CALLING SIDE
-comes_core : (a : Answering) (ps : List Piece) (now : ℕ) (read : Reading) (events : List answer_calls.CallEvent) → answer_calls.after_events a (comes_all ps now read events) ≡ came_all read (answer_calls.after_events a events) ps now
+-- THE CALLING LEG
+comes_core : (a : AnswererCore) (ps : List Piece) (now : ℕ) (read : Reading) (events : List answer_calls.CallEvent) → answer_calls.after_events a (comes_all ps now read events) ≡ came_all read (answer_calls.after_events a events) ps now
 comes_core a [] now read events = refl
 comes_core a (p ∷ ps) now read events = comes_core a ps now read (answer_calls.Comes p now read ∷ events)
 
@@ -65,13 +65,13 @@ leg_hears setup l now d x old new r n after number sender h =
     record {
       number = r.number ∙ sym number;
       core =
-          subst (λ (a : Answering). answer.IsReached (newest_slots (d ∷ l.arrived)) a new.kept) (sym core)
+          subst (λ (a : AnswererCore). answer.IsReached (newest_slots (d ∷ l.arrived)) a new.kept) (sym core)
           (subst (λ (ss : List Slot). answer.IsReached ss (came_all h.read (calling_legs.core_of l) h.given now) new.kept) (sym (newest_more l.arrived d x n)) h.reached);
       on_leg = record { receiver = after; sender = subst (λ (s : SenderValue). HasSent setup.redundancy l.given s) (sym sender) r.on_leg.sender };
     }
 
 pub hears_calling : (setup : Setup) (leg : Option CallingLeg) (now : ℕ) (octets : List ℕ) (x : DecidedValue) (old new : CallingValue) → idle_after leg ≡ false → IsCalling setup leg old → Takes octets old.leg.receiver new.leg.receiver x
-    → new.number ≡ old.number → new.leg.sender ≡ old.leg.sender → ((heard : List Slot) (core : Answering) → answer.IsReached heard core old.kept → answer.Hears (slots_in x) now heard core new.kept)
+    → new.number ≡ old.number → new.leg.sender ≡ old.leg.sender → ((heard : List Slot) (core : AnswererCore) → answer.IsReached heard core old.kept → answer.Hears (slots_in x) now heard core new.kept)
     → HearsCalling setup leg now octets new
 hears_calling setup None now octets x old new off r t number sender f = cc
 hears_calling setup (Some l) now octets x old new off r t number sender f =
@@ -81,16 +81,16 @@ hears_calling setup (Some l) now octets x old new off r t number sender f =
     let asks : question_by (is_idle (calling_legs.core_of l).state) l now (datagram_of octets) ≡ first_asked (calling_legs.core_of l) h.given now =
     ap (λ (b : Bool). question_by b l now (datagram_of octets)) off ∙ ap (λ (r : Result DatagramValue UdptlFault). question_by false l now r) t.is
     ∙ ap (λ (ps : List Piece). first_asked (calling_legs.core_of l) ps now) given in
-    let brings : heard_by (is_idle (calling_legs.core_of l).state) l now h.read (datagram_of octets) ≡ Some (calling_legs.leg_with l now h.read (Ok t.datagram)) =
+    let gives : heard_by (is_idle (calling_legs.core_of l).state) l now h.read (datagram_of octets) ≡ Some (calling_legs.leg_with l now h.read (Ok t.datagram)) =
     ap (λ (b : Bool). heard_by b l now h.read (datagram_of octets)) off ∙ ap (λ (r : Result DatagramValue UdptlFault). heard_by false l now h.read r) t.is in
     record {
       read = h.read;
       right = subst (λ (q : Option Question). IsRead q h.read) (sym asks) h.right;
-      calling = subst (λ (o : Option CallingLeg). IsCalling setup o new) (sym brings) (leg_hears setup l now t.datagram x old new r n (t.after l.arrived r.on_leg.receiver) number sender h);
+      calling = subst (λ (o : Option CallingLeg). IsCalling setup o new) (sym gives) (leg_hears setup l now t.datagram x old new r n (t.after l.arrived r.on_leg.receiver) number sender h);
     }
 
--- THE CALLED SIDE
-came_core : (writes : Writing) (job : JobValue) (a : Calling) (ps : List Piece) (now : ℕ) (events : List call_calls.CallEvent) → call_calls.after_events writes job a (comes_to ps now events) ≡ call_calls.came_all (call_calls.after_events writes job a events) ps now
+-- THE CALLED LEG
+came_core : (writes : Writing) (job : JobValue) (a : CallerCore) (ps : List Piece) (now : ℕ) (events : List call_calls.CallEvent) → call_calls.after_events writes job a (comes_to ps now events) ≡ call_calls.came_all (call_calls.after_events writes job a events) ps now
 came_core writes job a [] now events = refl
 came_core writes job a (p ∷ ps) now events = came_core writes job a ps now (call_calls.Comes p now ∷ events)
 
@@ -109,11 +109,11 @@ abbrev OnCall : Writing → Option CalledLeg → Type 0
 OnCall writes None = ⊥
 OnCall writes (Some l) = is_over (called_legs.core_of writes l).state ≡ false
 
-on_called : (setup : Setup) (writes : Writing) (leg : Option CalledLeg) (side : CalledSide) → IsCalled setup writes leg side → (side.caller.procedure.state ≡ Idle → ⊥) → OnCall writes leg
-on_called setup writes None side r off = off (r.core (record { call = 0; format = side.caller.procedure.format; pages = [] })).follows.state
-on_called setup writes (Some l) side r off = on_call (called_legs.core_of writes l).state (λ e. off (r.core.follows.state ∙ e))
+on_called : (setup : Setup) (writes : Writing) (leg : Option CalledLeg) (endpoint : CalledEndpoint) → IsCalled setup writes leg endpoint → (endpoint.caller.procedure.state ≡ Idle → ⊥) → OnCall writes leg
+on_called setup writes None endpoint r off = off (r.core (record { call = 0; format = endpoint.caller.procedure.format; pages = [] })).follows.state
+on_called setup writes (Some l) endpoint r off = on_call (called_legs.core_of writes l).state (λ e. off (r.core.follows.state ∙ e))
 
-leg_hears_called : (setup : Setup) (writes : Writing) (l : CalledLeg) (now : ℕ) (d : DatagramValue) (x : DecidedValue) (old new : CalledSide) → IsCalled setup writes (Some l) old → Decides l.arrived d x → IsAfter (d ∷ l.arrived) new.leg.receiver
+leg_hears_called : (setup : Setup) (writes : Writing) (l : CalledLeg) (now : ℕ) (d : DatagramValue) (x : DecidedValue) (old new : CalledEndpoint) → IsCalled setup writes (Some l) old → Decides l.arrived d x → IsAfter (d ∷ l.arrived) new.leg.receiver
     → new.leg.sender ≡ old.leg.sender → call.Hears writes l.job (slots_in x) now (newest_slots l.arrived) (called_legs.core_of writes l) new.caller
     → IsCalled setup writes (Some (called_legs.leg_with (Ok d) now l)) new
 leg_hears_called setup writes l now d x old new r n after sender h =
@@ -122,18 +122,18 @@ leg_hears_called setup writes l now d x old new r n after sender h =
     came_core writes l.job (begun_core l) (new_pieces l.arrived d) now l.events ∙ ap (λ (ps : List Piece). call_calls.came_all (called_legs.core_of writes l) ps now) given in
     record {
       core =
-          subst (λ (a : Calling). call.IsReached writes l.job (newest_slots (d ∷ l.arrived)) a new.caller) (sym core)
+          subst (λ (a : CallerCore). call.IsReached writes l.job (newest_slots (d ∷ l.arrived)) a new.caller) (sym core)
           (subst (λ (ss : List Slot). call.IsReached writes l.job ss (call_calls.came_all (called_legs.core_of writes l) h.given now) new.caller) (sym (newest_more l.arrived d x n)) h.reached);
       on_leg = record { receiver = after; sender = subst (λ (s : SenderValue). HasSent setup.redundancy l.given s) (sym sender) r.on_leg.sender };
     }
 
-pub hears_called : (setup : Setup) (writes : Writing) (leg : Option CalledLeg) (now : ℕ) (octets : List ℕ) (x : DecidedValue) (old new : CalledSide) → (old.caller.procedure.state ≡ Idle → ⊥) → IsCalled setup writes leg old → Takes octets old.leg.receiver new.leg.receiver x
-    → new.leg.sender ≡ old.leg.sender → ((writes : Writing) (job : JobValue) (heard : List Slot) (core : Calling) → call.IsReached writes job heard core old.caller → call.Hears writes job (slots_in x) now heard core new.caller)
+pub hears_called : (setup : Setup) (writes : Writing) (leg : Option CalledLeg) (now : ℕ) (octets : List ℕ) (x : DecidedValue) (old new : CalledEndpoint) → (old.caller.procedure.state ≡ Idle → ⊥) → IsCalled setup writes leg old → Takes octets old.leg.receiver new.leg.receiver x
+    → new.leg.sender ≡ old.leg.sender → ((writes : Writing) (job : JobValue) (heard : List Slot) (core : CallerCore) → call.IsReached writes job heard core old.caller → call.Hears writes job (slots_in x) now heard core new.caller)
     → IsCalled setup writes (option_map (hears writes octets now) leg) new
 hears_called setup writes None now octets x old new off r t sender f = absurd (on_called setup writes None old r off)
 hears_called setup writes (Some l) now octets x old new off r t sender f =
     let h = f writes l.job (newest_slots l.arrived) (called_legs.core_of writes l) r.core in
     let n : Decides l.arrived t.datagram x = t.decides l.arrived r.on_leg.receiver in
-    let brings : hears_by (is_over (called_legs.core_of writes l).state) l now (datagram_of octets) ≡ called_legs.leg_with (Ok t.datagram) now l =
+    let gives : hears_by (is_over (called_legs.core_of writes l).state) l now (datagram_of octets) ≡ called_legs.leg_with (Ok t.datagram) now l =
     ap (λ (b : Bool). hears_by b l now (datagram_of octets)) (on_called setup writes (Some l) old r off) ∙ ap (λ (r : Result DatagramValue UdptlFault). hears_by false l now r) t.is in
-    subst (λ (k : CalledLeg). IsCalled setup writes (Some k) new) (sym brings) (leg_hears_called setup writes l now t.datagram x old new r n (t.after l.arrived r.on_leg.receiver) sender h)
+    subst (λ (k : CalledLeg). IsCalled setup writes (Some k) new) (sym gives) (leg_hears_called setup writes l now t.datagram x old new r n (t.after l.arrived r.on_leg.receiver) sender h)

@@ -53,9 +53,9 @@ is_made setup (packet ∷ older) octets (inr i) =
     let m : IsMade setup older octets = is_made setup older octets i in
     record { later = packet ∷ m.later; packet = m.packet; older = m.older; given_is = ap (λ (xs : List (List ℕ)). packet ∷ xs) m.given_is; octets_are = m.octets_are }
 
-behind_short : (later more : List (List ℕ)) → AreShort (later ++ more) → AreShort more
-behind_short [] more s = s
-behind_short (x ∷ later) more s = behind_short later more s.1
+after_short : (later more : List (List ℕ)) → AreShort (later ++ more) → AreShort more
+after_short [] more s = s
+after_short (x ∷ later) more s = after_short later more s.1
 
 take_short : (n : ℕ) (packets : List (List ℕ)) → AreShort packets → AreShort (take n packets)
 take_short zero packets s = tt
@@ -87,7 +87,7 @@ record IsPlaced (given : List (List ℕ)) (d : DatagramValue) : Type 0 where
 is_placed : (setup : Setup) (given : List (List ℕ)) (octets : List ℕ) (d : DatagramValue) → AreShort given → IsMade setup given octets → datagram_of octets ≡ Ok d → IsPlaced given d
 is_placed setup given octets d short m read =
     let made : DatagramValue = datagram_for setup.redundancy m.older m.packet in
-    let own : AreShort (m.packet ∷ m.older) = behind_short m.later (m.packet ∷ m.older) (subst AreShort m.given_is short) in
+    let own : AreShort (m.packet ∷ m.older) = after_short m.later (m.packet ∷ m.older) (subst AreShort m.given_is short) in
     let back : datagram_of (written_datagram made) ≡ Ok made = datagram_back made (omega arith) own.0 (take_short setup.redundancy m.older own.1) (countable setup.redundancy 0 m.older setup.few) in
     let is : made ≡ d = same_read (datagram_of (written_datagram made)) made d back (ap datagram_of m.octets_are ∙ read) in
     record {
@@ -112,14 +112,14 @@ near : (arrivals : List Arrival) (place : ℕ) → place ≤ 32767 → greatest_
 near [] place a b = tt
 near (x ∷ arrivals) place a b = (omega arith, omega arith)
 
-record Carried (given : List (List ℕ)) (arrived : List DatagramValue) : Type 0 where
+record CarriesRounds (given : List (List ℕ)) (arrived : List DatagramValue) : Type 0 where
   carried : AreCarried given arrived
   low : greatest_place carried.arrivals ≤ 32767
 
-carry : (setup : Setup) (given : List (List ℕ)) (arrived : List DatagramValue) → AreShort given → length given < most_near → AreReadOf (datagrams_of setup given) arrived → Carried given arrived
+carry : (setup : Setup) (given : List (List ℕ)) (arrived : List DatagramValue) → AreShort given → length given < most_near → AreReadOf (datagrams_of setup given) arrived → CarriesRounds given arrived
 carry setup given [] short few r = record { carried = record { arrivals = []; honest = tt; arrived_are = refl }; low = omega arith }
 carry setup given (d ∷ arrived) short few r =
-    let earlier : Carried given arrived = carry setup given arrived short few r.1 in
+    let earlier : CarriesRounds given arrived = carry setup given arrived short few r.1 in
     let p : IsPlaced given d = is_placed setup given r.0.octets d short (is_made setup given r.0.octets r.0.among) r.0.read in
     let before : List Arrival = earlier.carried.arrivals in
     let within : p.place < length given = p.within in

@@ -5,7 +5,7 @@ use Rattle.fax_runcodes.specs.Rows.{Elements}
 use Rattle.fax_command.specs.RowLines.{TellRows}
 use Rattle.fax_loop.specs.Answers.{rows_of}
 
--- lines that tell rows, behind others that do
+-- lines that tell rows, after others that do
 pub TellRows-append : (lines more : List (List ℕ)) (rows others : List Elements) → TellRows lines rows → TellRows more others
     → TellRows (lines ++ more) (rows ++ others)
 TellRows-append [] more [] others told then = then

@@ -1,4 +1,4 @@
--- A call of the answering side that confirmed no page gave no frame MCF, and it never gives RTP.
+-- A call of the answerer that confirmed no page gave no frame MCF, and it never gives RTP.
 use Rattle.std.proofs.Common.{◌≡◌, ℕ, ◌+◌, ◌<◌, ◌≤◌, Bool, true, false, ◌&&◌, nat_eq, not, List, [], ◌∷◌, ◌++◌, length, map, Option, Some, None, refl, sym, ◌∙◌, ap, subst, arith, append-nil, length-append, if◌then◌else◌}
 use Rattle.fax_frames.specs.declared.dcs.Dcs.{Dcs}
 use Rattle.fax_frames.specs.declared.writing.Plain.TheVariants.{Cfr, Ftt, Mcf, Rtn, Dcn}
@@ -8,7 +8,7 @@ use Rattle.fax_frames.specs.Written.{written_dis, written_plain}
 use Rattle.fax_ifp.specs.Packets.{packet_of}
 use Rattle.fax_ifp.specs.Pieces as pieces
 use Rattle.fax_ifp.specs.Schedules.{AreClosed, is_closed}
-use Rattle.fax_ifp.specs.WrittenPackets.{IsWritableField, frame_fields, written_behind}
+use Rattle.fax_ifp.specs.WrittenPackets.{IsWritableField, frame_fields, written_after}
 use Rattle.fax_ifp.proofs.ReadBackLemmas.{indicators, messages_back}
 use Rattle.std.proofs.lemmas.List.Elements.{All-from_recursion}
 use Rattle.fax_pagestore.specs.Pages.{PageValue}
@@ -22,9 +22,9 @@ use Rattle.fax_answer.specs.declared.state.State.{State}
 use Rattle.fax_answer.specs.declared.state.State.TheVariants.{Idle, Identify, Listen, Train, Page, Again, Closing}
 use Rattle.fax_answer.specs.Orders.{order_of}
 use Rattle.fax_answer.specs.History.{Decision, PassesOver, Trains, HangsUp, GivesCfr, GivesFtt, GivesMcf, GivesRtn, Entry, gap, images, repeated, since_answer}
-use Rattle.fax_answer.specs.Table.{Reading, decision, is_one_image, is_repeat, judged, on_command, on_order, same_command, state_behind_mcf}
-use Rattle.fax_answer.specs.Replies.{ConfirmedPage, Waiting, confirmed_if, frame_packet, frame_reply, is_waiting, plain_reply, reply_to}
-use Rattle.fax_answer.specs.Calls.{Answering, CallEvent, Comes, Ticks, after_events, came, decided, dis_reply, given_first, identifies_again, rung, says_goodbye, state_when_given, ticked, Ticked, timed, timed_in}
+use Rattle.fax_answer.specs.Table.{Reading, decision, is_one_image, is_repeat, judged, on_command, on_order, same_command, state_after_mcf}
+use Rattle.fax_answer.specs.Replies.{ConfirmedPage, WaitingPacket, confirmed_if, frame_packet, frame_reply, is_waiting, plain_reply, reply_to}
+use Rattle.fax_answer.specs.Calls.{AnswererCore, CallEvent, Comes, Ticks, after_events, came, decided, dis_reply, given_first, identifies_again, rung, says_goodbye, state_when_given, ticked, TickResult, timed, timed_in}
 use Rattle.fax_answer.specs.Sent.{confirmed_in_tick, confirmed_with, pages_confirmed}
 use Rattle.fax_call.specs.Replies.{Packet, Signals, Tells, Part, written}
 use Rattle.fax_gateway.specs.CallingLegs.{packets_with}
@@ -45,7 +45,7 @@ abbrev IsNone : Option ConfirmedPage → Type 0
 IsNone None = Unit {0}
 IsNone (Some c) = ⊥
 
-record IsReply (w : Waiting) : Type 0 where
+record IsReply (w : WaitingPacket) : Type 0 where
   packet : Packet
   is_packet : w.packet ≡ written packet
   fine : IsFine packet
@@ -53,7 +53,7 @@ record IsReply (w : Waiting) : Type 0 where
   short : length w.packet ≤ 16383
   backed : IsNone w.confirmed → TellsNoAck packet
 
-abbrev AreReplies : List Waiting → Type 0
+abbrev AreReplies : List WaitingPacket → Type 0
 AreReplies [] = Unit {0}
 AreReplies (w ∷ waiting) = IsReply w × AreReplies waiting
 
@@ -70,7 +70,7 @@ frame_closed frame some few =
     }))
 
 frame_short : (frame : List ℕ) → length frame ≤ 256 → length (frame_packet frame) ≤ 16383
-unfolding written_behind
+unfolding written_after
 frame_short frame few = let l : length (frame ++ 64 ∷ []) ≡ length frame + 1 = length-append frame (64 ∷ []) in omega arith
 
 frame_is_reply : (frame : List ℕ) (confirmed : Option ConfirmedPage) → 1 ≤ length frame → length frame ≤ 256 → (IsNone confirmed → IsNoAck frame) → AreReplies (frame_reply frame confirmed)
@@ -85,7 +85,7 @@ dis_replies = frame_is_reply (written_dis our_dis) None (omega arith) (omega ari
 goodbye_replies : AreReplies (plain_reply Dcn None)
 goodbye_replies = frame_is_reply (written_plain Dcn false) None (omega arith) (omega arith) (λ none ack. ack)
 
--- ---- a decision: MCF without a page only behind one with a page
+-- ---- a decision: MCF without a page only after one with a page
 abbrev NotBare : Decision → Type 0
 NotBare (GivesMcf command None) = ⊥
 NotBare d = Unit {0}
@@ -103,7 +103,7 @@ decided_replies (GivesMcf command None) n = absurd n
 decided_replies (GivesMcf command (Some page)) n = mcf_replies command page
 decided_replies GivesRtn n = frame_is_reply (written_plain Rtn false) None (omega arith) (omega arith) (λ none ack. ack)
 
-replies_both : (ws vs : List Waiting) → AreReplies ws → AreReplies vs → AreReplies (ws ++ vs)
+replies_both : (ws vs : List WaitingPacket) → AreReplies ws → AreReplies vs → AreReplies (ws ++ vs)
 replies_both [] vs a b = b
 replies_both (w ∷ ws) vs a b = (a.0, replies_both ws vs a.1 b)
 
@@ -117,16 +117,16 @@ NotTrain (Train dcs) = ⊥
 NotTrain state = Unit {0}
 
 -- the last of what waits confirms a page
-abbrev LastConfirms : List Waiting → Type 0
+abbrev LastConfirms : List WaitingPacket → Type 0
 LastConfirms [] = ⊥
 LastConfirms (w ∷ []) = IsNone w.confirmed → ⊥
 LastConfirms (w ∷ v ∷ waiting) = LastConfirms (v ∷ waiting)
 
-data Stage (a : Answering) : Type 0 where
+data Stage (a : AnswererCore) : Type 0 where
   IsBefore : (none : repeated a.history ≡ None) → (state : NotAgain a.state) → Stage a
   Waits : (last : LastConfirms a.waiting) → (state : NotTrain a.state) → Stage a
 
-record Unconfirmed (a : Answering) : Type 0 where
+record Unconfirmed (a : AnswererCore) : Type 0 where
   stage : Stage a
   replies : AreReplies a.waiting
 
@@ -251,12 +251,12 @@ in_page read Again waits before piece = tt
 in_page read Closing waits before piece = tt
 
 -- ---- A PIECE
-last_behind : (ws : List Waiting) (v u : Waiting) → LastConfirms (v ∷ u ∷ []) → LastConfirms (ws ++ v ∷ u ∷ [])
-last_behind [] v u h = h
-last_behind (w ∷ []) v u h = h
-last_behind (w ∷ x ∷ ws) v u h = last_behind (x ∷ ws) v u h
+last_after : (ws : List WaitingPacket) (v u : WaitingPacket) → LastConfirms (v ∷ u ∷ []) → LastConfirms (ws ++ v ∷ u ∷ [])
+last_after [] v u h = h
+last_after (w ∷ []) v u h = h
+last_after (w ∷ x ∷ ws) v u h = last_after (x ∷ ws) v u h
 
-out_of_train : (state : State) (command : Command) (page : PageValue) → InPage state (GivesMcf command (Some page)) → NotTrain (state_behind_mcf command state)
+out_of_train : (state : State) (command : Command) (page : PageValue) → InPage state (GivesMcf command (Some page)) → NotTrain (state_after_mcf command state)
 out_of_train (Train dcs) command page p = absurd p
 out_of_train state Eom page p = tt
 out_of_train Idle Mps page p = tt
@@ -272,21 +272,21 @@ out_of_train (Page dcs) Eop page p = tt
 out_of_train Again Eop page p = tt
 out_of_train Closing Eop page p = tt
 
-before_decides : (a : Answering) (piece : pieces.Piece) (now : ℕ) (d : Decision) → repeated a.history ≡ None → NotAgain a.state → NotBare d → InPage a.state d → Stage (decided a piece d now)
+before_decides : (a : AnswererCore) (piece : pieces.Piece) (now : ℕ) (d : Decision) → repeated a.history ≡ None → NotAgain a.state → NotBare d → InPage a.state d → Stage (decided a piece d now)
 before_decides a piece now PassesOver none state n p = IsBefore none state
 before_decides a piece now (Trains dcs) none state n p = IsBefore none tt
 before_decides a piece now HangsUp none state n p = IsBefore none tt
 before_decides a piece now (GivesCfr dcs) none state n p = IsBefore refl tt
 before_decides a piece now GivesFtt none state n p = IsBefore none tt
 before_decides a piece now (GivesMcf command None) none state n p = absurd n
-before_decides a piece now (GivesMcf command (Some page)) none state n p = Waits (last_behind a.waiting _ _ (λ x. absurd x)) (out_of_train a.state command page p)
+before_decides a piece now (GivesMcf command (Some page)) none state n p = Waits (last_after a.waiting _ _ (λ x. absurd x)) (out_of_train a.state command page p)
 before_decides a piece now GivesRtn none state n p = IsBefore none state
 
-waits_so : (ws : List Waiting) → LastConfirms ws → is_waiting ws ≡ true
+waits_so : (ws : List WaitingPacket) → LastConfirms ws → is_waiting ws ≡ true
 waits_so [] h = absurd h
 waits_so (w ∷ ws) h = refl
 
-came_unconfirmed : (read : Reading) (a : Answering) (piece : pieces.Piece) (now : ℕ) → Unconfirmed a → Unconfirmed (came read a piece now)
+came_unconfirmed : (read : Reading) (a : AnswererCore) (piece : pieces.Piece) (now : ℕ) → Unconfirmed a → Unconfirmed (came read a piece now)
 came_unconfirmed read a piece now u = by u.stage
   where
     passed : (d : Decision) → d ≡ PassesOver → LastConfirms a.waiting → NotTrain a.state → Unconfirmed (decided a piece d now)
@@ -310,14 +310,14 @@ came_unconfirmed read a piece now u = by u.stage
         (ap (λ (b : Bool). decision read a.state b a.history piece) (waits_so a.waiting last) ∙ passes read a.state a.history piece state) last state
 
 -- ---- A TICK
-goodbye_stage : (a : Answering) → repeated a.history ≡ None → Unconfirmed (says_goodbye a)
+goodbye_stage : (a : AnswererCore) → repeated a.history ≡ None → Unconfirmed (says_goodbye a)
 goodbye_stage a none = record { stage = IsBefore none tt; replies = goodbye_replies }
 
-if_unconfirmed : (b : Bool) (a c : Answering) → Unconfirmed a → Unconfirmed c → Unconfirmed (if◌then◌else◌ {A = Answering} b a c)
+if_unconfirmed : (b : Bool) (a c : AnswererCore) → Unconfirmed a → Unconfirmed c → Unconfirmed (if◌then◌else◌ {A = AnswererCore} b a c)
 if_unconfirmed true a c x y = x
 if_unconfirmed false a c x y = y
 
-timed_before : (state : State) (a : Answering) (now : ℕ) → NotAgain state → repeated a.history ≡ None → NotAgain a.state → Unconfirmed a → Unconfirmed (timed_in state a now)
+timed_before : (state : State) (a : AnswererCore) (now : ℕ) → NotAgain state → repeated a.history ≡ None → NotAgain a.state → Unconfirmed a → Unconfirmed (timed_in state a now)
 timed_before Idle a now n none state u = u
 timed_before Closing a now n none state u = u
 timed_before Again a now n none state u = absurd n
@@ -328,22 +328,22 @@ timed_before Listen a now n none state u = if_unconfirmed (is_due a.timers.t2 no
 timed_before (Train dcs) a now n none state u = if_unconfirmed (is_due a.timers.t2 now) (says_goodbye a) a (goodbye_stage a none) u
 timed_before (Page dcs) a now n none state u = if_unconfirmed (is_due a.timers.t2 now) (says_goodbye a) a (goodbye_stage a none) u
 
-timed_unconfirmed : (a : Answering) (now : ℕ) → Unconfirmed a → Unconfirmed (timed a now)
+timed_unconfirmed : (a : AnswererCore) (now : ℕ) → Unconfirmed a → Unconfirmed (timed a now)
 timed_unconfirmed a now u = by u.stage
   where
     by : Stage a → Unconfirmed (timed a now)
     by (IsBefore none state) = if_unconfirmed (is_waiting a.waiting) a (timed_in a.state a now) u (timed_before a.state a now state none state u)
-    by (Waits last state) = subst (λ (b : Bool). Unconfirmed (if◌then◌else◌ {A = Answering} b a (timed_in a.state a now))) (sym (waits_so a.waiting last)) u
+    by (Waits last state) = subst (λ (b : Bool). Unconfirmed (if◌then◌else◌ {A = AnswererCore} b a (timed_in a.state a now))) (sym (waits_so a.waiting last)) u
 
-abbrev GivesNone : Option Waiting → Type 0
+abbrev GivesNone : Option WaitingPacket → Type 0
 GivesNone None = Unit {0}
 GivesNone (Some w) = IsNone w.confirmed
 
-abbrev IfReply : Option Waiting → Type 0
+abbrev IfReply : Option WaitingPacket → Type 0
 IfReply None = Unit {0}
 IfReply (Some w) = IsReply w
 
-record TickSo (t : Ticked) : Type 0 where
+record TickSo (t : TickResult) : Type 0 where
   core : Unconfirmed t.core
   given : IfReply t.given
 
@@ -356,7 +356,7 @@ when_given (Page dcs) n = tt
 when_given Again n = absurd n
 when_given Closing n = tt
 
-first_so : (a : Answering) (now : ℕ) (ws : List Waiting) → a.waiting ≡ ws → Unconfirmed a → GivesNone (given_first a now ws).given → TickSo (given_first a now ws)
+first_so : (a : AnswererCore) (now : ℕ) (ws : List WaitingPacket) → a.waiting ≡ ws → Unconfirmed a → GivesNone (given_first a now ws).given → TickSo (given_first a now ws)
 first_so a now [] e u g = record { core = u; given = tt }
 first_so a now (w ∷ []) e u g =
     let r : AreReplies (w ∷ []) = subst AreReplies e u.replies in
@@ -373,19 +373,19 @@ first_so a now (w ∷ v ∷ ws) e u g =
     by (IsBefore none state) = IsBefore none state
     by (Waits last state) = Waits (subst LastConfirms e last) state
 
-paced_so : (b : Bool) (a : Answering) (t : Ticked) → Unconfirmed a → (GivesNone t.given → TickSo t)
-    → GivesNone (if◌then◌else◌ {A = Ticked} b t (record { core = a; given = None; ended = false })).given → TickSo (if◌then◌else◌ {A = Ticked} b t (record { core = a; given = None; ended = false }))
+paced_so : (b : Bool) (a : AnswererCore) (t : TickResult) → Unconfirmed a → (GivesNone t.given → TickSo t)
+    → GivesNone (if◌then◌else◌ {A = TickResult} b t (record { core = a; given = None; ended = false })).given → TickSo (if◌then◌else◌ {A = TickResult} b t (record { core = a; given = None; ended = false }))
 paced_so true a t u f g = f g
 paced_so false a t u f g = record { core = u; given = tt }
 
-tick_so : (a : Answering) (now : ℕ) → Unconfirmed a → GivesNone (ticked a now).given → TickSo (ticked a now)
+tick_so : (a : AnswererCore) (now : ℕ) → Unconfirmed a → GivesNone (ticked a now).given → TickSo (ticked a now)
 tick_so a now u g =
-    let b : Answering = timed a now in
+    let b : AnswererCore = timed a now in
     let v : Unconfirmed b = timed_unconfirmed a now u in
     paced_so (pace_allows b.pace.last now) b (given_first b now b.waiting) v (first_so b now b.waiting refl v) g
 
 -- ---- ALL EVENTS
-none_in_tick : (o : Option Waiting) (pages : List PageValue) → confirmed_in_tick o pages ≡ [] → (pages ≡ []) × GivesNone o
+none_in_tick : (o : Option WaitingPacket) (pages : List PageValue) → confirmed_in_tick o pages ≡ [] → (pages ≡ []) × GivesNone o
 none_in_tick None pages e = (e, tt)
 none_in_tick (Some w) pages e = by w.confirmed e
   where
@@ -393,7 +393,7 @@ none_in_tick (Some w) pages e = by w.confirmed e
     by None e = (e, tt)
     by (Some c) e = cc
 
-events_so : (a : Answering) (events : List CallEvent) → Unconfirmed a → pages_confirmed a events ≡ [] → Unconfirmed (after_events a events)
+events_so : (a : AnswererCore) (events : List CallEvent) → Unconfirmed a → pages_confirmed a events ≡ [] → Unconfirmed (after_events a events)
 events_so a [] u e = u
 events_so a (Comes piece now read ∷ before) u e = came_unconfirmed read (after_events a before) piece now (events_so a before u e)
 events_so a (Ticks now ∷ before) u e =
@@ -401,7 +401,7 @@ events_so a (Ticks now ∷ before) u e =
     (tick_so (after_events a before) now (events_so a before u n.0) n.1).core
 
 -- the packets that a call gave, the newest first
-abbrev pub given_of : Answering → List CallEvent → List (List ℕ)
+abbrev pub given_of : AnswererCore → List CallEvent → List (List ℕ)
 given_of a [] = []
 given_of a (Comes piece now read ∷ before) = given_of a before
 given_of a (Ticks now ∷ before) = packets_with (ticked (after_events a before) now).given (given_of a before)
@@ -419,7 +419,7 @@ one_told (Signals code) packets n t = t
 one_told (Tells frame) packets n t = (n, t)
 one_told (Part kind last octets) packets n t = t
 
-one_more : (o : Option Waiting) (given : List (List ℕ)) → GivesNone o → IfReply o → TellsNoMcf given → TellsNoMcf (packets_with o given)
+one_more : (o : Option WaitingPacket) (given : List (List ℕ)) → GivesNone o → IfReply o → TellsNoMcf given → TellsNoMcf (packets_with o given)
 one_more None given n r t = t
 one_more (Some w) given n r t = record {
   packets = r.packet ∷ t.packets;
@@ -430,15 +430,15 @@ one_more (Some w) given n r t = record {
   told = one_told r.packet t.packets (r.backed n) t.told;
 }
 
-told_so : (a : Answering) (events : List CallEvent) → Unconfirmed a → pages_confirmed a events ≡ [] → TellsNoMcf (given_of a events)
+told_so : (a : AnswererCore) (events : List CallEvent) → Unconfirmed a → pages_confirmed a events ≡ [] → TellsNoMcf (given_of a events)
 told_so a [] u e = record { packets = []; are_packets = refl; fine = tt; closed = tt; short = tt; told = tt }
 told_so a (Comes piece now read ∷ before) u e = told_so a before u e
 told_so a (Ticks now ∷ before) u e =
     let n = none_in_tick (ticked (after_events a before) now).given (pages_confirmed a before) e in
     one_more (ticked (after_events a before) now).given (given_of a before) n.1 (tick_so (after_events a before) now (events_so a before u n.0) n.1).given (told_so a before u n.0)
 
-rung_so : (core : Answering) (start : ℕ) → Unconfirmed (rung core start)
+rung_so : (core : AnswererCore) (start : ℕ) → Unconfirmed (rung core start)
 rung_so core start = record { stage = IsBefore refl tt; replies = (signal_reply 2 (omega arith), dis_replies) }
 
-pub tells_no_mcf : (core : Answering) (start : ℕ) (events : List CallEvent) → pages_confirmed (rung core start) events ≡ [] → TellsNoMcf (given_of (rung core start) events)
+pub tells_no_mcf : (core : AnswererCore) (start : ℕ) (events : List CallEvent) → pages_confirmed (rung core start) events ≡ [] → TellsNoMcf (given_of (rung core start) events)
 tells_no_mcf core start events e = told_so (rung core start) events (rung_so core start) e

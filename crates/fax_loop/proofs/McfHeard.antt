@@ -16,7 +16,7 @@ use Rattle.fax_call.specs.declared.state.State.{State}
 use Rattle.fax_call.specs.declared.state.State.TheVariants.{Idle, AwaitDis, AwaitCfr, AwaitMcf, Closing}
 use Rattle.fax_call.specs.Writings.{Writing, IsWriting}
 use Rattle.fax_call.specs.Replies.{Packet, written}
-use Rattle.fax_call.specs.Calls.{Calling, CallEvent, Comes, Ticks, after_events, started, ticked}
+use Rattle.fax_call.specs.Calls.{CallerCore, CallEvent, Comes, Ticks, after_events, started, ticked}
 use Rattle.fax_call.specs.Delivery.{AnswersThePages, all_below, is_over, marks_until_over, page_answered, page_if, pages_answered, pages_before}
 use Rattle.fax_call.specs.Emission.{Acknowledged, Answered, Asked, Begins, Emission, Gave, Mark, Refused, Reply, Unasked, acknowledged_by, closed, elements_given, emitted_at, frame_at, gave_all, is_command, is_preamble, marks_after, marks_given, marks_heard, replied, reply_given, reply_heard, reply_or}
 use Rattle.fax_call.specs.Numbers.{numbered}
@@ -41,11 +41,11 @@ closed_good H Unasked f e = cc
 closed_good H Asked f e = cc
 closed_good H (Answered good) f e = f e
 
-given_good : (H : Type 0) (o : Option Emission) (command behind : Bool) (r : Reply) → (r ≡ Answered true → H) → reply_or o (reply_given command behind r) ≡ Answered true → H
-given_good H (Some e) command behind r f is = cc
+given_good : (H : Type 0) (o : Option Emission) (command after : Bool) (r : Reply) → (r ≡ Answered true → H) → reply_or o (reply_given command after r) ≡ Answered true → H
+given_good H (Some e) command after r f is = cc
 given_good H None true true r f is = cc
 given_good H None true false r f is = cc
-given_good H None false behind r f is = closed_good H r f is
+given_good H None false after r f is = closed_good H r f is
 
 replied_ack : (marks : List Mark) → replied marks ≡ Answered true → HasAck marks
 replied_ack [] e = cc
@@ -120,7 +120,7 @@ given_ack : (o : Option Packet) (marks : List Mark) → HasAck (marks_given o ma
 given_ack None marks h = h
 given_ack (Some packet) marks h = gave_ack (elements.elements_in (packet_of (written packet))) marks h
 
-after_ack : (writes : Writing) (job : JobValue) (old : List Mark) (a : Calling) (events : List CallEvent) → HasAck (marks_after writes job old a events) → Acks events
+after_ack : (writes : Writing) (job : JobValue) (old : List Mark) (a : CallerCore) (events : List CallEvent) → HasAck (marks_after writes job old a events) → Acks events
 after_ack writes job old a [] h = absurd h
 after_ack writes job old a (Comes piece now ∷ before) h = heard_ack (Acks before) piece (marks_after writes job old a before) (after_ack writes job old a before) h
 after_ack writes job old a (Ticks now ∷ before) h = after_ack writes job old a before (given_ack (ticked writes job (after_events writes job a before) now).given (marks_after writes job old a before) h)
@@ -129,7 +129,7 @@ event_ack : (e : CallEvent) (before : List CallEvent) → Acks before → Acks (
 event_ack (Comes piece now) before h = inr h
 event_ack (Ticks now) before h = h
 
-until_ack : (writes : Writing) (job : JobValue) (old : List Mark) (a : Calling) (events : List CallEvent) → HasAck (marks_until_over writes job old a events) → Acks events
+until_ack : (writes : Writing) (job : JobValue) (old : List Mark) (a : CallerCore) (events : List CallEvent) → HasAck (marks_until_over writes job old a events) → Acks events
 until_ack writes job old a [] h = absurd h
 until_ack writes job old a (e ∷ before) h = by (is_over (after_events writes job a before).state) (until_ack writes job old a before) h
   where
@@ -149,11 +149,11 @@ is_idle (AwaitMcf dis dcs) e = cc
 is_idle (Closing outcome) e = cc
 
 pub delivered_acks : (writes : Writing) (l : CalledLeg) → IsWriting writes → IsJob l.job →
-    let over : Calling = after_events writes l.job (started l.before l.job l.begun) l.events in
+    let over : CallerCore = after_events writes l.job (started l.before l.job l.begun) l.events in
     over.state ≡ Idle → over.outcome ≡ Some outcomes.Delivered → Acks l.events
 delivered_acks writes l w is idle delivered =
     let (outcome, same, told, rest) = tells_what_was_answered writes l.job [] l.before l.begun l.events w is idle in
-    let over : Calling = after_events writes l.job (started l.before l.job l.begun) l.events in
+    let over : CallerCore = after_events writes l.job (started l.before l.job l.begun) l.events in
     let marks : List Mark = marks_until_over writes l.job [] (started l.before l.job l.begun) l.events in
     let d : outcome ≡ outcomes.Delivered = same_outcome over.outcome outcome outcomes.Delivered same delivered in
     let all : over.counts.delivered ≡ length l.job.pages = told.all_if d in

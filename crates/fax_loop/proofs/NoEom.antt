@@ -17,17 +17,17 @@ use Rattle.fax_ifp.proofs.SentFrames.{Has}
 use Rattle.fax_jobs.specs.Jobs.{JobValue, IsJob}
 use Rattle.fax_timers.specs.Paces.{pace_allows}
 use Rattle.fax_call.specs.Writings.{Writing, IsWriting}
-use Rattle.fax_call.specs.Replies.{Packet, Signals, Tells, Part, Due, One, Text, written, part_length, parts_of, check_length, training_check, is_last_page, turn_behind, command_by, command}
+use Rattle.fax_call.specs.Replies.{Packet, Signals, Tells, Part, Due, One, Text, written, part_length, parts_of, check_length, training_check, is_last_page, turn_after, command_by, command}
 use Rattle.fax_call.specs.Table.{Move, Stays, Trains, Sends, AsksAgain, Turns, Closes, HangsUp}
-use Rattle.fax_call.specs.Calls.{Calling, formats_of, started, moved, heard, timed, text_at, Taken, after_giving, given_first, Ticked, ticked, CallEvent, Comes, Ticks, after_events}
+use Rattle.fax_call.specs.Calls.{CallerCore, formats_of, started, moved, heard, timed, text_at, TakenPart, after_giving, given_first, TickResult, ticked, CallEvent, Comes, Ticks, after_events}
 use Rattle.fax_call.specs.Given.{packets_with, packets_given, tells_eom, is_eom, is_eom_frame}
 use Rattle.fax_call.proofs.Emitted.{start_good}
 use Rattle.fax_call.proofs.FinePackets.{OneKind, given_fine, one_kind}
 use Rattle.fax_loop.proofs.FramesTold.{AreFine, EachTold, told_frames}
 
--- behind no page the format is another
+-- after no page the format is another
 abbrev pub IsOneFormat : List Format → Type 0
-IsOneFormat formats = (page : ℕ) → turn_behind formats page ≡ None
+IsOneFormat formats = (page : ℕ) → turn_after formats page ≡ None
 
 -- no EOM waits
 abbrev AreQuiet : List Due → Type 0
@@ -35,7 +35,7 @@ AreQuiet [] = Unit {0}
 AreQuiet (One packet ∷ due) = (tells_eom packet ≡ false) × AreQuiet due
 AreQuiet (Text page dcs from ∷ due) = AreQuiet due
 
-record Quiet (a : Calling) : Type 0 where
+record Quiet (a : CallerCore) : Type 0 where
   one : IsOneFormat a.formats
   due : AreQuiet a.waiting
 
@@ -77,11 +77,11 @@ command_quiet true turn e = (refl, (refl, tt))
 command_quiet false None e = (refl, (refl, tt))
 command_quiet false (Some format) e = cc
 
-moved_quiet : (a : Calling) (m : Move) → Quiet a → Quiet (moved a m)
+moved_quiet : (a : CallerCore) (m : Move) → Quiet a → Quiet (moved a m)
 moved_quiet a Stays q = q
 moved_quiet a (Trains dis dcs c) q = record { one = q.one; due = (refl, (dcs_quiet dcs, (refl, check_quiet dcs))) }
-moved_quiet a (Sends dis dcs c) q = record { one = q.one; due = (refl, command_quiet (is_last_page a.pages c.page) (turn_behind a.formats c.page) (q.one c.page)) }
-moved_quiet a (AsksAgain c) q = record { one = q.one; due = command_quiet (is_last_page a.pages c.page) (turn_behind a.formats c.page) (q.one c.page) }
+moved_quiet a (Sends dis dcs c) q = record { one = q.one; due = (refl, command_quiet (is_last_page a.pages c.page) (turn_after a.formats c.page) (q.one c.page)) }
+moved_quiet a (AsksAgain c) q = record { one = q.one; due = command_quiet (is_last_page a.pages c.page) (turn_after a.formats c.page) (q.one c.page) }
 moved_quiet a (Turns format t1 c) q = record { one = q.one; due = tt }
 moved_quiet a (Closes outcome c) q = record { one = q.one; due = (refl, (refl, tt)) }
 moved_quiet a HangsUp q = record { one = q.one; due = tt }
@@ -91,40 +91,40 @@ abbrev GivesNone : Option Packet → Type 0
 GivesNone None = Unit {0}
 GivesNone (Some packet) = tells_eom packet ≡ false
 
-record QuietTick (t : Ticked) : Type 0 where
+record QuietTick (t : TickResult) : Type 0 where
   core : Quiet t.core
   given : GivesNone t.given
 
-after_quiet : (a : Calling) (now : ℕ) (packet : Packet) (due : List Due) → IsOneFormat a.formats → AreQuiet due → Quiet (after_giving a now packet due)
+after_quiet : (a : CallerCore) (now : ℕ) (packet : Packet) (due : List Due) → IsOneFormat a.formats → AreQuiet due → Quiet (after_giving a now packet due)
 after_quiet a now packet [] one q = record { one = one; due = tt }
 after_quiet a now packet (d ∷ due) one q = record { one = one; due = q }
 
-text_quiet : (a : Calling) (now page : ℕ) (dcs : Dcs) (from : ℕ) (part rest : List ℕ) (due : List Due) (b : Bool) → IsOneFormat a.formats → AreQuiet due →
-    let t : Taken = if◌then◌else◌ {A = Taken} b (record { packet = Part (kind_of dcs.rate) true rest; rest = due }) (record { packet = Part (kind_of dcs.rate) false part; rest = Text page dcs (from + part_length dcs) ∷ due }) in
+text_quiet : (a : CallerCore) (now page : ℕ) (dcs : Dcs) (from : ℕ) (part rest : List ℕ) (due : List Due) (b : Bool) → IsOneFormat a.formats → AreQuiet due →
+    let t : TakenPart = if◌then◌else◌ {A = TakenPart} b (record { packet = Part (kind_of dcs.rate) true rest; rest = due }) (record { packet = Part (kind_of dcs.rate) false part; rest = Text page dcs (from + part_length dcs) ∷ due }) in
     QuietTick (record { core = after_giving a now t.packet t.rest; given = Some t.packet })
 text_quiet a now page dcs from part rest due true one q = record { core = after_quiet a now (Part (kind_of dcs.rate) true rest) due one q; given = refl }
 text_quiet a now page dcs from part rest due false one q = record { core = after_quiet a now (Part (kind_of dcs.rate) false part) (Text page dcs (from + part_length dcs) ∷ due) one q; given = refl }
 
-first_quiet : (writes : Writing) (job : JobValue) (a : Calling) (now : ℕ) (due : List Due) → Quiet a → AreQuiet due → QuietTick (given_first writes job a now due)
+first_quiet : (writes : Writing) (job : JobValue) (a : CallerCore) (now : ℕ) (due : List Due) → Quiet a → AreQuiet due → QuietTick (given_first writes job a now due)
 first_quiet writes job a now [] a_quiet q = record { core = a_quiet; given = tt }
 first_quiet writes job a now (One packet ∷ due) a_quiet q = record { core = after_quiet a now packet due a_quiet.one q.1; given = q.0 }
 first_quiet writes job a now (Text page dcs from ∷ due) a_quiet q =
     let rest : List ℕ = drop from (text_at writes job page dcs) in
     text_quiet a now page dcs from (take (part_length dcs) rest) rest due (nat_le (length rest) (part_length dcs)) a_quiet.one q
 
-paced_quiet : (b : Bool) (a : Calling) (t : Ticked) → Quiet a → QuietTick t → QuietTick (if◌then◌else◌ {A = Ticked} b t (record { core = a; given = None }))
+paced_quiet : (b : Bool) (a : CallerCore) (t : TickResult) → Quiet a → QuietTick t → QuietTick (if◌then◌else◌ {A = TickResult} b t (record { core = a; given = None }))
 paced_quiet true a t q h = h
 paced_quiet false a t q h = record { core = q; given = tt }
 
-tick_quiet : (writes : Writing) (job : JobValue) (a : Calling) (now : ℕ) → Quiet a → QuietTick (ticked writes job a now)
+tick_quiet : (writes : Writing) (job : JobValue) (a : CallerCore) (now : ℕ) → Quiet a → QuietTick (ticked writes job a now)
 tick_quiet writes job a now q =
-    let b : Calling = timed a now in
+    let b : CallerCore = timed a now in
     let r : Quiet b = moved_quiet a _ q in
     paced_quiet (pace_allows b.pace.last now) b (given_first writes job b now b.waiting) r (first_quiet writes job b now b.waiting r r.due)
 
-events_quiet : (writes : Writing) (job : JobValue) (a : Calling) (events : List CallEvent) → Quiet a → Quiet (after_events writes job a events)
+events_quiet : (writes : Writing) (job : JobValue) (a : CallerCore) (events : List CallEvent) → Quiet a → Quiet (after_events writes job a events)
 events_quiet writes job a [] q = q
-events_quiet writes job a (Comes piece now ∷ before) q = let c : Calling = after_events writes job a before in moved_quiet c (heard c piece now) (events_quiet writes job a before q)
+events_quiet writes job a (Comes piece now ∷ before) q = let c : CallerCore = after_events writes job a before in moved_quiet c (heard c piece now) (events_quiet writes job a before q)
 events_quiet writes job a (Ticks now ∷ before) q = (tick_quiet writes job (after_events writes job a before) now (events_quiet writes job a before q)).core
 
 -- what it gives
@@ -137,7 +137,7 @@ with_none (Some (Signals code)) packets g h = h
 with_none (Some (Tells frame)) packets g h = (g, h)
 with_none (Some (Part kind last octets)) packets g h = h
 
-given_none : (writes : Writing) (job : JobValue) (a : Calling) (events : List CallEvent) → Quiet a → EachTold IsNoEom (packets_given writes job a events)
+given_none : (writes : Writing) (job : JobValue) (a : CallerCore) (events : List CallEvent) → Quiet a → EachTold IsNoEom (packets_given writes job a events)
 given_none writes job a [] q = tt
 given_none writes job a (Comes piece now ∷ before) q = given_none writes job a before q
 given_none writes job a (Ticks now ∷ before) q =
@@ -153,9 +153,9 @@ none_heard (pieces.End whole ∷ ps) h = none_heard ps (λ o x. h o (inr x))
 none_heard (pieces.Gap ∷ ps) h = none_heard ps (λ o x. h o (inr x))
 
 -- all its DCS are of one kind
-pub one_kind_of : (writes : Writing) (job : JobValue) (core : Calling) (start : ℕ) (events : List CallEvent) → IsWriting writes → IsJob job → IsOneFormat (formats_of job) → OneKind writes job core start events
+pub one_kind_of : (writes : Writing) (job : JobValue) (core : CallerCore) (start : ℕ) (events : List CallEvent) → IsWriting writes → IsJob job → IsOneFormat (formats_of job) → OneKind writes job core start events
 one_kind_of writes job core start events w is one =
-    let a : Calling = started core job start in
+    let a : CallerCore = started core job start in
     let packets : List Packet = packets_given writes job a events in
     let quiet : Quiet a = record { one = one; due = (refl, tt) } in
     let fine : AreFine packets = given_fine (record { writes = writes; are = w }) job a events is (start_good (record { writes = writes; are = w }) job [] core start is) (omega arith, tt) in

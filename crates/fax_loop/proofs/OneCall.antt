@@ -11,22 +11,22 @@ use Rattle.fax_jobs.specs.declared.report.Report.{Report}
 use Rattle.fax_jobs.specs.Books.{kept_reports, last_of}
 use Rattle.fax_jobs.specs.Jobs.{JobValue}
 use Rattle.fax_call.specs.Writings.{Writing}
-use Rattle.fax_call.specs.Calls.{Calling}
+use Rattle.fax_call.specs.Calls.{CallerCore}
 use Rattle.fax_call.specs.Delivery.{is_over}
 use Rattle.fax_call.specs.Replies.{Packet}
-use Rattle.fax_gateway.specs.declared.side.Side.{Side}
-use Rattle.fax_gateway.specs.declared.side.Side.TheVariants as side
+use Rattle.fax_gateway.specs.declared.leg.Leg.{Leg}
+use Rattle.fax_gateway.specs.declared.leg.Leg.TheVariants as legs
 use Rattle.fax_gateway.specs.Setups.{Setup}
 use Rattle.fax_gateway.specs.Events.{Event, Ring, FromCalling, FromCalled, Tick, Placed, Given, clock}
 use Rattle.fax_gateway.specs.CallingLegs.{calling_leg}
 use Rattle.fax_gateway.specs.CalledLegs.{CalledLeg, calls, core_left, core_of, delivered_told, hears, is_free, leg_ticked, leg_with, outcome_of, packets_given, report_by, told_by, told_called, told_report, with_tick}
-use Rattle.fax_gateway.specs.Driving.{Entry, Accepts, RefusesRing, RefusesDatagram, RefusesTick, ReceivesNothing, FailsToReceive, Sends, AreReceives, BringsNone, Comes, IsSent, IsTick, IsTurn, events, events_in, sent, sent_in}
+use Rattle.fax_gateway.specs.Driving.{Entry, Accepts, RefusesRing, RefusesDatagram, RefusesTick, ReceivesNothing, FailsToReceive, Sends, AreReceives, GivesNoDatagram, Comes, IsSent, IsTick, IsTurn, events, events_in, sent, sent_in}
 use Rattle.fax_gateway.specs.Reports.{JobsHaveStates, report_list, reports_given}
-use Rattle.fax_gateway.specs.Sides.{Sides, begins_next, book_of, heard_in_tick, in_tick, leg_of, sends, sends_if, sides}
+use Rattle.fax_gateway.specs.BothLegs.{BothLegs, begins_next, book_of, both_legs, heard_in_tick, in_tick, leg_of, sends, sends_if}
 use Rattle.fax_gateway.specs.Traces.{IsTrace}
-use Rattle.fax_gateway.specs.Wires.{Handed}
+use Rattle.fax_gateway.specs.Wires.{HandedDatagram}
 use Rattle.fax_loop.specs.Ends.{handed}
-use Rattle.fax_loop.specs.Exchanges.{AreRounds, Round, log_behind, moment_behind, trace_behind}
+use Rattle.fax_loop.specs.Exchanges.{AreRounds, Round, log_after, moment_after, trace_after}
 use Rattle.fax_loop.specs.Faithful.{given_by}
 use Rattle.fax_loop.specs.Links.{handed_called}
 use Rattle.fax_loop.specs.Machines.{datagrams_of}
@@ -36,9 +36,9 @@ abbrev HasReport : Option CalledLeg → List Report → Type 0
 HasReport None reports = Unit {0}
 HasReport (Some l) reports = l.entered ≡ true → reports ≡ [] → ⊥
 
-some_behind : (reports : List Report) (report : Report) → reports ++ report ∷ [] ≡ [] → ⊥
-some_behind [] report e = cc
-some_behind (r ∷ reports) report e = cc
+some_after : (reports : List Report) (report : Report) → reports ++ report ∷ [] ≡ [] → ⊥
+some_after [] report e = cc
+some_after (r ∷ reports) report e = cc
 
 some_before : (reports more : List Report) → (reports ≡ [] → ⊥) → reports ++ more ≡ [] → ⊥
 some_before [] more f e = f refl
@@ -52,29 +52,29 @@ served_report writes (Some l) now reports h = by l.entered h
     delivered : ℕ
     delivered = delivered_told writes (Some l) now
 
-    core : Calling
+    core : CallerCore
     core = (calls writes l now).core
 
     ends : (o : Option Outcome) → is_some o ≡ true → reports ++ report_list (report_by l delivered o) ≡ [] → ⊥
     ends None e f = cc
-    ends (Some outcome) e f = some_behind reports _ f
+    ends (Some outcome) e f = some_after reports _ f
 
     by : (b : Bool) → (b ≡ true → reports ≡ [] → ⊥)
         → HasReport (Some (if◌then◌else◌ {A = CalledLeg} b l (with_tick (calls writes l now) now l))) (reports ++ report_list (report_by l delivered (if◌then◌else◌ {A = Option Outcome} b None (outcome_of core))))
     by true f = λ e. some_before reports [] (f refl)
     by false f = ends (outcome_of core)
 
-begun_report : (connected : Bool) (o : Option JobValue) (leg : Option CalledLeg) (before : Calling) (now : ℕ) (reports : List Report) → HasReport leg reports → HasReport (leg_of connected o before now leg) reports
+begun_report : (connected : Bool) (o : Option JobValue) (leg : Option CalledLeg) (before : CallerCore) (now : ℕ) (reports : List Report) → HasReport leg reports → HasReport (leg_of connected o before now leg) reports
 begun_report connected None leg before now reports h = h
 begun_report connected (Some job) leg before now reports h = λ e. absurd (let f : false ≡ true = e in cc)
 
-placed_report : (connected : Bool) (setup : Setup) (writes : Writing) (now : ℕ) (s : Sides) (reports : List Report) → HasReport s.leg reports → HasReport (sends connected setup writes now s).leg reports
+placed_report : (connected : Bool) (setup : Setup) (writes : Writing) (now : ℕ) (s : BothLegs) (reports : List Report) → HasReport s.leg reports → HasReport (sends connected setup writes now s).leg reports
 placed_report connected setup writes now s reports h = begun_report connected (book_of (sends connected setup writes now s)).sending s.leg (core_left setup writes s.leg) now reports h
 
-sends_report : (setup : Setup) (writes : Writing) (now : ℕ) (s : Sides) (reports : List Report) → HasReport s.leg reports → HasReport (sends_if setup writes now s).leg reports
+sends_report : (setup : Setup) (writes : Writing) (now : ℕ) (s : BothLegs) (reports : List Report) → HasReport s.leg reports → HasReport (sends_if setup writes now s).leg reports
 sends_report setup writes now s reports h = by (begins_next setup s.leg)
   where
-    by : (b : Bool) → HasReport (if◌then◌else◌ {A = Sides} b (sends true setup writes now s) s).leg reports
+    by : (b : Bool) → HasReport (if◌then◌else◌ {A = BothLegs} b (sends true setup writes now s) s).leg reports
     by true = placed_report true setup writes now s reports h
     by false = h
 
@@ -90,21 +90,21 @@ hears_report writes (Some l) octets now reports h = by (is_over (core_of writes 
     by true = h
     by false = with_report l now (datagram_of octets) reports h
 
-has_report : (setup : Setup) (writes : Writing) (trace : List Event) → IsTrace setup writes trace → HasReport (sides setup writes trace).leg (reports_given trace)
+has_report : (setup : Setup) (writes : Writing) (trace : List Event) → IsTrace setup writes trace → HasReport (both_legs setup writes trace).leg (reports_given trace)
 has_report setup writes [] t = tt
 has_report setup writes (Ring at number ∷ earlier) t = has_report setup writes earlier t.1
 has_report setup writes (FromCalling octets at decided read ∷ earlier) t = has_report setup writes earlier t.1
 has_report setup writes (FromCalled octets at decided ∷ earlier) t =
-    hears_report writes (sides setup writes earlier).leg octets (clock (FromCalled octets at decided ∷ earlier)) (reports_given earlier) (has_report setup writes earlier t.1)
+    hears_report writes (both_legs setup writes earlier).leg octets (clock (FromCalled octets at decided ∷ earlier)) (reports_given earlier) (has_report setup writes earlier t.1)
 has_report setup writes (Tick at given ∷ earlier) t =
     let now : ℕ = max at (clock earlier) in
-    let old : Sides = sides setup writes earlier in
-    let z : Sides = record old { steps = heard_in_tick (calling_leg setup earlier) now old.steps } in
-    let middle : Sides = in_tick setup writes earlier at in
+    let old : BothLegs = both_legs setup writes earlier in
+    let z : BothLegs = record old { steps = heard_in_tick (calling_leg setup earlier) now old.steps } in
+    let middle : BothLegs = in_tick setup writes earlier at in
     subst (λ (r : Option Report). HasReport (option_map (leg_ticked writes now) middle.leg) (reports_given earlier ++ report_list r)) (sym (ap (λ (g : Given). g.report) t.0))
     (served_report writes middle.leg now (reports_given earlier) (sends_report setup writes now z (reports_given earlier) (has_report setup writes earlier t.1)))
 has_report setup writes (Placed at connected ∷ earlier) t =
-    placed_report connected setup writes (clock (Placed at connected ∷ earlier)) (sides setup writes earlier) (reports_given earlier) (has_report setup writes earlier t.1)
+    placed_report connected setup writes (clock (Placed at connected ∷ earlier)) (both_legs setup writes earlier) (reports_given earlier) (has_report setup writes earlier t.1)
 
 -- none was reported: the call, where one is on, is not over
 abbrev IsOpen : Option CalledLeg → Type 0
@@ -123,11 +123,11 @@ none_last (r ∷ reports) e =
     let n : length (drop (length all - 64) all) ≡ 0 = none_first (drop (length all - 64) all) e in
     absurd (omega arith)
 
-pub none_reported : JobsHaveStates → (setup : Setup) (writes : Writing) (trace : List Event) → IsTrace setup writes trace → slice_get (book_of (sides setup writes trace)).reports 0 ≡ None → reports_given trace ≡ []
+pub none_reported : JobsHaveStates → (setup : Setup) (writes : Writing) (trace : List Event) → IsTrace setup writes trace → slice_get (book_of (both_legs setup writes trace)).reports 0 ≡ None → reports_given trace ≡ []
 none_reported law setup writes trace t none = none_last (reports_given trace) (subst (λ (rs : List Report). slice_get rs 0 ≡ None) (law setup writes trace t).last_reports none)
 
-is_open : JobsHaveStates → (setup : Setup) (writes : Writing) (trace : List Event) → IsTrace setup writes trace → slice_get (book_of (sides setup writes trace)).reports 0 ≡ None → IsOpen (sides setup writes trace).leg
-is_open law setup writes trace t none = by (sides setup writes trace).leg (has_report setup writes trace t)
+is_open : JobsHaveStates → (setup : Setup) (writes : Writing) (trace : List Event) → IsTrace setup writes trace → slice_get (book_of (both_legs setup writes trace)).reports 0 ≡ None → IsOpen (both_legs setup writes trace).leg
+is_open law setup writes trace t none = by (both_legs setup writes trace).leg (has_report setup writes trace t)
   where
     is_none : reports_given trace ≡ []
     is_none = none_reported law setup writes trace t none
@@ -165,27 +165,27 @@ hears_as writes (Some l) octets now = by (is_over (core_of writes l).state)
     by true = record { given = refl; stays = λ h. h }
     by false = with_as l now (datagram_of octets)
 
-comes_as : (setup : Setup) (writes : Writing) (came trace : List Event) → OnlyComes came → IsAs (sides setup writes trace).leg (sides setup writes (came ++ trace)).leg
+comes_as : (setup : Setup) (writes : Writing) (came trace : List Event) → OnlyComes came → IsAs (both_legs setup writes trace).leg (both_legs setup writes (came ++ trace)).leg
 comes_as setup writes [] trace c = record { given = refl; stays = λ h. h }
 comes_as setup writes (Ring at number ∷ came) trace c = absurd c
 comes_as setup writes (FromCalling octets at decided read ∷ came) trace c =
     let a = comes_as setup writes came trace c in record { given = a.given; stays = a.stays }
 comes_as setup writes (FromCalled octets at decided ∷ came) trace c =
     let a = comes_as setup writes came trace c in
-    let b = hears_as writes (sides setup writes (came ++ trace)).leg octets (clock (FromCalled octets at decided ∷ (came ++ trace))) in
+    let b = hears_as writes (both_legs setup writes (came ++ trace)).leg octets (clock (FromCalled octets at decided ∷ (came ++ trace))) in
     record { given = b.given ∙ a.given; stays = λ h. b.stays (a.stays h) }
 comes_as setup writes (Tick at given ∷ came) trace c = absurd c
 comes_as setup writes (Placed at connected ∷ came) trace c = absurd c
 
 -- ---- A TICK gives a packet at most, in the call that is on
-begun_given : (o : Option JobValue) (before : Calling) (now : ℕ) → given_by (leg_of true o before now None) ≡ []
+begun_given : (o : Option JobValue) (before : CallerCore) (now : ℕ) → given_by (leg_of true o before now None) ≡ []
 begun_given None before now = refl
 begun_given (Some job) before now = refl
 
-sends_given : (setup : Setup) (writes : Writing) (now : ℕ) (s : Sides) (leg : Option CalledLeg) → s.leg ≡ leg → IsOpen leg → given_by (sends_if setup writes now s).leg ≡ given_by leg
+sends_given : (setup : Setup) (writes : Writing) (now : ℕ) (s : BothLegs) (leg : Option CalledLeg) → s.leg ≡ leg → IsOpen leg → given_by (sends_if setup writes now s).leg ≡ given_by leg
 sends_given setup writes now s None e h = by (begins_next setup s.leg)
   where
-    by : (b : Bool) → given_by (if◌then◌else◌ {A = Sides} b (sends true setup writes now s) s).leg ≡ []
+    by : (b : Bool) → given_by (if◌then◌else◌ {A = BothLegs} b (sends true setup writes now s) s).leg ≡ []
     by true = ap (λ (o : Option CalledLeg). given_by (leg_of true (book_of (sends true setup writes now s)).sending (core_left setup writes s.leg) now o)) e ∙ begun_given (book_of (sends true setup writes now s)).sending (core_left setup writes s.leg) now
     by false = ap given_by e
 sends_given setup writes now s (Some l) e h = by (begins_next setup s.leg) (none_begins setup.asks)
@@ -194,7 +194,7 @@ sends_given setup writes now s (Some l) e h = by (begins_next setup s.leg) (none
     none_begins true = refl
     none_begins false = ap is_free e ∙ h
 
-    by : (b : Bool) → b ≡ false → given_by (if◌then◌else◌ {A = Sides} b (sends true setup writes now s) s).leg ≡ l.given
+    by : (b : Bool) → b ≡ false → given_by (if◌then◌else◌ {A = BothLegs} b (sends true setup writes now s) s).leg ≡ l.given
     by true f = cc
     by false f = ap given_by e
 
@@ -211,13 +211,13 @@ ticked_given setup writes (Some l) now = by l.entered
     by true = refl
     by false = packet_given setup (calls writes l now).given l.given
 
-tick_given : (setup : Setup) (writes : Writing) (earlier : List Event) (at : ℕ) (given : Given) → IsTrace setup writes (Tick at given ∷ earlier) → IsOpen (sides setup writes earlier).leg
-    → datagrams_of setup (given_by (sides setup writes (Tick at given ∷ earlier)).leg) ≡ handed given.on_called ++ datagrams_of setup (given_by (sides setup writes earlier).leg)
+tick_given : (setup : Setup) (writes : Writing) (earlier : List Event) (at : ℕ) (given : Given) → IsTrace setup writes (Tick at given ∷ earlier) → IsOpen (both_legs setup writes earlier).leg
+    → datagrams_of setup (given_by (both_legs setup writes (Tick at given ∷ earlier)).leg) ≡ handed given.on_called ++ datagrams_of setup (given_by (both_legs setup writes earlier).leg)
 tick_given setup writes earlier at given t open_so =
     let now : ℕ = max at (clock earlier) in
-    let old : Sides = sides setup writes earlier in
-    let z : Sides = record old { steps = heard_in_tick (calling_leg setup earlier) now old.steps } in
-    let middle : Sides = in_tick setup writes earlier at in
+    let old : BothLegs = both_legs setup writes earlier in
+    let z : BothLegs = record old { steps = heard_in_tick (calling_leg setup earlier) now old.steps } in
+    let middle : BothLegs = in_tick setup writes earlier at in
     let same : given_by middle.leg ≡ given_by old.leg = sends_given setup writes now z old.leg refl open_so in
     ticked_given setup writes middle.leg now
     ∙ ap (λ (o : Option (List ℕ)). handed o ++ datagrams_of setup (given_by middle.leg)) (sym (ap (λ (g : Given). g.on_called) t.0))
@@ -245,7 +245,7 @@ pub quiet_both : (log more : List Entry) → AreQuiet log → AreQuiet more → 
 quiet_both [] more a b = b
 quiet_both (entry ∷ log) more a b = (a.0, quiet_both log more a.1 b)
 
-comes_quiet : (at : Side) (now : ℕ) (entry : Entry) → Comes at now entry → IsQuiet entry
+comes_quiet : (at : Leg) (now : ℕ) (entry : Entry) → Comes at now entry → IsQuiet entry
 comes_quiet at now (Accepts (Ring moment number)) c = absurd c
 comes_quiet at now (Accepts (FromCalling octets moment decided read)) c = tt
 comes_quiet at now (Accepts (FromCalled octets moment decided)) c = tt
@@ -258,17 +258,17 @@ comes_quiet at now (ReceivesNothing on) c = tt
 comes_quiet at now (FailsToReceive on) c = tt
 comes_quiet at now (Sends on octets fails) c = absurd c
 
-all_quiet : (at : Side) (now : ℕ) (log : List Entry) → AllByRecursion (Comes at now) log → AreQuiet log
+all_quiet : (at : Leg) (now : ℕ) (log : List Entry) → AllByRecursion (Comes at now) log → AreQuiet log
 all_quiet at now [] a = tt
 all_quiet at now (entry ∷ log) a = (comes_quiet at now entry a.0, all_quiet at now log a.1)
 
-brings_quiet : (at : Side) (entry : Entry) → BringsNone at entry → IsQuiet entry
-brings_quiet at entry (inl e) = subst IsQuiet (sym e) tt
-brings_quiet at entry (inr e) = subst IsQuiet (sym e) tt
+gives_quiet : (at : Leg) (entry : Entry) → GivesNoDatagram at entry → IsQuiet entry
+gives_quiet at entry (inl e) = subst IsQuiet (sym e) tt
+gives_quiet at entry (inr e) = subst IsQuiet (sym e) tt
 
-pub receives_quiet : (at : Side) (now : ℕ) (log : List Entry) → AreReceives at now log → AreQuiet log
+pub receives_quiet : (at : Leg) (now : ℕ) (log : List Entry) → AreReceives at now log → AreQuiet log
 receives_quiet at now log (inl a) = all_quiet at now log (recursion_from_All (Comes at now) log a.0)
-receives_quiet at now log (inr r) = subst AreQuiet (sym r.2) (brings_quiet at r.1 r.5, all_quiet at now r.0 (recursion_from_All (Comes at now) r.0 r.3))
+receives_quiet at now log (inr r) = subst AreQuiet (sym r.2) (gives_quiet at r.1 r.5, all_quiet at now r.0 (recursion_from_All (Comes at now) r.0 r.3))
 
 quiet_events : (log : List Entry) → AreQuiet log → OnlyComes (events log)
 quiet_events [] q = tt
@@ -300,42 +300,42 @@ quiet_sent (Sends at octets fails ∷ log) q = absurd q.0
 
 -- what the tick hands over, and which event it is
 record TickTells (setup : Setup) (writes : Writing) (log : List Entry) (trace : List Event) : Type 0 where
-  hands : (earlier : List Handed) → handed_called earlier ≡ datagrams_of setup (given_by (sides setup writes trace).leg)
-      → handed_called (sent log ++ earlier) ≡ datagrams_of setup (given_by (sides setup writes (events log ++ trace)).leg)
+  hands : (earlier : List HandedDatagram) → handed_called earlier ≡ datagrams_of setup (given_by (both_legs setup writes trace).leg)
+      → handed_called (sent log ++ earlier) ≡ datagrams_of setup (given_by (both_legs setup writes (events log ++ trace)).leg)
 
-pub sent_called : (o : Option (List ℕ)) (log : List Entry) (earlier : List Handed) → IsSent side.Called o log → handed_called (sent log ++ earlier) ≡ handed o ++ handed_called earlier
+pub sent_called : (o : Option (List ℕ)) (log : List Entry) (earlier : List HandedDatagram) → IsSent legs.Called o log → handed_called (sent log ++ earlier) ≡ handed o ++ handed_called earlier
 sent_called None log earlier e = subst (λ (l : List Entry). handed_called (sent l ++ earlier) ≡ handed_called earlier) (sym e) refl
 sent_called (Some octets) log earlier e = subst (λ (l : List Entry). handed_called (sent l ++ earlier) ≡ octets ∷ handed_called earlier) (sym e.1) refl
 
-pub sent_calling : (o : Option (List ℕ)) (log : List Entry) (earlier : List Handed) → IsSent side.Calling o log → handed_called (sent log ++ earlier) ≡ handed_called earlier
+pub sent_calling : (o : Option (List ℕ)) (log : List Entry) (earlier : List HandedDatagram) → IsSent legs.Calling o log → handed_called (sent log ++ earlier) ≡ handed_called earlier
 sent_calling None log earlier e = subst (λ (l : List Entry). handed_called (sent l ++ earlier) ≡ handed_called earlier) (sym e) refl
 sent_calling (Some octets) log earlier e = subst (λ (l : List Entry). handed_called (sent l ++ earlier) ≡ handed_called earlier) (sym e.1) refl
 
-sent_events : (at : Side) (o : Option (List ℕ)) (log : List Entry) → IsSent at o log → events log ≡ []
+sent_events : (at : Leg) (o : Option (List ℕ)) (log : List Entry) → IsSent at o log → events log ≡ []
 sent_events at None log e = ap events e
 sent_events at (Some octets) log e = ap events e.1
 
-tick_tells : (setup : Setup) (writes : Writing) (now : ℕ) (log : List Entry) (trace : List Event) → IsTick now log → IsTrace setup writes (events log ++ trace) → IsOpen (sides setup writes trace).leg → TickTells setup writes log trace
+tick_tells : (setup : Setup) (writes : Writing) (now : ℕ) (log : List Entry) (trace : List Event) → IsTick now log → IsTrace setup writes (events log ++ trace) → IsOpen (both_legs setup writes trace).leg → TickTells setup writes log trace
 tick_tells setup writes now log trace (inr e) t h = subst (λ (l : List Entry). TickTells setup writes l trace) (sym e) (record { hands = λ earlier x. x })
 tick_tells setup writes now log trace (inl k) t h =
     let given : Given = k.0 in
     let tick : List Entry = Accepts (Tick now given) ∷ [] in
     let is : events log ≡ Tick now given ∷ [] =
-    ap events k.5 ∙ flat_map-append events_in k.2 (k.1 ++ tick) ∙ ap (λ (es : List Event). es ++ events (k.1 ++ tick)) (sent_events side.Called given.on_called k.2 k.4)
-    ∙ flat_map-append events_in k.1 tick ∙ ap (λ (es : List Event). es ++ events tick) (sent_events side.Calling given.on_calling k.1 k.3) in
+    ap events k.5 ∙ flat_map-append events_in k.2 (k.1 ++ tick) ∙ ap (λ (es : List Event). es ++ events (k.1 ++ tick)) (sent_events legs.Called given.on_called k.2 k.4)
+    ∙ flat_map-append events_in k.1 tick ∙ ap (λ (es : List Event). es ++ events tick) (sent_events legs.Calling given.on_calling k.1 k.3) in
     let on : IsTrace setup writes (Tick now given ∷ trace) = subst (λ (es : List Event). IsTrace setup writes (es ++ trace)) is t in
     record {
       hands = λ earlier x.
           ap (λ (l : List Entry). handed_called (sent l ++ earlier)) k.5
-          ∙ ap (λ (hs : List Handed). handed_called (hs ++ earlier)) (flat_map-append sent_in k.2 (k.1 ++ tick))
+          ∙ ap (λ (hs : List HandedDatagram). handed_called (hs ++ earlier)) (flat_map-append sent_in k.2 (k.1 ++ tick))
           ∙ ap handed_called (append_assoc (sent k.2) (sent (k.1 ++ tick)) earlier)
           ∙ sent_called given.on_called k.2 (sent (k.1 ++ tick) ++ earlier) k.4
           ∙ ap (λ (hs : List (List ℕ)). handed given.on_called ++ hs)
-          (ap (λ (hs : List Handed). handed_called (hs ++ earlier)) (flat_map-append sent_in k.1 tick)
+          (ap (λ (hs : List HandedDatagram). handed_called (hs ++ earlier)) (flat_map-append sent_in k.1 tick)
           ∙ ap handed_called (append_assoc (sent k.1) (sent tick) earlier)
           ∙ sent_calling given.on_calling k.1 (sent tick ++ earlier) k.3 ∙ x)
           ∙ sym (tick_given setup writes trace now given on h)
-          ∙ ap (λ (es : List Event). datagrams_of setup (given_by (sides setup writes (es ++ trace)).leg)) (sym is);
+          ∙ ap (λ (es : List Event). datagrams_of setup (given_by (both_legs setup writes (es ++ trace)).leg)) (sym is);
     }
 
 -- the trace before
@@ -343,20 +343,20 @@ pub trace_before : (setup : Setup) (writes : Writing) (later earlier : List Even
 trace_before setup writes [] earlier t = t
 trace_before setup writes (e ∷ later) earlier t = trace_before setup writes later earlier t.1
 
-turn_hands : (setup : Setup) (writes : Writing) (now : ℕ) (log : List Entry) (trace : List Event) (earlier : List Handed) → IsTurn now log → IsTrace setup writes (events log ++ trace) → IsOpen (sides setup writes trace).leg
-    → handed_called earlier ≡ datagrams_of setup (given_by (sides setup writes trace).leg) → handed_called (sent log ++ earlier) ≡ datagrams_of setup (given_by (sides setup writes (events log ++ trace)).leg)
+turn_hands : (setup : Setup) (writes : Writing) (now : ℕ) (log : List Entry) (trace : List Event) (earlier : List HandedDatagram) → IsTurn now log → IsTrace setup writes (events log ++ trace) → IsOpen (both_legs setup writes trace).leg
+    → handed_called earlier ≡ datagrams_of setup (given_by (both_legs setup writes trace).leg) → handed_called (sent log ++ earlier) ≡ datagrams_of setup (given_by (both_legs setup writes (events log ++ trace)).leg)
 turn_hands setup writes now log trace earlier turn t h x =
     let came : List Entry = turn.called ++ turn.calling in
-    let quiet : AreQuiet came = quiet_both turn.called turn.calling (receives_quiet side.Called now turn.called turn.on_called) (receives_quiet side.Calling now turn.calling turn.on_calling) in
-    let a : IsAs (sides setup writes trace).leg (sides setup writes (events came ++ trace)).leg = comes_as setup writes (events came) trace (quiet_events came quiet) in
+    let quiet : AreQuiet came = quiet_both turn.called turn.calling (receives_quiet legs.Called now turn.called turn.on_called) (receives_quiet legs.Calling now turn.calling turn.on_calling) in
+    let a : IsAs (both_legs setup writes trace).leg (both_legs setup writes (events came ++ trace)).leg = comes_as setup writes (events came) trace (quiet_events came quiet) in
     let is : events log ++ trace ≡ events turn.tick ++ (events came ++ trace) =
     ap (λ (l : List Entry). events l ++ trace) turn.log_is ∙ ap (λ (es : List Event). es ++ trace) (flat_map-append events_in turn.tick came) ∙ append_assoc (events turn.tick) (events came) trace in
     let on : IsTrace setup writes (events turn.tick ++ (events came ++ trace)) = subst (IsTrace setup writes) is t in
     let k : TickTells setup writes turn.tick (events came ++ trace) = tick_tells setup writes now turn.tick (events came ++ trace) turn.ticks on (a.stays h) in
     let all : sent log ≡ sent turn.tick =
-    ap sent turn.log_is ∙ flat_map-append sent_in turn.tick came ∙ ap (λ (hs : List Handed). sent turn.tick ++ hs) (quiet_sent came quiet) ∙ append-nil (sent turn.tick) in
-    ap (λ (hs : List Handed). handed_called (hs ++ earlier)) all ∙ k.hands earlier (x ∙ ap (datagrams_of setup) (sym a.given))
-    ∙ ap (λ (es : List Event). datagrams_of setup (given_by (sides setup writes es).leg)) (sym is)
+    ap sent turn.log_is ∙ flat_map-append sent_in turn.tick came ∙ ap (λ (hs : List HandedDatagram). sent turn.tick ++ hs) (quiet_sent came quiet) ∙ append-nil (sent turn.tick) in
+    ap (λ (hs : List HandedDatagram). handed_called (hs ++ earlier)) all ∙ k.hands earlier (x ∙ ap (datagrams_of setup) (sym a.given))
+    ∙ ap (λ (es : List Event). datagrams_of setup (given_by (both_legs setup writes es).leg)) (sym is)
 
 -- the events of a turn: what came, and then a tick, or none
 pub record IsTicked (before trace : List Event) : Type 0 where
@@ -375,8 +375,8 @@ tick_events now log (inl k) =
     let tick : List Entry = Accepts (Tick now k.0) ∷ [] in
     inr (
       k.0,
-      ap events k.5 ∙ flat_map-append events_in k.2 (k.1 ++ tick) ∙ ap (λ (es : List Event). es ++ events (k.1 ++ tick)) (sent_events side.Called k.0.on_called k.2 k.4)
-          ∙ flat_map-append events_in k.1 tick ∙ ap (λ (es : List Event). es ++ events tick) (sent_events side.Calling k.0.on_calling k.1 k.3),
+      ap events k.5 ∙ flat_map-append events_in k.2 (k.1 ++ tick) ∙ ap (λ (es : List Event). es ++ events (k.1 ++ tick)) (sent_events legs.Called k.0.on_called k.2 k.4)
+          ∙ flat_map-append events_in k.1 tick ∙ ap (λ (es : List Event). es ++ events tick) (sent_events legs.Calling k.0.on_calling k.1 k.3),
     )
 
 pub is_turned : (now : ℕ) (log : List Entry) (before trace : List Event) → IsTurn now log → trace ≡ events log ++ before → IsTurned before trace
@@ -386,7 +386,7 @@ is_turned now log before trace turn e = record { came = events came; only = quie
     came = turn.called ++ turn.calling
 
     quiet : AreQuiet came
-    quiet = quiet_both turn.called turn.calling (receives_quiet side.Called now turn.called turn.on_called) (receives_quiet side.Calling now turn.calling turn.on_calling)
+    quiet = quiet_both turn.called turn.calling (receives_quiet legs.Called now turn.called turn.on_called) (receives_quiet legs.Calling now turn.calling turn.on_calling)
 
     is : trace ≡ events turn.tick ++ (events came ++ before)
     is = e ∙ ap (λ (l : List Entry). events l ++ before) turn.log_is ∙ ap (λ (es : List Event). es ++ before) (flat_map-append events_in turn.tick came) ∙ append_assoc (events turn.tick) (events came) before
@@ -396,17 +396,17 @@ is_turned now log before trace turn e = record { came = events came; only = quie
     by (inr k) = inr (record { now = now; given = k.0; is = is ∙ ap (λ (es : List Event). es ++ (events came ++ before)) k.1 })
 
 -- ---- ALL ROUNDS
-pub behind_is : (round : Round) (earlier : List Round) → trace_behind (round ∷ earlier) ≡ events round.gateway ++ trace_behind earlier
-behind_is round earlier =
-    ap (λ (es : List Event). es ++ Ring 0 0 ∷ []) (flat_map-append events_in round.gateway (log_behind earlier)) ∙ append_assoc (events round.gateway) (events (log_behind earlier)) (Ring 0 0 ∷ [])
+pub after_is : (round : Round) (earlier : List Round) → trace_after (round ∷ earlier) ≡ events round.gateway ++ trace_after earlier
+after_is round earlier =
+    ap (λ (es : List Event). es ++ Ring 0 0 ∷ []) (flat_map-append events_in round.gateway (log_after earlier)) ∙ append_assoc (events round.gateway) (events (log_after earlier)) (Ring 0 0 ∷ [])
 
-pub hands_what_it_gave : JobsHaveStates → (setup : Setup) (writes : Writing) (rounds : List Round) → AreRounds setup writes rounds → IsTrace setup writes (trace_behind rounds)
-    → handed_called (sent (log_behind rounds)) ≡ datagrams_of setup (given_by (sides setup writes (trace_behind rounds)).leg)
+pub hands_what_it_gave : JobsHaveStates → (setup : Setup) (writes : Writing) (rounds : List Round) → AreRounds setup writes rounds → IsTrace setup writes (trace_after rounds)
+    → handed_called (sent (log_after rounds)) ≡ datagrams_of setup (given_by (both_legs setup writes (trace_after rounds)).leg)
 hands_what_it_gave law setup writes [] a t = refl
 hands_what_it_gave law setup writes (round ∷ earlier) a t =
-    let on : IsTrace setup writes (events round.gateway ++ trace_behind earlier) = subst (IsTrace setup writes) (behind_is round earlier) t in
-    let old : IsTrace setup writes (trace_behind earlier) = trace_before setup writes (events round.gateway) (trace_behind earlier) on in
-    ap handed_called (flat_map-append sent_in round.gateway (log_behind earlier))
-    ∙ turn_hands setup writes (moment_behind earlier) round.gateway (trace_behind earlier) (sent (log_behind earlier)) a.0.turn on (is_open law setup writes (trace_behind earlier) old a.0.unreported)
+    let on : IsTrace setup writes (events round.gateway ++ trace_after earlier) = subst (IsTrace setup writes) (after_is round earlier) t in
+    let old : IsTrace setup writes (trace_after earlier) = trace_before setup writes (events round.gateway) (trace_after earlier) on in
+    ap handed_called (flat_map-append sent_in round.gateway (log_after earlier))
+    ∙ turn_hands setup writes (moment_after earlier) round.gateway (trace_after earlier) (sent (log_after earlier)) a.0.turn on (is_open law setup writes (trace_after earlier) old a.0.unreported)
     (hands_what_it_gave law setup writes earlier a.1 old)
-    ∙ ap (λ (es : List Event). datagrams_of setup (given_by (sides setup writes es).leg)) (sym (behind_is round earlier))
+    ∙ ap (λ (es : List Event). datagrams_of setup (given_by (both_legs setup writes es).leg)) (sym (after_is round earlier))

@@ -17,7 +17,7 @@ use Rattle.fax_answer.specs.History.{Entry}
 use Rattle.fax_answer.specs.Sent.{pieces_heard, IsOfSignal, page_accepted, RisesBy, Rises}
 use Rattle.fax_call.specs.Writings.{Writing, IsWriting}
 use Rattle.fax_call.specs.Replies.{written, same_width, same_bool, same_format, turn_if}
-use Rattle.fax_call.specs.Calls.{Calling, formats_of, not_placed, started}
+use Rattle.fax_call.specs.Calls.{CallerCore, formats_of, not_placed, started}
 use Rattle.fax_call.specs.Given.{IsOfKind, packets_given}
 use Rattle.fax_call.specs.GivenSignals.{IsImage}
 use Rattle.fax_call.proofs.FinePackets.{OneKind}
@@ -77,11 +77,11 @@ pub one_format : (page : PageValue) (job : JobValue) → AreAll page job.pages �
 one_format page job a n = turn_none page.format (slice_get (formats_of job) n) (slice_get (formats_of job) (n + 1)) (if_format page job.pages n a) (if_format page job.pages (n + 1) a)
 
 -- ---- A LEG whose call was placed, that gave what the call of its job gives, and whose pages are all one
-abbrev pub call_begun : CalledLeg → Calling
+abbrev pub call_begun : CalledLeg → CallerCore
 call_begun l = started l.before l.job l.begun
 
 pub begun_is : (l : CalledLeg) → l.placed ≡ true → begun_core l ≡ call_begun l
-begun_is l e = subst (λ (b : Bool). (if◌then◌else◌ {A = Calling} b (call_begun l) (not_placed l.before l.job)) ≡ call_begun l) (sym e) refl
+begun_is l e = subst (λ (b : Bool). (if◌then◌else◌ {A = CallerCore} b (call_begun l) (not_placed l.before l.job)) ≡ call_begun l) (sym e) refl
 
 pub record Gives (writes : Writing) (page : PageValue) (l : CalledLeg) : Type 0 where
   pub is_job : IsJob l.job

@@ -25,7 +25,7 @@ use Rattle.fax_answer.specs.History.{Entry, Decision, PassesOver, Trains, HangsU
 use Rattle.fax_answer.specs.Sent.{pieces_heard}
 use Rattle.fax_call.specs.Writings.{Writing}
 use Rattle.fax_call.specs.Replies.{Packet}
-use Rattle.fax_call.specs.Calls.{Calling, CallEvent, Comes, Ticks, after_events, ticked}
+use Rattle.fax_call.specs.Calls.{CallerCore, CallEvent, Comes, Ticks, after_events, ticked}
 use Rattle.fax_call.specs.Emission.{Mark}
 use Rattle.fax_call.specs.Given.{packets_with, packets_given, told_dcs, EachDcs, IsOfKind}
 use Rattle.fax_call.specs.GivenSignals.{dcs_or, last_dcs, IsImage}
@@ -97,13 +97,13 @@ with_each : (P : Dcs → Type 0) (o : Option Packet) (packets : List Packet) →
 with_each P None packets k = k
 with_each P (Some p) packets k = k.1
 
-each_before : (P : Dcs → Type 0) (writes : Writing) (job : JobValue) (a : Calling) (more before : List CallEvent) → EachDcs P (packets_given writes job a (more ++ before)) → EachDcs P (packets_given writes job a before)
+each_before : (P : Dcs → Type 0) (writes : Writing) (job : JobValue) (a : CallerCore) (more before : List CallEvent) → EachDcs P (packets_given writes job a (more ++ before)) → EachDcs P (packets_given writes job a before)
 each_before P writes job a [] before k = k
 each_before P writes job a (Comes piece now ∷ more) before k = each_before P writes job a more before k
 each_before P writes job a (Ticks now ∷ more) before k =
     each_before P writes job a more before (with_each P (ticked writes job (after_events writes job a (more ++ before)) now).given (packets_given writes job a (more ++ before)) k)
 
-pub image_kind : (P : Dcs → Type 0) (writes : Writing) (job : JobValue) (old : List Mark) (a : Calling) (events : List CallEvent) (octets : List ℕ) (i : IsImage writes job old a events octets) → EachDcs P (packets_given writes job a events) → P i.dcs
+pub image_kind : (P : Dcs → Type 0) (writes : Writing) (job : JobValue) (old : List Mark) (a : CallerCore) (events : List CallEvent) (octets : List ℕ) (i : IsImage writes job old a events octets) → EachDcs P (packets_given writes job a events) → P i.dcs
 image_kind P writes job old a events octets i k =
     last_kind P (packets_given writes job a i.before) i.dcs
     (with_each P (ticked writes job (after_events writes job a i.before) i.now).given (packets_given writes job a i.before)

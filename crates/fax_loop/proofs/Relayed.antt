@@ -19,7 +19,7 @@ use Rattle.fax_answer.specs.History.{Decision, Entry}
 use Rattle.fax_answer.specs.Confirmation.{IsConfirmedIn}
 use Rattle.fax_answer.specs.Sent.{page_accepted, pieces_heard}
 use Rattle.fax_call.specs.Writings.{Writing, IsWriting}
-use Rattle.fax_call.specs.Calls.{Calling}
+use Rattle.fax_call.specs.Calls.{CallerCore}
 use Rattle.fax_gateway.specs.Setups.{Setup}
 use Rattle.fax_gateway.specs.Events.{Event, Ring, FromCalling, FromCalled, Tick, Placed, Given, clock}
 use Rattle.fax_gateway.specs.CallingLegs.{CallingLeg, calling_after, calling_leg, core_of, is_idle, leg_with}
@@ -28,7 +28,7 @@ use Rattle.fax_gateway.specs.Forwards.{OrRestored, WasConfirmedIn}
 use Rattle.fax_gateway.specs.Origins.{AreConfirmed, AreOfTheirCalls, IsOfItsCall, JobsAreOfTheirCalls}
 use Rattle.fax_gateway.specs.Reached.{arrived_on}
 use Rattle.fax_gateway.specs.Restored.{RestoredCall, pages_restored}
-use Rattle.fax_gateway.specs.Sides.{Sides, begins_next, book_of, enters, heard_in_tick, in_tick, leg_of, sends, sends_if, sides}
+use Rattle.fax_gateway.specs.BothLegs.{BothLegs, begins_next, book_of, both_legs, enters, heard_in_tick, in_tick, leg_of, sends, sends_if}
 use Rattle.fax_gateway.specs.Traces.{IsTrace}
 use Rattle.fax_gateway.proofs.SentPages.{leg_confirms_signals, leg_hears_sent_frames}
 use Rattle.fax_loop.specs.Faithful.{AreCarried}
@@ -149,8 +149,8 @@ carried_to setup writes trace l page given is s c =
 
 was_the_page : (setup : Setup) (writes : Writing) (trace : List Event) (page : PageValue) (given : List (List ℕ)) (call : ℕ) (p : PageValue) → Sends page given → Carries setup writes given trace → WasConfirmedIn setup trace call p → p ≡ page
 was_the_page setup writes trace page given call p s c w =
-    let behind : Carries setup writes given (Tick w.at w.given ∷ w.earlier) = before_carries setup writes given w.later (Tick w.at w.given ∷ w.earlier) (subst (Carries setup writes given) w.split c) in
-    let earlier : Carries setup writes given w.earlier = earlier_carries setup writes given (Tick w.at w.given) w.earlier behind in
+    let after : Carries setup writes given (Tick w.at w.given ∷ w.earlier) = before_carries setup writes given w.later (Tick w.at w.given ∷ w.earlier) (subst (Carries setup writes given) w.split c) in
+    let earlier : Carries setup writes given w.earlier = earlier_carries setup writes given (Tick w.at w.given) w.earlier after in
     sym w.same_page ∙ confirmed_in page (core_of w.leg).history w.confirmed (carried_to setup writes w.earlier w.leg page given w.is_leg s earlier) w.confirmation
 
 own : (restored : List RestoredCall) (call : ℕ) (p : PageValue) (this : Type 0) → restored ≡ [] → OrRestored (pages_restored restored) call p this → this
@@ -200,14 +200,14 @@ abbrev pub IfGives : Writing → PageValue → Option CalledLeg → Type 0
 IfGives writes page None = Unit {0}
 IfGives writes page (Some l) = Gives writes page l
 
-begins : (writes : Writing) (page : PageValue) (o : Option JobValue) (leg : Option CalledLeg) (before : Calling) (now : ℕ) → IfSome o (IsOfPage page) → IfGives writes page leg → IfGives writes page (leg_of true o before now leg)
+begins : (writes : Writing) (page : PageValue) (o : Option JobValue) (leg : Option CalledLeg) (before : CallerCore) (now : ℕ) → IfSome o (IsOfPage page) → IfGives writes page leg → IfGives writes page (leg_of true o before now leg)
 begins writes page None leg before now h g = g
 begins writes page (Some job) leg before now h g = begun_gives writes page job before now h.is_job h.pages
 
-sends_gives : (setup : Setup) (writes : Writing) (page : PageValue) (now : ℕ) (s : Sides) → IfSome (book_of (sends_if setup writes now s)).sending (IsOfPage page) → IfGives writes page s.leg → IfGives writes page (sends_if setup writes now s).leg
+sends_gives : (setup : Setup) (writes : Writing) (page : PageValue) (now : ℕ) (s : BothLegs) → IfSome (book_of (sends_if setup writes now s)).sending (IsOfPage page) → IfGives writes page s.leg → IfGives writes page (sends_if setup writes now s).leg
 sends_gives setup writes page now s h g = by (begins_next setup s.leg) h
   where
-    by : (b : Bool) → IfSome (book_of (if◌then◌else◌ {A = Sides} b (sends true setup writes now s) s)).sending (IsOfPage page) → IfGives writes page (if◌then◌else◌ {A = Sides} b (sends true setup writes now s) s).leg
+    by : (b : Bool) → IfSome (book_of (if◌then◌else◌ {A = BothLegs} b (sends true setup writes now s) s)).sending (IsOfPage page) → IfGives writes page (if◌then◌else◌ {A = BothLegs} b (sends true setup writes now s) s).leg
     by true k = begins writes page (book_of (sends true setup writes now s)).sending s.leg (core_left setup writes s.leg) now k g
     by false k = g
 
@@ -224,20 +224,20 @@ if_of_page P Q None f h = tt
 if_of_page P Q (Some job) f h = f job h
 
 pub called_gives : JobsAreOfTheirCalls → (setup : Setup) (writes : Writing) (trace : List Event) (page : PageValue) (given : List (List ℕ)) → setup.restored ≡ [] → IsWriting writes → Sends page given → Carries setup writes given trace
-    → IfGives writes page (sides setup writes trace).leg
+    → IfGives writes page (both_legs setup writes trace).leg
 called_gives law setup writes [] page given new w s c = tt
 called_gives law setup writes (e ∷ earlier) page given new w s c = by e c (called_gives law setup writes earlier page given new w s (earlier_carries setup writes given e earlier c))
   where
-    by : (e : Event) → Carries setup writes given (e ∷ earlier) → IfGives writes page (sides setup writes earlier).leg → IfGives writes page (sides setup writes (e ∷ earlier)).leg
+    by : (e : Event) → Carries setup writes given (e ∷ earlier) → IfGives writes page (both_legs setup writes earlier).leg → IfGives writes page (both_legs setup writes (e ∷ earlier)).leg
     by (Ring at n) c g = g
     by (FromCalling octets at decided read) c g = g
-    by (FromCalled octets at decided) c g = comes_gives writes page (sides setup writes earlier).leg octets (clock (FromCalled octets at decided ∷ earlier)) g
+    by (FromCalled octets at decided) c g = comes_gives writes page (both_legs setup writes earlier).leg octets (clock (FromCalled octets at decided ∷ earlier)) g
     by (Tick at told) c g =
         let trace : List Event = Tick at told ∷ earlier in
         let now : ℕ = max at (clock earlier) in
-        let old : Sides = sides setup writes earlier in
-        let z : Sides = record old { steps = heard_in_tick (calling_leg setup earlier) now old.steps } in
-        let middle : Sides = in_tick setup writes earlier at in
+        let old : BothLegs = both_legs setup writes earlier in
+        let z : BothLegs = record old { steps = heard_in_tick (calling_leg setup earlier) now old.steps } in
+        let middle : BothLegs = in_tick setup writes earlier at in
         let sent : IfSome (book_of middle).sending (IsOfItsCall setup trace) = in_tick_sent setup trace (delivered_told writes middle.leg now) (outcome_told writes middle.leg now) middle.steps (law setup writes trace c.is_trace).0 in
         let job : IfSome (book_of middle).sending (IsOfPage page) = if_of_page (IsOfItsCall setup trace) (IsOfPage page) (book_of middle).sending (λ job o. of_page setup writes trace page given job new s c o) sent in
         serves_gives writes page middle.leg now w (sends_gives setup writes page now z job g)

@@ -1,10 +1,10 @@
 -- What a machine's end of a leg tells. (This project's profile.) Lists have the newest first.
 use Rattle.std.specs.Prelude.{ℕ, List, [], ◌∷◌, take, Option, Some, None}
-use Rattle.fax_gateway.specs.declared.side.Side.{Side}
-use Rattle.fax_gateway.specs.declared.side.Side.TheVariants as side
+use Rattle.fax_gateway.specs.declared.leg.Leg.{Leg}
+use Rattle.fax_gateway.specs.declared.leg.Leg.TheVariants as legs
 
 -- the datagrams that came, and those that were handed over to be sent, where it tells them
-pub record Told : Type 0 where
+pub record EndTraffic : Type 0 where
   pub received : Option (List (List ℕ))
   pub sent : Option (List (List ℕ))
 
@@ -19,6 +19,6 @@ handed None = []
 handed (Some octets) = octets ∷ []
 
 -- the one of two that stands on a leg of a gateway
-abbrev pub at_side : {A : Type 0} → Side → A → A → A
-at_side side.Calling calling called = calling
-at_side side.Called calling called = called
+abbrev pub at_leg : {A : Type 0} → Leg → A → A → A
+at_leg legs.Calling calling called = calling
+at_leg legs.Called calling called = called

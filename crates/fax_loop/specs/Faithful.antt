@@ -13,9 +13,9 @@ use Rattle.fax_gateway.specs.CalledLegs.{CalledLeg}
 use Rattle.fax_gateway.specs.CallingLegs.{calling_leg}
 use Rattle.fax_gateway.specs.Reached.{arrived_on, given_on}
 use Rattle.fax_gateway.specs.Setups.{Setup}
-use Rattle.fax_gateway.specs.Sides.{sides}
+use Rattle.fax_gateway.specs.BothLegs.{both_legs}
 use Rattle.fax_gateway.specs.Traces.{IsTrace}
-use Rattle.fax_loop.specs.Exchanges.{AreRounds, Round, answerer_behind, caller_behind, reported, trace_behind}
+use Rattle.fax_loop.specs.Exchanges.{AreRounds, Round, answerer_after, caller_after, reported, trace_after}
 use Rattle.fax_loop.specs.Machines.{pages_on}
 
 -- The datagrams that came in a call are those of the packets that were given at the other end, by an honest schedule.
@@ -32,8 +32,8 @@ given_by (Some l) = l.given
 -- It is so from the machine that calls to the gateway, and from the gateway to the machine that is called. What goes back may be any
 -- datagrams.
 pub record AreHonest (setup : Setup) (writes : Writing) (job : JobValue) (rounds : List Round) : Type 0 where
-  pub to_gateway : AreCarried (caller_behind setup writes job rounds).given (arrived_on (calling_leg setup (trace_behind rounds)))
-  pub to_answerer : AreCarried (given_by (sides setup writes (trace_behind rounds)).leg) (arrived_on (answerer_behind setup rounds))
+  pub to_gateway : AreCarried (caller_after setup writes job rounds).given (arrived_on (calling_leg setup (trace_after rounds)))
+  pub to_answerer : AreCarried (given_by (both_legs setup writes (trace_after rounds)).leg) (arrived_on (answerer_after setup rounds))
 
 -- pages that are this page, each of them
 abbrev pub AreThePage : PageValue → List PageValue → Type 0
@@ -44,8 +44,8 @@ AreThePage page pages = All (λ p. p ≡ page) pages
 abbrev pub ConfirmsThePage : Type 0
 ConfirmsThePage =
     (setup : Setup) (writes : Writing) (page : PageValue) (rounds : List Round) → setup.restored ≡ [] → IsWriting writes → IsPage page
-    → AreRounds setup writes rounds → IsTrace setup writes (trace_behind rounds) → AreHonest setup writes (job_of 0 page) rounds
-    → AreThePage page (pages_on (answerer_behind setup rounds))
+    → AreRounds setup writes rounds → IsTrace setup writes (trace_after rounds) → AreHonest setup writes (job_of 0 page) rounds
+    → AreThePage page (pages_on (answerer_after setup rounds))
 
 -- the datagrams that came to the gateway in the last call of its called leg
 abbrev pub arrived_by : Option CalledLeg → List DatagramValue
@@ -57,7 +57,7 @@ arrived_by (Some l) = l.arrived
 abbrev pub ConfirmsIfDelivered : Type 0
 ConfirmsIfDelivered =
     (setup : Setup) (writes : Writing) (page : PageValue) (rounds : List Round) (report : Report) → setup.restored ≡ [] → IsWriting writes → IsPage page
-    → AreRounds setup writes rounds → IsTrace setup writes (trace_behind rounds) → AreHonest setup writes (job_of 0 page) rounds
-    → AreCarried (given_on (answerer_behind setup rounds)) (arrived_by (sides setup writes (trace_behind rounds)).leg)
+    → AreRounds setup writes rounds → IsTrace setup writes (trace_after rounds) → AreHonest setup writes (job_of 0 page) rounds
+    → AreCarried (given_on (answerer_after setup rounds)) (arrived_by (both_legs setup writes (trace_after rounds)).leg)
     → reported setup writes rounds ≡ Some report → report.outcome ≡ outcomes.Delivered
-    → pages_on (answerer_behind setup rounds) ≢ []
+    → pages_on (answerer_after setup rounds) ≢ []

@@ -10,46 +10,46 @@ use Rattle.fax_gateway.specs.Setups.{Setup}
 use Rattle.fax_gateway.specs.Driving.{Entry, is_failed_receive, is_failed_send, most_datagrams, receipts, sent}
 use Rattle.fax_gateway.specs.Reached.{given_on}
 use Rattle.fax_gateway.specs.Traces.{IsTrace}
-use Rattle.fax_loop.specs.Exchanges.{AreRounds, Carried, IsOver, IsPlayed, Lines, Round, answerer_behind, caller_behind, log_behind, moment_behind, trace_behind}
+use Rattle.fax_loop.specs.Exchanges.{AreRounds, CarriesRounds, IsOver, IsPlayed, Lines, Round, answerer_after, caller_after, log_after, moment_after, trace_after}
 use Rattle.fax_loop.specs.Links.{AreLinked, AreLinkedBack, came_called, came_calling, handed_called, most_near}
-use Rattle.fax_loop.specs.Machines.{Came, calling_turned, datagrams_of, octets_of}
+use Rattle.fax_loop.specs.Machines.{ReadDatagram, calling_turned, datagrams_of, octets_of}
 
--- what lines tell behind these rounds that tell all that went over them in these
-abbrev pub lines_behind : Setup → Writing → JobValue → List Round → Lines
-lines_behind setup writes job rounds = record {
+-- what lines tell after these rounds that tell all that went over them in these
+abbrev pub lines_after : Setup → Writing → JobValue → List Round → Lines
+lines_after setup writes job rounds = record {
   caller = record {
     received = Some (flat_map (λ round. round.calling) rounds);
-    sent = Some (datagrams_of setup (caller_behind setup writes job rounds).given);
+    sent = Some (datagrams_of setup (caller_after setup writes job rounds).given);
   };
   wire = record {
-    failures = count_by is_failed_receive (log_behind rounds) + count_by is_failed_send (log_behind rounds);
-    received = Some (receipts (log_behind rounds));
-    sent = Some (sent (log_behind rounds));
+    failures = count_by is_failed_receive (log_after rounds) + count_by is_failed_send (log_after rounds);
+    received = Some (receipts (log_after rounds));
+    sent = Some (sent (log_after rounds));
   };
   answerer = record {
     received = Some (flat_map (λ round. octets_of round.called) rounds);
-    sent = Some (datagrams_of setup (given_on (answerer_behind setup rounds)));
+    sent = Some (datagrams_of setup (given_on (answerer_after setup rounds)));
   };
 }
 
 -- AN EXCHANGE SO FAR over lines that are linked both ways, from when nothing had gone over them
 pub record IsLinkedSoFar (setup : Setup) (writes : Writing) (job : JobValue) (rounds : List Round) : Type 0 where
   pub are_rounds : AreRounds setup writes rounds
-  pub trace : IsTrace setup writes (trace_behind rounds)
-  pub carried : Carried setup writes job rounds (lines_behind setup writes job []) (lines_behind setup writes job rounds)
-  pub linked : AreLinked (lines_behind setup writes job []) (lines_behind setup writes job rounds)
-  pub linked_back : AreLinkedBack (lines_behind setup writes job []) (lines_behind setup writes job rounds)
+  pub trace : IsTrace setup writes (trace_after rounds)
+  pub carried : CarriesRounds setup writes job rounds (lines_after setup writes job []) (lines_after setup writes job rounds)
+  pub linked : AreLinked (lines_after setup writes job []) (lines_after setup writes job rounds)
+  pub linked_back : AreLinkedBack (lines_after setup writes job []) (lines_after setup writes job rounds)
 
 -- ---- what was handed over until a turn of the next round: by the machine that calls, to which these come in it; by the machine that
 -- is called; and on the gateway's called leg, where this is its turn
 abbrev pub by_caller : Setup → Writing → JobValue → List Round → List (List ℕ) → List (List ℕ)
-by_caller setup writes job rounds came = datagrams_of setup (calling_turned writes (moment_behind rounds) came (caller_behind setup writes job rounds)).given
+by_caller setup writes job rounds came = datagrams_of setup (calling_turned writes (moment_after rounds) came (caller_after setup writes job rounds)).given
 
 abbrev pub by_answerer : Setup → List Round → List (List ℕ)
-by_answerer setup rounds = datagrams_of setup (given_on (answerer_behind setup rounds))
+by_answerer setup rounds = datagrams_of setup (given_on (answerer_after setup rounds))
 
 abbrev pub by_gateway : List Round → List Entry → List (List ℕ)
-by_gateway rounds turn = handed_called (sent (turn ++ log_behind rounds))
+by_gateway rounds turn = handed_called (sent (turn ++ log_after rounds))
 
 -- What comes in the next round, at most 16 datagrams each: any to the machine that calls, and to the gateway some of those that were
 -- handed over at the other end, in any order, some of them more than once.
@@ -68,7 +68,7 @@ pub record GoesOn (setup : Setup) (writes : Writing) (job : JobValue) (rounds : 
   pub called_is : came_called (receipts turn) ≡ on_called
   pub round :
       (to_answerer : List (List ℕ)) → length to_answerer ≤ most_datagrams → All (Contains (by_gateway rounds turn)) to_answerer
-      → (came : List Came) × (octets_of came ≡ to_answerer) × IsLinkedSoFar setup writes job (record { calling = to_caller; gateway = turn; called = came } ∷ rounds)
+      → (came : List ReadDatagram) × (octets_of came ≡ to_answerer) × IsLinkedSoFar setup writes job (record { calling = to_caller; gateway = turn; called = came } ∷ rounds)
 
 -- ---- laws
 

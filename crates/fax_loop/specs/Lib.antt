@@ -3,6 +3,6 @@ pub mod Ends
 pub mod Exchanges
 pub mod Faithful
 pub mod GoesOn
-pub mod Kept
+pub mod Rep
 pub mod Links
 pub mod Machines

@@ -6,10 +6,10 @@ use Rattle.fax_jobs.specs.declared.outcome.Outcome.TheVariants as outcomes
 use Rattle.fax_jobs.specs.declared.report.Report.{Report}
 use Rattle.fax_jobs.specs.Books.{job_of}
 use Rattle.fax_call.specs.Writings.{IsWriting, Writing}
-use Rattle.fax_gateway.specs.declared.side.Side.{Side}
-use Rattle.fax_gateway.specs.declared.side.Side.TheVariants as side
+use Rattle.fax_gateway.specs.declared.leg.Leg.{Leg}
+use Rattle.fax_gateway.specs.declared.leg.Leg.TheVariants as legs
 use Rattle.fax_gateway.specs.Setups.{Setup}
-use Rattle.fax_gateway.specs.Wires.{Came, Failed, Handed, Nothing, Receipt}
+use Rattle.fax_gateway.specs.Wires.{Came, Failed, HandedDatagram, Nothing, Receipt}
 use Rattle.fax_loop.specs.Exchanges.{IsPlayed, Lines}
 use Rattle.fax_loop.specs.Faithful.{AreThePage}
 
@@ -18,13 +18,13 @@ abbrev pub IsAll : {A : Type 0} → List A → Option (List A) → Option (List 
 IsAll list before after = (before ≡ Some []) × (after ≡ Some list)
 
 -- the datagrams that a gateway received on each leg, and those that it handed over on its called leg
-abbrev pub on_calling : Side → List ℕ → List (List ℕ) → List (List ℕ)
-on_calling side.Calling octets earlier = octets ∷ earlier
-on_calling side.Called octets earlier = earlier
+abbrev pub on_calling : Leg → List ℕ → List (List ℕ) → List (List ℕ)
+on_calling legs.Calling octets earlier = octets ∷ earlier
+on_calling legs.Called octets earlier = earlier
 
-abbrev pub on_called : Side → List ℕ → List (List ℕ) → List (List ℕ)
-on_called side.Calling octets earlier = earlier
-on_called side.Called octets earlier = octets ∷ earlier
+abbrev pub on_called : Leg → List ℕ → List (List ℕ) → List (List ℕ)
+on_called legs.Calling octets earlier = earlier
+on_called legs.Called octets earlier = octets ∷ earlier
 
 abbrev pub came_called : List Receipt → List (List ℕ)
 came_called [] = []
@@ -38,9 +38,9 @@ came_calling (Came at room octets ∷ earlier) = on_calling at octets (came_call
 came_calling (Nothing at room ∷ earlier) = came_calling earlier
 came_calling (Failed at room ∷ earlier) = came_calling earlier
 
-abbrev pub handed_called : List Handed → List (List ℕ)
+abbrev pub handed_called : List HandedDatagram → List (List ℕ)
 handed_called [] = []
-handed_called (handed ∷ earlier) = on_called handed.side handed.octets (handed_called earlier)
+handed_called (handed ∷ earlier) = on_called handed.leg handed.octets (handed_called earlier)
 
 -- a place is near to every other while fewer datagrams were handed over
 abbrev pub most_near : ℕ
@@ -53,7 +53,7 @@ pub record AreLinked (before after : Lines) : Type 0 where
   pub caller_tells : IsAll caller_sent before.caller.sent after.caller.sent
   pub receipts : List Receipt
   pub receipts_told : IsAll receipts before.wire.received after.wire.received
-  pub handed : List Handed
+  pub handed : List HandedDatagram
   pub handed_told : IsAll handed before.wire.sent after.wire.sent
   pub answerer_received : List (List ℕ)
   pub answerer_tells : IsAll answerer_received before.answerer.received after.answerer.received

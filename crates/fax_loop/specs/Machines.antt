@@ -34,11 +34,11 @@ calling_turned writes now came l = with_tick (calls writes (calling_with writes 
 
 -- ---- THE MACHINE THAT IS CALLED answers as a gateway does on its calling leg. A datagram that came to it, and what the image was
 -- read as that it asks about
-pub record Came : Type 0 where
+pub record ReadDatagram : Type 0 where
   pub octets : List ℕ
   pub read : Reading
 
-abbrev pub octets_of : List Came → List (List ℕ)
+abbrev pub octets_of : List ReadDatagram → List (List ℕ)
 octets_of came = map (λ c. c.octets) came
 
 -- the first datagram rings it
@@ -47,17 +47,17 @@ rung_once setup now None = rung_leg (new_answering setup.pause) now 0
 rung_once setup now (Some l) = l
 
 -- datagrams come
-abbrev pub called_with : Setup → ℕ → List Came → Option CallingLeg → Option CallingLeg
+abbrev pub called_with : Setup → ℕ → List ReadDatagram → Option CallingLeg → Option CallingLeg
 called_with setup now [] leg = leg
 called_with setup now (c ∷ earlier) leg = heard_on setup (Some (rung_once setup now (called_with setup now earlier leg))) now c.octets c.read
 
 -- each of the readings is right
-abbrev pub AreCame : Setup → ℕ → List Came → Option CallingLeg → Type 0
+abbrev pub AreCame : Setup → ℕ → List ReadDatagram → Option CallingLeg → Type 0
 AreCame setup now [] leg = Unit {0}
 AreCame setup now (c ∷ earlier) leg = IsRead (question (Some (rung_once setup now (called_with setup now earlier leg))) now c.octets) c.read × AreCame setup now earlier leg
 
 -- a turn: datagrams come, and then time goes on, once
-abbrev pub called_turned : Setup → ℕ → List Came → Option CallingLeg → Option CallingLeg
+abbrev pub called_turned : Setup → ℕ → List ReadDatagram → Option CallingLeg → Option CallingLeg
 called_turned setup now came leg = ticked_on (called_with setup now came leg) now
 
 -- the pages that it confirmed

@@ -6,10 +6,10 @@ ghost use Rattle.fax_gateway.specs.Setups.{AreAllowed};
 ghost use Rattle.fax_command.specs.RowLines.{TellRows, text_of_lines};
 ghost use Rattle.fax_command.specs.Streams.{failed_after_write};
 ghost use Rattle.fax_loop.specs.Answers.{EndsSo, IsInput, Sends, rows_of};
-ghost use Rattle.fax_loop.specs.Kept.{IsAnswerText, ending_of_answer};
+ghost use Rattle.fax_loop.specs.Rep.{IsAnswerText, ending_of_answer};
 
 use crate::ending::Ending;
-use crate::exchange::{Ended, send_page};
+use crate::exchange::{CallEnd, send_page};
 use crate::loop_error::LoopError;
 use fax_bits::NoMemory;
 use fax_command::{
@@ -126,7 +126,7 @@ fn answer_to_page<R: Net>(
 }
 
 /// The answer where a call ended so.
-fn answer_of(alloc: Global, ended: Ended) -> Answer
+fn answer_of(alloc: Global, ended: CallEnd) -> Answer
     ensures { (set : GatewaySettings) (input text : List ℕ) → Sends set input ended.report ended.confirmed.items → IsAnswerText result text → EndsSo set input (ending_of_answer result) text }
 {
     let Some(report) = ended.report else {

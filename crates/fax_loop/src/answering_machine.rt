@@ -6,7 +6,7 @@ ghost use Rattle.fax_gateway.specs.CallingLegs.{CallingLeg};
 ghost use Rattle.fax_gateway.specs.Setups.{AreAllowed, HasSettings, Setup};
 ghost use Rattle.fax_gateway.specs.Wires.{Grows};
 ghost use Rattle.fax_gateway.specs.Driving.{most_datagrams};
-ghost use Rattle.fax_loop.specs.Kept.{AnswererHears, AnswererListens, AnswererTurns, IsAnswering, pages_in};
+ghost use Rattle.fax_loop.specs.Rep.{AnswererHears, AnswererListens, AnswererTurns, IsAnswering, pages_in};
 ghost use Rattle.fax_loop.specs.Machines.{rung_once};
 
 use crate::end::{End, hand_over};
@@ -82,7 +82,7 @@ impl<S: RowStore> AnsweringMachine<S> {
         Ok(())
     }
 
-    /// It hears a datagram, behind the ring.
+    /// It hears a datagram, after the ring.
     fn hear_one(&mut self, octets: &[u8], now: u64) -> Result<(), NoMemory>
         ensures { OnOk result ((setup : Setup) (l : CallingLeg) → IsAnswering setup (Some l) self.old → AnswererListens setup l now octets.now self.new) }
     {

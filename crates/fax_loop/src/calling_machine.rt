@@ -8,7 +8,7 @@ ghost use Rattle.fax_gateway.specs.Reached.{IsCalled};
 ghost use Rattle.fax_gateway.specs.Setups.{AreAllowed, HasSettings, Setup};
 ghost use Rattle.fax_gateway.specs.Wires.{Grows};
 ghost use Rattle.fax_gateway.specs.Driving.{most_datagrams};
-ghost use Rattle.fax_loop.specs.Kept.{CallerHears, CallerTurns, caller_of};
+ghost use Rattle.fax_loop.specs.Rep.{CallerHears, CallerTurns, caller_of};
 ghost use Rattle.fax_loop.specs.Machines.{begins};
 
 use crate::end::{End, hand_over};

@@ -1,7 +1,7 @@
 //! A machine's end of a leg.
 ghost use Rattle.std.specs.Prelude.{◌≤◌, List, [], ◌∷◌, Option, length, IfSome};
 ghost use Rattle.fax_gateway.specs.Wires.{Grows};
-ghost use Rattle.fax_loop.specs.Ends.{Told, brought, handed};
+ghost use Rattle.fax_loop.specs.Ends.{EndTraffic, brought, handed};
 
 use crate::socket::receive;
 use fax_bits::Octets;
@@ -11,7 +11,7 @@ use std::net::UdpSocket;
 pub trait End {
     /// The datagrams that came, and those that were handed over to be sent, the newest first, where it tells them. Of sockets
     /// nothing is known.
-    ghost told: { Self → Told };
+    ghost told: { Self → EndTraffic };
 
     /// Receives a datagram into the front of the buffer, and says how many octets it has. `None`: nothing has come, or the
     /// receive failed.

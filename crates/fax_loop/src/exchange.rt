@@ -9,8 +9,8 @@ ghost use Rattle.fax_gateway.specs.Driving.{failed_in_a_row, most_failed, receip
 ghost use Rattle.fax_gateway.specs.Events.{Ring};
 ghost use Rattle.fax_gateway.specs.Reached.{IsReachedBy};
 ghost use Rattle.fax_loop.specs.Answers.{IsSent};
-ghost use Rattle.fax_loop.specs.Exchanges.{IsExchange, IsPlayed, Lines as LinesShown, Round, log_behind, moment_behind, most_rounds, reported};
-ghost use Rattle.fax_loop.specs.Kept.{HasEnded, HasGone, HasPlayed};
+ghost use Rattle.fax_loop.specs.Exchanges.{IsExchange, IsPlayed, Lines as LinesShown, Round, log_after, moment_after, most_rounds, reported};
+ghost use Rattle.fax_loop.specs.Rep.{HasEnded, HasGone, HasPlayed};
 ghost use Rattle.fax_loop.specs.Links.{IsFaithful};
 
 use crate::answering_machine::AnsweringMachine;
@@ -42,7 +42,7 @@ pub(crate) const MOST_OCTETS: usize = 1024;
 
 /// How a call ended: what the gateway reported, where it did, and the pages that the called machine confirmed.
 #[derive(Drop)]
-pub struct Ended {
+pub struct CallEnd {
     pub report: Option<Report>,
     pub confirmed: Vec<Page<PackedRows>>,
 }
@@ -70,7 +70,7 @@ pub(crate) fn send_page<R: Net>(
     alloc: Global,
     page: Page<PackedRows>,
     settings: Settings,
-) -> Result<Ended, LoopError>
+) -> Result<CallEnd, LoopError>
     requires { AreAllowed settings }
     ensures { IfOk result (λ ended. IsSent settings page ended.report ended.confirmed.items) }
 {
@@ -99,7 +99,7 @@ pub fn exchange<E: End + Drop, W: Wire + Drop>(
     lines: &mut Lines<E, W>,
     page: Page<PackedRows>,
     settings: Settings,
-) -> Result<Ended, NoMemory>
+) -> Result<CallEnd, NoMemory>
     requires { AreAllowed settings }
     ensures played { IfOk result (λ ended. IsExchange settings (job_of 0 page)
         (record { caller = E.told lines.old.caller; wire = W.known lines.old.wire; answerer = E.told lines.old.answerer })
@@ -159,7 +159,7 @@ impl Parties {
         mut self,
         lines: &mut Lines<E, W>,
         job: &Job<PackedRows>,
-    ) -> Result<Ended, NoMemory>
+    ) -> Result<CallEnd, NoMemory>
         requires { IsJobOfCall self.caller.caller.procedure job.now }
         ensures { IfOk result (λ ended. (setup : Setup) (writes : Writing) (before : LinesShown) → IsWriting writes
             → HasPlayed setup writes job.now [] before (record { caller = E.told lines.old.caller; wire = W.known lines.old.wire; answerer = E.told lines.old.answerer }) self
@@ -204,10 +204,10 @@ impl Parties {
     ) -> Result<bool, NoMemory>
         requires { IsJobOfCall self.old.caller.caller.procedure job.now }
         ensures job { OnOk result (IsJobOfCall self.new.caller.caller.procedure job.now) }
-        ensures played { IfOk result (λ goes_on. (setup : Setup) (writes : Writing) (rounds : List Round) (before : LinesShown) → IsWriting writes → now ≡ moment_behind rounds
-            → length rounds < most_rounds → reported setup writes rounds ≡ None → failed_in_a_row (receipts (log_behind rounds)) < most_failed
+        ensures played { IfOk result (λ goes_on. (setup : Setup) (writes : Writing) (rounds : List Round) (before : LinesShown) → IsWriting writes → now ≡ moment_after rounds
+            → length rounds < most_rounds → reported setup writes rounds ≡ None → failed_in_a_row (receipts (log_after rounds)) < most_failed
             → HasPlayed setup writes job.now rounds before (record { caller = E.told lines.old.caller; wire = W.known lines.old.wire; answerer = E.told lines.old.answerer }) self.old
-            → (round : Round) × (IsTrue goes_on ↔ (failed_in_a_row (receipts (log_behind (round ∷ rounds))) < most_failed))
+            → (round : Round) × (IsTrue goes_on ↔ (failed_in_a_row (receipts (log_after (round ∷ rounds))) < most_failed))
             × HasPlayed setup writes job.now (round ∷ rounds) before (record { caller = E.told lines.new.caller; wire = W.known lines.new.wire; answerer = E.told lines.new.answerer }) self.new) }
     {
         self.caller.round(&mut lines.caller, job, now)?;
@@ -217,11 +217,11 @@ impl Parties {
     }
 
     /// How it ended.
-    fn end(self) -> Ended
+    fn end(self) -> CallEnd
         ensures { (setup : Setup) (writes : Writing) (job : JobValue) (before after : LinesShown) → HasEnded setup writes job before after self
             → IsPlayed setup writes job before after result.report result.confirmed.items }
     {
-        Ended {
+        CallEnd {
             report: self.gateway.report(0),
             confirmed: self.answerer.into_confirmed(),
         }

@@ -31,7 +31,7 @@ pub fn confirms_the_page_over_links()
     jobs_have_states();
 }
 
-/// There are such exchanges, over lines that are linked both ways: they begin with no round; behind any rounds there is a further one,
+/// There are such exchanges, over lines that are linked both ways: they begin with no round; after any rounds there is a further one,
 /// whichever comes of what was handed over, in any order, once, several times or not at all; and there are some that are played to
 /// their end. So what is told of lines that are linked speaks of something.
 pub fn links_go_on()

@@ -4,7 +4,7 @@ ghost use Rattle.fax_udptl.specs.Datagrams.{DatagramValue};
 ghost use Rattle.fax_udptl.specs.Sending.{most_redundancy};
 ghost use Rattle.fax_gateway.specs.Setups.{Setup};
 ghost use Rattle.fax_gateway.specs.Reached.{IsLeg, given_with, sent_if};
-ghost use Rattle.fax_loop.specs.Kept.{leg_of};
+ghost use Rattle.fax_loop.specs.Rep.{leg_of};
 
 use fax_bits::{NoMemory, Octets};
 use fax_udptl::{Receiver, Sender};

@@ -1,10 +1,10 @@
 //! A wire of a gateway over UDP.
 ghost use Rattle.std.specs.Prelude.{◌≡◌, ◌+◌, min, IfOk};
 ghost use Rattle.fax_gateway.specs.Wires.{greatest_count};
-ghost use Rattle.fax_loop.specs.Ends.{at_side};
+ghost use Rattle.fax_loop.specs.Ends.{at_leg};
 
 use crate::socket::receive;
-use fax_gateway::{Side, Wire, WireFault};
+use fax_gateway::{Leg, Wire, WireFault};
 use std::io;
 use std::net::UdpSocket;
 
@@ -35,12 +35,12 @@ impl UdpWire {
     }
 
     /// The socket of a leg.
-    fn socket(&self, side: Side) -> &UdpSocket
-        ensures { result.now ≡ at_side side self.now.calling self.now.called }
+    fn socket(&self, leg: Leg) -> &UdpSocket
+        ensures { result.now ≡ at_leg leg self.now.calling self.now.called }
     {
-        match side {
-            Side::Calling => &self.calling,
-            Side::Called => &self.called,
+        match leg {
+            Leg::Calling => &self.calling,
+            Leg::Called => &self.called,
         }
     }
 
@@ -59,15 +59,15 @@ impl Wire for UdpWire {
 
     ghost known = { λ wire. record { failures = wire.failures; received = None; sent = None } };
 
-    fn receive(&mut self, side: Side, buffer: &mut [u8]) -> Result<Option<usize>, WireFault> {
-        match receive(self.socket(side), buffer) {
+    fn receive(&mut self, leg: Leg, buffer: &mut [u8]) -> Result<Option<usize>, WireFault> {
+        match receive(self.socket(leg), buffer) {
             Ok(came) => Ok(came),
             Err(_) => Err(self.fail()),
         }
     }
 
-    fn send(&mut self, side: Side, octets: &[u8]) -> Result<(), WireFault> {
-        match self.socket(side).send(octets) {
+    fn send(&mut self, leg: Leg, octets: &[u8]) -> Result<(), WireFault> {
+        match self.socket(leg).send(octets) {
             Ok(_) => Ok(()),
             Err(_) => Err(self.fail()),
         }

@@ -10,7 +10,7 @@ use Rattle.fax_runcodes.specs.Rows.{Elements, other}
 use Rattle.fax_runcodes.specs.Spelling.{SpellsRun}
 use Rattle.fax_runcodes.specs.RunFaults.{ReadsRun}
 use Rattle.fax_runcodes.proofs.RunLaws.{SpellsRun-one, ReadsRun-not_fails, FailsRun-one}
-use Rattle.fax_runcodes.proofs.PaintedLemmas.{colour_behind}
+use Rattle.fax_runcodes.proofs.PaintedLemmas.{colour_then}
 use Rattle.fax_mhcode.specs.Lines.{SpellsRuns, SpellsLine}
 use Rattle.fax_mhcode.specs.LineFaults.{FailsLine, Stops, colour_after}
 use Rattle.fax_mhcode.specs.declared.fault.LineFault.{LineFault}
@@ -24,7 +24,7 @@ pub record GoesOn (colour : Colour) (ms ns : List ℕ) (x y : List Bool) : Type 
   pub text : List Bool
   pub runs : ns ≡ ms ++ more
   pub bits : x ≡ text ++ y
-  pub spelt : SpellsRuns (colour_behind colour ms) text more
+  pub spelt : SpellsRuns (colour_then colour ms) text more
 
 -- Of two lists of runs that begin the same bits one goes on where the other ends.
 pub meet : (colour : Colour) (ms ns : List ℕ) (s t x y : List Bool) → SpellsRuns colour s ms → SpellsRuns colour t ns → s ++ x ≡ t ++ y → GoesOn colour ms ns x y ⊎ GoesOn colour ns ms y x
@@ -50,7 +50,7 @@ begun_not_stopped width runs bits BadPlace n rest r le s = s
 begun_not_stopped width runs bits NoMemory n rest r le s = s
 
 -- where runs go on with one more within the width, reading doesn't stop
-goes_on_not_stopped : (width : ℕ) (ms ns : List ℕ) (x y : List Bool) (fault : LineFault) → width ≤ 2432 → (more : List ℕ) (text : List Bool) → ns ≡ ms ++ more → x ≡ text ++ y → SpellsRuns (colour_behind White ms) text more
+goes_on_not_stopped : (width : ℕ) (ms ns : List ℕ) (x y : List Bool) (fault : LineFault) → width ≤ 2432 → (more : List ℕ) (text : List Bool) → ns ≡ ms ++ more → x ≡ text ++ y → SpellsRuns (colour_then White ms) text more
     → sum ms < sum ns → sum ns ≤ width → Stops width ms x fault → ⊥
 goes_on_not_stopped width ms ns x y fault w [] text e b p lt le s =
     let same : sum ns ≡ sum ms = ap sum (e ∙ append-nil ms) in
@@ -93,7 +93,7 @@ stops_one width runs bits NoMemory g s t = absurd s
 
 -- where one fault's runs go on with more of the other's
 fails_one : (width : ℕ) (bits : List Bool) (f g : LineFault) → width ≤ 2432 → (p : FailsLine width bits f) (q : FailsLine width bits g)
-    → (more : List ℕ) (text : List Bool) → q.runs ≡ p.runs ++ more → p.rest ≡ text ++ q.rest → SpellsRuns (colour_behind White p.runs) text more → f ≡ g
+    → (more : List ℕ) (text : List Bool) → q.runs ≡ p.runs ++ more → p.rest ≡ text ++ q.rest → SpellsRuns (colour_then White p.runs) text more → f ≡ g
 fails_one width bits f g w p q [] text e b spelt =
     let runs : q.runs ≡ p.runs = e ∙ append-nil p.runs in
     let rest : p.rest ≡ q.rest = b ∙ ap (λ k. k ++ q.rest) spelt in

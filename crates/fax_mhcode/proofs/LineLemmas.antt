@@ -9,29 +9,29 @@ use Rattle.fax_runcodes.specs.declared.Colour.{Colour}
 use Rattle.fax_runcodes.specs.declared.Colour.TheVariants.{White}
 use Rattle.fax_runcodes.specs.Rows.{Elements, other, stretches}
 use Rattle.fax_runcodes.specs.Spelling.{SpellsRun}
-use Rattle.fax_runcodes.proofs.PaintedLemmas.{colour_behind, colour_behind_other}
+use Rattle.fax_runcodes.proofs.PaintedLemmas.{colour_after_other, colour_then}
 use Rattle.fax_mhcode.specs.Lines.{SpellsRuns, SpellsLine}
 use Rattle.fax_mhcode.specs.LineFaults.{FailsLine, Stops, colour_after}
 use Rattle.fax_mhcode.specs.Pairs.{RunsSoFar}
 use Rattle.fax_mhcode.specs.declared.fault.LineFault.{LineFault}
 
-pub colour_after_is : (runs : List ℕ) → colour_behind White runs ≡ colour_after runs
+pub colour_after_is : (runs : List ℕ) → colour_then White runs ≡ colour_after runs
 colour_after_is [] = refl
-colour_after_is (n ∷ ns) = colour_behind_other White ns ∙ ap other (colour_after_is ns)
+colour_after_is (n ∷ ns) = colour_after_other White ns ∙ ap other (colour_after_is ns)
 
 pub colour_after-push : (runs : List ℕ) (n : ℕ) → colour_after (runs ++ n ∷ []) ≡ other (colour_after runs)
 colour_after-push [] n = refl
 colour_after-push (m ∷ ms) n = ap other (colour_after-push ms n)
 
-pub SpellsRuns-push : (colour : Colour) (s t : List Bool) (runs : List ℕ) (n : ℕ) → SpellsRuns colour s runs → SpellsRun (colour_behind colour runs) t n → SpellsRuns colour (s ++ t) (runs ++ n ∷ [])
+pub SpellsRuns-push : (colour : Colour) (s t : List Bool) (runs : List ℕ) (n : ℕ) → SpellsRuns colour s runs → SpellsRun (colour_then colour runs) t n → SpellsRuns colour (s ++ t) (runs ++ n ∷ [])
 SpellsRuns-push colour s t [] n p q = (t, [], ap (λ b. b ++ t) p ∙ sym (append-nil t), q, refl)
 SpellsRuns-push colour s t (m ∷ ms) n (f, r, e, pf, pr) q =
     (f, r ++ t, ap (λ b. b ++ t) e ∙ append_assoc f r t, pf, SpellsRuns-push (other colour) r t ms n pr q)
 
-pub stretches-push : (colour : Colour) (runs : List ℕ) (n : ℕ) → stretches colour (runs ++ n ∷ []) ≡ stretches colour runs ++ replicate n (colour_behind colour runs)
+pub stretches-push : (colour : Colour) (runs : List ℕ) (n : ℕ) → stretches colour (runs ++ n ∷ []) ≡ stretches colour runs ++ replicate n (colour_then colour runs)
 stretches-push colour [] n = append-nil (replicate n colour)
 stretches-push colour (m ∷ ms) n =
-    ap (λ (es : Elements). replicate m colour ++ es) (stretches-push (other colour) ms n) ∙ sym (append_assoc (replicate m colour) (stretches (other colour) ms) (replicate n (colour_behind (other colour) ms)))
+    ap (λ (es : Elements). replicate m colour ++ es) (stretches-push (other colour) ms n) ∙ sym (append_assoc (replicate m colour) (stretches (other colour) ms) (replicate n (colour_then (other colour) ms)))
 
 pub sum-push : (ns : List ℕ) (n : ℕ) → sum (ns ++ n ∷ []) ≡ sum ns + n
 sum-push ns n = sum_by-append (λ x. x) ns (n ∷ []) ∙ ap (λ m. sum ns + m) (zero-add n)
@@ -55,13 +55,13 @@ RunsSoFar-none width p = record {
 pub RunsSoFar-more : (width : ℕ) (old mid new : Place) (row : Elements) (colour : Colour) (text : List Bool) (n : ℕ) → RunsSoFar width old mid row colour
     → SpellsRun colour text n → Passes mid new text → length row < width → length row + n ≤ width → RunsSoFar width old new (row ++ replicate n colour) (other colour)
 RunsSoFar-more width old mid new row colour text n r spelt passes lt le =
-    let behind : colour ≡ colour_behind White r.runs = r.colour_is ∙ sym (colour_after_is r.runs) in
+    let after : colour ≡ colour_then White r.runs = r.colour_is ∙ sym (colour_after_is r.runs) in
     record {
       runs = r.runs ++ n ∷ [];
       text = r.text ++ text;
-      spelt = SpellsRuns-push White r.text text r.runs n r.spelt (subst (λ c. SpellsRun c text n) behind spelt);
+      spelt = SpellsRuns-push White r.text text r.runs n r.spelt (subst (λ c. SpellsRun c text n) after spelt);
       passes = Passes-then old mid new r.text text r.passes passes;
-      row_is = ap₂ (λ (es : Elements) (c : Colour). es ++ replicate n c) r.row_is behind ∙ sym (stretches-push White r.runs n);
+      row_is = ap₂ (λ (es : Elements) (c : Colour). es ++ replicate n c) r.row_is after ∙ sym (stretches-push White r.runs n);
       colour_is = ap other r.colour_is ∙ sym (colour_after-push r.runs n);
       not_before = λ k small. (
           let size : length (r.runs ++ n ∷ []) ≡ length r.runs + 1 = length_push r.runs n in
@@ -78,7 +78,7 @@ pub SpellsLine-from : (width : ℕ) (old new : Place) (row : Elements) (colour :
 SpellsLine-from width old new row colour r le =
     (r.text, record { runs = r.runs; spelt = r.spelt; whole = omega (arith, r.sum_is, r.within); not_before = r.not_before; row_is = r.row_is }, r.passes)
 
--- a fault behind the runs so far
+-- a fault after the runs so far
 pub FailsLine-from : (width : ℕ) (old mid : Place) (row : Elements) (colour : Colour) (fault : LineFault) (r : RunsSoFar width old mid row colour) → length row < width
     → Stops width r.runs mid.left fault → FailsLine width old.left fault
 FailsLine-from width old mid row colour fault r lt s = record {

@@ -16,37 +16,37 @@ use Rattle.fax_runcodes.proofs.RunAtLemmas.{short_spelt}
 use Rattle.fax_mhcode.specs.Pairs.{GoesOn, RunsSoFar, SpellsPair}
 use Rattle.fax_mhcode.proofs.LineLemmas.{RunsSoFar-more, length-paint}
 
--- the pair that a shifted window begins with stands in the bits behind those that were used
-pub pair_spelt : (left window behind : List Bool) (used : ℕ) (found : WordPair) → take 56 left ≡ window → length window ≡ 56
-    → behind ≡ drop used window ++ replicate used false → used + 11 ≤ 56 → IsPairAt behind found
+-- the pair that a shifted window begins with stands in the bits after those that were used
+pub pair_spelt : (left window after : List Bool) (used : ℕ) (found : WordPair) → take 56 left ≡ window → length window ≡ 56
+    → after ≡ drop used window ++ replicate used false → used + 11 ≤ 56 → IsPairAt after found
     → SpellsPair (drop used left) found.white found.black found.bits
-pair_spelt left window behind used found front wide is_behind within at =
+pair_spelt left window after used found front wide is_after within at =
     let both : List Bool = at.white.word ++ at.black.word in
     let long : length both ≡ length at.white.word + length at.black.word = length-append at.white.word at.black.word in
     let ahead : length (drop used window) ≡ 56 - used = length-drop used window ∙ ap (λ (n : ℕ). n - used) wide in
-    let begun : both ++ at.begins.rest ≡ drop used window ++ replicate used false = sym at.begins.bits_are ∙ is_behind in
+    let begun : both ++ at.begins.rest ≡ drop used window ++ replicate used false = sym at.begins.bits_are ∙ is_after in
     let there : drop used window ≡ both ++ drop (length both) (drop used window) =
     front_of both (drop used window) at.begins.rest (replicate used false) begun (omega (arith, long, at.begins.few, ahead)) in
     let all : left ≡ window ++ drop 56 left = sym (take-append-drop 56 left) ∙ ap (λ (bits : List Bool). bits ++ drop 56 left) front in
-    let behind_used : drop used left ≡ drop used window ++ drop 56 left = ap (drop used) all ∙ drop-append-le used window (drop 56 left) (omega (arith, wide)) in
+    let after_used : drop used left ≡ drop used window ++ drop 56 left = ap (drop used) all ∙ drop-append-le used window (drop 56 left) (omega (arith, wide)) in
     record {
       white_text = at.white.word;
       black_text = at.black.word;
       rest = drop (length both) (drop used window) ++ drop 56 left;
       white_spelt = subst (λ (n : ℕ). SpellsRun White at.white.word n) at.white_is (short_spelt White at.white at.begins.white_ends);
       black_spelt = subst (λ (n : ℕ). SpellsRun Black at.black.word n) at.black_is (short_spelt Black at.black at.begins.black_ends);
-      bits_are = behind_used ∙ ap (λ (bits : List Bool). bits ++ drop 56 left) there ∙ append_assoc both (drop (length both) (drop used window)) (drop 56 left);
+      bits_are = after_used ∙ ap (λ (bits : List Bool). bits ++ drop 56 left) there ∙ append_assoc both (drop (length both) (drop used window)) (drop 56 left);
       size_is = sym at.bits_is;
     }
 
 -- a window that is shifted once more
-pub behind_more : (size : ℕ) (window behind next : List Bool) (used n : ℕ) → length window ≡ size → used + n ≤ size
-    → behind ≡ drop used window ++ replicate used false → next ≡ drop n behind ++ replicate n false
+pub after_more : (size : ℕ) (window after next : List Bool) (used n : ℕ) → length window ≡ size → used + n ≤ size
+    → after ≡ drop used window ++ replicate used false → next ≡ drop n after ++ replicate n false
     → next ≡ drop (used + n) window ++ replicate (used + n) false
-behind_more size window behind next used n wide within is_behind is_next =
+after_more size window after next used n wide within is_after is_next =
     let ahead : length (drop used window) ≡ size - used = length-drop used window ∙ ap (λ (k : ℕ). k - used) wide in
     is_next
-    ∙ ap (λ (bits : List Bool). drop n bits ++ replicate n false) is_behind
+    ∙ ap (λ (bits : List Bool). drop n bits ++ replicate n false) is_after
     ∙ ap (λ (bits : List Bool). bits ++ replicate n false) (drop-append-le n (drop used window) (replicate used false) (omega arith))
     ∙ append_assoc (drop n (drop used window)) (replicate used false) (replicate n false)
     ∙ ap (λ (bits : List Bool). bits ++ (replicate used false ++ replicate n false)) (drop-drop n used window)
@@ -78,18 +78,18 @@ top_of rest window used wide within is =
     sym (take_at (word_bits 56 (rest / 2 ^ 8)) (word_bits 8 rest) 56 (length-word_bits 56 (rest / 2 ^ 8)))
     ∙ ap (take 56) (sym (word_bits-add 56 8 rest) ∙ text) ∙ take_at (drop used window ++ replicate used false) (replicate 8 false) 56 all
 
--- the place behind the first bits of what is left
-abbrev pub behind_first : ℕ → Place → Place
-behind_first n here = record { passed = here.passed + n; left = drop n here.left }
+-- the place after the first bits of what is left
+abbrev pub after_first : ℕ → Place → Place
+after_first n here = record { passed = here.passed + n; left = drop n here.left }
 
-pub first_passes : (here : Place) (n : ℕ) → n ≤ length here.left → Passes here (behind_first n here) (take n here.left)
+pub first_passes : (here : Place) (n : ℕ) → n ≤ length here.left → Passes here (after_first n here) (take n here.left)
 first_passes here n le = record {
   bits = sym (take-append-drop n here.left);
   place = ap (λ (k : ℕ). here.passed + k) (sym (length-take-le n here.left le));
 }
 
 pub rest_passes : (here there : Place) (n more : ℕ) → n + more ≤ length here.left → Passes here there (take (n + more) here.left)
-    → Passes (behind_first n here) there (take more (drop n here.left))
+    → Passes (after_first n here) there (take more (drop n here.left))
 rest_passes here there n more le passed =
     let size : length (take (n + more) here.left) ≡ n + more = length-take-le (n + more) here.left le in
     let rest : length (drop n here.left) ≡ length here.left - n = length-drop n here.left in

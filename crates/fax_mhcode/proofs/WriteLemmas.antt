@@ -38,7 +38,7 @@ RunsWritten-more row before mid after colour run left w e = record {
   whole = append_assoc w.text (written_run colour run) (written_runs (other colour) left) ∙ w.whole;
 }
 
--- two runs at once, behind no bits
+-- two runs at once, after no bits
 pub RunsWritten-two : (row : Elements) (before mid after : List Bool) (white black : ℕ) (left : List ℕ) → RunsWritten row before mid White (white ∷ black ∷ left)
     → after ≡ mid ++ (word_bits 0 0 ++ (written_run White white ++ written_run Black black)) → RunsWritten row before after White left
 unfolding word_bits
@@ -71,8 +71,8 @@ pub record TwoMore (from : ℕ) (ps : List ℕ) (end : ℕ) : Type 0 where
   pub count : length (take (length ps - 2) (drop 2 ps)) + 2 ≡ length ps
   pub runs : runs_between from ps end ≡ (get_or ps 0 0 - from) ∷ (get_or ps 1 0 - get_or ps 0 0) ∷ runs_between (get_or ps 1 0) (take (length ps - 2) (drop 2 ps)) end
 
-all_behind_two : (ps : List ℕ) → take (length ps - 2) (drop 2 ps) ≡ drop 2 ps
-all_behind_two ps = take_all (length ps - 2) (drop 2 ps) (omega (arith, length-drop 2 ps))
+all_after_two : (ps : List ℕ) → take (length ps - 2) (drop 2 ps) ≡ drop 2 ps
+all_after_two ps = take_all (length ps - 2) (drop 2 ps) (omega (arith, length-drop 2 ps))
 
 pub TwoMore-from : (from : ℕ) (ps : List ℕ) (end : ℕ) → 2 ≤ length ps → AreRising from ps end → TwoMore from ps end
 unfolding AreRising runs_between
@@ -86,12 +86,12 @@ TwoMore-from from (p ∷ q ∷ qs) end some r =
       first = first;
       second = omega arith;
       within = rising_le q qs end rest;
-      rising = subst (λ (xs : List ℕ). AreRising q xs end) (sym (all_behind_two (p ∷ q ∷ qs))) rest;
-      count = ap (λ (xs : List ℕ). length xs + 2) (all_behind_two (p ∷ q ∷ qs)) ∙ omega arith;
-      runs = ap (λ (xs : List ℕ). (p - from) ∷ (q - p) ∷ runs_between q xs end) (sym (all_behind_two (p ∷ q ∷ qs)));
+      rising = subst (λ (xs : List ℕ). AreRising q xs end) (sym (all_after_two (p ∷ q ∷ qs))) rest;
+      count = ap (λ (xs : List ℕ). length xs + 2) (all_after_two (p ∷ q ∷ qs)) ∙ omega arith;
+      runs = ap (λ (xs : List ℕ). (p - from) ∷ (q - p) ∷ runs_between q xs end) (sym (all_after_two (p ∷ q ∷ qs)));
     }
 
--- one more changing place and no other, and the runs up to it and behind it
+-- one more changing place and no other, and the runs up to it and after it
 pub record OneMore (from : ℕ) (ps : List ℕ) (end : ℕ) : Type 0 where
   pub first : from ≤ get_or ps 0 0
   pub within : get_or ps 0 0 ≤ end
@@ -102,7 +102,7 @@ unfolding AreRising runs_between
 OneMore-from from [] end one r = absurd (omega arith)
 OneMore-from from (p ∷ []) end one r =
     let first : from ≤ p = r.0 in
-    let behind : p + 1 ≤ end = r.1 in
+    let after : p + 1 ≤ end = r.1 in
     record { first = first; within = omega arith; runs = refl }
 OneMore-from from (p ∷ q ∷ qs) end one r = absurd (omega arith)
 

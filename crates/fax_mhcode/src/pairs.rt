@@ -1,4 +1,4 @@
-//! Short runs, read in pairs: a white one and the black one behind it.
+//! Short runs, read in pairs: a white one and the black one after it.
 ghost use Rattle.std.specs.Prelude.{◌≡◌, ◌++◌, ◌+◌, ◌≤◌, ◌<◌, ◌^◌, IsTrue, drop, false, length, replicate, take};
 ghost use Rattle.fax_bits.specs.Bits.{word_bits};
 ghost use Rattle.fax_bits.specs.Reading.{Place, Passes};

@@ -41,11 +41,11 @@ fn put_runs(writer: &mut RoomyWriter, changes: &[u16], width: u16)
 {
     let mut rest = changes;
     let mut from = 0;
-    while let [black, white, behind @ ..] = rest {
+    while let [black, white, after @ ..] = rest {
         let (black, white) = (*black as u32, *white as u32);
         put_two_runs(writer, 0, 0, Colour::White, black - from, white - black);
         from = white;
-        rest = behind;
+        rest = after;
     }
     let width = width as u32;
     let [black, ..] = rest else {

@@ -122,7 +122,7 @@ module _ (ps : List ℕ) (end : ℕ) (r : AreRising 0 ps end) where
     | inr past ↦ omega (arith, place_past i past, place_past k (omega arith))
   ]
 
-  -- the colour at a place is that behind the changes which lie no further right
+  -- the colour at a place is that after the changes which lie no further right
   pub colour_at-count : (place n : ℕ) → ((k : ℕ) → k < n → get_or ps k end ≤ place) → place < get_or ps n end
       → colour_at (painted White 0 ps end) place ≡ colour_after_changes n
   colour_at-count place n below above =
@@ -151,7 +151,7 @@ module _ (ps : List ℕ) (end : ℕ) (r : AreRising 0 ps end) where
       let within : i < length ps = place_there i left in
       ((changes.all (get_or ps i end)).0 (i, within, get_or_default ps i (get_or ps i end) end within)).1
 
-  -- the colour at a changing place is that behind it
+  -- the colour at a changing place is that after it
   pub colour_at-place : (i : ℕ) → get_or ps i end < end → colour_at (painted White 0 ps end) (get_or ps i end) ≡ colour_after_changes (i + 1)
   colour_at-place i left = colour_at-count (get_or ps i end) (i + 1) (λ k less. place_order k i (omega arith)) (place_apart i (i + 1) left (omega arith))
 

@@ -210,7 +210,7 @@ module _ (ps : List ℕ) (width : ℕ) (rising : AreRising 0 ps width) where
     | inr past ↦ let here : slice_index_or ps (index + 1) width ≡ width = get_or_past ps (index + 1) width past in omega arith
   ]
 
-  -- behind a change the colour is the other one
+  -- after a change the colour is the other one
   colour_at_change : (j : ℕ) → j < length ps → colour_at (painted White 0 ps width) (slice_index ps j) ≡ other (colour_after_changes j)
   colour_at_change j inside =
       let point : IsPartitionPoint (λ p. leb p (slice_index ps j) ≡ true) (λ p. leb p (slice_index ps j) ≡ false) ps (j + 1) = (
@@ -233,12 +233,12 @@ module _ (ps : List ℕ) (width : ℕ) (rising : AreRising 0 ps width) where
       λ k low left below yes. (
       let parts = and_parts (is_changing (painted White 0 ps width) k) (differ (colour_at (painted White 0 ps width) k) colour) yes in
       let j : (j : ℕ) × (j < length ps) × (slice_index ps j ≡ k) = index_of k below parts.0 in
-      let behind : colour_at (painted White 0 ps width) k ≡ other colour = differ_true (colour_at (painted White 0 ps width) k) colour parts.1 in
-      let same : colour_after_changes j.0 ≡ colour = other_one (colour_after_changes j.0) colour (sym (colour_at_change j.0 j.1) ∙ ap (colour_at (painted White 0 ps width)) j.2 ∙ behind) in
+      let after : colour_at (painted White 0 ps width) k ≡ other colour = differ_true (colour_at (painted White 0 ps width) k) colour parts.1 in
+      let same : colour_after_changes j.0 ≡ colour = other_one (colour_after_changes j.0) colour (sym (colour_at_change j.0 j.1) ∙ ap (colour_at (painted White 0 ps width)) j.2 ∙ after) in
       elim (cases_lt j.0 index) [
         | inl before ↦ let passed : slice_index ps j.0 < from = at.cursor.passed j.0 before j.1 same in omega (arith, j.2)
-        | inr behind_it ↦
-            let order : slice_index ps index ≤ slice_index ps j.0 = rising_up_to ps width index j.0 rising behind_it j.1 in
+        | inr after_it ↦
+            let order : slice_index ps index ≤ slice_index ps j.0 = rising_up_to ps width index j.0 rising after_it j.1 in
             let here : slice_index_or ps index width ≡ slice_index ps index = get_or_default ps index width 0 (omega (arith, j.1)) in
             omega (arith, j.2)
       ]) in

@@ -74,8 +74,8 @@ meet reference v w widths (m ∷ ms) (n ∷ ns) from s t x y p q rows e (le, f, 
     let whole : mode_word m ++ ((f ++ r) ++ x) ≡ mode_word n ++ ((f' ++ r') ++ y) =
     front m f r x ∙ ap (λ b. b ++ x) (sym es) ∙ e ∙ ap (λ b. b ++ y) et ∙ sym (front n f' r' y) in
     let mode : m ≡ n = modes_prefix_free m n ((f ++ r) ++ x) ((f' ++ r') ++ y) whole in
-    let behind : (f ++ r) ++ x ≡ (f' ++ r') ++ y = append_cancel_left (mode_word m) ((f ++ r) ++ x) ((f' ++ r') ++ y) (whole ∙ ap (λ o. mode_word o ++ ((f' ++ r') ++ y)) (sym mode)) in
-    let there : f ++ (r ++ x) ≡ f' ++ (r' ++ y) = sym (append_assoc f r x) ∙ behind ∙ append_assoc f' r' y in
+    let after : (f ++ r) ++ x ≡ (f' ++ r') ++ y = append_cancel_left (mode_word m) ((f ++ r) ++ x) ((f' ++ r') ++ y) (whole ∙ ap (λ o. mode_word o ++ ((f' ++ r') ++ y)) (sym mode)) in
+    let there : f ++ (r ++ x) ≡ f' ++ (r' ++ y) = sym (append_assoc f r x) ∙ after ∙ append_assoc f' r' y in
     let same : SameStep v w f f' k k' = step_one reference v w widths m from f f' k k' (r ++ x) (r' ++ y) le rows there taken (subst (λ o. Step reference w from o f' k') (sym mode) taken') in
     let next : r ++ x ≡ r' ++ y = append_cancel_left f (r ++ x) (r' ++ y) (there ∙ ap (λ b. b ++ (r' ++ y)) (sym same.text)) in
     meet reference v w widths ms ns (k + 1) r r' x y p q same.rows next later (subst (λ o. Steps reference w (o + 1) ns r' q) (sym same.next) later')
@@ -202,8 +202,8 @@ step_not_stopped reference v from mode step rest bits next fault few le e taken 
 step_not_stopped reference v from mode step rest bits next fault few le e taken (inr (m, r, e', s)) =
     let whole : mode_word m ++ r ≡ mode_word mode ++ (step ++ rest) = sym e' ∙ e in
     let same : m ≡ mode = modes_prefix_free m mode r (step ++ rest) whole in
-    let behind : r ≡ step ++ rest = append_cancel_left (mode_word m) r (step ++ rest) (whole ∙ ap (λ o. mode_word o ++ (step ++ rest)) (sym same)) in
-    in_not_stopped reference v from mode step rest next fault few le taken (subst (λ o. StopsIn reference v o from (step ++ rest) fault) same (subst (λ b. StopsIn reference v m from b fault) behind s))
+    let after : r ≡ step ++ rest = append_cancel_left (mode_word m) r (step ++ rest) (whole ∙ ap (λ o. mode_word o ++ (step ++ rest)) (sym same)) in
+    in_not_stopped reference v from mode step rest next fault few le taken (subst (λ o. StopsIn reference v o from (step ++ rest) fault) same (subst (λ b. StopsIn reference v m from b fault) after s))
 
 StopsIn-one : (reference v : Elements) (from : ℕ) (mode : Mode) (bits : List Bool) (f g : LineFault) → from ≤ length v → StopsIn reference v mode from bits f → StopsIn reference v mode from bits g → f ≡ g
 StopsIn-one reference v from Pass bits f g le s t = s.0 ∙ sym t.0
@@ -227,8 +227,8 @@ Stops-one reference v from bits f g le (inr (m, rest, e, s)) (inl t) = absurd (t
 Stops-one reference v from bits f g le (inr (m, rest, e, s)) (inr (n, rest', e', t)) =
     let whole : mode_word n ++ rest' ≡ mode_word m ++ rest = sym e' ∙ e in
     let same : n ≡ m = modes_prefix_free n m rest' rest whole in
-    let behind : rest' ≡ rest = append_cancel_left (mode_word n) rest' rest (whole ∙ ap (λ o. mode_word o ++ rest) (sym same)) in
-    StopsIn-one reference v from m rest f g le s (subst (λ o. StopsIn reference v o from rest g) same (subst (λ b. StopsIn reference v n from b g) behind t))
+    let after : rest' ≡ rest = append_cancel_left (mode_word n) rest' rest (whole ∙ ap (λ o. mode_word o ++ rest) (sym same)) in
+    StopsIn-one reference v from m rest f g le s (subst (λ o. StopsIn reference v o from rest g) same (subst (λ b. StopsIn reference v n from b g) after t))
 
 -- ---- the laws
 

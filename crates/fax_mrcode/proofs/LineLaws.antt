@@ -169,8 +169,8 @@ module _ (reference v w : Elements) (widths : length v ≡ length w) where
       let whole : mode_word m ++ ((f ++ r) ++ x) ≡ mode_word n ++ ((f' ++ r') ++ y) =
       front m f r x ∙ ap (λ b. b ++ x) (sym es) ∙ e ∙ ap (λ b. b ++ y) et ∙ sym (front n f' r' y) in
       let mode : m ≡ n = modes_prefix_free m n ((f ++ r) ++ x) ((f' ++ r') ++ y) whole in
-      let behind : (f ++ r) ++ x ≡ (f' ++ r') ++ y = append_cancel_left (mode_word m) ((f ++ r) ++ x) ((f' ++ r') ++ y) (whole ∙ ap (λ k. mode_word k ++ ((f' ++ r') ++ y)) (sym mode)) in
-      let there : f ++ (r ++ x) ≡ f' ++ (r' ++ y) = sym (append_assoc f r x) ∙ behind ∙ append_assoc f' r' y in
+      let after : (f ++ r) ++ x ≡ (f' ++ r') ++ y = append_cancel_left (mode_word m) ((f ++ r) ++ x) ((f' ++ r') ++ y) (whole ∙ ap (λ k. mode_word k ++ ((f' ++ r') ++ y)) (sym mode)) in
+      let there : f ++ (r ++ x) ≡ f' ++ (r' ++ y) = sym (append_assoc f r x) ∙ after ∙ append_assoc f' r' y in
       let same : SameStep v w f f' p q = step_one m from f f' p q (r ++ x) (r' ++ y) le rows there step (subst (λ k. Step reference w from k f' q) (sym mode) step') in
       let next : r ++ x ≡ r' ++ y = append_cancel_left f (r ++ x) (r' ++ y) (there ∙ ap (λ b. b ++ (r' ++ y)) (sym same.text)) in
       let later : (r ≡ r') × Agree v w (length v + 1) = steps_one ms ns (p + 1) r r' x y same.rows next rest (subst (λ k. Steps reference w (k + 1) ns r' (length w + 1)) (sym same.next) rest') in

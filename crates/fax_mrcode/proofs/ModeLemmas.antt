@@ -13,8 +13,8 @@ use Rattle.fax_mrcode.proofs.LineLaws.{modes_prefix_free}
 use Rattle.fax_mrcode.proofs.VerticalLemmas.{mode_size, pass_word, horizontal_word}
 
 -- ---- a number that begins with a word
-begun : (n x : ℕ) (word rest behind : List Bool) → length word ≡ n → word_bits n x ++ behind ≡ word ++ rest → word_bits n x ≡ word
-begun n x word rest behind size e = sym (take_at (word_bits n x) behind n (length-word_bits n x)) ∙ ap (take n) e ∙ take_at word rest n size
+begun : (n x : ℕ) (word rest after : List Bool) → length word ≡ n → word_bits n x ++ after ≡ word ++ rest → word_bits n x ≡ word
+begun n x word rest after size e = sym (take_at (word_bits n x) after n (length-word_bits n x)) ∙ ap (take n) e ∙ take_at word rest n size
 
 pass_begun : (window : ℕ) → window < 2 ^ 64 → (rest : List Bool) → word_bits 64 window ≡ mode_word Pass ++ rest → window / 2 ^ 60 ≡ 1
 pass_begun window below rest e =
@@ -63,7 +63,7 @@ module _ (left : List Bool) (window : ℕ) (window_is : word_bits 56 window ≡ 
     -- and where it is not, no other mode word begins what is left
     pub no_other : length left < bits → (m : Mode) (rest : List Bool) → left ≡ mode_word m ++ rest → ⊥
     no_other few m rest e =
-        let f : (behind : List Bool) × (word_bits 64 (window * 2 ^ 8 % 2 ^ 64) ≡ mode_word m ++ behind) = front m rest e in
+        let f : (after : List Bool) × (word_bits 64 (window * 2 ^ 8 % 2 ^ 64) ≡ mode_word m ++ after) = front m rest e in
         let same : m ≡ found = modes_prefix_free m found f.0 more (sym f.1 ∙ begins) in
         let sizes : length left ≡ length (mode_word m) + length rest = ap length e ∙ length-append (mode_word m) rest in
         let is : length (mode_word m) ≡ bits = ap (λ k. length (mode_word k)) same ∙ size in

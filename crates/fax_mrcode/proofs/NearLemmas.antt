@@ -14,9 +14,9 @@ use Rattle.fax_mrcode.specs.declared.mode.Mode.TheVariants.{Pass, Horizontal, Ve
 use Rattle.fax_mrcode.specs.declared.mode.Offset.{Offset}
 use Rattle.fax_mrcode.specs.Modes.{IsAt}
 use Rattle.fax_mrcode.specs.Starts.{IsBack, IsCursor, IsIndexOfB1, IsStart, IsStartIn, Rests, TakesStep, TakesSteps, left_of_a0}
-use Rattle.fax_runcodes.proofs.PaintedLemmas.{colour_behind, painted-join, painted-turn, rising_le}
+use Rattle.fax_runcodes.proofs.PaintedLemmas.{colour_then, painted-join, painted-turn, rising_le}
 use Rattle.fax_runcodes.proofs.RowPixelsLemmas.{rising_before_end}
-use Rattle.fax_runcodes.proofs.TurningLemmas.{rising_behind}
+use Rattle.fax_runcodes.proofs.TurningLemmas.{rising_after}
 use Rattle.fax_mrcode.proofs.CursorLemmas.{IsCursor-back, IsCursor-more, IsCursor-right, rising_below, IsCursor-second, other_twice, colour_after-more, b2_right, place_le}
 use Rattle.fax_mrcode.proofs.StepLemmas.{IsStart-next, TakesStep-horizontal, TakesStep-pass, TakesStep-vertical, length-painted_more, TakesSteps-at, cursor_near}
 use Rattle.fax_mrcode.proofs.VerticalLemmas.{TakesStep-at, TakesStep-to}
@@ -79,7 +79,7 @@ module _ (width : ℕ) (line : Elements) (from : ℕ) (colour : Colour) (rests :
     right_or (inr (inl two)) inside = inr two
     right_or (inr (inr end)) inside = absurd (omega arith)
 
-  -- and behind it the colour is the other one
+  -- and after it the colour is the other one
   pub Rests-turned : (from < place) ⊎ ((place ≡ 0) × (colour ≡ White)) ⊎ (place ≡ width) → (after : Elements) → Rests width after place (other (colour_before line place)) → Rests width after place (other colour)
   Rests-turned some after r = record {
     wide = r.wide;
@@ -234,10 +234,10 @@ module _ (ps : List ℕ) (width : ℕ) (rising : AreRising 0 ps width) (line : E
             ∙ ap (λ (n : ℕ). (front ++ replicate n start.colour) ++ replicate (two - one) (other start.colour)) run
             ∙ ap (λ (n : ℕ). (front ++ replicate first start.colour) ++ replicate n (other start.colour)) run2
 
-        abbrev pub behind_both : Start
-        behind_both = record { from = two + 1; colour = start.colour; index = start.index }
+        abbrev pub after_both : Start
+        after_both = record { from = two + 1; colour = start.colour; index = start.index }
 
-        both_start : IsStart ps width both behind_both
+        both_start : IsStart ps width both after_both
         both_start = record {
           size = length-painted_more (front ++ replicate first start.colour) second (other start.colour) ∙ ap (λ (n : ℕ). n + second) (length-painted_more front first start.colour ∙ ap (λ (n : ℕ). n + first) is.is_start.size) ∙ omega arith;
           within = omega arith;
@@ -245,19 +245,19 @@ module _ (ps : List ℕ) (width : ℕ) (rising : AreRising 0 ps width) (line : E
           cursor = λ le. IsCursor-right ps start.colour start.from (two + 1) start.index (omega arith) (is.is_start.cursor inside);
         }
 
-        in_line : IsStartIn ps width after behind_both × (left_of_a0 after behind_both ≡ both)
-        in_line = IsStartIn-of ps width after behind_both two both refl both_are both_start after_rests
+        in_line : IsStartIn ps width after after_both × (left_of_a0 after after_both ≡ both)
+        in_line = IsStartIn-of ps width after after_both two both refl both_are both_start after_rests
 
-        pub horizontal_next : IsStartIn ps width after behind_both
+        pub horizontal_next : IsStartIn ps width after after_both
         horizontal_next = in_line.0
 
         pub horizontal_taken : (s t : List Bool) → SpellsRun start.colour s first → SpellsRun (other start.colour) t second
-            → TakesStep (painted White 0 ps width) width Horizontal (s ++ t) (left_of_a0 line start) start (left_of_a0 after behind_both) behind_both
+            → TakesStep (painted White 0 ps width) width Horizontal (s ++ t) (left_of_a0 line start) start (left_of_a0 after after_both) after_both
         horizontal_taken s t spelt spelt2 =
             let size : length front ≡ run_start start.from = is.is_start.size in
             let whole : length front + first + second + 1 ≡ two + 1 = omega arith in
             let taken = TakesStep-horizontal ps width rising front start is.is_start inside first second s t start.index spelt spelt2 some (omega arith) (elim some2 [ inl more ↦ inl more | inr end ↦ inr (omega arith) ]) (omega arith) in
-            subst (λ (es : Elements). TakesStep (painted White 0 ps width) width Horizontal (s ++ t) front start es behind_both) (sym in_line.1)
+            subst (λ (es : Elements). TakesStep (painted White 0 ps width) width Horizontal (s ++ t) front start es after_both) (sym in_line.1)
             (subst (λ (n : ℕ). TakesStep (painted White 0 ps width) width Horizontal (s ++ t) front start both (record { from = n; colour = start.colour; index = start.index })) whole taken)
 
 -- ---- the next index
@@ -272,7 +272,7 @@ module _ (b1 back index : ℕ) (is : (index + back ≡ b1 + 1) ⊎ ((b1 + 1 < ba
   less_of : back ≡ 2 → b1 ≢ 0 → index ≡ b1 - 1
   less_of two some = elim is [ inl sum ↦ omega arith | inr few ↦ absurd (omega (arith, few.0)) ]
 
--- the one behind that of b1, or two further back where a1 lies two elements or more left of b1 and there are so many
+-- the one after that of b1, or two further back where a1 lies two elements or more left of b1 and there are so many
 pub next_index : (ps : List ℕ) (width : ℕ) → AreRising 0 ps width → (colour : Colour) (from b1 : ℕ) → IsIndexOfB1 ps colour from b1 → (offset : Offset) (back : ℕ) → IsBack offset back
     → b1 ≤ length ps → (place : ℕ) → IsAt offset place (slice_index_or ps b1 width) → from ≤ place → (index : ℕ) → (index + back ≡ b1 + 1) ⊎ ((b1 + 1 < back) × (index ≡ 1))
     → (colour_after_changes index ≡ other colour) × (place + 1 ≤ width → IsCursor ps (other colour) (place + 1) index)
@@ -303,12 +303,12 @@ rising_fewer from zero qs end r = rising_le from qs end r
 rising_fewer from (suc n) [] end r = r
 rising_fewer from (suc n) (q ∷ qs) end r = (r.0, rising_fewer (q + 1) n qs end r.1)
 
--- the colour behind changes, by how many there are
-behind_after : (i : ℕ) (qs : List ℕ) → colour_behind (colour_after_changes i) qs ≡ colour_after_changes (i + length qs)
-behind_after i [] = let none : i ≡ i + 0 = omega arith in ap colour_after_changes none
-behind_after i (q ∷ qs) =
+-- the colour after changes, by how many there are
+after_after : (i : ℕ) (qs : List ℕ) → colour_then (colour_after_changes i) qs ≡ colour_after_changes (i + length qs)
+after_after i [] = let none : i ≡ i + 0 = omega arith in ap colour_after_changes none
+after_after i (q ∷ qs) =
     let sum : i + 1 + length qs ≡ i + length (q ∷ qs) = omega arith in
-    ap (λ (c : Colour). colour_behind c qs) (sym (colour_after-more i)) ∙ behind_after (i + 1) qs ∙ ap colour_after_changes sum
+    ap (λ (c : Colour). colour_then c qs) (sym (colour_after-more i)) ∙ after_after (i + 1) qs ∙ ap colour_after_changes sum
 
 module _ (ps : List ℕ) (width : ℕ) (rising : AreRising 0 ps width) (line : Elements) (start : Start) (is : IsStartIn ps width line start) (inside : start.from ≤ width)
     (b1 : ℕ) (at : IsIndexOfB1 ps start.colour start.from b1) (steps : ℕ) (some : 0 < steps) (there : b1 + steps ≤ length ps) (right : 0 < start.from) where
@@ -317,7 +317,7 @@ module _ (ps : List ℕ) (width : ℕ) (rising : AreRising 0 ps width) (line : E
   places = take (b1 + steps - b1) (drop b1 ps)
 
   pub places_rise : AreRising 0 places (length line)
-  places_rise = subst (λ (n : ℕ). AreRising 0 places n) (sym is.rests.wide) (rising_fewer 0 (b1 + steps - b1) (drop b1 ps) width (rising_behind 0 ps width b1 rising))
+  places_rise = subst (λ (n : ℕ). AreRising 0 places n) (sym is.rests.wide) (rising_fewer 0 (b1 + steps - b1) (drop b1 ps) width (rising_after 0 ps width b1 rising))
 
   first_is : slice_index_or places 0 (length line) ≡ slice_index ps b1
   first_is =
@@ -377,11 +377,11 @@ module _ (ps : List ℕ) (width : ℕ) (rising : AreRising 0 ps width) (line : E
   abbrev pub next : Start
   next = record { from = last + 1; colour = colour_after_changes (b1 + steps); index = b1 + steps }
 
-  colour_is : other (colour_behind start.colour others) ≡ next.colour
+  colour_is : other (colour_then start.colour others) ≡ next.colour
   colour_is =
       let count : length others ≡ steps - 1 = length-take-le (b1 + steps - 1 - b1) (drop b1 ps) (omega (arith, length-drop b1 ps)) ∙ omega arith in
       let sum : b1 + length others + 1 ≡ b1 + steps = omega arith in
-      ap (λ (c : Colour). other (colour_behind c others)) (sym at.cursor.parity) ∙ ap other (behind_after b1 others) ∙ sym (colour_after-more (b1 + length others)) ∙ ap colour_after_changes sum
+      ap (λ (c : Colour). other (colour_then c others)) (sym at.cursor.parity) ∙ ap other (after_after b1 others) ∙ sym (colour_after-more (b1 + length others)) ∙ ap colour_after_changes sum
 
   turned_is : (after : Elements) → (let first : ℕ = slice_index_or places 0 (length line) in after ≡ take first line ++ painted (colour_before line first) first places (length line))
       → after ≡ left ++ replicate (width - last) next.colour
@@ -390,15 +390,15 @@ module _ (ps : List ℕ) (width : ℕ) (rising : AreRising 0 ps width) (line : E
       let p : ℕ = slice_index ps b1 in
       let colour : colour_before line p ≡ start.colour = before width line (run_start start.from) start.colour is.rests p (omega (arith, first_right)) (omega (arith, first_inside)) (inl (omega (arith, first_right, right))) first_inside in
       let by_first : after ≡ take p line ++ painted (colour_before line p) p places (length line) = rw first_is at e in
-      let turn : painted start.colour p (others ++ last ∷ []) width ≡ painted start.colour p others last ++ replicate (width - last) (other (colour_behind start.colour others)) =
+      let turn : painted start.colour p (others ++ last ∷ []) width ≡ painted start.colour p others last ++ replicate (width - last) (other (colour_then start.colour others)) =
       painted-turn start.colour p others last [] width in
       by_first
       ∙ ap (λ (c : Colour). take p line ++ painted c p places (length line)) colour
       ∙ ap (λ (n : ℕ). take p line ++ painted start.colour p places n) is.rests.wide
       ∙ ap (λ (qs : List ℕ). take p line ++ painted start.colour p qs width) places_are
       ∙ ap (λ (es : Elements). take p line ++ es) turn
-      ∙ sym (append_assoc (take p line) (painted start.colour p others last) (replicate (width - last) (other (colour_behind start.colour others))))
-      ∙ ap (λ (es : Elements). es ++ replicate (width - last) (other (colour_behind start.colour others))) left_is
+      ∙ sym (append_assoc (take p line) (painted start.colour p others last) (replicate (width - last) (other (colour_then start.colour others))))
+      ∙ ap (λ (es : Elements). es ++ replicate (width - last) (other (colour_then start.colour others))) left_is
       ∙ ap (λ (c : Colour). left ++ replicate (width - last) c) colour_is
 
   pub zeros_in_line : (after : Elements) → (let first : ℕ = slice_index_or places 0 (length line) in after ≡ take first line ++ painted (colour_before line first) first places (length line))

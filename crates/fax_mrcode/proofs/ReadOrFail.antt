@@ -68,7 +68,7 @@ at_offset Left1 b = elim (cases_lt b 1) [ inl few ↦ inr (λ a is. omega arith)
 at_offset Left2 b = elim (cases_lt b 2) [ inl few ↦ inr (λ a is. omega arith) | inr enough ↦ inl (b - 2, omega arith) ]
 at_offset Left3 b = elim (cases_lt b 3) [ inl few ↦ inr (λ a is. omega arith) | inr enough ↦ inl (b - 3, omega arith) ]
 
--- the first place behind a first place lies no further left, and within the end
+-- the first place after a first place lies no further left, and within the end
 second_place : (p q : ℕ → Bool) (from end : ℕ) → from ≤ end → (from ≤ first_place q (first_place p from end + 1) end) × (first_place q (first_place p from end + 1) end ≤ end)
 second_place p q from end le =
     let first : IsFirst p from end (first_place p from end) = first_place_is p from end le in
@@ -223,9 +223,9 @@ module _ (reference row : Elements) (from : ℕ) (le : from ≤ length row) wher
         like = like;
         taken = λ v wide alike. (
             let before : colour_before v from ≡ colour_before row from = Agree-before v row from (Agree-then v (third middle place) row from (place + 1) (omega arith) alike like) in
-            let behind : Agree v (second middle) place = Agree-then v (third middle place) (second middle) place (place + 1) (omega arith) alike like3 in
-            let s1 : IsStretch v colour from middle = stretch_like v (second middle) colour from middle place behind (omega arith) (second_stretch middle right within) in
-            let s2 : IsStretch v (other colour) middle place = stretch_like v (second middle) (other colour) middle place place behind (omega arith) (second_right middle place within end) in
+            let after : Agree v (second middle) place = Agree-then v (third middle place) (second middle) place (place + 1) (omega arith) alike like3 in
+            let s1 : IsStretch v colour from middle = stretch_like v (second middle) colour from middle place after (omega arith) (second_stretch middle right within) in
+            let s2 : IsStretch v (other colour) middle place = stretch_like v (second middle) (other colour) middle place place after (omega arith) (second_right middle place within end) in
             let change : middle < length v → colour_at v middle ≡ other colour = λ lt. elim some [
               | inl more ↦ s2.all middle (omega arith) (omega arith)
               | inr none ↦ absurd (omega arith)
@@ -283,7 +283,7 @@ ReadTo-more reference bits row from rest mode step place next more r le t e = re
       (r.steps v size (Agree-then v next row from (place + 1) (omega (arith, t.right)) like t.like)) (omega arith) (t.taken v size like));
 }
 
--- what is read behind a step, or why none is
+-- what is read after a step, or why none is
 abbrev NextOrFails : Elements → List Bool → List Bool → Type 0
 NextOrFails reference bits rest =
     ((row : Elements) × (from : ℕ) × (more : List Bool) × (length more < length rest) × ReadTo reference bits row from more) ⊎ ((fault : LineFault) × FailsLine reference bits fault)
@@ -312,7 +312,7 @@ module _ (reference : Elements) (bits : List Bool) (row : Elements) (from : ℕ)
   goes_on mode step place next more t e =
       let some = mode_size mode in
       let parts : length rest ≡ length (mode_word mode) + length (step ++ more) = ap length e ∙ length-append (mode_word mode) (step ++ more) in
-      let behind : length (step ++ more) ≡ length step + length more = length-append step more in
+      let after : length (step ++ more) ≡ length step + length more = length-append step more in
       inl (next, place + 1, more, omega (arith, some.0), ReadTo-more reference bits row from rest mode step place next more r le t e)
 
   in_pass : (more : List Bool) → rest ≡ mode_word Pass ++ more → NextOrFails reference bits rest
@@ -346,29 +346,29 @@ module _ (reference : Elements) (bits : List Bool) (row : Elements) (from : ℕ)
   may_be (suc n) a b = inl (inl (omega arith))
 
   -- the text of a horizontal step
-  both_runs : (more behind last : List Bool) (s t : List Bool) → rest ≡ mode_word Horizontal ++ more → more ≡ s ++ behind → behind ≡ t ++ last → rest ≡ mode_word Horizontal ++ ((s ++ t) ++ last)
-  both_runs more behind last s t e first second =
+  both_runs : (more after last : List Bool) (s t : List Bool) → rest ≡ mode_word Horizontal ++ more → more ≡ s ++ after → after ≡ t ++ last → rest ≡ mode_word Horizontal ++ ((s ++ t) ++ last)
+  both_runs more after last s t e first second =
       e ∙ ap (λ b. mode_word Horizontal ++ b) (first ∙ ap (λ b. s ++ b) second ∙ sym (append_assoc s t last))
 
   -- why the second run is not taken
-  second_fails : (more : List Bool) → rest ≡ mode_word Horizontal ++ more → (m : ℕ) (behind : List Bool) → ReadsRun (colour_before row from) more m behind
+  second_fails : (more : List Bool) → rest ≡ mode_word Horizontal ++ more → (m : ℕ) (after : List Bool) → ReadsRun (colour_before row from) more m after
       → (0 < m) ⊎ (from ≡ 0) → run_start from + m ≤ length row → (fault : LineFault)
-      → StopsAtRun (length row) (other (colour_before row from)) (run_start from + m) (run_start from + m ≡ length row) behind fault → NextOrFails reference bits rest
-  second_fails more e m behind reads some fits fault stops = fails_here fault (inr (Horizontal, more, e, inr (m, behind, reads, some, fits, stops)))
+      → StopsAtRun (length row) (other (colour_before row from)) (run_start from + m) (run_start from + m ≡ length row) after fault → NextOrFails reference bits rest
+  second_fails more e m after reads some fits fault stops = fails_here fault (inr (Horizontal, more, e, inr (m, after, reads, some, fits, stops)))
 
-  second_run : (more : List Bool) → rest ≡ mode_word Horizontal ++ more → (m : ℕ) (behind : List Bool) → ReadsRun (colour_before row from) more m behind
+  second_run : (more : List Bool) → rest ≡ mode_word Horizontal ++ more → (m : ℕ) (after : List Bool) → ReadsRun (colour_before row from) more m after
       → (0 < m) ⊎ (from ≡ 0) → run_start from + m ≤ length row → NextOrFails reference bits rest
-  second_run more e m behind reads some fits = elim (runs_are_read_or_fail (other (colour_before row from)) behind) [
-    | inr fails ↦ second_fails more e m behind reads some fits (Run fails.0) fails.1
+  second_run more e m after reads some fits = elim (runs_are_read_or_fail (other (colour_before row from)) after) [
+    | inr fails ↦ second_fails more e m after reads some fits (Run fails.0) fails.1
     | inl found ↦ elim (cases_lt (length row) (run_start from + m + found.0)) [
-      | inl past ↦ second_fails more e m behind reads some fits PastWidth (found.0, found.1, found.2, past)
+      | inl past ↦ second_fails more e m after reads some fits PastWidth (found.0, found.1, found.2, past)
       | inr within ↦ elim (may_be found.0 (run_start from + m) (length row)) [
-        | inr empty ↦ second_fails more e m behind reads some fits BadPlace (found.1, subst (λ n. ReadsRun (other (colour_before row from)) behind n found.1) empty.0 found.2, empty.1)
+        | inr empty ↦ second_fails more e m after reads some fits BadPlace (found.1, subst (λ n. ReadsRun (other (colour_before row from)) after n found.1) empty.0 found.2, empty.1)
         | inl some2 ↦
             let right : from ≤ run_start from + m = elim some [ inl one ↦ omega arith | inr none ↦ omega arith ] in
             goes_on Horizontal (reads.text ++ found.2.text) (run_start from + m + found.0) (third reference row from le (run_start from + m) (run_start from + m + found.0)) found.1
             (horizontal_taken reference row from le m found.0 reads.text found.2.text reads.spelt found.2.spelt right fits some2 within)
-            (both_runs more behind found.1 reads.text found.2.text e reads.bits_are found.2.bits_are)
+            (both_runs more after found.1 reads.text found.2.text e reads.bits_are found.2.bits_are)
       ]
     ]
   ]

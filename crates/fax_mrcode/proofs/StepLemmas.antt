@@ -16,12 +16,12 @@ use Rattle.fax_mrcode.specs.declared.mode.Mode.{Mode}
 use Rattle.fax_mrcode.specs.declared.mode.Mode.TheVariants.{Pass, Horizontal, Vertical}
 use Rattle.fax_mrcode.specs.declared.mode.Offset.{Offset}
 use Rattle.fax_mrcode.specs.declared.reading.Start.{Start}
-use Rattle.fax_mrcode.specs.declared.reading.Taken.{Taken}
+use Rattle.fax_mrcode.specs.declared.reading.TakenStep.{TakenStep}
 use Rattle.fax_mrcode.specs.Modes.{mode_word, IsAt}
 use Rattle.fax_mrcode.specs.Places.{a1, a2, b1, b2, run_start}
 use Rattle.fax_mrcode.specs.Lines.{Steps, SpellsLine}
 use Rattle.fax_mrcode.specs.LineFaults.{FailsLine, Stops, StopsAtRun}
-use Rattle.fax_mrcode.specs.Starts.{IsCursor, IsIndexOfB1, IsStart, IsTaken, Completes, TakesStep, TakesSteps, StepsSoFar, behind_step}
+use Rattle.fax_mrcode.specs.Starts.{IsCursor, IsIndexOfB1, IsStart, IsTaken, Completes, TakesStep, TakesSteps, StepsSoFar, after_step}
 use Rattle.fax_mrcode.proofs.PlaceLemmas.{IsStretch, IsA1, IsA2, a1_is, a2_is}
 use Rattle.fax_mrcode.proofs.CursorLemmas.{colour_after-more, other_apart, rising_below, IsCursor-first, IsCursor-on, IsCursor-right, IsCursor-second, place_le, b1_is, b2_is, b2_right}
 
@@ -111,7 +111,7 @@ past_stretch row colour from place le before within s =
           absurd (other_apart colour (sym (ap other before) ∙ sym there ∙ here))
     ]
 
--- a stretch and the element behind it
+-- a stretch and the element after it
 stretch_more : (row : Elements) (colour : Colour) (from to : ℕ) → IsStretch row colour from to → colour_at row to ≡ colour → IsStretch row colour from (to + 1)
 stretch_more row colour from to s here = record { all = λ k a b. elim (cases_eq k to) [ inl same ↦ rw same here | inr apart ↦ s.all k a (omega arith) ] }
 
@@ -232,7 +232,7 @@ module _ (ps : List ℕ) (width : ℕ) (rising : AreRising 0 ps width) (line : E
             ));
       }
 
--- the index behind that of b1, where a1 lies no further left or b1 is the first change
+-- the index after that of b1, where a1 lies no further left or b1 is the first change
 pub cursor_on : (ps : List ℕ) (width : ℕ) → AreRising 0 ps width → (colour : Colour) (from index place : ℕ) → IsIndexOfB1 ps colour from index → from ≤ place → place + 1 ≤ width
     → (slice_index_or ps index width ≤ place) ⊎ (index ≡ 0) → IsCursor ps (other colour) (place + 1) (index + 1)
 cursor_on ps width rising colour from index place at right inside (inl no_left) = elim (cases_lt index (length ps)) [
@@ -283,7 +283,7 @@ IsTaken-to ps width mode start next place is_next takes = record {
   takes = λ line s. subst (λ (row : Elements). TakesStep (painted White 0 ps width) width mode [] line start row next) (same line s) (takes line s);
 } where
   same : (line : Elements) → IsStart ps width line start
-      → line ++ replicate (place - length line) start.colour ≡ behind_step line start (record { first = place - run_start start.from; second = 0; next = next })
+      → line ++ replicate (place - length line) start.colour ≡ after_step line start (record { first = place - run_start start.from; second = 0; next = next })
   same line s = ap (λ n. line ++ replicate (place - n) start.colour) s.size ∙ sym (append-nil (line ++ replicate (place - run_start start.from) start.colour))
 
 module _ (ps : List ℕ) (width : ℕ) (rising : AreRising 0 ps width) (start : Start) (inside : start.from ≤ width) where
@@ -331,7 +331,7 @@ module _ (ps : List ℕ) (width : ℕ) (rising : AreRising 0 ps width) (start : 
   }
 
 -- it is taken from the start whose index is not that of b1 yet
-pub IsTaken-at : (ps : List ℕ) (width : ℕ) (mode : Mode) (text : List Bool) (start : Start) (index : ℕ) (taken : Taken) → IsCursor ps start.colour start.from index
+pub IsTaken-at : (ps : List ℕ) (width : ℕ) (mode : Mode) (text : List Bool) (start : Start) (index : ℕ) (taken : TakenStep) → IsCursor ps start.colour start.from index
     → IsTaken ps width mode text (record { from = start.from; colour = start.colour; index = index }) taken → IsTaken ps width mode text start taken
 IsTaken-at ps width mode text start index taken cursor t = record {
   next = λ line s. t.next line (at line s);
@@ -343,14 +343,14 @@ IsTaken-at ps width mode text start index taken cursor t = record {
   at line s = record { size = s.size; within = s.within; first = s.first; cursor = λ le. cursor }
 
 -- what it gives ends within the width
-pub IsTaken-fits : (ps : List ℕ) (width : ℕ) (mode : Mode) (text : List Bool) (line : Elements) (start : Start) (taken : Taken) → IsStart ps width line start → IsTaken ps width mode text start taken
+pub IsTaken-fits : (ps : List ℕ) (width : ℕ) (mode : Mode) (text : List Bool) (line : Elements) (start : Start) (taken : TakenStep) → IsStart ps width line start → IsTaken ps width mode text start taken
     → length line + taken.first + taken.second ≤ width
 IsTaken-fits ps width mode text line start taken s t =
     let middle : Elements = line ++ replicate taken.first start.colour in
     let size : length middle ≡ length line + taken.first = length-painted_more line taken.first start.colour in
     let size2 : length (middle ++ replicate taken.second (other start.colour)) ≡ length middle + taken.second = length-painted_more middle taken.second (other start.colour) in
     let next = t.next line s in
-    let end : length (behind_step line start taken) ≡ run_start taken.next.from = next.size in
+    let end : length (after_step line start taken) ≡ run_start taken.next.from = next.size in
     omega (arith, next.within)
 
 -- a run's fault, told of a row and not of its width
@@ -374,17 +374,17 @@ pub IsStart-first : (ps : List ℕ) (width : ℕ) → IsStart ps width [] (recor
 IsStart-first ps width = record { size = refl; within = omega arith; first = λ e. refl; cursor = λ le. IsCursor-first ps }
 
 pub Steps-then : (reference row : Elements) (from : ℕ) (modes : List Mode) (text : List Bool) (middle : ℕ) → Steps reference row from modes text middle
-    → (more : List Mode) (behind : List Bool) (end : ℕ) → Steps reference row middle more behind end → Steps reference row from (modes ++ more) (text ++ behind) end
-Steps-then reference row from [] text middle (none, same) more behind end later =
-    subst (λ b. Steps reference row from more b end) (ap (λ b. b ++ behind) (sym none)) (subst (λ n. Steps reference row n more behind end) same later)
-Steps-then reference row from (m ∷ ms) text middle (here, f, r, n, e, taken, rest) more behind end later = (
+    → (more : List Mode) (after : List Bool) (end : ℕ) → Steps reference row middle more after end → Steps reference row from (modes ++ more) (text ++ after) end
+Steps-then reference row from [] text middle (none, same) more after end later =
+    subst (λ b. Steps reference row from more b end) (ap (λ b. b ++ after) (sym none)) (subst (λ n. Steps reference row n more after end) same later)
+Steps-then reference row from (m ∷ ms) text middle (here, f, r, n, e, taken, rest) more after end later = (
   here,
   f,
-  r ++ behind,
+  r ++ after,
   n,
-  ap (λ b. b ++ behind) e ∙ append_assoc (mode_word m ++ f) r behind,
+  ap (λ b. b ++ after) e ∙ append_assoc (mode_word m ++ f) r after,
   taken,
-  Steps-then reference row (n + 1) ms r middle rest more behind end later,
+  Steps-then reference row (n + 1) ms r middle rest more after end later,
 )
 
 -- one step
@@ -406,7 +406,7 @@ TakesSteps-one reference width mode text before start after next inside takes = 
       ));
 }
 
--- steps behind others
+-- steps after others
 pub TakesSteps-then : (reference : Elements) (width : ℕ) (text more : List Bool) (before : Elements) (start : Start) (mid : Elements) (middle : Start) (after : Elements) (next : Start)
     → TakesSteps reference width text before start mid middle → TakesSteps reference width more mid middle after next → TakesSteps reference width (text ++ more) before start after next
 TakesSteps-then reference width text more before start mid middle after next first later = record {
@@ -460,7 +460,7 @@ Completes-on ps width line start is_start inside =
       here = λ le. before_stretch row start.colour start.from width is_start.first reach s;
     }
 
--- a fault behind the steps so far, and the place that they end at
+-- a fault after the steps so far, and the place that they end at
 pub FailsLine-at : (reference : Elements) (ps : List ℕ) (width : ℕ) (old mid : Place) (line : Elements) (start : Start) (fault : LineFault) → length reference ≡ width → StepsSoFar reference width old mid line start
     → IsStart ps width line start → start.from ≤ width → ((row : Elements) → Completes width line start.from start.colour row → Stops reference row start.from mid.left fault)
     → (fails : FailsLine reference old.left fault) × Passes old mid fails.text
@@ -483,7 +483,7 @@ FailsLine-at reference ps width old mid line start fault wide so_far is_start in
       so_far.passes,
     )
 
--- a fault behind the steps so far
+-- a fault after the steps so far
 pub FailsLine-from : (reference : Elements) (ps : List ℕ) (width : ℕ) (old mid : Place) (line : Elements) (start : Start) (fault : LineFault) → length reference ≡ width → StepsSoFar reference width old mid line start
     → IsStart ps width line start → start.from ≤ width → ((row : Elements) → Completes width line start.from start.colour row → Stops reference row start.from mid.left fault) → FailsLine reference old.left fault
 FailsLine-from reference ps width old mid line start fault wide so_far is_start inside stops = (FailsLine-at reference ps width old mid line start fault wide so_far is_start inside stops).0

@@ -15,15 +15,15 @@ use Rattle.fax_runcodes.specs.Rows.{Elements}
 use Rattle.fax_mrcode.specs.declared.reading.Start.{Start}
 use Rattle.std.proofs.Math.Seq.{take-add}
 use Rattle.fax_mrcode.specs.declared.mode.Mode.{Mode}
-use Rattle.fax_mrcode.specs.Windows.{Shows, ShowsBehind, FirstAre}
+use Rattle.fax_mrcode.specs.Windows.{Shows, ShowsAfter, FirstAre}
 use Rattle.fax_mrcode.specs.Starts.{IsBack, TakesStep}
 use Rattle.fax_mrcode.proofs.LineLaws.{modes_prefix_free}
 use Rattle.fax_bits.proofs.WindowLemmas.{padded-known}
 use Rattle.fax_bits.proofs.BitsLemmas.{length-word_bits, word_bits-add, word_bits-mod, word_bits-shl}
 
 -- the place n bits further on
-abbrev pub behind_place : Place → ℕ → Place
-behind_place p n = record { passed = p.passed + n; left = drop n p.left }
+abbrev pub after_place : Place → ℕ → Place
+after_place p n = record { passed = p.passed + n; left = drop n p.left }
 
 -- ---- how long mode words are
 offset_size : (o : Offset) → (1 ≤ length (mode_word (Vertical o))) × (length (mode_word (Vertical o)) ≤ 7)
@@ -203,15 +203,15 @@ Shows-first window known bits k e =
       there = omega arith;
     })
 
--- the bits behind the first n, moved to the top
+-- the bits after the first n, moved to the top
 pub moved_up : (window n : ℕ) → n ≤ 64 → word_bits 64 (window * 2 ^ n % 2 ^ 64) ≡ drop n (word_bits 64 window) ++ replicate n false
 moved_up window n few =
     let parts : n + (64 - n) ≡ 64 = omega arith in
     let parts2 : 64 - n + n ≡ 64 = omega arith in
     let split : word_bits 64 window ≡ word_bits n (window / 2 ^ (64 - n)) ++ word_bits (64 - n) window = rw parts at (word_bits-add n (64 - n) window) in
-    let behind : drop n (word_bits 64 window) ≡ word_bits (64 - n) window = ap (drop n) split ∙ drop_at (word_bits n (window / 2 ^ (64 - n))) (word_bits (64 - n) window) n (length-word_bits n (window / 2 ^ (64 - n))) in
+    let after : drop n (word_bits 64 window) ≡ word_bits (64 - n) window = ap (drop n) split ∙ drop_at (word_bits n (window / 2 ^ (64 - n))) (word_bits (64 - n) window) n (length-word_bits n (window / 2 ^ (64 - n))) in
     let up : word_bits 64 (window * 2 ^ n) ≡ word_bits (64 - n) window ++ replicate n false = rw parts2 at (word_bits-shl (64 - n) n window) in
-    word_bits-mod 64 64 (window * 2 ^ n) (omega arith) ∙ up ∙ ap (λ b. b ++ replicate n false) (sym behind)
+    word_bits-mod 64 64 (window * 2 ^ n) (omega arith) ∙ up ∙ ap (λ b. b ++ replicate n false) (sym after)
 
 -- the first 56 bits of 64
 pub first_56 : (window : ℕ) (word rest : List Bool) → word_bits 56 (window / 2 ^ 8) ≡ word ++ rest → word_bits 64 window ≡ word ++ (rest ++ word_bits 8 window)
@@ -239,8 +239,8 @@ Shows-next window known n bits shows few next e =
       there = omega (arith, shows.there, length-drop n bits);
     }
 
-pub ShowsBehind-next : (window known n next : ℕ) → n ≤ known → word_bits 64 next ≡ drop n (word_bits 64 window) ++ replicate n false → ShowsBehind window known next (known - n)
-ShowsBehind-next window known n next few e =
+pub ShowsAfter-next : (window known n next : ℕ) → n ≤ known → word_bits 64 next ≡ drop n (word_bits 64 window) ++ replicate n false → ShowsAfter window known next (known - n)
+ShowsAfter-next window known n next few e =
     let back : known - (known - n) ≡ n = omega arith in
     record { less = omega arith; shows = λ bits s. rw back (Shows-next window known n bits s few next e) }
 
@@ -250,13 +250,13 @@ FirstAre-word window known n word more size few begun = λ bits s. (
     let back : known - (known - n) ≡ n = omega arith in
     rw back (shown_word window known n bits word more s size few begun))
 
-pub FirstAre-then : (w k w1 k1 k2 : ℕ) (s t : List Bool) → ShowsBehind w k w1 k1 → k2 ≤ k1 → FirstAre w k k1 s → FirstAre w1 k1 k2 t → FirstAre w k k2 (s ++ t)
-FirstAre-then w k w1 k1 k2 s t behind less f g = λ bits h. (
-    let sum : k - k2 ≡ (k - k1) + (k1 - k2) = omega (arith, behind.less) in
-    ap (λ (n : ℕ). take n bits) sum ∙ take-add (k - k1) (k1 - k2) bits ∙ ap₂ (λ (a b : List Bool). a ++ b) (f bits h) (g (drop (k - k1) bits) (behind.shows bits h)))
+pub FirstAre-then : (w k w1 k1 k2 : ℕ) (s t : List Bool) → ShowsAfter w k w1 k1 → k2 ≤ k1 → FirstAre w k k1 s → FirstAre w1 k1 k2 t → FirstAre w k k2 (s ++ t)
+FirstAre-then w k w1 k1 k2 s t after less f g = λ bits h. (
+    let sum : k - k2 ≡ (k - k1) + (k1 - k2) = omega (arith, after.less) in
+    ap (λ (n : ℕ). take n bits) sum ∙ take-add (k - k1) (k1 - k2) bits ∙ ap₂ (λ (a b : List Bool). a ++ b) (f bits h) (g (drop (k - k1) bits) (after.shows bits h)))
 
-pub ShowsBehind-then : (w k w1 k1 w2 k2 : ℕ) → ShowsBehind w k w1 k1 → ShowsBehind w1 k1 w2 k2 → ShowsBehind w k w2 k2
-ShowsBehind-then w k w1 k1 w2 k2 p q =
+pub ShowsAfter-then : (w k w1 k1 w2 k2 : ℕ) → ShowsAfter w k w1 k1 → ShowsAfter w1 k1 w2 k2 → ShowsAfter w k w2 k2
+ShowsAfter-then w k w1 k1 w2 k2 p q =
     let sum : (k - k1) + (k1 - k2) ≡ k - k2 = omega (arith, p.less, q.less) in
     record {
       less = omega (arith, p.less, q.less);
@@ -288,17 +288,17 @@ pub zero_begins : (window : ℕ) → window / 2 ^ 63 ≡ 1 → word_bits 64 wind
 zero_begins window e = word_bits-add 1 63 window ∙ ap (λ (n : ℕ). word_bits 1 n ++ word_bits 63 window) e ∙ ap (λ (b : List Bool). b ++ word_bits 63 window) zero_word
 
 -- ---- places
-pub behind_none : (p : Place) (k : ℕ) → behind_place p (k - k) ≡ p
-behind_none p k = let none : k - k ≡ 0 = omega arith in rw (none, add-zero) refl
+pub after_none : (p : Place) (k : ℕ) → after_place p (k - k) ≡ p
+after_none p k = let none : k - k ≡ 0 = omega arith in rw (none, add-zero) refl
 
-pub skipped : (p q : Place) (n : ℕ) → n ≤ length p.left → Passes p q (take n p.left) → behind_place p n ≡ q
+pub skipped : (p q : Place) (n : ℕ) → n ≤ length p.left → Passes p q (take n p.left) → after_place p n ≡ q
 skipped p q n few passes =
     let long : length (take n p.left) ≡ n = length-take-le n p.left few in
     let left : drop n p.left ≡ q.left = ap (drop n) passes.bits ∙ drop_at (take n p.left) q.left n long in
     let passed : p.passed + n ≡ q.passed = omega (arith, passes.place) in
     rw (left, passed) refl
 
-pub passes_shown : (p : Place) (k n next : ℕ) (text : List Bool) → n ≤ length (drop k p.left) → take n (drop k p.left) ≡ text → next ≡ k + n → Passes (behind_place p k) (behind_place p next) text
+pub passes_shown : (p : Place) (k n next : ℕ) (text : List Bool) → n ≤ length (drop k p.left) → take n (drop k p.left) ≡ text → next ≡ k + n → Passes (after_place p k) (after_place p next) text
 passes_shown p k n next text few is e =
     let long : length (take n (drop k p.left)) ≡ n = length-take-le n (drop k p.left) few in
     let size : length text ≡ n = sym (ap length is) ∙ long in

@@ -119,13 +119,13 @@ IsReferenceIndex-back ps end from further colour index rising some le at =
           omega (arith, at.below (k + 1) (omega arith) away, place_order ps end rising k (k + 1) (omega arith));
     }
 
--- where the line goes on behind a vertical mode: back to the place before b1, or, where there is none
--- or it doesn't lie right of a1, on to the place behind b1
-abbrev pub IsIndexBehind : (ps : List ℕ) (end a index next : ℕ) → Type 0
-IsIndexBehind ps end a index next = (next ≡ index - 1) × (0 < index) × (a < get_or ps (index - 1) end) ⊎ (next ≡ index + 1) × ((index ≡ 0) ⊎ (get_or ps (index - 1) end ≤ a))
+-- where the line goes on after a vertical mode: back to the place before b1, or, where there is none
+-- or it doesn't lie right of a1, on to the place after b1
+abbrev pub IsIndexAfter : (ps : List ℕ) (end a index next : ℕ) → Type 0
+IsIndexAfter ps end a index next = (next ≡ index - 1) × (0 < index) × (a < get_or ps (index - 1) end) ⊎ (next ≡ index + 1) × ((index ≡ 0) ⊎ (get_or ps (index - 1) end ≤ a))
 
 pub IsReferenceIndex-other : (ps : List ℕ) (end from a : ℕ) (colour : Colour) (index next : ℕ) → AreRising 0 ps end → from ≤ a
-    → IsIndexBehind ps end a index next → IsReferenceIndex ps end from colour index → IsReferenceIndex ps end (a + 1) (other colour) next
+    → IsIndexAfter ps end a index next → IsReferenceIndex ps end from colour index → IsReferenceIndex ps end (a + 1) (other colour) next
 IsReferenceIndex-other ps end from a colour index next rising le (inl (e, some, left)) at = rw e (IsReferenceIndex-back ps end from (a + 1) colour index rising some (omega arith) at)
 IsReferenceIndex-other ps end from a colour index next rising le (inr (e, inl none)) at = rw e (IsReferenceIndex-on ps end from (a + 1) colour index rising (inl none) at)
 IsReferenceIndex-other ps end from a colour index next rising le (inr (e, inr right)) at = rw e (IsReferenceIndex-on ps end from (a + 1) colour index rising (inr (omega arith)) at)
@@ -178,7 +178,7 @@ StepsSoFar-none {reference} {row} {changes} {above} {before} lines = record {
   written = IsWrittenTo-none reference row before;
 }
 
--- the colour is that behind so many changes
+-- the colour is that after so many changes
 pub StepsSoFar-turned : {reference row : Elements} {changes above : List ℕ} {before after : List Bool} {from : ℕ} {colour : Colour} {index over : ℕ}
     → StepsSoFar reference row changes above before after from colour index over → StepsSoFar reference row changes above before after from (colour_after_changes index) index over
 StepsSoFar-turned {reference} {row} {changes} {above} {before} {after} {from} {colour} {index} {over} so =
@@ -293,7 +293,7 @@ module _ {reference row : Elements} {changes above : List ℕ} {before mid after
             (e ∙ ap (λ (t : List Bool). mid ++ t) (sym (append-nil (mode_word Pass))));
       }
 
-  pub StepsSoFar-vertical : {next : ℕ} (offset : Offset) → a ≤ b' → IsAt offset a b → IsIndexBehind above (length row) a over next
+  pub StepsSoFar-vertical : {next : ℕ} (offset : Offset) → a ≤ b' → IsAt offset a b → IsIndexAfter above (length row) a over next
       → after ≡ mid ++ mode_word (Vertical offset) → StepsSoFar reference row changes above before after (a + 1) (other colour) (index + 1) next
   StepsSoFar-vertical {next} offset right is_at moved e =
       let so = at.so_far in

@@ -38,8 +38,8 @@ abbrev pub AreAlike : (changes above : List ℕ) (index over n : ℕ) → Type 0
 AreAlike changes above index over n = (index + n < length changes) × (over + n < length above)
     × ((k : ℕ) → k ≤ n → slice_index changes (index + k) ≡ slice_index above (over + k))
 
-AreAlike-behind : (changes above : List ℕ) (index over n : ℕ) → AreAlike changes above index over (suc n) → AreAlike changes above (index + 1) (over + 1) n
-AreAlike-behind changes above index over n (inside, inside_above, same) = (
+AreAlike-after : (changes above : List ℕ) (index over n : ℕ) → AreAlike changes above index over (suc n) → AreAlike changes above (index + 1) (over + 1) n
+AreAlike-after changes above index over n (inside, inside_above, same) = (
   omega arith,
   omega arith,
   λ k le.
@@ -86,7 +86,7 @@ module _ {reference row : Elements} {changes above : List ℕ} {before : List Bo
       let within : p < end = place_inside changes end lines.rising index (omega (arith, alike.0)) in
       let first = one_zero mid from index over so inside found (omega (arith, alike.0), omega (arith, alike.1), λ k le. alike.2 k (omega arith)) in
       let later = zeros_so_far n (mid ++ (true ∷ [])) (p + 1) (index + 1) (over + 1) first (omega arith)
-      (omega (arith, same, place_apart above end lines.rising_above over (over + 1) (omega (arith, same)) (omega arith))) (AreAlike-behind changes above index over n alike) in
+      (omega (arith, same, place_apart above end lines.rising_above over (over + 1) (omega (arith, same)) (omega arith))) (AreAlike-after changes above index over n alike) in
       let one : index + 1 + n ≡ index + suc n = omega arith in
       let two : index + 1 + suc n ≡ index + suc (suc n) = omega arith in
       let three : over + 1 + suc n ≡ over + suc (suc n) = omega arith in

@@ -1,4 +1,4 @@
--- Steps in vertical mode with a1 at b1, several behind one another.
+-- Steps in vertical mode with a1 at b1, several after one another.
 use Rattle.std.proofs.Common.{◌≡◌, ℕ, zero, suc, ◌+◌, ◌-◌, ◌*◌, ◌^◌, ◌<◌, ◌≤◌, Bool, true, List, [], ◌∷◌, ◌++◌, length, replicate, take, drop, slice_index, slice_index_or, refl, sym, ◌∙◌, ap, ap₂, arith, append_assoc, add-zero, suc-add, inl}
 use Rattle.std.proofs.lemmas.List.{drop_more, get_or_default, replicate-append-replicate}
 use Rattle.std.proofs.lemmas.Nat.{leading_length}
@@ -62,9 +62,9 @@ fewer_ones n k bits le (more, e) =
 
 -- ---- so many steps
 
--- the next start, behind the step to the changing place of an index
-abbrev pub behind_place_of : List ℕ → ℕ → Start
-behind_place_of ps last = record { from = slice_index ps last + 1; colour = colour_after_changes (last + 1); index = last + 1 }
+-- the next start, after the step to the changing place of an index
+abbrev pub after_place_of : List ℕ → ℕ → Start
+after_place_of ps last = record { from = slice_index ps last + 1; colour = colour_after_changes (last + 1); index = last + 1 }
 
 -- the line, painted up to that place
 abbrev pub painted_to : List ℕ → Elements → Start → ℕ → Elements
@@ -74,7 +74,7 @@ module _ (ps : List ℕ) (width : ℕ) (rising : AreRising 0 ps width) where
   -- the first step
   one_zero : (line : Elements) (start : Start) → IsStart ps width line start → start.from ≤ width → IsIndexOfB1 ps start.colour start.from start.index → start.index < length ps
       → let after = line ++ replicate (slice_index ps start.index - length line) start.colour in
-      TakesSteps (painted White 0 ps width) width (true ∷ []) line start after (behind_place_of ps start.index) × IsStart ps width after (behind_place_of ps start.index)
+      TakesSteps (painted White 0 ps width) width (true ∷ []) line start after (after_place_of ps start.index) × IsStart ps width after (after_place_of ps start.index)
   one_zero line start is_start inside at within =
       let place : ℕ = slice_index ps start.index in
       let here : slice_index_or ps start.index width ≡ place = get_or_default ps start.index width 0 within in
@@ -99,25 +99,25 @@ module _ (ps : List ℕ) (width : ℕ) (rising : AreRising 0 ps width) where
 
   -- the line, painted a step further
   painted_further : (n : ℕ) (line : Elements) (start : Start) → length line ≤ slice_index ps start.index → colour_after_changes (start.index + 1) ≡ other start.colour → start.index + suc n < length ps
-      → painted_to ps (line ++ replicate (slice_index ps start.index - length line) start.colour) (behind_place_of ps start.index) n ≡ painted_to ps line start (suc n)
+      → painted_to ps (line ++ replicate (slice_index ps start.index - length line) start.colour) (after_place_of ps start.index) n ≡ painted_to ps line start (suc n)
   unfolding painted
   painted_further n line start few turned within =
       let p : ℕ = slice_index ps start.index in
       let size : length (line ++ replicate (p - length line) start.colour) ≡ p = length-painted_more line (p - length line) start.colour ∙ omega arith in
       let last : start.index + 1 + n ≡ start.index + suc n = omega arith in
-      let behind : drop start.index ps ≡ p ∷ drop (start.index + 1) ps = drop_more ps start.index 0 (omega arith) in
-      rw (size, turned, last, behind) (append_assoc line (replicate (p - length line) start.colour) (painted (other start.colour) p (take n (drop (start.index + 1) ps)) (slice_index ps (start.index + suc n))))
+      let after : drop start.index ps ≡ p ∷ drop (start.index + 1) ps = drop_more ps start.index 0 (omega arith) in
+      rw (size, turned, last, after) (append_assoc line (replicate (p - length line) start.colour) (painted (other start.colour) p (take n (drop (start.index + 1) ps)) (slice_index ps (start.index + suc n))))
 
   -- so many steps and one, whose words are so many ones
   pub zeros_taken : (n : ℕ) (line : Elements) (start : Start) → IsStart ps width line start → start.from ≤ width → IsIndexOfB1 ps start.colour start.from start.index → start.index + n < length ps
-      → TakesSteps (painted White 0 ps width) width (replicate (suc n) true) line start (painted_to ps line start n) (behind_place_of ps (start.index + n))
-      × IsStart ps width (painted_to ps line start n) (behind_place_of ps (start.index + n))
+      → TakesSteps (painted White 0 ps width) width (replicate (suc n) true) line start (painted_to ps line start n) (after_place_of ps (start.index + n))
+      × IsStart ps width (painted_to ps line start n) (after_place_of ps (start.index + n))
   unfolding painted
   zeros_taken zero line start is_start inside at within = rw add-zero (one_zero line start is_start inside at (omega arith))
   zeros_taken (suc n) line start is_start inside at within =
       let p : ℕ = slice_index ps start.index in
       let mid : Elements = line ++ replicate (p - length line) start.colour in
-      let middle : Start = behind_place_of ps start.index in
+      let middle : Start = after_place_of ps start.index in
       let right : start.from ≤ p = at.right (omega arith) in
       let few : length line ≤ p = omega (arith, is_start.size) in
       let turned : colour_after_changes (start.index + 1) ≡ other start.colour = colour_after-more start.index ∙ ap other at.cursor.parity in
@@ -126,7 +126,7 @@ module _ (ps : List ℕ) (width : ℕ) (rising : AreRising 0 ps width) where
       let further = one_further line start is_start inside at (omega arith) in
       let later = zeros_taken n mid middle first.1 further.0 further.1 (omega arith) in
       rw (← painted_further n line start few turned within, ← last) (
-        TakesSteps-then (painted White 0 ps width) width (true ∷ []) (replicate (suc n) true) line start mid middle (painted_to ps mid middle n) (behind_place_of ps (start.index + 1 + n)) first.0 later.0,
+        TakesSteps-then (painted White 0 ps width) width (true ∷ []) (replicate (suc n) true) line start mid middle (painted_to ps mid middle n) (after_place_of ps (start.index + 1 + n)) first.0 later.0,
         later.1,
       )
 
@@ -148,10 +148,10 @@ module _ (ps : List ℕ) (width : ℕ) (rising : AreRising 0 ps width) where
   unfolding AreRising
   places_rise zero i low le within = rw add-zero le
   places_rise (suc n) i low le within =
-      let behind : drop i ps ≡ slice_index ps i ∷ drop (i + 1) ps = drop_more ps i 0 (omega arith) in
+      let after : drop i ps ≡ slice_index ps i ∷ drop (i + 1) ps = drop_more ps i 0 (omega arith) in
       let next : slice_index ps i < slice_index ps (i + 1) = rising_below ps width i (i + 1) rising (omega arith) (omega arith) in
       let last : i + 1 + n ≡ i + suc n = omega arith in
-      rw (behind, ← last) (le, places_rise n (i + 1) (slice_index ps i + 1) (omega arith) (omega arith))
+      rw (after, ← last) (le, places_rise n (i + 1) (slice_index ps i + 1) (omega arith) (omega arith))
 
   pub steps_rise : (steps i low : ℕ) → 0 < steps → low ≤ slice_index ps i → i + steps ≤ length ps → AreRising low (take (i + steps - 1 - i) (drop i ps)) (slice_index ps (i + steps - 1))
   steps_rise steps i low some le within =

@@ -21,7 +21,7 @@ StopsAtRun width colour start may_be_empty bits NoMode = ⊥
 StopsAtRun width colour start may_be_empty bits NoMemory = ⊥
 
 module _ (reference row : Elements) where
-  -- why no step is taken from a0 (`from` is a0 + 1), behind the word of this mode
+  -- why no step is taken from a0 (`from` is a0 + 1), after the word of this mode
   abbrev pub StopsIn : Mode → ℕ → List Bool → LineFault → Type 0
   -- pass beyond the last changing element of the reference
   StopsIn Pass from bits fault = (fault ≡ BadPlace) × (b2 reference row from ≡ length row)

@@ -8,7 +8,7 @@ use Rattle.fax_mrcode.specs.Modes.{mode_word, IsAt}
 use Rattle.fax_mrcode.specs.Places.{a1, a2, b1, b2, run_start}
 
 module _ (reference row : Elements) where
-  -- From a0 (`from` is a0 + 1) a step in this mode may be taken, with this text behind the mode's
+  -- From a0 (`from` is a0 + 1) a step in this mode may be taken, with this text after the mode's
   -- word, and the next a0 is this place.
   abbrev pub Step : ℕ → Mode → List Bool → ℕ → Type 0
   Step from Pass text next = (b2 reference row from < a1 row from) × (text ≡ []) × (next ≡ b2 reference row from)

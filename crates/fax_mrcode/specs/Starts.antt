@@ -8,14 +8,14 @@ use Rattle.fax_runcodes.specs.Painted.{painted, AreRising, colour_after_changes}
 use Rattle.fax_mrcode.specs.declared.mode.Mode.{Mode}
 use Rattle.fax_mrcode.specs.declared.mode.Offset.{Offset}
 use Rattle.fax_mrcode.specs.declared.reading.Start.{Start}
-use Rattle.fax_mrcode.specs.declared.reading.Taken.{Taken}
+use Rattle.fax_mrcode.specs.declared.reading.TakenStep.{TakenStep}
 use Rattle.fax_mrcode.specs.declared.reading.near.Near.{Near}
 use Rattle.fax_mrcode.specs.Modes.{IsAt}
 use Rattle.fax_mrcode.specs.Places.{run_start}
 use Rattle.fax_mrcode.specs.Lines.{Step, Steps}
-use Rattle.fax_mrcode.specs.Windows.{ShowsBehind, FirstAre}
+use Rattle.fax_mrcode.specs.Windows.{ShowsAfter, FirstAre}
 
--- A step may start here: not behind the width, against changing places of a reference of this width.
+-- A step may start here: not after the width, against changing places of a reference of this width.
 pub record StepsAt (changes : List ℕ) (width from : ℕ) : Type 0 where
   pub within : from ≤ width
   pub rising : AreRising 0 changes width
@@ -33,7 +33,7 @@ pub record IsIndexOfB1 (changes : List ℕ) (colour : Colour) (from index : ℕ)
   pub cursor : IsCursor changes colour from index
   pub right : index < length changes → from ≤ slice_index changes index
 
--- how many changing places further back than behind b1 the next b1 is looked for: 2, or none where a1 lies at most one element left of b1
+-- how many changing places further back than after b1 the next b1 is looked for: 2, or none where a1 lies at most one element left of b1
 abbrev pub IsBack : Offset → ℕ → Type 0
 IsBack offset back = (back ≡ 2) ⊎ ((back ≡ 0) × ((a1 b1 : ℕ) → IsAt offset a1 b1 → b1 ≤ a1 + 1))
 
@@ -50,32 +50,32 @@ pub record Completes (width : ℕ) (line : Elements) (from : ℕ) (colour : Colo
   pub front : (k : ℕ) → k < length line → colour_at row k ≡ colour_at line k
   pub here : from ≤ width → colour_before row from ≡ colour
 
--- A step in this mode was taken from one start to the next: each row that the line may become behind
+-- A step in this mode was taken from one start to the next: each row that the line may become after
 -- it is one that it might become before it, and has this step.
-pub record TakesStep (reference : Elements) (width : ℕ) (mode : Mode) (text : List Bool) (before : Elements) (start : Start) (after : Elements) (next : Start) : Type 0 where
+pub record TakesStep (reference : Elements) (width : ℕ) (mode : Mode) (text : List Bool) (before : Elements) (start : Start) (later : Elements) (next : Start) : Type 0 where
   pub place : ℕ
   pub from_is : next.from ≡ place + 1
   pub right : start.from ≤ place
-  pub completes : (row : Elements) → Completes width after next.from next.colour row → Completes width before start.from start.colour row
-  pub step : (row : Elements) → Completes width after next.from next.colour row → Step reference row start.from mode text place
+  pub completes : (row : Elements) → Completes width later next.from next.colour row → Completes width before start.from start.colour row
+  pub step : (row : Elements) → Completes width later next.from next.colour row → Step reference row start.from mode text place
 
--- the elements so far, with those of a step behind them: first in the colour at a0, then in the other
-abbrev pub behind_step : Elements → Start → Taken → Elements
-behind_step line start taken = (line ++ replicate taken.first start.colour) ++ replicate taken.second (other start.colour)
+-- the elements so far, with those of a step after them: first in the colour at a0, then in the other
+abbrev pub after_step : Elements → Start → TakenStep → Elements
+after_step line start taken = (line ++ replicate taken.first start.colour) ++ replicate taken.second (other start.colour)
 
 -- A step in this mode is taken from here, whatever elements stand left of a0.
-pub record IsTaken (changes : List ℕ) (width : ℕ) (mode : Mode) (text : List Bool) (start : Start) (taken : Taken) : Type 0 where
-  pub next : (line : Elements) → IsStart changes width line start → IsStart changes width (behind_step line start taken) taken.next
+pub record IsTaken (changes : List ℕ) (width : ℕ) (mode : Mode) (text : List Bool) (start : Start) (taken : TakenStep) : Type 0 where
+  pub next : (line : Elements) → IsStart changes width line start → IsStart changes width (after_step line start taken) taken.next
   pub takes : (line : Elements) → IsStart changes width line start
-      → TakesStep (painted White 0 changes width) width mode text line start (behind_step line start taken) taken.next
+      → TakesStep (painted White 0 changes width) width mode text line start (after_step line start taken) taken.next
 
--- Steps with this text were taken from one start to the next: each row that the line may become behind
+-- Steps with this text were taken from one start to the next: each row that the line may become after
 -- them is one that it might become before them, and has these steps.
-pub record TakesSteps (reference : Elements) (width : ℕ) (text : List Bool) (before : Elements) (start : Start) (after : Elements) (next : Start) : Type 0 where
+pub record TakesSteps (reference : Elements) (width : ℕ) (text : List Bool) (before : Elements) (start : Start) (later : Elements) (next : Start) : Type 0 where
   pub modes : List Mode
   pub right : start.from < next.from
-  pub completes : (row : Elements) → Completes width after next.from next.colour row → Completes width before start.from start.colour row
-  pub steps : (row : Elements) → Completes width after next.from next.colour row → Steps reference row start.from modes text next.from
+  pub completes : (row : Elements) → Completes width later next.from next.colour row → Completes width before start.from start.colour row
+  pub steps : (row : Elements) → Completes width later next.from next.colour row → Steps reference row start.from modes text next.from
 
 -- From old to new steps were passed that each row has which the line may become.
 pub record StepsSoFar (reference : Elements) (width : ℕ) (old new : Place) (line : Elements) (start : Start) : Type 0 where
@@ -106,8 +106,8 @@ abbrev pub start_of : Near → Start
 start_of near = record { from = near.from; colour = colour_after_changes near.index; index = near.index }
 
 -- Steps were taken in a line of the whole width, and their text is in front of the bits that are ahead then.
-pub record TakesNear (reference : Elements) (width : ℕ) (before : Elements) (near : Near) (after : Elements) (next : Near) : Type 0 where
+pub record TakesNear (reference : Elements) (width : ℕ) (before : Elements) (near : Near) (later : Elements) (next : Near) : Type 0 where
   pub text : List Bool
   pub first : FirstAre near.ahead.window near.ahead.left next.ahead.left text
-  pub behind : ShowsBehind near.ahead.window near.ahead.left next.ahead.window next.ahead.left
-  pub takes : TakesSteps reference width text (left_of_a0 before (start_of near)) (start_of near) (left_of_a0 after (start_of next)) (start_of next)
+  pub after : ShowsAfter near.ahead.window near.ahead.left next.ahead.window next.ahead.left
+  pub takes : TakesSteps reference width text (left_of_a0 before (start_of near)) (start_of near) (left_of_a0 later (start_of next)) (start_of next)

@@ -2,14 +2,14 @@
 use Rattle.std.specs.Prelude.{◌≡◌, ℕ, ◌-◌, ◌≤◌, Bool, List, ◌++◌, length, take, drop}
 use Rattle.fax_bits.specs.Bits.{word_bits}
 
--- a window shows so many bits of these, whatever stands behind them
+-- a window shows so many bits of these, whatever stands after them
 pub record Shows (window known : ℕ) (bits : List Bool) : Type 0 where
   pub rest : List Bool
   pub front : word_bits 64 window ≡ take known bits ++ rest
   pub there : known ≤ length bits
 
 -- a window shows the last so many bits of those that another shows
-pub record ShowsBehind (window known next left : ℕ) : Type 0 where
+pub record ShowsAfter (window known next left : ℕ) : Type 0 where
   pub less : left ≤ known
   pub shows : (bits : List Bool) → Shows window known bits → Shows next left (drop (known - left) bits)
 

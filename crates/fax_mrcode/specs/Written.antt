@@ -10,7 +10,7 @@ use Rattle.fax_mrcode.specs.Modes.{mode_word, IsAt}
 use Rattle.fax_mrcode.specs.Places.{a1, a2, b1, b2, run_start}
 
 module _ (reference row : Elements) where
-  -- the one step that is written from a0: its mode, its text behind the mode's word, the next a0
+  -- the one step that is written from a0: its mode, its text after the mode's word, the next a0
   abbrev pub WritesStep : ℕ → Mode → List Bool → ℕ → Type 0
   WritesStep from Pass text next = (b2 reference row from < a1 row from) × (text ≡ []) × (next ≡ b2 reference row from)
   WritesStep from (Vertical offset) text next = (a1 row from ≤ b2 reference row from)

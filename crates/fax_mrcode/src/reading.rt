@@ -122,10 +122,10 @@ impl Start {
     }
 }
 
-/// A step that was taken: how many elements it gives the colour at a0, how many behind them the other
+/// A step that was taken: how many elements it gives the colour at a0, how many after them the other
 /// colour, and where the next one starts.
 #[derive(Clone, Copy)]
-struct Taken {
+struct TakenStep {
     first: u16,
     second: u16,
     next: Start,
@@ -220,7 +220,7 @@ fn take_step(
     changes: &[u16],
     width: u16,
     start: Start,
-) -> Result<Taken, LineFault>
+) -> Result<TakenStep, LineFault>
     requires cursor { IsCursor changes.now start.colour start.from start.index }
     requires at { StepsAt changes.now width start.from }
     ensures ok { IfOk result (λ taken. (mode : Mode) × (text : List Bool) × Passes reader.old reader.new (mode_word mode ++ text)
@@ -242,7 +242,7 @@ fn take_step(
 
 /// Pass mode: a0 moves to b2.
 #[inline]
-fn pass(changes: &[u16], width: u16, start: Start) -> Result<Taken, LineFault>
+fn pass(changes: &[u16], width: u16, start: Start) -> Result<TakenStep, LineFault>
     requires b1 { IsIndexOfB1 changes.now start.colour start.from start.index }
     requires at { StepsAt changes.now width start.from }
     ensures ok { IfOk result (λ taken. IsTaken changes.now width Mode.Pass [] start taken) }
@@ -253,7 +253,7 @@ fn pass(changes: &[u16], width: u16, start: Start) -> Result<Taken, LineFault>
     if b2 == width {
         return Err(LineFault::BadPlace);
     }
-    Ok(Taken {
+    Ok(TakenStep {
         first: b2 - start.run_start(),
         second: 0,
         next: Start {
@@ -265,7 +265,12 @@ fn pass(changes: &[u16], width: u16, start: Start) -> Result<Taken, LineFault>
 
 /// Vertical mode: a1 lies so far from b1, and a0 moves to it.
 #[inline]
-fn vertical(changes: &[u16], width: u16, start: Start, offset: Offset) -> Result<Taken, LineFault>
+fn vertical(
+    changes: &[u16],
+    width: u16,
+    start: Start,
+    offset: Offset,
+) -> Result<TakenStep, LineFault>
     requires b1 { IsIndexOfB1 changes.now start.colour start.from start.index }
     requires at { StepsAt changes.now width start.from }
     ensures ok { IfOk result (λ taken. IsTaken changes.now width (Mode.Vertical offset) [] start taken) }
@@ -278,7 +283,7 @@ fn vertical(changes: &[u16], width: u16, start: Start, offset: Offset) -> Result
         return Err(LineFault::BadPlace);
     }
     let a1 = past_a1 - 3;
-    Ok(Taken {
+    Ok(TakenStep {
         first: a1 - start.run_start(),
         second: 0,
         next: Start {
@@ -301,7 +306,7 @@ fn horizontal(
     changes: &[u16],
     width: u16,
     start: Start,
-) -> Result<Taken, LineFault>
+) -> Result<TakenStep, LineFault>
     requires at { StepsAt changes.now width start.from }
     ensures ok { IfOk result (λ taken. (text : List Bool) × Passes reader.old reader.new text
         × IsTaken changes.now width Mode.Horizontal text start taken) }
@@ -315,7 +320,7 @@ fn horizontal(
     let at_width = a1 == width;
     let second = read_stretch(&mut ahead, a1, width, start.colour.other(), at_width)?;
     *reader = ahead;
-    Ok(Taken {
+    Ok(TakenStep {
         first,
         second,
         next: Start {

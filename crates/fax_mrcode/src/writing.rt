@@ -77,7 +77,7 @@ fn put_steps(writer: &mut RoomyWriter, reference: &RowRef<'_>, row: &RowRef<'_>)
                 put_mode(writer, Mode::Vertical(offset));
                 from = a1 + 1;
                 index += 1;
-                index_above = index_behind(above, over, a1, width);
+                index_above = index_after(above, over, a1, width);
             }
         } else {
             let a2 = place_at(changes, index + 1, width);
@@ -113,10 +113,10 @@ fn first_from(changes: &[u16], mut index: usize, from: u16, width: u16) -> (usiz
     (index, place)
 }
 
-/// From where on b1 is looked for behind a vertical mode: from the changing place before b1 on, where it
-/// lies right of a1, else from the one behind b1.
+/// From where on b1 is looked for after a vertical mode: from the changing place before b1 on, where it
+/// lies right of a1, else from the one after b1.
 #[inline]
-fn index_behind(above: &[u16], over: usize, a1: u16, width: u16) -> usize
+fn index_after(above: &[u16], over: usize, a1: u16, width: u16) -> usize
     requires { over < 2 ^ 64 - 1 }
     ensures { (result ≡ over - 1) × (0 < over) × (a1 < slice_index_or above.now (over - 1) width)
         ⊎ (result ≡ over + 1) × ((over ≡ 0) ⊎ (slice_index_or above.now (over - 1) width ≤ a1)) }

@@ -63,7 +63,7 @@ Alike-swap a b (inr (inr d)) = inr (inr (record { m = d.n; n = d.m; rest = d.res
 
 -- ---- zeros
 
--- zeros that begin other zeros with a 1 behind them are some of those
+-- zeros that begin other zeros with a 1 after them are some of those
 pub zeros_in_front : (m z : ℕ) (rest x : List Bool) → replicate m false ++ rest ≡ replicate z false ++ true ∷ x → (k : ℕ) × (z ≡ m + k) × (rest ≡ replicate k false ++ true ∷ x)
 zeros_in_front zero z rest x e = (z, omega arith, e)
 zeros_in_front (suc m) zero rest x e = cc
@@ -134,9 +134,9 @@ Carries-word word few begins = λ a b alike. elim alike [
   ]
 ]
 
--- one text behind another
-pub behind_text : (bits first middle second rest : List Bool) → bits ≡ first ++ middle → middle ≡ second ++ rest → bits ≡ (first ++ second) ++ rest
-behind_text bits first middle second rest e also = e ∙ ap (λ t. first ++ t) also ∙ sym (append_assoc first second rest)
+-- one text after another
+pub after_text : (bits first middle second rest : List Bool) → bits ≡ first ++ middle → middle ≡ second ++ rest → bits ≡ (first ++ second) ++ rest
+after_text bits first middle second rest e also = e ∙ ap (λ t. first ++ t) also ∙ sym (append_assoc first second rest)
 
 Carries-none : Carries []
 Carries-none = λ a b alike. (b, refl, alike)
@@ -145,7 +145,7 @@ Carries-then : (s t : List Bool) → Carries s → Carries t → Carries (s ++ t
 Carries-then s t first second = λ a b alike.
     let one = first (t ++ a) b (subst (λ c. Alike c b) (append_assoc s t a) alike) in
     let two = second a one.0 one.2 in
-    (two.0, behind_text b s one.0 t two.0 one.1 two.1, two.2)
+    (two.0, after_text b s one.0 t two.0 one.1 two.1, two.2)
 
 -- the text that begins bits, with what follows it
 pub carried : (text bits rest other : List Bool) → Carries text → bits ≡ text ++ rest → Alike bits other → (more : List Bool) × (other ≡ text ++ more) × Alike rest more

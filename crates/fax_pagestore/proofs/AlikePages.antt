@@ -14,8 +14,8 @@ use Rattle.fax_pagestore.specs.Ends.{HoldsEol}
 use Rattle.fax_pagestore.proofs.TextLemmas.{zeros_one, zeros_or_one, separator_bits, separator_not_runs_out, line_not_runs_out, what_begins}
 use Rattle.fax_pagestore.proofs.FrontLemmas.{front_ends}
 use Rattle.fax_pagestore.proofs.BeforeEolLemmas.{within}
-use Rattle.fax_pagestore.proofs.ZerosBehindLemmas.{HoldsEol-zeros}
-use Rattle.fax_pagestore.proofs.AlikeLemmas.{DifferAhead, DifferHere, Alike, Alike-swap, zeros_in_front, before_zeros, pass_few, behind_text, Carries-word, carried, Carries-row, FailsRow-alike, ReadsRow-alike}
+use Rattle.fax_pagestore.proofs.ZerosAfterLemmas.{HoldsEol-zeros}
+use Rattle.fax_pagestore.proofs.AlikeLemmas.{DifferAhead, DifferHere, Alike, Alike-swap, zeros_in_front, before_zeros, pass_few, after_text, Carries-word, carried, Carries-row, FailsRow-alike, ReadsRow-alike}
 
 -- texts are the same but for the number of zeros in one place ahead
 abbrev pub DifferOnce : List Bool → List Bool → Type 0
@@ -35,15 +35,15 @@ zeros_joined : (m n : ℕ) (rest : List Bool) → replicate m false ++ (replicat
 zeros_joined m n rest = sym (append_assoc (replicate m false) (replicate n false) rest) ∙ ap (λ t. t ++ rest) (replicate-append-replicate m n false)
 
 -- Bits begin with as many zeros as an EOL has and a 1, and what follows is like this.
-record BehindOne (x bits : List Bool) : Type 0 where
+record AfterOne (x bits : List Bool) : Type 0 where
   pub zeros : ℕ
   pub rest : List Bool
   pub many : 11 ≤ zeros
   pub bits_are : bits ≡ replicate zeros false ++ true ∷ rest
   pub differ : DifferOnce x rest
 
-behind_here : (z : ℕ) (x bits : List Bool) → DifferHere (replicate z false ++ true ∷ x) bits → BehindOne x bits
-behind_here z x bits d =
+after_here : (z : ℕ) (x bits : List Bool) → DifferHere (replicate z false ++ true ∷ x) bits → AfterOne x bits
+after_here z x bits d =
     let at = zeros_in_front d.m z d.rest x (sym d.a_is) in
     record {
       zeros = d.n + at.0;
@@ -53,14 +53,14 @@ behind_here z x bits d =
       differ = inl refl;
     }
 
-behind_one : (z : ℕ) (x bits : List Bool) → 11 ≤ z → Alike (replicate z false ++ true ∷ x) bits → BehindOne x bits
-behind_one z x bits many (inl same) = record { zeros = z; rest = x; many = many; bits_are = sym same; differ = inl refl }
-behind_one z x bits many (inr (inr here)) = behind_here z x bits here
-behind_one z x bits many (inr (inl d)) =
+after_one : (z : ℕ) (x bits : List Bool) → 11 ≤ z → Alike (replicate z false ++ true ∷ x) bits → AfterOne x bits
+after_one z x bits many (inl same) = record { zeros = z; rest = x; many = many; bits_are = sym same; differ = inl refl }
+after_one z x bits many (inr (inr here)) = after_here z x bits here
+after_one z x bits many (inr (inl d)) =
     let zeros : List Bool = replicate d.m false ++ d.rest in
     let others : List Bool = replicate d.n false ++ d.rest in
     elim (zeros_or_one d.before) [
-      | inl none ↦ behind_here z x bits (record {
+      | inl none ↦ after_here z x bits (record {
         m = none.0 + d.m;
         n = none.0 + d.n;
         rest = d.rest;
@@ -90,12 +90,12 @@ pass_tag coding tag text a bits p (inr ahead) = pass_few text a bits (tag_few co
 
 pass_separator : (coding : Coding) (tag : Bool) (text a bits : List Bool) → IsSeparator coding tag text → Alike (text ++ a) bits → BeginsAlike (IsSeparator coding tag) a bits
 pass_separator coding tag text a bits p alike =
-    let one = behind_one p.0 (p.1 ++ a) bits p.2 (subst (λ c. Alike c bits) (separator_bits coding tag text a p) alike) in
+    let one = after_one p.0 (p.1 ++ a) bits p.2 (subst (λ c. Alike c bits) (separator_bits coding tag text a p) alike) in
     let there = pass_tag coding tag p.1 a one.rest p.3 one.differ in (
       replicate one.zeros false ++ true ∷ p.1,
       there.0,
       (one.zeros, p.1, one.many, p.3, refl),
-      behind_text bits (replicate one.zeros false) (true ∷ one.rest) (true ∷ p.1) there.0 one.bits_are (ap (λ t. true ∷ t) there.1),
+      after_text bits (replicate one.zeros false) (true ∷ one.rest) (true ∷ p.1) there.0 one.bits_are (ap (λ t. true ∷ t) there.1),
       there.2,
     )
 
@@ -105,7 +105,7 @@ pass_in_a_row coding tag zero text last a bits (e, is) alike = ([], bits, (refl,
 pass_in_a_row coding tag (suc n) text last a bits (one, first, rest, next, e, p, more) alike =
     let s = pass_separator coding next first (rest ++ a) bits p (subst (λ c. Alike c bits) (ap (λ c. c ++ a) e ∙ append_assoc first rest a) alike) in
     let r = pass_in_a_row coding next n rest last a s.1 more s.4 in
-    (s.0 ++ r.0, r.1, (one, s.0, r.0, next, refl, s.2, r.2), behind_text bits s.0 s.1 r.0 r.1 s.3 r.3, r.4)
+    (s.0 ++ r.0, r.1, (one, s.0, r.0, next, refl, s.2, r.2), after_text bits s.0 s.1 r.0 r.1 s.3 r.3, r.4)
 
 -- ---- lines of rows
 
@@ -121,7 +121,7 @@ pass_rows coding width tag before (row ∷ rows) text last a bits (line, separat
       line ++ (s.0 ++ r.0),
       r.1,
       (line, s.0, r.0, next, refl, spelt, s.2, r.2),
-      behind_text bits line l.0 (s.0 ++ r.0) r.1 l.1 (behind_text l.0 s.0 s.1 r.0 r.1 s.3 r.3),
+      after_text bits line l.0 (s.0 ++ r.0) r.1 l.1 (after_text l.0 s.0 s.1 r.0 r.1 s.3 r.3),
       r.4,
     )
 
@@ -132,13 +132,13 @@ abbrev IsShortest : List Bool → Type 0
 IsShortest front = (k : ℕ) → k < length front → EndsWithEol (take k front) → ⊥
 
 -- so none ends in what stands before its last bits
-none_before : (front before behind : List Bool) → IsShortest front → front ≡ before ++ behind → 0 < length behind → HoldsEol before → ⊥
-none_before front before behind shortest e some (first, rest, holds) =
+none_before : (front before after : List Bool) → IsShortest front → front ≡ before ++ after → 0 < length after → HoldsEol before → ⊥
+none_before front before after shortest e some (first, rest, holds) =
     let begin : List Bool = first ++ end_of_line in
-    let whole : front ≡ begin ++ (rest ++ behind) =
-    e ∙ ap (λ t. t ++ behind) (holds ∙ sym (append_assoc first end_of_line rest)) ∙ append_assoc begin rest behind in
-    let short : length begin < length front = omega (arith, some, ap length whole, length-append begin (rest ++ behind), length-append rest behind) in
-    shortest (length begin) short (subst EndsWithEol (sym (ap (take (length begin)) whole ∙ take_at begin (rest ++ behind) (length begin) refl)) (first, refl))
+    let whole : front ≡ begin ++ (rest ++ after) =
+    e ∙ ap (λ t. t ++ after) (holds ∙ sym (append_assoc first end_of_line rest)) ∙ append_assoc begin rest after in
+    let short : length begin < length front = omega (arith, some, ap length whole, length-append begin (rest ++ after), length-append rest after) in
+    shortest (length begin) short (subst EndsWithEol (sym (ap (take (length begin)) whole ∙ take_at begin (rest ++ after) (length begin) refl)) (first, refl))
 
 -- an EOL at the end of bits that are followed by others
 ends_holds : (bits front rest : List Bool) → bits ≡ front ++ rest → EndsWithEol front → HoldsEol bits
@@ -153,17 +153,17 @@ zeros_shortest before zeros none = λ k lt ends.
     ap (take k) whole ∙ take-append-le k bits (true ∷ []) (omega (arith, lt, ap length whole, length-append bits (true ∷ []))) in
     none (HoldsEol-zeros before zeros (ends_holds bits (take k bits) (drop k bits) (sym (take-append-drop k bits)) (subst EndsWithEol same ends)))
 
--- a front that goes on behind what stands before the zeros ends with the 1 behind them
-ends_behind : (front before rest x : List Bool) (m : ℕ) → 11 ≤ m → EndsWithEol front → IsShortest front → front ++ x ≡ before ++ (replicate m false ++ rest) → length before < length front
+-- a front that goes on after what stands before the zeros ends with the 1 after them
+ends_after : (front before rest x : List Bool) (m : ℕ) → 11 ≤ m → EndsWithEol front → IsShortest front → front ++ x ≡ before ++ (replicate m false ++ rest) → length before < length front
     → (more : ℕ) × (rest ≡ replicate more false ++ true ∷ x) × (HoldsEol before → ⊥)
-ends_behind front before rest x m many ends shortest whole past =
-    let behind : List Bool = drop (length before) front in
-    let split : front ≡ before ++ behind = within front x before (replicate m false ++ rest) whole (omega (arith, past)) in
-    let some : 0 < length behind = omega (arith, past, ap length split, length-append before behind) in
-    let none : HoldsEol before → ⊥ = none_before front before behind shortest split some in
-    let tail : behind ++ x ≡ replicate m false ++ rest =
-    append_cancel_left before (behind ++ x) (replicate m false ++ rest) (sym (append_assoc before behind x) ∙ ap (λ t. t ++ x) (sym split) ∙ whole) in
-    elim (zeros_or_one behind) [
+ends_after front before rest x m many ends shortest whole past =
+    let after : List Bool = drop (length before) front in
+    let split : front ≡ before ++ after = within front x before (replicate m false ++ rest) whole (omega (arith, past)) in
+    let some : 0 < length after = omega (arith, past, ap length split, length-append before after) in
+    let none : HoldsEol before → ⊥ = none_before front before after shortest split some in
+    let tail : after ++ x ≡ replicate m false ++ rest =
+    append_cancel_left before (after ++ x) (replicate m false ++ rest) (sym (append_assoc before after x) ∙ ap (λ t. t ++ x) (sym split) ∙ whole) in
+    elim (zeros_or_one after) [
       | inl zeros ↦ absurd (none (HoldsEol-zeros before zeros.0 (subst HoldsEol (split ∙ ap (λ t. before ++ t) zeros.1) (ends_holds front front [] (sym (append-nil front)) ends))))
       | inr one ↦
           let at = zeros_in_front m one.0 rest (one.1 ++ x) (sym tail ∙ ap (λ t. t ++ x) one.2 ∙ append_assoc (replicate one.0 false) (true ∷ one.1) x) in
@@ -177,7 +177,7 @@ ends_behind front before rest x m many ends shortest whole past =
           (at.0, at.2 ∙ ap (λ t. replicate at.0 false ++ true ∷ (t ++ x)) last, none)
     ]
 
--- the front that ends behind the zeros
+-- the front that ends after the zeros
 zeros_front : (coding : Coding) (tag : Bool) (before tag_text a : List Bool) (zeros : ℕ) (bits : List Bool) → IsTag coding tag tag_text → 11 ≤ zeros → (HoldsEol before → ⊥)
     → bits ≡ before ++ (replicate zeros false ++ true ∷ (tag_text ++ a)) → BeginsAlike (IsFront coding tag) a bits
 zeros_front coding tag before tag_text a zeros bits is many none e =
@@ -195,9 +195,9 @@ front_ahead coding tag text a bits p d = elim (cases_lt (length d.before) (lengt
   | inr inside ↦
       let f = before_zeros p.front (p.tag_text ++ a) bits d inside in
       let t = pass_tag coding tag p.tag_text a f.0 p.is_tag (inr f.2) in
-      (text, t.0, p, behind_text bits p.front f.0 p.tag_text t.0 f.1 t.1 ∙ ap (λ c. c ++ t.0) (sym p.text_is), t.2)
+      (text, t.0, p, after_text bits p.front f.0 p.tag_text t.0 f.1 t.1 ∙ ap (λ c. c ++ t.0) (sym p.text_is), t.2)
   | inl past ↦
-      let at = ends_behind p.front d.before d.rest (p.tag_text ++ a) d.m (omega (arith, d.many)) p.ends p.shortest d.a_is past in
+      let at = ends_after p.front d.before d.rest (p.tag_text ++ a) d.m (omega (arith, d.many)) p.ends p.shortest d.a_is past in
       zeros_front coding tag d.before p.tag_text a (d.n + at.0) bits p.is_tag (omega (arith, d.as_many)) at.2
       (d.b_is ∙ ap (λ t. d.before ++ (replicate d.n false ++ t)) at.1 ∙ ap (λ t. d.before ++ t) (zeros_joined d.n at.0 (true ∷ (p.tag_text ++ a))))
 ]
@@ -248,7 +248,7 @@ SeparatorBegins-alike coding a b alike (tag, separator, rest, is, e) =
 RunsOut-alike : (coding : Coding) (a b : List Bool) → Alike a b → RunsOut coding a → RunsOut coding b
 RunsOut-alike coding a b alike out = elim (what_begins coding b) [
   | inl separator ↦ absurd (separator_not_runs_out coding a (SeparatorBegins-alike coding b a (Alike-swap a b alike) separator) out)
-  | inr behind ↦ elim behind [
+  | inr after ↦ elim after [
     | inl line ↦ absurd (line_not_runs_out coding a (LineBegins-alike b a (Alike-swap a b alike) line) out)
     | inr there ↦ there
   ]

@@ -14,9 +14,9 @@ use Rattle.fax_pagestore.proofs.EndsLemmas.{ends_at}
 
 -- ---- parts of bits
 
--- what stands behind a front that is not longer than another
-pub behind_front : (before left front rest : List Bool) → before ++ left ≡ front ++ rest → length before ≤ length front → left ≡ drop (length before) front ++ rest
-behind_front before left front rest e le =
+-- what stands after a front that is not longer than another
+pub after_front : (before left front rest : List Bool) → before ++ left ≡ front ++ rest → length before ≤ length front → left ≡ drop (length before) front ++ rest
+after_front before left front rest e le =
     sym (drop_at before left (length before) refl) ∙ ap (drop (length before)) e ∙ drop-append-le (length before) front rest le
 
 -- a front that ends within bits, whatever follows them
@@ -26,7 +26,7 @@ within bits more front rest e le =
     sym (take-append-le (length front) bits more le) ∙ ap (take (length front)) e ∙ take_at front rest (length front) refl in
     sym (take-append-drop (length front) bits) ∙ ap (λ b. b ++ drop (length front) bits) begins
 
--- bits behind a place are those up to another, and those behind that
+-- bits after a place are those up to another, and those after that
 pub between : (bits : List Bool) (used place : ℕ) → used ≤ place → drop used bits ≡ take (place - used) (drop used bits) ++ drop place bits
 between bits used place le =
     let whole : used + (place - used) ≡ place = omega arith in
@@ -46,8 +46,8 @@ front_tagged coding tag text rest bits is e =
     )
 
 -- the front of what is left is that of all, where no EOL begins before it
-pub front_behind : (coding : Coding) (tag : Bool) (before left front rest : List Bool) → BeginNoEol before left → IsFront coding tag front → left ≡ front ++ rest → IsFront coding tag (before ++ front)
-front_behind coding tag before left front rest begin is e = record {
+pub front_after : (coding : Coding) (tag : Bool) (before left front rest : List Bool) → BeginNoEol before left → IsFront coding tag front → left ≡ front ++ rest → IsFront coding tag (before ++ front)
+front_after coding tag before left front rest begin is e = record {
   front = before ++ is.front;
   tag_text = is.tag_text;
   text_is = ap (λ b. before ++ b) is.text_is ∙ sym (append_assoc before is.front is.tag_text);
@@ -67,7 +67,7 @@ front_behind coding tag before left front rest begin is e = record {
       let parts : take k (before ++ is.front) ≡ before ++ take (k - length before) is.front =
       ap (λ n. take n (before ++ is.front)) (sym back) ∙ take-append-add before is.front (k - length before) in
       is.shortest (k - length before) (omega (arith, lt, long, length-append before is.front))
-      (drop (length before) ends.0, behind_front before (take (k - length before) is.front) ends.0 end_of_line (sym parts ∙ ends.1) at);
+      (drop (length before) ends.0, after_front before (take (k - length before) is.front) ends.0 end_of_line (sym parts ∙ ends.1) at);
   is_tag = is.is_tag;
 }
 
@@ -77,9 +77,9 @@ nowhere_eol coding octets before left whole begin none = λ tag front rest is e.
     let t = front_tagged coding tag front rest (bits_of octets) is e in
     let all : before ++ left ≡ t.0 ++ (end_of_line ++ (t.1 ++ rest)) = sym whole ∙ t.3 in
     let at : length before ≤ length t.0 = begin [] t.0 (t.1 ++ rest) (ap (λ b. before ++ b) (append-nil left) ∙ all) in
-    none tag (drop (length before) t.0) t.1 rest t.2 (behind_front before left t.0 (end_of_line ++ (t.1 ++ rest)) all at)
+    none tag (drop (length before) t.0) t.1 rest t.2 (after_front before left t.0 (end_of_line ++ (t.1 ++ rest)) all at)
 
--- ---- what is left, with more behind it
+-- ---- what is left, with more after it
 
 pub BeginNoEol-none : (left : List Bool) → BeginNoEol [] left
 BeginNoEol-none left = λ more front rest e. omega arith
@@ -99,10 +99,10 @@ HoldsNoTaggedEol-fewer coding before left none = λ tag front tag_text rest is e
     none tag (before ++ front) tag_text rest is (ap (λ b. before ++ b) e ∙ sym (append_assoc before front (end_of_line ++ (tag_text ++ rest))))
 
 -- an EOL that ends one bit before the end of bits has its tag there
-tag_behind : (coding : Coding) (bits front rest : List Bool) → 1 ≤ length rest → HoldsNoTaggedEol coding bits → bits ≡ front ++ (end_of_line ++ rest) → ⊥
-tag_behind Mh bits front rest some none e = none true front [] rest (refl, refl) e
-tag_behind Mr bits front [] some none e = absurd (omega arith)
-tag_behind Mr bits front (tag ∷ rest) some none e = none tag front (tag ∷ []) rest refl e
+tag_after : (coding : Coding) (bits front rest : List Bool) → 1 ≤ length rest → HoldsNoTaggedEol coding bits → bits ≡ front ++ (end_of_line ++ rest) → ⊥
+tag_after Mh bits front rest some none e = none true front [] rest (refl, refl) e
+tag_after Mr bits front [] some none e = absurd (omega arith)
+tag_after Mr bits front (tag ∷ rest) some none e = none tag front (tag ∷ []) rest refl e
 
 -- so none begins 13 bits before the end, whatever follows
 tagged_within : (coding : Coding) (bits more front rest : List Bool) → length front + 13 ≤ length bits → HoldsNoTaggedEol coding bits → bits ++ more ≡ front ++ (end_of_line ++ rest) → ⊥
@@ -112,7 +112,7 @@ tagged_within coding bits more front rest inside none e =
     let here : bits ≡ (front ++ end_of_line) ++ drop (length (front ++ end_of_line)) bits =
     within bits more (front ++ end_of_line) rest (e ∙ sym (append_assoc front end_of_line rest)) (omega arith) in
     let left : length (drop (length (front ++ end_of_line)) bits) ≡ length bits - length (front ++ end_of_line) = length-drop (length (front ++ end_of_line)) bits in
-    tag_behind coding bits front (drop (length (front ++ end_of_line)) bits) (omega arith) none (here ∙ append_assoc front end_of_line (drop (length (front ++ end_of_line)) bits))
+    tag_after coding bits front (drop (length (front ++ end_of_line)) bits) (omega arith) none (here ∙ append_assoc front end_of_line (drop (length (front ++ end_of_line)) bits))
 
 pub BeginNoEol-fewer : (coding : Coding) (before gone left : List Bool) → (0 < length gone → 13 ≤ length left) → HoldsNoTaggedEol coding (gone ++ left) → BeginNoEol before (gone ++ left)
     → BeginNoEol (before ++ gone) left
@@ -121,20 +121,20 @@ BeginNoEol-fewer coding before gone left enough none begin = λ more front rest 
     let whole : before ++ bits ≡ front ++ (end_of_line ++ rest) =
     ap (λ b. before ++ b) (append_assoc gone left more) ∙ sym (append_assoc before gone (left ++ more)) ∙ e in
     let at : length before ≤ length front = begin more front rest whole in
-    let behind : bits ≡ drop (length before) front ++ (end_of_line ++ rest) = behind_front before bits front (end_of_line ++ rest) whole at in
+    let after : bits ≡ drop (length before) front ++ (end_of_line ++ rest) = after_front before bits front (end_of_line ++ rest) whole at in
     let size : length (drop (length before) front) ≡ length front - length before = length-drop (length before) front in
     elim (cases_lt (length (drop (length before) front)) (length gone)) [
-      | inl inside ↦ absurd (tagged_within coding (gone ++ left) more (drop (length before) front) rest (omega (arith, inside, enough (omega (arith, inside)), length-append gone left)) none behind)
+      | inl inside ↦ absurd (tagged_within coding (gone ++ left) more (drop (length before) front) rest (omega (arith, inside, enough (omega (arith, inside)), length-append gone left)) none after)
       | inr past ↦ omega (arith, past, at, size, length-append before gone)
     ]
 
 -- ---- what of octets is kept
 
--- the bits behind a place, where those behind another that is not behind it hold no EOL with its tag
-pub left_behind : (coding : Coding) (octets held : List ℕ) (used place : ℕ) → used ≤ place → (used < place → place + 13 ≤ 8 * length held) → HoldsNoTaggedEol coding (drop used (bits_of held))
+-- the bits after a place, where those after another that is not after it hold no EOL with its tag
+pub left_after : (coding : Coding) (octets held : List ℕ) (used place : ℕ) → used ≤ place → (used < place → place + 13 ≤ 8 * length held) → HoldsNoTaggedEol coding (drop used (bits_of held))
     → (before : List Bool) × (bits_of octets ≡ before ++ drop used (bits_of held)) × BeginNoEol before (drop used (bits_of held))
     → (before : List Bool) × (bits_of octets ≡ before ++ drop place (bits_of held)) × BeginNoEol before (drop place (bits_of held))
-left_behind coding octets held used place le enough none (before, whole, begin) =
+left_after coding octets held used place le enough none (before, whole, begin) =
     let left : List Bool = drop place (bits_of held) in
     let gone : List Bool = take (place - used) (drop used (bits_of held)) in
     let split : drop used (bits_of held) ≡ gone ++ left = between (bits_of held) used place le in
@@ -149,6 +149,6 @@ left_behind coding octets held used place le enough none (before, whole, begin) 
       BeginNoEol-fewer coding before gone left long (subst (HoldsNoTaggedEol coding) split none) (subst (BeginNoEol before) split begin),
     )
 
-pub none_behind_place : (coding : Coding) (held : List ℕ) (used place : ℕ) → used ≤ place → HoldsNoTaggedEol coding (drop used (bits_of held)) → HoldsNoTaggedEol coding (drop place (bits_of held))
-none_behind_place coding held used place le none =
+pub none_after_place : (coding : Coding) (held : List ℕ) (used place : ℕ) → used ≤ place → HoldsNoTaggedEol coding (drop used (bits_of held)) → HoldsNoTaggedEol coding (drop place (bits_of held))
+none_after_place coding held used place le none =
     HoldsNoTaggedEol-fewer coding (take (place - used) (drop used (bits_of held))) (drop place (bits_of held)) (subst (HoldsNoTaggedEol coding) (between (bits_of held) used place le) none)

@@ -13,22 +13,22 @@ use Rattle.fax_pagestore.specs.Ends.{HoldsEol, CountsNot}
 
 -- ---- zeros
 
--- what is dropped behind a front
-drop_behind : (j : ℕ) (front bits : List Bool) → drop (length front + j) (front ++ bits) ≡ drop j bits
-drop_behind j front bits = sym (drop-drop j (length front) (front ++ bits)) ∙ ap (drop j) (drop_at front bits (length front) refl)
+-- what is dropped after a front
+drop_after : (j : ℕ) (front bits : List Bool) → drop (length front + j) (front ++ bits) ≡ drop j bits
+drop_after j front bits = sym (drop-drop j (length front) (front ++ bits)) ∙ ap (drop j) (drop_at front bits (length front) refl)
 
 -- bits among the 11 zeros of an EOL are zeros
 zeros_inside : (front word tail before rest : List Bool) → front ++ (word ++ tail) ≡ before ++ (end_of_line ++ rest) → length before ≤ length front
     → length front + length word ≤ length before + 11 → word ≡ replicate (length word) false
 unfolding end_of_line
-zeros_inside front word tail before rest e behind inside =
+zeros_inside front word tail before rest e after inside =
     let j : ℕ = length front - length before in
     let place : length front ≡ length before + j = omega arith in
     let eol : drop j (end_of_line ++ rest) ≡ drop j (replicate 11 false ++ (true ∷ rest)) = ap (drop j) (append_assoc (replicate 11 false) (true ∷ []) rest) in
     let here : take (length word) (drop (length front) (front ++ (word ++ tail))) ≡ word =
     ap (take (length word)) (drop_at front (word ++ tail) (length front) refl) ∙ take_at word tail (length word) refl in
     let there : drop (length front) (front ++ (word ++ tail)) ≡ drop j (replicate 11 false ++ (true ∷ rest)) =
-    ap (drop (length front)) e ∙ ap (λ n. drop n (before ++ (end_of_line ++ rest))) place ∙ drop_behind j before (end_of_line ++ rest) ∙ eol in
+    ap (drop (length front)) e ∙ ap (λ n. drop n (before ++ (end_of_line ++ rest))) place ∙ drop_after j before (end_of_line ++ rest) ∙ eol in
     sym here ∙ ap (take (length word)) there
     ∙ take-drop-append (length word) j (replicate 11 false) (true ∷ rest) (omega (arith, length-replicate 11 false))
     ∙ ap (take (length word)) (drop-replicate j 11 false) ∙ take-replicate (length word) (11 - j) false (omega arith)
@@ -41,9 +41,9 @@ word_zero k n some e =
 -- the same at a place
 word_zero_inside : (k n : ℕ) (front tail before rest : List Bool) → 0 < 2 ^ k → front ++ (word_bits k n ++ tail) ≡ before ++ (end_of_line ++ rest) → length before ≤ length front
     → length front + k ≤ length before + 11 → n % 2 ^ k ≡ 0
-word_zero_inside k n front tail before rest some e behind inside =
+word_zero_inside k n front tail before rest some e after inside =
     let size : length (word_bits k n) ≡ k = length-word_bits k n in
-    word_zero k n some (zeros_inside front (word_bits k n) tail before rest e behind (omega arith) ∙ ap (λ m. replicate m false) size)
+    word_zero k n some (zeros_inside front (word_bits k n) tail before rest e after (omega arith) ∙ ap (λ m. replicate m false) size)
 
 -- ---- octets in which no EOL stands
 
@@ -71,68 +71,68 @@ begins_first octet octets before rest fits some e at =
     let zero : octet % 2 ^ 8 ≡ 0 = word_zero_inside 8 octet [] (bits_of octets) before rest (omega arith) (sym (bits_of-cons octet octets) ∙ e) (omega arith) (omega arith) in
     omega arith
 
--- One that begins at the second to fifth needs the low half to be 0, and the high half of the octet behind.
-begins_high : (octet behind : ℕ) (octets : List ℕ) (before rest : List Bool) → behind < 256 → bits_of (octet ∷ (behind ∷ octets)) ≡ before ++ (end_of_line ++ rest)
-    → 1 ≤ length before → length before ≤ 4 → (octet % 16 ≡ 0) × (behind < 16)
-begins_high octet behind octets before rest fits e low high =
+-- One that begins at the second to fifth needs the low half to be 0, and the high half of the octet after.
+begins_high : (octet after : ℕ) (octets : List ℕ) (before rest : List Bool) → after < 256 → bits_of (octet ∷ (after ∷ octets)) ≡ before ++ (end_of_line ++ rest)
+    → 1 ≤ length before → length before ≤ 4 → (octet % 16 ≡ 0) × (after < 16)
+begins_high octet after octets before rest fits e low high =
     let a : List Bool = word_bits 4 (octet / 16) in
     let b : List Bool = word_bits 4 octet in
-    let c : List Bool = word_bits 4 (behind / 16) in
-    let d : List Bool = word_bits 4 behind ++ bits_of octets in
-    let first : bits_of (octet ∷ (behind ∷ octets)) ≡ (a ++ b) ++ bits_of (behind ∷ octets) = bits_of-cons octet (behind ∷ octets) ∙ ap (λ w. w ++ bits_of (behind ∷ octets)) (word_bits-add 4 4 octet) in
-    let second : bits_of (behind ∷ octets) ≡ c ++ d =
-    bits_of-cons behind octets ∙ ap (λ w. w ++ bits_of octets) (word_bits-add 4 4 behind) ∙ append_assoc c (word_bits 4 behind) (bits_of octets) in
+    let c : List Bool = word_bits 4 (after / 16) in
+    let d : List Bool = word_bits 4 after ++ bits_of octets in
+    let first : bits_of (octet ∷ (after ∷ octets)) ≡ (a ++ b) ++ bits_of (after ∷ octets) = bits_of-cons octet (after ∷ octets) ∙ ap (λ w. w ++ bits_of (after ∷ octets)) (word_bits-add 4 4 octet) in
+    let second : bits_of (after ∷ octets) ≡ c ++ d =
+    bits_of-cons after octets ∙ ap (λ w. w ++ bits_of octets) (word_bits-add 4 4 after) ∙ append_assoc c (word_bits 4 after) (bits_of octets) in
     let size_a : length a ≡ 4 = length-word_bits 4 (octet / 16) in
     let size_b : length b ≡ 4 = length-word_bits 4 octet in
     let size : length (a ++ b) ≡ 8 = omega (arith, length-append a b) in
-    let one : octet % 2 ^ 4 ≡ 0 = word_zero_inside 4 octet a (bits_of (behind ∷ octets)) before rest (omega arith) (sym (append_assoc a b (bits_of (behind ∷ octets))) ∙ sym first ∙ e) (omega arith) (omega arith) in
-    let two : behind / 16 % 2 ^ 4 ≡ 0 = word_zero_inside 4 (behind / 16) (a ++ b) d before rest (omega arith) (ap (λ w. (a ++ b) ++ w) (sym second) ∙ sym first ∙ e) (omega arith) (omega arith) in
+    let one : octet % 2 ^ 4 ≡ 0 = word_zero_inside 4 octet a (bits_of (after ∷ octets)) before rest (omega arith) (sym (append_assoc a b (bits_of (after ∷ octets))) ∙ sym first ∙ e) (omega arith) (omega arith) in
+    let two : after / 16 % 2 ^ 4 ≡ 0 = word_zero_inside 4 (after / 16) (a ++ b) d before rest (omega arith) (ap (λ w. (a ++ b) ++ w) (sym second) ∙ sym first ∙ e) (omega arith) (omega arith) in
     (omega arith, omega arith)
 
--- One that begins at the sixth to eighth needs the octet behind to be 0.
-begins_low : (octet behind : ℕ) (octets : List ℕ) (before rest : List Bool) → behind < 256 → bits_of (octet ∷ (behind ∷ octets)) ≡ before ++ (end_of_line ++ rest)
-    → 5 ≤ length before → length before ≤ 8 → behind ≡ 0
-begins_low octet behind octets before rest fits e low high =
+-- One that begins at the sixth to eighth needs the octet after to be 0.
+begins_low : (octet after : ℕ) (octets : List ℕ) (before rest : List Bool) → after < 256 → bits_of (octet ∷ (after ∷ octets)) ≡ before ++ (end_of_line ++ rest)
+    → 5 ≤ length before → length before ≤ 8 → after ≡ 0
+begins_low octet after octets before rest fits e low high =
     let size : length (word_bits 8 octet) ≡ 8 = length-word_bits 8 octet in
-    let whole : word_bits 8 octet ++ (word_bits 8 behind ++ bits_of octets) ≡ before ++ (end_of_line ++ rest) =
-    ap (λ w. word_bits 8 octet ++ w) (sym (bits_of-cons behind octets)) ∙ sym (bits_of-cons octet (behind ∷ octets)) ∙ e in
-    let zero : behind % 2 ^ 8 ≡ 0 = word_zero_inside 8 behind (word_bits 8 octet) (bits_of octets) before rest (omega arith) whole (omega arith) (omega arith) in
+    let whole : word_bits 8 octet ++ (word_bits 8 after ++ bits_of octets) ≡ before ++ (end_of_line ++ rest) =
+    ap (λ w. word_bits 8 octet ++ w) (sym (bits_of-cons after octets)) ∙ sym (bits_of-cons octet (after ∷ octets)) ∙ e in
+    let zero : after % 2 ^ 8 ≡ 0 = word_zero_inside 8 after (word_bits 8 octet) (bits_of octets) before rest (omega arith) whole (omega arith) (omega arith) in
     omega arith
 
--- one that begins behind an octet
-begins_behind : (octet : ℕ) (octets : List ℕ) (before rest : List Bool) → bits_of (octet ∷ octets) ≡ before ++ (end_of_line ++ rest) → 8 ≤ length before → HoldsEol (bits_of octets)
-begins_behind octet octets before rest e past = (
+-- one that begins after an octet
+begins_after : (octet : ℕ) (octets : List ℕ) (before rest : List Bool) → bits_of (octet ∷ octets) ≡ before ++ (end_of_line ++ rest) → 8 ≤ length before → HoldsEol (bits_of octets)
+begins_after octet octets before rest e past = (
   drop 8 before,
   rest,
   sym (drop_at (word_bits 8 octet) (bits_of octets) 8 (length-word_bits 8 octet)) ∙ ap (drop 8) (sym (bits_of-cons octet octets) ∙ e) ∙ drop-append-le 8 before (end_of_line ++ rest) past,
 )
 
 -- no EOL begins in an octet
-none_begins : (octet behind : ℕ) (octets : List ℕ) (before rest : List Bool) → octet < 256 → behind < 256 → NoEol (behind ∷ octets) behind
-    → 0 < octet → (octet % 16 ≡ 0 → 16 ≤ behind) → bits_of (octet ∷ (behind ∷ octets)) ≡ before ++ (end_of_line ++ rest) → ⊥
-none_begins octet behind octets before rest fits next h some wide e = elim (cases_lt (length before) 8) [
-  | inr past ↦ h.none (begins_behind octet (behind ∷ octets) before rest e past)
+none_begins : (octet after : ℕ) (octets : List ℕ) (before rest : List Bool) → octet < 256 → after < 256 → NoEol (after ∷ octets) after
+    → 0 < octet → (octet % 16 ≡ 0 → 16 ≤ after) → bits_of (octet ∷ (after ∷ octets)) ≡ before ++ (end_of_line ++ rest) → ⊥
+none_begins octet after octets before rest fits next h some wide e = elim (cases_lt (length before) 8) [
+  | inr past ↦ h.none (begins_after octet (after ∷ octets) before rest e past)
   | inl inside ↦ elim (cases_lt (length before) 5) [
-    | inr low ↦ omega (arith, h.some, begins_low octet behind octets before rest next e low (omega arith))
+    | inr low ↦ omega (arith, h.some, begins_low octet after octets before rest next e low (omega arith))
     | inl high ↦ elim (cases_lt (length before) 1) [
-      | inl first ↦ begins_first octet (behind ∷ octets) before rest fits some e (omega arith)
+      | inl first ↦ begins_first octet (after ∷ octets) before rest fits some e (omega arith)
       | inr second ↦
-          let both : (octet % 16 ≡ 0) × (behind < 16) = begins_high octet behind octets before rest next e second (omega arith) in
+          let both : (octet % 16 ≡ 0) × (after < 16) = begins_high octet after octets before rest next e second (omega arith) in
           omega (arith, wide both.0, both.1)
     ]
   ]
 ]
 
 -- one octet more
-NoEol-cons : (octet behind : ℕ) (octets : List ℕ) → octet < 256 → get_or octets 0 0 < 256 → NoEol octets behind → 0 < octet → (octet % 16 ≡ 0 → 16 ≤ behind)
+NoEol-cons : (octet after : ℕ) (octets : List ℕ) → octet < 256 → get_or octets 0 0 < 256 → NoEol octets after → 0 < octet → (octet % 16 ≡ 0 → 16 ≤ after)
     → NoEol (octet ∷ octets) octet
-NoEol-cons octet behind [] fits next h some wide = record {
+NoEol-cons octet after [] fits next h some wide = record {
   first_is = refl;
   some = some;
   none = λ (before, rest, e). omega (arith, holds_twelve (bits_of (octet ∷ [])) before rest e, length-bits_of (octet ∷ []));
 }
-NoEol-cons octet behind (n ∷ octets) fits next h some wide =
-    let same : behind ≡ n = h.first_is in
+NoEol-cons octet after (n ∷ octets) fits next h some wide =
+    let same : after ≡ n = h.first_is in
     let first : NoEol (n ∷ octets) n = subst (NoEol (n ∷ octets)) same h in
     record {
       first_is = refl;
@@ -140,16 +140,16 @@ NoEol-cons octet behind (n ∷ octets) fits next h some wide =
       none = λ (before, rest, e). none_begins octet n octets before rest fits next first some (λ half. omega (arith, wide half, same)) e;
     }
 
-pub NoEol-turn : (octets : List ℕ) (place behind : ℕ) → 0 < place → place ≤ length octets → ((i : ℕ) → get_or octets i 0 < 256) → NoEol (drop place octets) behind
-    → 0 < get_or octets (place - 1) 0 → (get_or octets (place - 1) 0 % 16 ≡ 0 → 16 ≤ behind) → NoEol (drop (place - 1) octets) (get_or octets (place - 1) 0)
-NoEol-turn octets place behind some inside fits h nonzero wide =
+pub NoEol-turn : (octets : List ℕ) (place after : ℕ) → 0 < place → place ≤ length octets → ((i : ℕ) → get_or octets i 0 < 256) → NoEol (drop place octets) after
+    → 0 < get_or octets (place - 1) 0 → (get_or octets (place - 1) 0 % 16 ≡ 0 → 16 ≤ after) → NoEol (drop (place - 1) octets) (get_or octets (place - 1) 0)
+NoEol-turn octets place after some inside fits h nonzero wide =
     let octet : ℕ = get_or octets (place - 1) 0 in
     let back : place - 1 + 1 ≡ place = omega arith in
     let split : drop (place - 1) octets ≡ octet ∷ drop place octets = drop_more octets (place - 1) 0 (omega arith) ∙ ap (λ n. octet ∷ drop n octets) back in
     let next : get_or (drop place octets) 0 0 < 256 = omega (arith, get_or-drop place octets 0 0, fits (place + 0)) in
-    subst (λ (os : List ℕ). NoEol os octet) (sym split) (NoEol-cons octet behind (drop place octets) (fits (place - 1)) next h nonzero wide)
+    subst (λ (os : List ℕ). NoEol os octet) (sym split) (NoEol-cons octet after (drop place octets) (fits (place - 1)) next h nonzero wide)
 
--- nothing stands behind all octets
+-- nothing stands after all octets
 pub NoEol-end : (octets : List ℕ) → NoEol (drop (length octets) octets) 255
 NoEol-end octets = subst (λ (os : List ℕ). NoEol os 255) (sym (drop-length octets)) NoEol-nil
 
@@ -185,12 +185,12 @@ NoEol-at octets place inside some none = record {
   none = λ holds. none (subst HoldsEol (sym (drop-bits_of place octets (omega arith))) holds);
 }
 
--- what it says of the bits behind a place
-pub none_behind : (octets : List ℕ) (place from first : ℕ) → place ≤ length octets → from ≡ place → NoEol (drop place octets) first → HoldsEol (drop (8 * from) (bits_of octets)) → ⊥
-none_behind octets place from first inside same h holds =
+-- what it says of the bits after a place
+pub none_after : (octets : List ℕ) (place from first : ℕ) → place ≤ length octets → from ≡ place → NoEol (drop place octets) first → HoldsEol (drop (8 * from) (bits_of octets)) → ⊥
+none_after octets place from first inside same h holds =
     h.none (subst HoldsEol (ap (λ n. drop (8 * n) (bits_of octets)) same ∙ drop-bits_of place octets inside) holds)
 
--- ---- what ends with an EOL, and at most one bit behind it
+-- ---- what ends with an EOL, and at most one bit after it
 
 -- where that EOL stands
 pub ends_at : (text before tag rest bits : List Bool) → text ≡ before ++ (end_of_line ++ tag) → bits ≡ text ++ rest → bits ≡ before ++ (end_of_line ++ (tag ++ rest))
@@ -201,7 +201,7 @@ ends_at text before tag rest bits ends e =
 pub ends_hold : (text before tag rest bits : List Bool) → text ≡ before ++ (end_of_line ++ tag) → bits ≡ text ++ rest → HoldsEol bits
 ends_hold text before tag rest bits ends e = (before, tag ++ rest, ends_at text before tag rest bits ends e)
 
--- an EOL that stands in bits behind a place
+-- an EOL that stands in bits after a place
 holds_from : (all : List Bool) (used n : ℕ) (before rest : List Bool) → drop used all ≡ before ++ (end_of_line ++ rest) → n ≤ used + length before → HoldsEol (drop n all)
 holds_from all used n before rest e le =
     let far : ℕ = used + length before - n in

@@ -25,29 +25,29 @@ zero_octets (suc n) =
     ∙ replicate-append-replicate 8 (8 * n) false ∙ ap (λ k. replicate k false) size
 
 -- the bits of octets of zeros between others
-bits_between : (before behind : List ℕ) (n : ℕ) → bits_of ((before ++ replicate n 0) ++ behind) ≡ bits_of before ++ (replicate (8 * n) false ++ bits_of behind)
-bits_between before behind n =
-    ap bits_of (append_assoc before (replicate n 0) behind) ∙ bits_of-append before (replicate n 0 ++ behind)
-    ∙ ap (λ b. bits_of before ++ b) (bits_of-append (replicate n 0) behind ∙ ap (λ b. b ++ bits_of behind) (zero_octets n))
+bits_between : (before after : List ℕ) (n : ℕ) → bits_of ((before ++ replicate n 0) ++ after) ≡ bits_of before ++ (replicate (8 * n) false ++ bits_of after)
+bits_between before after n =
+    ap bits_of (append_assoc before (replicate n 0) after) ∙ bits_of-append before (replicate n 0 ++ after)
+    ∙ ap (λ b. bits_of before ++ b) (bits_of-append (replicate n 0) after ∙ ap (λ b. b ++ bits_of after) (zero_octets n))
 
 -- octets end with so many of zeros
 abbrev EndWithZeros : ℕ → List ℕ → Type 0
 EndWithZeros n octets = (before : List ℕ) × (octets ≡ before ++ replicate n 0)
 
-one_more : (n : ℕ) (before behind octets : List ℕ) → 4 ≤ n → octets ≡ before ++ replicate n 0 → DifferOnce (bits_of (octets ++ behind)) (bits_of (octets ++ 0 ∷ behind))
-one_more n before behind octets many e =
-    let more : octets ++ 0 ∷ behind ≡ (before ++ replicate (n + 1) 0) ++ behind =
-    sym (append_assoc octets (0 ∷ []) behind) ∙ ap (λ os. (os ++ 0 ∷ []) ++ behind) e
-    ∙ ap (λ os. os ++ behind) (append_assoc before (replicate n 0) (0 ∷ []) ∙ ap (λ os. before ++ os) (replicate-append-replicate n 1 0)) in
+one_more : (n : ℕ) (before after octets : List ℕ) → 4 ≤ n → octets ≡ before ++ replicate n 0 → DifferOnce (bits_of (octets ++ after)) (bits_of (octets ++ 0 ∷ after))
+one_more n before after octets many e =
+    let more : octets ++ 0 ∷ after ≡ (before ++ replicate (n + 1) 0) ++ after =
+    sym (append_assoc octets (0 ∷ []) after) ∙ ap (λ os. (os ++ 0 ∷ []) ++ after) e
+    ∙ ap (λ os. os ++ after) (append_assoc before (replicate n 0) (0 ∷ []) ∙ ap (λ os. before ++ os) (replicate-append-replicate n 1 0)) in
     inr (record {
       before = bits_of before;
       m = 8 * n;
       n = 8 * (n + 1);
-      rest = bits_of behind;
+      rest = bits_of after;
       many = omega (arith, many);
       as_many = omega (arith, many);
-      a_is = ap (λ os. bits_of (os ++ behind)) e ∙ bits_between before behind n;
-      b_is = ap bits_of more ∙ bits_between before behind (n + 1);
+      a_is = ap (λ os. bits_of (os ++ after)) e ∙ bits_between before after n;
+      b_is = ap bits_of more ∙ bits_between before after (n + 1);
     })
 
 -- ---- all of them
@@ -85,30 +85,30 @@ one_dropped Holds free octets front before count many e same =
       λ holds. subst (λ os. Holds (front ++ os)) (sym less) (same.1 (free (front ++ 0 ∷ octets) (front ++ octets) (swap (front ++ octets) (front ++ 0 ∷ octets) differ) holds)),
     )
 
--- behind octets with so many of zeros at their end
-same_behind : (Holds : List ℕ → Type 0) → IsFree Holds → (octets front : List ℕ) (count : ℕ) → EndWithZeros count front → IsSame Holds (front ++ less_fill count octets) (front ++ octets)
-same_behind Holds free [] front count ends =
+-- after octets with so many of zeros at their end
+same_after : (Holds : List ℕ → Type 0) → IsFree Holds → (octets front : List ℕ) (count : ℕ) → EndWithZeros count front → IsSame Holds (front ++ less_fill count octets) (front ++ octets)
+same_after Holds free [] front count ends =
     let e : front ++ less_fill count [] ≡ front ++ [] = ap (λ os. front ++ os) (less_fill-none count) in
     (subst Holds e, subst Holds (sym e))
-same_behind Holds free (suc n ∷ octets) front count ends =
+same_after Holds free (suc n ∷ octets) front count ends =
     let more : List ℕ = front ++ suc n ∷ [] in
     let some : suc n ≡ 0 → ⊥ = λ e. omega (arith, e) in
     one_kept Holds (suc n) octets front count (kept-some count (suc n) (λ e. absurd (some e)))
-    (same_behind Holds free octets more (zeros_with count (suc n)) (subst (λ z. EndWithZeros z more) (zeros-some count (suc n) some) (more, sym (append-nil more))))
-same_behind Holds free (zero ∷ octets) front count (before, e) = elim (cases_lt count 4) [
+    (same_after Holds free octets more (zeros_with count (suc n)) (subst (λ z. EndWithZeros z more) (zeros-some count (suc n) some) (more, sym (append-nil more))))
+same_after Holds free (zero ∷ octets) front count (before, e) = elim (cases_lt count 4) [
   | inl few ↦
       let more : List ℕ = front ++ 0 ∷ [] in
       let ends : more ≡ before ++ replicate (count + 1) 0 =
       ap (λ os. os ++ 0 ∷ []) e ∙ append_assoc before (replicate count 0) (0 ∷ []) ∙ ap (λ os. before ++ os) (replicate-append-replicate count 1 0) in
       one_kept Holds 0 octets front count (kept-some count 0 (λ _. few))
-      (same_behind Holds free octets more (zeros_with count 0) (subst (λ z. EndWithZeros z more) (zeros-more count 0 refl few) (before, ends)))
-  | inr many ↦ one_dropped Holds free octets front before count many e (same_behind Holds free octets front count (before, e))
+      (same_after Holds free octets more (zeros_with count 0) (subst (λ z. EndWithZeros z more) (zeros-more count 0 refl few) (before, ends)))
+  | inr many ↦ one_dropped Holds free octets front before count many e (same_after Holds free octets front count (before, e))
 ]
 
 pub fill_is_free : FillIsFree
 fill_is_free width coding octets = (
-  λ rows. same_behind (λ os. MeansRows width coding os rows) (λ os others differ. MeansRows-alike width coding os others rows differ) octets [] 0 ([], refl),
-  λ fault. same_behind (λ os. FailsPage width coding os fault) (λ os others differ. FailsPage-alike width coding os others fault differ) octets [] 0 ([], refl),
+  λ rows. same_after (λ os. MeansRows width coding os rows) (λ os others differ. MeansRows-alike width coding os others rows differ) octets [] 0 ([], refl),
+  λ fault. same_after (λ os. FailsPage width coding os fault) (λ os others differ. FailsPage-alike width coding os others fault differ) octets [] 0 ([], refl),
 )
 
 -- So octets are what they are without long fill.

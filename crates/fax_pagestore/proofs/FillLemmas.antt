@@ -96,7 +96,7 @@ some-kept before octets i (suc k) inside some kept =
       λ _. zeros-some count (get_or octets (i + k) 0) octet ∙ zeros-step before octets (i + k) count here refl ∙ ap (λ n. zeros_after before (take n octets)) size,
     )
 
--- ---- octets of zeros behind as many as are kept
+-- ---- octets of zeros after as many as are kept
 
 zeros_dropped : (count n : ℕ) → 4 ≤ count → less_fill count (replicate n 0) ≡ []
 unfolding less_fill
@@ -123,7 +123,7 @@ few_zeros_kept count (suc n) = elim (cases_lt count 4) [
   | inr many ↦ omega (arith, ap length (zeros_dropped count (suc n) many), zeros_stay count (suc n) many)
 ]
 
--- ---- a piece gone over in spans: octets that are kept, and octets of zeros behind them that are not
+-- ---- a piece gone over in spans: octets that are kept, and octets of zeros after them that are not
 
 -- What was added of the octets before a place, and how many of zeros stand at their end.
 pub record AddedUpTo (before : ℕ) (piece old items : List ℕ) (place count : ℕ) : Type 0 where

@@ -14,20 +14,20 @@ use Rattle.fax_runcodes.specs.Rows.{Elements}
 use Rattle.fax_pagestore.specs.PageTexts.{end_of_line}
 use Rattle.fax_pagestore.specs.Ends.{HoldsEol, BeginNoEol}
 use Rattle.fax_pagestore.specs.Readers.{IsReadUpTo}
-use Rattle.fax_pagestore.proofs.FrontLemmas.{FewZeros, zeros_behind, FewZeros-zeros, FewZeros-no_eol}
-use Rattle.fax_pagestore.proofs.BeforeEolLemmas.{behind_front, within, between}
+use Rattle.fax_pagestore.proofs.FrontLemmas.{FewZeros, zeros_after, FewZeros-zeros, FewZeros-no_eol}
+use Rattle.fax_pagestore.proofs.BeforeEolLemmas.{after_front, within, between}
 
--- ---- bits one behind the other, with zeros before them
+-- ---- bits one after the other, with zeros before them
 
-FewZeros-append : (n : ℕ) (s t : List Bool) → FewZeros n s → FewZeros (zeros_behind n s) t → FewZeros n (s ++ t)
+FewZeros-append : (n : ℕ) (s t : List Bool) → FewZeros n s → FewZeros (zeros_after n s) t → FewZeros n (s ++ t)
 FewZeros-append n [] t few rest = rest
 FewZeros-append n (true ∷ s) t few rest = (few.0, FewZeros-append 0 s t few.1 rest)
 FewZeros-append n (false ∷ s) t few rest = FewZeros-append (suc n) s t few rest
 
-zeros_behind-append : (n : ℕ) (s t : List Bool) → zeros_behind n (s ++ t) ≡ zeros_behind (zeros_behind n s) t
-zeros_behind-append n [] t = refl
-zeros_behind-append n (true ∷ s) t = zeros_behind-append 0 s t
-zeros_behind-append n (false ∷ s) t = zeros_behind-append (suc n) s t
+zeros_after-append : (n : ℕ) (s t : List Bool) → zeros_after n (s ++ t) ≡ zeros_after (zeros_after n s) t
+zeros_after-append n [] t = refl
+zeros_after-append n (true ∷ s) t = zeros_after-append 0 s t
+zeros_after-append n (false ∷ s) t = zeros_after-append (suc n) s t
 
 -- eleven bits at most hold no EOL
 FewZeros-short : (n : ℕ) (s : List Bool) → n + length s ≤ 11 → FewZeros n s
@@ -35,7 +35,7 @@ FewZeros-short n [] le = tt
 FewZeros-short n (true ∷ s) le = (omega arith, FewZeros-short 0 s (omega arith))
 FewZeros-short n (false ∷ s) le = FewZeros-short (suc n) s (omega arith)
 
--- behind eleven zeros there are zeros alone, however many stand before
+-- after eleven zeros there are zeros alone, however many stand before
 FewZeros-full : (m n : ℕ) (s : List Bool) → 11 ≤ m → FewZeros m s → FewZeros n s
 FewZeros-full m n [] full few = tt
 FewZeros-full m n (true ∷ s) full few = absurd (omega (arith, few.0))
@@ -57,21 +57,21 @@ last_bit : (n : ℕ) → word_bits 1 n ≡ (n % 2 == 1) ∷ []
 unfolding bit word_bits
 last_bit n = let whole : n / 2 ^ 0 ≡ n = omega arith in ap (λ m. (m % 2 == 1) ∷ []) whole
 
-zeros_behind-last : (n z t d : ℕ) → n % 2 ≡ d → (d ≡ 0 → z ≡ t) → zeros_behind z ((n % 2 == 1) ∷ []) ≡ under d t
-zeros_behind-last n z t zero e same = ap (λ m. zeros_behind z ((m == 1) ∷ [])) e ∙ ap suc (same refl)
-zeros_behind-last n z t (suc zero) e same = ap (λ m. zeros_behind z ((m == 1) ∷ [])) e
-zeros_behind-last n z t (suc (suc d)) e same = absurd (omega arith)
+zeros_after-last : (n z t d : ℕ) → n % 2 ≡ d → (d ≡ 0 → z ≡ t) → zeros_after z ((n % 2 == 1) ∷ []) ≡ under d t
+zeros_after-last n z t zero e same = ap (λ m. zeros_after z ((m == 1) ∷ [])) e ∙ ap suc (same refl)
+zeros_after-last n z t (suc zero) e same = ap (λ m. zeros_after z ((m == 1) ∷ [])) e
+zeros_after-last n z t (suc (suc d)) e same = absurd (omega arith)
 
 -- the zeros at the end of a word that is not 0
-zeros_of_word : (k n z : ℕ) → 0 < n → n < 2 ^ k → zeros_behind z (word_bits k n) ≡ count_trailing_zeros k n
+zeros_of_word : (k n z : ℕ) → 0 < n → n < 2 ^ k → zeros_after z (word_bits k n) ≡ count_trailing_zeros k n
 unfolding count_trailing_zeros
 zeros_of_word zero n z some fits = absurd (omega arith)
 zeros_of_word (suc k) n z some fits =
-    let before : ℕ = zeros_behind z (word_bits k (n / 2)) in
+    let before : ℕ = zeros_after z (word_bits k (n / 2)) in
     let next : suc k ≡ k + 1 = omega arith in
     let split : word_bits (suc k) n ≡ word_bits k (n / 2) ++ word_bits 1 n = ap (λ m. word_bits m n) next ∙ word_bits-add k 1 n in
-    ap (zeros_behind z) split ∙ zeros_behind-append z (word_bits k (n / 2)) (word_bits 1 n) ∙ ap (zeros_behind before) (last_bit n)
-    ∙ zeros_behind-last n before (count_trailing_zeros k (n / 2)) (n % 2) refl
+    ap (zeros_after z) split ∙ zeros_after-append z (word_bits k (n / 2)) (word_bits 1 n) ∙ ap (zeros_after before) (last_bit n)
+    ∙ zeros_after-last n before (count_trailing_zeros k (n / 2)) (n % 2) refl
     (λ even. zeros_of_word k (n / 2) z (omega arith) (omega (arith, pow-suc 2 k)))
 
 -- ---- octets gone over
@@ -110,11 +110,11 @@ pub NoneSoFar-zero : (octets : List ℕ) (place zeros next : ℕ) → place < le
 NoneSoFar-zero octets place zeros next inside none is so =
     NoneSoFar-more octets place zeros next inside so (omega arith) (λ bits h.
     let word : word_bits 8 (get_or octets place 0) ≡ replicate 8 false = ap (word_bits 8) none ∙ word_bits-zero 8 in
-    let behind : FewZeros (zeros + 8) bits = elim (cases_lt (zeros + 8) 11) [
+    let after : FewZeros (zeros + 8) bits = elim (cases_lt (zeros + 8) 11) [
       | inl less ↦ let same : next ≡ zeros + 8 = omega arith in subst (λ n. FewZeros n bits) same h
       | inr full ↦ FewZeros-full next (zeros + 8) bits (omega arith) h
     ] in
-    subst (λ w. FewZeros zeros (w ++ bits)) (sym word) (FewZeros-zeros zeros 8 bits behind))
+    subst (λ w. FewZeros zeros (w ++ bits)) (sym word) (FewZeros-zeros zeros 8 bits after))
 
 pub NoneSoFar-octet : (octets : List ℕ) (place zeros : ℕ) → place < length octets → get_or octets place 0 < 256 → 0 < get_or octets place 0
     → zeros + count_leading_zeros 8 (get_or octets place 0) < 11 → count_trailing_zeros 8 (get_or octets place 0) ≤ 8
@@ -145,7 +145,7 @@ none_begins octets place passed inside far none = λ more front rest e.
     let size : length text ≡ 8 * place = length-bits_of (take place octets) ∙ ap (λ n. 8 * n) (length-take-le place octets inside) in
     let before : length (take (8 * passed) bits) ≡ 8 * passed = length-take-le (8 * passed) bits (omega (arith, length-bits_of octets)) in
     elim (cases_lt (length front) (8 * passed)) [
-      | inr behind ↦ omega arith
+      | inr after ↦ omega arith
       | inl early ↦
           let begins : text ++ drop (8 * place) bits ≡ bits = ap (λ t. t ++ drop (8 * place) bits) (sym (take-bits_of place octets inside)) ∙ take-append-drop (8 * place) bits in
           let whole : text ++ (drop (8 * place) bits ++ more) ≡ (front ++ end_of_line) ++ rest =
@@ -172,17 +172,17 @@ none_passed coding width all held rows used q place is none read = elim (cases_l
       let begin : BeginNoEol before (gone ++ left) = subst (BeginNoEol before) split read.3 in
       let far : used + (q - used) ≡ q = omega arith in
       let start : take q bits ≡ take used bits ++ gone = ap (λ n. take n bits) (sym far) ∙ take-add used (q - used) bits in
-      let behind : BeginNoEol (before ++ gone) left = λ more front rest e.
+      let after : BeginNoEol (before ++ gone) left = λ more front rest e.
       let whole : before ++ ((gone ++ left) ++ more) ≡ front ++ (end_of_line ++ rest) =
       ap (λ b. before ++ b) (append_assoc gone left more) ∙ sym (append_assoc before gone (left ++ more)) ∙ e in
       let at : length before ≤ length front = begin more front rest whole in
       let own : List Bool = drop (length before) front in
       let there : take q bits ++ (left ++ more) ≡ (take used bits ++ own) ++ (end_of_line ++ rest) =
       ap (λ b. b ++ (left ++ more)) start ∙ append_assoc (take used bits) gone (left ++ more)
-      ∙ ap (λ b. take used bits ++ b) (sym (append_assoc gone left more) ∙ behind_front before ((gone ++ left) ++ more) front (end_of_line ++ rest) whole at)
+      ∙ ap (λ b. take used bits ++ b) (sym (append_assoc gone left more) ∙ after_front before ((gone ++ left) ++ more) front (end_of_line ++ rest) whole at)
       ∙ sym (append_assoc (take used bits) own (end_of_line ++ rest)) in
       let long : length (take q bits) ≤ length (take used bits ++ own) = none more (take used bits ++ own) rest there in
       omega (arith, ap length start, length-append (take used bits) gone, length-append (take used bits) own, length-drop (length before) front, length-append before gone) in
       subst (λ n. IsReadUpTo coding width all rows None (drop n bits)) same
-      (read.0, before ++ gone, read.2 ∙ ap (λ b. before ++ b) split ∙ sym (append_assoc before gone left), behind)
+      (read.0, before ++ gone, read.2 ∙ ap (λ b. before ++ b) split ∙ sym (append_assoc before gone left), after)
 ]

@@ -1,4 +1,4 @@
--- What is passed of a page up to its first EOL: zeros, the 1s behind them, and the tag of the EOL.
+-- What is passed of a page up to its first EOL: zeros, the 1s after them, and the tag of the EOL.
 use Rattle.std.proofs.Common.{◌≡◌, inl, inr, IsTrue, ◌==◌, ◌^◌, ℕ, zero, suc, ◌+◌, ◌-◌, ◌<◌, ◌≤◌, Bool, true, false, List, [], ◌∷◌, ◌++◌, length, take, drop, min, nat_lt, replicate, refl, sym, ◌∙◌, ap, subst, arith, append_assoc, append-nil, add-zero, length-append}
 use Rattle.std.proofs.lemmas.List.{length-replicate, take_at, nil_from_length, replicate-append-replicate, take-append-le, take-append-drop, take_all}
 use Rattle.std.proofs.lemmas.Bool.{cases_lt, lt-ltb}
@@ -13,7 +13,7 @@ use Rattle.fax_pagestore.specs.PageFaults.{LineBegins}
 
 -- ---- zeros up to a 1
 
--- what stands behind the zeros, where bits are left
+-- what stands after the zeros, where bits are left
 one_ahead : (bits : List Bool) → ((rest : List Bool) → bits ≡ false ∷ rest → ⊥) → 1 ≤ length bits → (rest : List Bool) × (bits ≡ true ∷ rest)
 one_ahead [] stops some = absurd (omega arith)
 one_ahead (true ∷ rest) stops some = (rest, refl)
@@ -34,26 +34,26 @@ Passes-zeros_one a b c zeros p stops some q =
     Passes-then a b c (replicate zeros false) (true ∷ []) p (subst (λ bits. Passes b c (take 1 bits)) one.1 q)
 
 -- Zeros that are followed by no further zero are all zeros before a 1.
-one_behind : (a b : ℕ) (x y : List Bool) → replicate a false ++ x ≡ replicate b false ++ true ∷ y → ((rest : List Bool) → x ≡ false ∷ rest → ⊥) → (a ≡ b) × (x ≡ true ∷ y)
-one_behind zero zero x y e stops = (refl, e)
-one_behind zero (suc b) x y e stops = absurd (stops (replicate b false ++ true ∷ y) e)
-one_behind (suc a) zero x y e stops = cc
-one_behind (suc a) (suc b) x y e stops =
+one_after : (a b : ℕ) (x y : List Bool) → replicate a false ++ x ≡ replicate b false ++ true ∷ y → ((rest : List Bool) → x ≡ false ∷ rest → ⊥) → (a ≡ b) × (x ≡ true ∷ y)
+one_after zero zero x y e stops = (refl, e)
+one_after zero (suc b) x y e stops = absurd (stops (replicate b false ++ true ∷ y) e)
+one_after (suc a) zero x y e stops = cc
+one_after (suc a) (suc b) x y e stops =
     let tails : replicate a false ++ x ≡ replicate b false ++ true ∷ y = cc in
-    let more : (a ≡ b) × (x ≡ true ∷ y) = one_behind a b x y tails stops in
+    let more : (a ≡ b) × (x ≡ true ∷ y) = one_after a b x y tails stops in
     (ap suc more.0, more.1)
 
 -- Where a line begins fewer than 11 zeros were passed, and a 1 follows.
 pub line_zeros : (a b : Place) (zeros : ℕ) → Passes a b (replicate zeros false) → ((rest : List Bool) → b.left ≡ false ∷ rest → ⊥) → LineBegins a.left
     → (zeros < 11) × (1 ≤ length b.left)
 line_zeros a b zeros p stops (z, rest, few, e) =
-    let same : (zeros ≡ z) × (b.left ≡ true ∷ rest) = one_behind zeros z b.left rest (sym p.bits ∙ e) stops in
+    let same : (zeros ≡ z) × (b.left ≡ true ∷ rest) = one_after zeros z b.left rest (sym p.bits ∙ e) stops in
     let size : length b.left ≡ suc (length rest) = ap length same.1 in
     (omega (arith, same.0), omega arith)
 
 -- One number of zeros comes before a 1.
 pub zeros_before_one : (a b : ℕ) (x y : List Bool) → replicate a false ++ true ∷ x ≡ replicate b false ++ true ∷ y → a ≡ b
-zeros_before_one a b x y e = (one_behind a b (true ∷ x) y e (λ rest h. cc)).0
+zeros_before_one a b x y e = (one_after a b (true ∷ x) y e (λ rest h. cc)).0
 
 -- Bits that begin with so many zeros have no 1 among them.
 pub no_one_in_zeros : (n z : ℕ) (rest : List Bool) → z < n → take n (replicate z false ++ true ∷ rest) ≡ replicate n false → ⊥
@@ -80,7 +80,7 @@ few_zeros zeros bits one none begins = elim (cases_lt zeros 56) [
   | inr past ↦ absurd (none past begins)
 ]
 
--- The zeros of a window and the 1 behind them passed.
+-- The zeros of a window and the 1 after them passed.
 pub Passes-window : (a b : Place) (zeros : ℕ) → (rest : List Bool) × (a.left ≡ replicate zeros false ++ true ∷ rest) → Passes a b (take (zeros + 1) a.left)
     → Passes a b (replicate zeros false ++ true ∷ [])
 Passes-window a b zeros (rest, e) p =
@@ -110,28 +110,28 @@ zeros_one_shorter a b zeros p =
 
 -- ---- bits with no EOL in them
 
--- each 1 comes behind fewer than 11 zeros, where so many zeros come before the bits
+-- each 1 comes after fewer than 11 zeros, where so many zeros come before the bits
 abbrev pub FewZeros : ℕ → List Bool → Type 0
 FewZeros n [] = Unit {0}
 FewZeros n (true ∷ bits) = (n < 11) × FewZeros 0 bits
 FewZeros n (false ∷ bits) = FewZeros (suc n) bits
 
 -- how many zeros bits end with, where so many come before them
-abbrev pub zeros_behind : ℕ → List Bool → ℕ
-zeros_behind n [] = n
-zeros_behind n (true ∷ bits) = zeros_behind 0 bits
-zeros_behind n (false ∷ bits) = zeros_behind (suc n) bits
+abbrev pub zeros_after : ℕ → List Bool → ℕ
+zeros_after n [] = n
+zeros_after n (true ∷ bits) = zeros_after 0 bits
+zeros_after n (false ∷ bits) = zeros_after (suc n) bits
 
-FewZeros-behind : (n : ℕ) (s t : List Bool) → FewZeros n (s ++ t) → FewZeros (zeros_behind n s) t
-FewZeros-behind n [] t h = h
-FewZeros-behind n (true ∷ s) t h = FewZeros-behind 0 s t h.1
-FewZeros-behind n (false ∷ s) t h = FewZeros-behind (suc n) s t h
+FewZeros-after : (n : ℕ) (s t : List Bool) → FewZeros n (s ++ t) → FewZeros (zeros_after n s) t
+FewZeros-after n [] t h = h
+FewZeros-after n (true ∷ s) t h = FewZeros-after 0 s t h.1
+FewZeros-after n (false ∷ s) t h = FewZeros-after (suc n) s t h
 
-FewZeros-behind_zeros : (n zeros : ℕ) (t : List Bool) → FewZeros n (replicate zeros false ++ t) → FewZeros (n + zeros) t
-FewZeros-behind_zeros n zero t h = subst (λ k. FewZeros k t) (sym (add-zero n)) h
-FewZeros-behind_zeros n (suc zeros) t h =
+FewZeros-after_zeros : (n zeros : ℕ) (t : List Bool) → FewZeros n (replicate zeros false ++ t) → FewZeros (n + zeros) t
+FewZeros-after_zeros n zero t h = subst (λ k. FewZeros k t) (sym (add-zero n)) h
+FewZeros-after_zeros n (suc zeros) t h =
     let same : suc n + zeros ≡ n + suc zeros = omega arith in
-    subst (λ k. FewZeros k t) same (FewZeros-behind_zeros (suc n) zeros t h)
+    subst (λ k. FewZeros k t) same (FewZeros-after_zeros (suc n) zeros t h)
 
 pub FewZeros-zeros : (n zeros : ℕ) (t : List Bool) → FewZeros (n + zeros) t → FewZeros n (replicate zeros false ++ t)
 FewZeros-zeros n zero t h = subst (λ k. FewZeros k t) (add-zero n) h
@@ -144,8 +144,8 @@ pub FewZeros-no_eol : (text front rest : List Bool) → FewZeros 0 text → Ends
 unfolding end_of_line
 FewZeros-no_eol text front rest few (before, e) whole =
     let bits : text ≡ before ++ (replicate 11 false ++ (true ∷ rest)) = whole ∙ ap (λ b. b ++ rest) e ∙ append_assoc before (replicate 11 false ++ true ∷ []) rest in
-    let behind : FewZeros (zeros_behind 0 before) (replicate 11 false ++ (true ∷ rest)) = FewZeros-behind 0 before (replicate 11 false ++ (true ∷ rest)) (subst (FewZeros 0) bits few) in
-    let one : FewZeros (zeros_behind 0 before + 11) (true ∷ rest) = FewZeros-behind_zeros (zeros_behind 0 before) 11 (true ∷ rest) behind in
+    let after : FewZeros (zeros_after 0 before) (replicate 11 false ++ (true ∷ rest)) = FewZeros-after 0 before (replicate 11 false ++ (true ∷ rest)) (subst (FewZeros 0) bits few) in
+    let one : FewZeros (zeros_after 0 before + 11) (true ∷ rest) = FewZeros-after_zeros (zeros_after 0 before) 11 (true ∷ rest) after in
     omega (arith, one.0)
 
 -- ---- the front that is being passed
@@ -159,20 +159,20 @@ pub record FrontSoFar (old new : Place) : Type 0 where
 pub FrontSoFar-none : (p : Place) → FrontSoFar p p
 FrontSoFar-none p = record { text = []; passes = Passes-none p; free = λ bits h. h }
 
--- with zeros and a 1 behind them
-behind_text : (text : List Bool) (zeros : ℕ) (bits : List Bool) → (text ++ (replicate zeros false ++ true ∷ [])) ++ bits ≡ text ++ (replicate zeros false ++ (true ∷ bits))
-behind_text text zeros bits =
+-- with zeros and a 1 after them
+after_text : (text : List Bool) (zeros : ℕ) (bits : List Bool) → (text ++ (replicate zeros false ++ true ∷ [])) ++ bits ≡ text ++ (replicate zeros false ++ (true ∷ bits))
+after_text text zeros bits =
     append_assoc text (replicate zeros false ++ true ∷ []) bits ∙ ap (λ b. text ++ b) (append_assoc (replicate zeros false) (true ∷ []) bits)
 
 pub FrontSoFar-more : (old mid new : Place) (zeros : ℕ) → FrontSoFar old mid → Passes mid new (replicate zeros false ++ true ∷ []) → zeros < 11 → FrontSoFar old new
 FrontSoFar-more old mid new zeros r p few = record {
   text = r.text ++ (replicate zeros false ++ true ∷ []);
   passes = Passes-then old mid new r.text (replicate zeros false ++ true ∷ []) r.passes p;
-  free = λ bits h. subst (FewZeros 0) (sym (behind_text r.text zeros bits))
+  free = λ bits h. subst (FewZeros 0) (sym (after_text r.text zeros bits))
       (r.free (replicate zeros false ++ (true ∷ bits)) (FewZeros-zeros 0 zeros (true ∷ bits) (omega arith, h)));
 }
 
--- with only zeros behind them there is no EOL
+-- with only zeros after them there is no EOL
 with_zeros : (old new : Place) (zeros : ℕ) (r : FrontSoFar old new) → FewZeros 0 (r.text ++ replicate zeros false)
 with_zeros old new zeros r = r.free (replicate zeros false) (subst (FewZeros 0) (append-nil (replicate zeros false)) (FewZeros-zeros 0 zeros [] tt))
 
@@ -223,7 +223,7 @@ front_before front rest before b some e =
     let size : length front + length rest ≡ length before + 1 = sym (length-append front rest) ∙ ap length e ∙ length-append before (b ∷ []) in
     sym (take-append-le (length front) before (b ∷ []) (omega arith)) ∙ ap (take (length front)) (sym e) ∙ take-append-le (length front) front rest (omega arith) ∙ take_all (length front) front (omega arith)
 
--- Nor is there one with its tag where nothing is left behind the first EOL, and its tag is missing.
+-- Nor is there one with its tag where nothing is left after the first EOL, and its tag is missing.
 pub no_tag : (old mid new : Place) (zeros : ℕ) → FrontSoFar old mid → Passes mid new (replicate zeros false ++ true ∷ [])
     → (coding : Coding) → (coding ≡ Mr) × (new.left ≡ []) → HoldsNoTaggedEol coding old.left
 no_tag old mid new zeros r p coding (mr, none) tag front tag_text rest is e =

@@ -21,4 +21,4 @@ pub mod WritingLemmas
 pub mod WrittenLemmas
 pub mod WriterLemmas
 pub mod WrittenOnce
-pub mod ZerosBehindLemmas
+pub mod ZerosAfterLemmas

@@ -18,7 +18,7 @@ HasExtent places e = HasRowAt places e.start e.count e.width
 abbrev pub row_of : List ℕ → Extent → Elements
 row_of places e = row_at places e.start e.count e.width
 
--- more places behind
+-- more places after
 places_at-more : (places more : List ℕ) (start count : ℕ) → start + count ≤ length places
     → places_at (places ++ more) start count ≡ places_at places start count
 places_at-more places more start count le = take-drop-append count start places more le
@@ -33,7 +33,7 @@ HasExtent-more places more e has = record {
 row_of-more : (places more : List ℕ) (e : Extent) → HasExtent places e → row_of (places ++ more) e ≡ row_of places e
 row_of-more places more e has = ap (λ ps. painted White 0 ps e.width) (places_at-more places more e.start e.count has.within)
 
--- the places that stand behind the others
+-- the places that stand after the others
 places_at-new : (places changes : List ℕ) → places_at (places ++ changes) (length places) (length changes) ≡ changes
 places_at-new places changes = ap (take (length changes)) (drop-append_seam places changes) ∙ take-length changes
 
@@ -44,7 +44,7 @@ map_same P f g same (x ∷ xs) all =
     ap (λ y. y ∷ map f xs) (same x (all 0 x (omega arith)))
     ∙ ap (λ ys. g x ∷ ys) (map_same P f g same xs (λ k d lt. all (suc k) d (omega arith)))
 
--- an extent is that of new places behind the others
+-- an extent is that of new places after the others
 pub record IsNewExtent (places changes : List ℕ) (width : ℕ) (e : Extent) : Type 0 where
   pub start : e.start ≡ length places
   pub count : e.count ≡ length changes
@@ -55,7 +55,7 @@ new_places : (places changes : List ℕ) (width : ℕ) (e : Extent) → IsNewExt
 new_places places changes width e is =
     ap (λ n. places_at (places ++ changes) n e.count) is.start ∙ ap (λ n. places_at (places ++ changes) (length places) n) is.count ∙ places_at-new places changes
 
--- One more extent, of new places behind the others.
+-- One more extent, of new places after the others.
 pub HasExtents-push : (places changes : List ℕ) (width : ℕ) (extents : List Extent) (e : Extent) → IsNewExtent places changes width e
     → AreRising 0 changes width → IsWidth width → All (λ x. HasExtent places x) extents → All (λ x. HasExtent (places ++ changes) x) (extents ++ e ∷ [])
 HasExtents-push places changes width extents e is rising wide all =
@@ -78,7 +78,7 @@ rows_of-push places changes width extents e row is row_is all =
     (map_same (λ x. HasExtent places x) (λ x. row_of (places ++ changes) x) (λ x. row_of places x) (λ x has. row_of-more places changes x has) extents all)
     ∙ ap (λ r. map (λ x. row_of places x) extents ++ r ∷ []) new
 
--- an extent behind all others
+-- an extent after all others
 below_or_last : (k n : ℕ) → k < n + 1 → (k < n) ⊎ (k ≡ n)
 below_or_last k n lt = grind arith
 
@@ -142,7 +142,7 @@ HasExtentsBelow-cut places extents n e next k d lt =
       inside = let within = own.within in omega arith;
     }
 
--- The first extents keep their rows where the places of the next and of those behind it go.
+-- The first extents keep their rows where the places of the next and of those after it go.
 pub HasExtents-cut : (places : List ℕ) (extents : List Extent) (n : ℕ) (e : Extent) → IsNext places extents n e
     → All (λ x. HasExtent (take e.start places) x) (take n extents)
 HasExtents-cut places extents n e next =

@@ -5,7 +5,7 @@ use Rattle.fax_runcodes.specs.Rows.{Elements, IsWidth}
 use Rattle.fax_pagestore.specs.declared.fault.PageFault.{PageFault}
 use Rattle.fax_pagestore.specs.PageRows.{most_rows}
 use Rattle.fax_pagestore.specs.PageTexts.{ReadSoFar, MeansRows}
-use Rattle.fax_pagestore.specs.PageFaults.{Stops, FailsBehindFront, HasNoEol, last_of}
+use Rattle.fax_pagestore.specs.PageFaults.{Stops, FailsAfterFront, HasNoEol, last_of}
 use Rattle.fax_pagestore.specs.PageLaws.{PagesAreUnique, PagesDontFail, FaultsAreUnique}
 use Rattle.fax_pagestore.proofs.TextLemmas.{width_some}
 use Rattle.fax_pagestore.proofs.ReadLemmas.{HasWidth, OtherGoesOn, ReadSoFar-meet, ReadSoFar-width, Stops-separator, Stops-row, Stops-one, Stops-whole}
@@ -15,7 +15,7 @@ read_has_eol : (coding : Coding) (width : ℕ) (octets : List ℕ) (rows : List 
     → ReadSoFar coding width octets rows further tag rest → HasNoEol coding octets → ⊥
 read_has_eol coding width octets rows further tag rest r none = none r.front_tag r.front (r.lines ++ (r.separators ++ rest)) r.is_front r.bits_are
 
--- behind a whole page no other reading of five further separators goes on
+-- after a whole page no other reading of five further separators goes on
 whole_ends : (coding : Coding) (width : ℕ) (ms ns : List Elements) (k : ℕ) (tag : Bool) (bits : List Bool) → k ≤ 5 → OtherGoesOn coding width ms ns 5 k tag bits → ⊥
 whole_ends coding width ms ns k tag bits le g = elim g [ inl s ↦ omega (arith, s.one_more.fewer) | inr r ↦ omega (arith, r.none) ]
 
@@ -39,12 +39,12 @@ pages_are_unique width coding octets rows others is p q =
     ]
 
 -- the last row of what was read before a fault has the width
-fails_width : (coding : Coding) (width : ℕ) (octets : List ℕ) (fault : PageFault) (f : FailsBehindFront coding width octets fault) → HasWidth width (last_of f.rows)
+fails_width : (coding : Coding) (width : ℕ) (octets : List ℕ) (fault : PageFault) (f : FailsAfterFront coding width octets fault) → HasWidth width (last_of f.rows)
 fails_width coding width octets fault f = ReadSoFar-width coding width octets f.rows f.further f.tag f.rest f.read
 
--- a page that is meant doesn't stop at a fault behind the front
+-- a page that is meant doesn't stop at a fault after the front
 means_not_stopped : (width : ℕ) (coding : Coding) (octets : List ℕ) (rows : List Elements) (fault : PageFault) → IsWidth width
-    → MeansRows width coding octets rows → FailsBehindFront coding width octets fault → ⊥
+    → MeansRows width coding octets rows → FailsAfterFront coding width octets fault → ⊥
 means_not_stopped width coding octets rows fault is p f =
     elim (ReadSoFar-meet coding width octets rows f.rows 5 f.further true f.tag p.more f.rest (width_some width is) p.read f.read) [
       | inl same ↦
@@ -59,7 +59,7 @@ means_not_stopped width coding octets rows fault is p f =
 pub pages_dont_fail : PagesDontFail
 pages_dont_fail width coding octets rows fault is p f = elim f [
   | inl none ↦ read_has_eol coding width octets rows 5 true p.more p.read none.1
-  | inr behind ↦ means_not_stopped width coding octets rows fault is p behind
+  | inr after ↦ means_not_stopped width coding octets rows fault is p after
 ]
 
 -- a stop at one place is a stop at the other, where both are one
@@ -70,9 +70,9 @@ stops_there coding width ms ns j k a b x y fault rows further tag rest s =
     (subst (λ n. Stops coding width ns n a x fault) (sym further)
     (subst (λ (c : Bool). Stops coding width ns k c x fault) (sym tag) (subst (λ bits. Stops coding width ns k b bits fault) (sym rest) s)))
 
--- reading stops behind the front at one fault
-behind_one : (coding : Coding) (width : ℕ) (octets : List ℕ) (f g : PageFault) → IsWidth width → FailsBehindFront coding width octets f → FailsBehindFront coding width octets g → f ≡ g
-behind_one coding width octets f g is p q =
+-- reading stops after the front at one fault
+after_one : (coding : Coding) (width : ℕ) (octets : List ℕ) (f g : PageFault) → IsWidth width → FailsAfterFront coding width octets f → FailsAfterFront coding width octets g → f ≡ g
+after_one coding width octets f g is p q =
     elim (ReadSoFar-meet coding width octets p.rows q.rows p.further q.further p.tag q.tag p.rest q.rest (width_some width is) p.read q.read) [
       | inl same ↦
           Stops-one coding width p.rows p.further p.tag p.rest f g is (fails_width coding width octets f p) p.stops
@@ -88,10 +88,10 @@ pub faults_are_unique : FaultsAreUnique
 faults_are_unique width coding octets fault other is p q = elim p [
   | inl none ↦ elim q [
     | inl also ↦ none.0 ∙ sym also.0
-    | inr behind ↦ absurd (read_has_eol coding width octets behind.rows behind.further behind.tag behind.rest behind.read none.1)
+    | inr after ↦ absurd (read_has_eol coding width octets after.rows after.further after.tag after.rest after.read none.1)
   ]
-  | inr behind ↦ elim q [
-    | inl none ↦ absurd (read_has_eol coding width octets behind.rows behind.further behind.tag behind.rest behind.read none.1)
-    | inr also ↦ behind_one coding width octets fault other is behind also
+  | inr after ↦ elim q [
+    | inl none ↦ absurd (read_has_eol coding width octets after.rows after.further after.tag after.rest after.read none.1)
+    | inr also ↦ after_one coding width octets fault other is after also
   ]
 ]

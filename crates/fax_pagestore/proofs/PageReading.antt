@@ -13,8 +13,8 @@ use Rattle.fax_pagestore.specs.declared.fault.PageFault.TheVariants.{NoEol, BadL
 use Rattle.fax_pagestore.specs.PageRows.{most_rows}
 use Rattle.fax_pagestore.specs.Pages.{PageValue}
 use Rattle.fax_pagestore.specs.PageTexts.{IsSeparator, InARow, SpellsRow, SpellsRows, ReadSoFar, MeansRows, MeansPage}
-use Rattle.fax_pagestore.specs.PageFaults.{RunsOut, LineBegins, BreaksReturn, BreaksOff, StopsInReturn, last_of, FailsRow, WantsLine, Stops, FailsBehindFront, FailsPage, row_before}
-use Rattle.fax_pagestore.proofs.ReadLemmas.{HasWidth, SpellsRow-length, row_behind, row_behind-last}
+use Rattle.fax_pagestore.specs.PageFaults.{RunsOut, LineBegins, BreaksReturn, BreaksOff, StopsInReturn, last_of, FailsRow, WantsLine, Stops, FailsAfterFront, FailsPage, row_before}
+use Rattle.fax_pagestore.proofs.ReadLemmas.{HasWidth, SpellsRow-length, row_after, row_after-last}
 use Rattle.fax_pagestore.proofs.PageLaws.{pages_are_unique, pages_dont_fail, faults_are_unique}
 
 -- ---- widths
@@ -64,7 +64,7 @@ InARow-push coding (suc n) tag last next text separator (first_one, first, rest,
 )
 
 SpellsRows-push : (coding : Coding) (width : ℕ) (tag last next : Bool) (before : Option Elements) (rows : List Elements) (row : Elements) (text line separator : List Bool)
-    → SpellsRows coding width tag before rows text last → SpellsRow width last (row_behind before rows) line row → IsSeparator coding next separator
+    → SpellsRows coding width tag before rows text last → SpellsRow width last (row_after before rows) line row → IsSeparator coding next separator
     → SpellsRows coding width tag before (rows ++ row ∷ []) (text ++ (line ++ separator)) next
 SpellsRows-push coding width tag last next before [] row text line separator (none, same) spelt is = (
   line,
@@ -94,8 +94,8 @@ pub ReadSoFar-row : (coding : Coding) (width : ℕ) (octets : List ℕ) (rows : 
     → ReadSoFar coding width octets rows 0 tag bits → SpellsRow width tag (last_of rows) line row → IsSeparator coding next separator → bits ≡ (line ++ separator) ++ rest
     → ReadSoFar coding width octets (rows ++ row ∷ []) 0 next rest
 ReadSoFar-row coding width octets rows row tag next bits line separator rest r spelt is e =
-    let here : SpellsRow width r.row_tag (row_behind None rows) line row =
-    subst (λ (before : Option Elements). SpellsRow width r.row_tag before line row) (sym (row_behind-last rows))
+    let here : SpellsRow width r.row_tag (row_after None rows) line row =
+    subst (λ (before : Option Elements). SpellsRow width r.row_tag before line row) (sym (row_after-last rows))
     (subst (λ t. SpellsRow width t (last_of rows) line row) r.in_a_row.1 spelt) in
     record {
       front = r.front;
@@ -127,8 +127,8 @@ ReadSoFar-separators coding width octets rows n tag last bits text rest r in_a_r
 
 -- ---- rows that are being read
 
--- From old, behind the front of this tag, to new rows of a width were read, of which there are not too
--- many. Behind them is this tag, and the last of them is known where the tag wants it.
+-- From old, after the front of this tag, to new rows of a width were read, of which there are not too
+-- many. After them is this tag, and the last of them is known where the tag wants it.
 pub record RowsSoFar (coding : Coding) (width : ℕ) (first : Bool) (old : Place) (tag : Bool) (before : Option Elements) (new : Place) (rows : List Elements) : Type 0 where
   pub read : (octets : List ℕ) → ReadSoFar coding width octets [] 0 first old.left → ReadSoFar coding width octets rows 0 tag new.left
   pub few : length rows ≤ most_rows
@@ -195,12 +195,12 @@ pub RowsSoFar-known : (coding : Coding) (width : ℕ) (first tag : Bool) (before
     → RowsSoFar coding width first old tag before new rows → Knows tag other rows → RowsSoFar coding width first old tag other new rows
 RowsSoFar-known coding width first tag before other old new rows r k = record { read = r.read; few = r.few; each = r.each; known = k }
 
--- ---- where reading stops behind the rows so far
+-- ---- where reading stops after the rows so far
 
--- behind one separator
+-- after one separator
 fails_here : (coding : Coding) (width : ℕ) (first tag : Bool) (before : Option Elements) (old new : Place) (rows : List Elements) (fault : PageFault)
     → RowsSoFar coding width first old tag before new rows → Stops coding width rows 0 tag new.left fault
-    → (octets : List ℕ) → ReadSoFar coding width octets [] 0 first old.left → FailsBehindFront coding width octets fault
+    → (octets : List ℕ) → ReadSoFar coding width octets [] 0 first old.left → FailsAfterFront coding width octets fault
 fails_here coding width first tag before old new rows fault r stops octets front =
     record { rows = rows; further = 0; tag = tag; rest = new.left; few = r.few; at_most_six = omega arith; read = r.read octets front; stops = stops }
 
@@ -208,11 +208,11 @@ fails_here coding width first tag before old new rows fault r stops octets front
 pub broken_stops : (coding : Coding) (width : ℕ) (rows : List Elements) (n : ℕ) (tag : Bool) (bits : List Bool) → BreaksReturn coding n tag bits → Stops coding width rows n tag bits NoRtc
 broken_stops coding width rows n tag bits b = elim b [ inl line ↦ inr (inl line) | inr tagged ↦ inr (inr (inl tagged)) ]
 
--- behind further separators
+-- after further separators
 pub return_fails : (coding : Coding) (width : ℕ) (first tag : Bool) (before : Option Elements) (old new : Place) (rows : List Elements)
     → RowsSoFar coding width first old tag before new rows
     → StopsInReturn coding tag new.left (λ n last rest. Stops coding width rows n last rest NoRtc)
-    → (octets : List ℕ) → ReadSoFar coding width octets [] 0 first old.left → FailsBehindFront coding width octets NoRtc
+    → (octets : List ℕ) → ReadSoFar coding width octets [] 0 first old.left → FailsAfterFront coding width octets NoRtc
 return_fails coding width first tag before old new rows r s octets front = record {
   rows = rows;
   further = s.further;
@@ -251,17 +251,17 @@ return_breaks_off coding width rows tag bits s = record {
   reason = inl s.reason;
 }
 
--- A line begins behind as many rows as a page may have.
+-- A line begins after as many rows as a page may have.
 pub full_fails : (coding : Coding) (width : ℕ) (first tag : Bool) (before : Option Elements) (old new : Place) (rows : List Elements)
     → RowsSoFar coding width first old tag before new rows → LineBegins new.left → length rows ≡ most_rows
-    → (octets : List ℕ) → ReadSoFar coding width octets [] 0 first old.left → FailsBehindFront coding width octets TooManyRows
+    → (octets : List ℕ) → ReadSoFar coding width octets [] 0 first old.left → FailsAfterFront coding width octets TooManyRows
 full_fails coding width first tag before old new rows r begins full = fails_here coding width first tag before old new rows TooManyRows r (refl, begins, full)
 
 -- The row can't be read.
 pub row_fails : (coding : Coding) (width : ℕ) (first tag : Bool) (before : Option Elements) (old new : Place) (rows : List Elements) (n : ℕ) (fault : PageFault)
     → RowsSoFar coding width first old tag before new rows → LineBegins new.left → length rows ≢ most_rows → n ≡ length rows
     → ((others : List Elements) → length others ≡ n → Knows tag before others → WantsLine others 0 new.left → Stops coding width others 0 tag new.left fault)
-    → (octets : List ℕ) → ReadSoFar coding width octets [] 0 first old.left → FailsBehindFront coding width octets fault
+    → (octets : List ℕ) → ReadSoFar coding width octets [] 0 first old.left → FailsAfterFront coding width octets fault
 row_fails coding width first tag before old new rows n fault r begins room size stops =
     fails_here coding width first tag before old new rows fault r
     (stops rows (sym size) r.known (record { one_separator = refl; begins = begins; room = omega (arith, r.few) }))
@@ -269,7 +269,7 @@ row_fails coding width first tag before old new rows n fault r begins room size 
 -- The page ends with no row.
 pub empty_fails : (coding : Coding) (width : ℕ) (first tag : Bool) (before : Option Elements) (old new end : Place) (rows : List Elements)
     → RowsSoFar coding width first old tag before new rows → (text : List Bool) × InARow coding tag 5 text true × Passes new end text → length rows ≡ 0
-    → (octets : List ℕ) → ReadSoFar coding width octets [] 0 first old.left → FailsBehindFront coding width octets Empty
+    → (octets : List ℕ) → ReadSoFar coding width octets [] 0 first old.left → FailsAfterFront coding width octets Empty
 empty_fails coding width first tag before old new end rows r (text, in_a_row, p) none octets front = record {
   rows = rows;
   further = 5;
@@ -298,7 +298,7 @@ pub row_is_bad : (coding : Coding) (width : ℕ) (tag : Bool) (before : Option E
     → FailsRow width tag before bits → length rows ≡ n → Knows tag before rows → WantsLine rows 0 bits → Stops coding width rows 0 tag bits (BadLine n)
 row_is_bad coding width tag before rows bits n fails size k wants = (sym size, wants, inl (FailsRow-knows width tag before rows bits k fails))
 
--- where a line was read, and no separator is whole behind it
+-- where a line was read, and no separator is whole after it
 pub row_runs_out : (coding : Coding) (width : ℕ) (tag : Bool) (before : Option Elements) (old mid : Place) (rows : List Elements) (row : Elements) (fault : PageFault)
     → (text : List Bool) × SpellsRow width tag before text row × Passes old mid text → (fault ≡ NoRtc) × RunsOut coding mid.left → Knows tag before rows → WantsLine rows 0 old.left
     → Stops coding width rows 0 tag old.left fault
@@ -307,7 +307,7 @@ row_runs_out coding width tag before old mid rows row fault (text, spelt, p) (rt
     inr (inr (inr (wants, mid.left, (text, row, SpellsRow-knows width tag before rows text row k spelt, p.bits), out))) in
     subst (Stops coding width rows 0 tag old.left) (sym rtc) stops
 
--- where a line was read, and a 1 comes behind it before 11 zeros
+-- where a line was read, and a 1 comes after it before 11 zeros
 pub row_goes_on : (coding : Coding) (width : ℕ) (tag : Bool) (before : Option Elements) (old mid : Place) (rows : List Elements) (row : Elements) (n : ℕ)
     → (text : List Bool) × SpellsRow width tag before text row × Passes old mid text → LineBegins mid.left → length rows ≡ n → Knows tag before rows → WantsLine rows 0 old.left
     → Stops coding width rows 0 tag old.left (BadLine n)

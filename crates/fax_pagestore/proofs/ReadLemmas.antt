@@ -18,7 +18,7 @@ use Rattle.fax_pagestore.proofs.TextLemmas.{SeparatorBegins-from, separator_not_
 
 -- ---- the line of one row
 
--- Bits begin with at most one line behind a separator of a tag and a row before.
+-- Bits begin with at most one line after a separator of a tag and a row before.
 pub SpellsRow-one : (width : ℕ) (tag : Bool) (before : Option Elements) (s t : List Bool) (v w : Elements) (x y : List Bool)
     → SpellsRow width tag before s v → SpellsRow width tag before t w → s ++ x ≡ t ++ y → (s ≡ t) × (v ≡ w)
 SpellsRow-one width true before s t v w x y p q e = mh_lines.SpellsLine-one width s t v w x y p q e
@@ -40,18 +40,18 @@ SpellsRow-length width false None text row has p = absurd p
 -- ---- the row before
 
 -- the last of these rows, or the one before them where there are none
-abbrev pub row_behind : Option Elements → List Elements → Option Elements
-row_behind before [] = before
-row_behind before (row ∷ rows) = row_behind (Some row) rows
+abbrev pub row_after : Option Elements → List Elements → Option Elements
+row_after before [] = before
+row_after before (row ∷ rows) = row_after (Some row) rows
 
-row_behind-some : (row : Elements) (rows : List Elements) → row_behind (Some row) rows ≡ last_of (row ∷ rows)
-row_behind-some row [] = refl
-row_behind-some row (next ∷ rows) = row_behind-some next rows
+row_after-some : (row : Elements) (rows : List Elements) → row_after (Some row) rows ≡ last_of (row ∷ rows)
+row_after-some row [] = refl
+row_after-some row (next ∷ rows) = row_after-some next rows
 
 -- Of rows with none before them it is the last.
-pub row_behind-last : (rows : List Elements) → row_behind None rows ≡ last_of rows
-row_behind-last [] = refl
-row_behind-last (row ∷ rows) = row_behind-some row rows
+pub row_after-last : (rows : List Elements) → row_after None rows ≡ last_of rows
+row_after-last [] = refl
+row_after-last (row ∷ rows) = row_after-some row rows
 
 -- Each row of lines has the width.
 pub SpellsRows-lengths : (coding : Coding) (width : ℕ) (tag : Bool) (before : Option Elements) (rows : List Elements) (text : List Bool) (last : Bool)
@@ -64,7 +64,7 @@ SpellsRows-lengths coding width tag before (row ∷ rows) text last has (line, s
 
 -- So has the last of them.
 pub SpellsRows-width : (coding : Coding) (width : ℕ) (tag : Bool) (before : Option Elements) (rows : List Elements) (text : List Bool) (last : Bool)
-    → HasWidth width before → SpellsRows coding width tag before rows text last → HasWidth width (row_behind before rows)
+    → HasWidth width before → SpellsRows coding width tag before rows text last → HasWidth width (row_after before rows)
 SpellsRows-width coding width tag before [] text last has p = has
 SpellsRows-width coding width tag before (row ∷ rows) text last has (line, separator, rest, next, e, spelt, is, more) =
     SpellsRows-width coding width next (Some row) rows rest last (SpellsRow-length width tag before line row has spelt) more
@@ -78,7 +78,7 @@ ReadSoFar-lengths coding width octets rows further tag rest r = SpellsRows-lengt
 pub ReadSoFar-width : (coding : Coding) (width : ℕ) (octets : List ℕ) (rows : List Elements) (further : ℕ) (tag : Bool) (rest : List Bool)
     → ReadSoFar coding width octets rows further tag rest → HasWidth width (last_of rows)
 ReadSoFar-width coding width octets rows further tag rest r =
-    subst (HasWidth width) (row_behind-last rows) (SpellsRows-width coding width r.front_tag None rows r.lines r.row_tag tt r.spelt)
+    subst (HasWidth width) (row_after-last rows) (SpellsRows-width coding width r.front_tag None rows r.lines r.row_tag tt r.spelt)
 
 -- ---- lines of rows
 
@@ -86,16 +86,16 @@ ReadSoFar-width coding width octets rows further tag rest r =
 pub BeginsRow-line : (coding : Coding) (width : ℕ) (tag : Bool) (before : Option Elements) (bits : List Bool) → 0 < width → BeginsRow coding width tag before bits → LineBegins bits
 BeginsRow-line coding width tag before bits lt r = subst LineBegins (sym r.bits_are) (SpellsRow-begins width tag before r.line r.rest r.row lt r.spelt)
 
--- One list of rows, with the tag `last` behind it, goes on where the other ends, with the tag `end` behind
+-- One list of rows, with the tag `last` after it, goes on where the other ends, with the tag `end` after
 -- that.
 pub record RowsGoOn (coding : Coding) (width : ℕ) (before : Option Elements) (ms ns : List Elements) (last end : Bool) (x y : List Bool) : Type 0 where
   pub more : List Elements
   pub text : List Bool
   pub rows : ns ≡ ms ++ more
   pub bits : x ≡ text ++ y
-  pub spelt : SpellsRows coding width last (row_behind before ms) more text end
+  pub spelt : SpellsRows coding width last (row_after before ms) more text end
 
--- what follows the line of a row and the separator behind it
+-- what follows the line of a row and the separator after it
 row_bits : (line separator rest text x : List Bool) → text ≡ line ++ (separator ++ rest) → text ++ x ≡ line ++ (separator ++ (rest ++ x))
 row_bits line separator rest text x e =
     ap (λ b. b ++ x) e ∙ append_assoc line (separator ++ rest) x ∙ ap (λ b. line ++ b) (append_assoc separator rest x)
@@ -135,7 +135,7 @@ SpellsRows-meet coding width tag before (m ∷ ms) (n ∷ ns) s t a b x y (f, h,
             text = on.text;
             rows = ap₂ (λ (v : Elements) (vs : List Elements). v ∷ vs) first.1 on.rows;
             bits = on.bits;
-            spelt = subst (λ (row : Elements). SpellsRows coding width b (row_behind (Some row) ns) on.more on.text a) first.1 on.spelt;
+            spelt = subst (λ (row : Elements). SpellsRows coding width b (row_after (Some row) ns) on.more on.text a) first.1 on.spelt;
           })
     ]
 
@@ -148,7 +148,7 @@ SpellsRows-begin coding width tag before row rows text last x (line, separator, 
   rest = separator ++ (rest ++ x);
   spelt = spelt;
   bits_are = row_bits line separator rest text x e;
-  behind = SeparatorBegins-from coding next separator (rest ++ x) is;
+  after = SeparatorBegins-from coding next separator (rest ++ x) is;
 }
 
 -- ---- two readings of the same octets
@@ -181,7 +181,7 @@ pub record SamePlace (ms ns : List Elements) (j k : ℕ) (a b : Bool) (x y : Lis
 abbrev pub Met : Coding → ℕ → List Elements → List Elements → ℕ → ℕ → Bool → Bool → List Bool → List Bool → Type 0
 Met coding width ms ns j k a b x y = SamePlace ms ns j k a b x y ⊎ (OtherGoesOn coding width ms ns j k a x ⊎ OtherGoesOn coding width ns ms k j b y)
 
--- where the rows of one, with the tag c behind them, go on with more of the other's, with the tag d behind
+-- where the rows of one, with the tag c after them, go on with more of the other's, with the tag d after
 -- those
 rows_met : (coding : Coding) (width : ℕ) (ms ns more : List Elements) (j k : ℕ) (c d a b : Bool) (s t text x y : List Bool) → 0 < width → ns ≡ ms ++ more
     → SpellsRows coding width c (last_of ms) more text d → InARow coding c j s a → InARow coding d k t b → s ++ x ≡ text ++ (t ++ y) → Met coding width ms ns j k a b x y
@@ -223,7 +223,7 @@ goes_on_met : (coding : Coding) (width : ℕ) (ms ns : List Elements) (j k : ℕ
     → RowsGoOn coding width None ms ns c d (s ++ x) (t ++ y) → InARow coding c j s a → InARow coding d k t b → Met coding width ms ns j k a b x y
 goes_on_met coding width ms ns j k c d a b s t x y lt on p q =
     let spelt : SpellsRows coding width c (last_of ms) on.more on.text d =
-    subst (λ (before : Option Elements). SpellsRows coding width c before on.more on.text d) (row_behind-last ms) on.spelt in
+    subst (λ (before : Option Elements). SpellsRows coding width c before on.more on.text d) (row_after-last ms) on.spelt in
     rows_met coding width ms ns on.more j k c d a b s t on.text x y lt on.rows spelt p q on.bits
 
 -- Two readings of the same octets are at one place, or one goes on where the other is.
@@ -295,7 +295,7 @@ Stops-row coding width rows further tag bits NoRtc is has none room b s =
           | inl zero_tag ↦ elim zero_tag.1 [ inl next ↦ separator_not_line coding bits next.1 line_begins | inr six ↦ omega arith ]
           | inr read ↦
               let same : b.rest ≡ read.1 = ReadsRow-one width tag (last_of rows) bits b.rest read.1 (BeginsRow-reads coding width tag (last_of rows) bits b) read.2 in
-              separator_not_runs_out coding read.1 (subst (SeparatorBegins coding) same b.behind) read.3
+              separator_not_runs_out coding read.1 (subst (SeparatorBegins coding) same b.after) read.3
         ]
       ]
     ]
@@ -305,7 +305,7 @@ Stops-row coding width rows further tag bits (BadLine n) is has none room b s = 
   | inl fails ↦ ReadsRow-not_fails width tag (last_of rows) bits b.rest is has (BeginsRow-reads coding width tag (last_of rows) bits b) fails
   | inr read ↦
       let same : b.rest ≡ read.0 = ReadsRow-one width tag (last_of rows) bits b.rest read.0 (BeginsRow-reads coding width tag (last_of rows) bits b) read.1 in
-      separator_not_line coding read.0 (subst (SeparatorBegins coding) same b.behind) read.2
+      separator_not_line coding read.0 (subst (SeparatorBegins coding) same b.after) read.2
 ]
 Stops-row coding width rows further tag bits NoEol is has none room b s = s
 Stops-row coding width rows further tag bits NoMemory is has none room b s = s

@@ -41,8 +41,8 @@ only_zeros_left coding old mid zeros r e =
     inr (no_front old mid new zeros r p (omega arith) coding)
 
 -- where the first EOL was passed
-behind_eol : (coding : Coding) (old mid last : Place) (zeros : ℕ) → FrontSoFar old mid → Passes mid last (replicate zeros false ++ true ∷ []) → 11 ≤ zeros → FrontOrNone coding old
-behind_eol coding old mid last zeros r p enough = elim (tag_or_none coding last.left) [
+after_eol : (coding : Coding) (old mid last : Place) (zeros : ℕ) → FrontSoFar old mid → Passes mid last (replicate zeros false ++ true ∷ []) → 11 ≤ zeros → FrontOrNone coding old
+after_eol coding old mid last zeros r p enough = elim (tag_or_none coding last.left) [
   | inr none ↦ inr (no_tag old mid last zeros r p coding none)
   | inl tagged ↦
       let new : Place = record { passed = last.passed + length tagged.1; left = tagged.2 } in
@@ -59,7 +59,7 @@ front_or_none coding (suc n) old mid few r = elim (zeros_or_one mid.left) [
       let last : Place = record { passed = mid.passed + length (replicate one.0 false ++ true ∷ []); left = one.1 } in
       let p : Passes mid last (replicate one.0 false ++ true ∷ []) = record { bits = one.2 ∙ sym (append_assoc (replicate one.0 false) (true ∷ []) one.1); place = refl } in
       elim (cases_lt one.0 11) [
-        | inr enough ↦ behind_eol coding old mid last one.0 r p enough
+        | inr enough ↦ after_eol coding old mid last one.0 r p enough
         | inl less ↦ front_or_none coding n old last (omega (arith, zeros_one_shorter mid last one.0 p)) (FrontSoFar-more old mid last one.0 r p less)
       ]
 ]
@@ -131,7 +131,7 @@ module _ (width : ℕ) (coding : Coding) (octets : List ℕ) where
         },
       )
 
-  -- no separator begins behind two to five
+  -- no separator begins after two to five
   breaks_return : (rows : List Elements) (further : ℕ) (tag : Bool) (rest : List Bool) → length rows ≤ most_rows → 0 < further → further < 5
       → ReadSoFar coding width octets rows further tag rest → LineBegins rest ⊎ RunsOut coding rest → MeansOrFails
   breaks_return rows further tag rest few some less r (inl line) = stops_here rows further tag rest NoRtc few (omega arith) r (inr (inl (some, less, line)))
@@ -157,7 +157,7 @@ module _ (width : ℕ) (coding : Coding) (octets : List ℕ) where
     | inr other ↦ breaks_return rows further true rest few some (omega arith) r other
   ]
 
-  -- a separator follows the one behind the rows
+  -- a separator follows the one after the rows
   in_return : (rows : List Elements) (tag : Bool) (rest : List Bool) → length rows ≤ most_rows → ReadSoFar coding width octets rows 0 tag rest → SeparatorBegins coding rest → MeansOrFails
   in_return rows false rest few r begins = tag_breaks rows 0 rest few (omega arith) r begins
   in_return rows true rest few r next =
@@ -165,14 +165,14 @@ module _ (width : ℕ) (coding : Coding) (octets : List ℕ) where
 
   -- ---- the rows
 
-  -- the row behind these can't be read, or no separator is behind it
+  -- the row after these can't be read, or no separator is after it
   row_stops : (rows : List Elements) (tag : Bool) (rest : List Bool) → length rows ≤ most_rows → ReadSoFar coding width octets rows 0 tag rest → WantsLine rows 0 rest
-      → FailsRow width tag (last_of rows) rest ⊎ ((behind : List Bool) × ReadsRow width tag (last_of rows) rest behind × (LineBegins behind ⊎ RunsOut coding behind)) → MeansOrFails
+      → FailsRow width tag (last_of rows) rest ⊎ ((after : List Bool) × ReadsRow width tag (last_of rows) rest after × (LineBegins after ⊎ RunsOut coding after)) → MeansOrFails
   row_stops rows tag rest few r wants (inl fails) = stops_here rows 0 tag rest (BadLine (length rows)) few (omega arith) r (refl, wants, inl fails)
-  row_stops rows tag rest few r wants (inr (behind, reads, inl line)) = stops_here rows 0 tag rest (BadLine (length rows)) few (omega arith) r (refl, wants, inr (behind, reads, line))
-  row_stops rows tag rest few r wants (inr (behind, reads, inr out)) = stops_here rows 0 tag rest NoRtc few (omega arith) r (inr (inr (inr (wants, behind, reads, out))))
+  row_stops rows tag rest few r wants (inr (after, reads, inl line)) = stops_here rows 0 tag rest (BadLine (length rows)) few (omega arith) r (refl, wants, inr (after, reads, line))
+  row_stops rows tag rest few r wants (inr (after, reads, inr out)) = stops_here rows 0 tag rest NoRtc few (omega arith) r (inr (inr (inr (wants, after, reads, out))))
 
-  -- one row more, with less left behind its separator
+  -- one row more, with less left after its separator
   record RowMore (rest : List Bool) : Type 0 where
     pub rows : List Elements
     pub tag : Bool
@@ -181,12 +181,12 @@ module _ (width : ℕ) (coding : Coding) (octets : List ℕ) where
     pub few : length rows ≤ most_rows
     pub read : ReadSoFar coding width octets rows 0 tag left
 
-  row_more : (rows : List Elements) (tag : Bool) (rest behind : List Bool) → ReadSoFar coding width octets rows 0 tag rest → WantsLine rows 0 rest
-      → ReadsRow width tag (last_of rows) rest behind → SeparatorBegins coding behind → RowMore rest
-  row_more rows tag rest behind r wants (line, row, spelt, e) (next, separator, left, is, e2) =
+  row_more : (rows : List Elements) (tag : Bool) (rest after : List Bool) → ReadSoFar coding width octets rows 0 tag rest → WantsLine rows 0 rest
+      → ReadsRow width tag (last_of rows) rest after → SeparatorBegins coding after → RowMore rest
+  row_more rows tag rest after r wants (line, row, spelt, e) (next, separator, left, is, e2) =
       let some : 0 < length separator = separator_some coding next separator is in
-      let size : length rest ≡ length line + length behind = ap length e ∙ length-append line behind in
-      let size2 : length behind ≡ length separator + length left = ap length e2 ∙ length-append separator left in
+      let size : length rest ≡ length line + length after = ap length e ∙ length-append line after in
+      let size2 : length after ≡ length separator + length left = ap length e2 ∙ length-append separator left in
       let whole : rest ≡ (line ++ separator) ++ left = e ∙ ap (λ b. line ++ b) e2 ∙ sym (append_assoc line separator left) in
       record {
         rows = rows ++ row ∷ [];
@@ -227,7 +227,7 @@ module _ (width : ℕ) (coding : Coding) (octets : List ℕ) where
     | inl more ↦ rows_from n more.rows more.tag more.left (omega (arith, more.less)) more.few more.read
   ]
 
-  -- behind the front nothing more is read yet
+  -- after the front nothing more is read yet
   front_read : (tag : Bool) (front rest : List Bool) → IsFront coding tag front → bits_of octets ≡ front ++ rest → ReadSoFar coding width octets [] 0 tag rest
   front_read tag front rest is e = record {
     front = front;

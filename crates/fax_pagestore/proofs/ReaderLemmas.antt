@@ -28,12 +28,12 @@ use Rattle.fax_pagestore.specs.PageTexts.{end_of_line, IsFront, IsSeparator, InA
 use Rattle.fax_pagestore.specs.PageFaults.{LineBegins, BreaksReturn, StopsInReturn, FailsRow, Stops, FailsPage, last_of, row_before}
 use Rattle.fax_pagestore.specs.Fill.{less_fill, zeros_after}
 use Rattle.fax_pagestore.proofs.FillLemmas.{few_zeros_kept}
-use Rattle.fax_pagestore.specs.Readers.{ReadsOne, BeginsRow, ReaderValue, IsBehind, IsReadUpTo, NoMoreIsWhole, AreJudged, fault_of, new_reader}
+use Rattle.fax_pagestore.specs.Readers.{ReadsOne, BeginsRow, ReaderValue, IsAfter, IsReadUpTo, NoMoreIsWhole, AreJudged, fault_of, new_reader}
 use Rattle.fax_pagestore.specs.declared.reader.settled.Settled.{Settled}
 use Rattle.fax_pagestore.specs.declared.reader.rows.Stop.{Stop}
 use Rattle.fax_pagestore.specs.declared.reader.rows.Stop.TheVariants.{NoEols, NoLine, Fault}
 use Rattle.fax_pagestore.specs.Ends.{HoldsEol, HoldsNoTaggedEol}
-use Rattle.fax_pagestore.proofs.BeforeEolLemmas.{front_behind, nowhere_eol, left_behind, BeginNoEol-none, BeginNoEol-more, HoldsNoTaggedEol-none}
+use Rattle.fax_pagestore.proofs.BeforeEolLemmas.{front_after, nowhere_eol, left_after, BeginNoEol-none, BeginNoEol-more, HoldsNoTaggedEol-none}
 use Rattle.fax_pagestore.proofs.PageLaws.{pages_are_unique, pages_dont_fail, faults_are_unique}
 use Rattle.fax_pagestore.proofs.EndsLemmas.{ends_hold, begins_before, separator_ends}
 use Rattle.fax_pagestore.proofs.ReadLemmas.{SpellsRow-length, ReadSoFar-lengths, BeginsRow-line, Stops-row}
@@ -43,7 +43,7 @@ use Rattle.fax_pagestore.proofs.StaysLemmas.{StopsInReturn-more}
 
 -- ---- one row more
 
--- the line of a row and the separator behind it were passed, behind so many rows of which the last is kept
+-- the line of a row and the separator after it were passed, after so many rows of which the last is kept
 abbrev pub PassesRow : Coding → ℕ → Bool → Bool → ℕ → Elements → Elements → Place → Place → Type 0
 PassesRow coding width tag next n kept row old new = (text separator : List Bool) × SpellsRow width tag (row_before n kept) text row
     × IsSeparator coding next separator × Passes old new (text ++ separator)
@@ -56,7 +56,7 @@ row_read coding width tag next n kept row rows all old new size keeps (text, sep
   separator = separator;
   all_are = e;
   spelt = SpellsRow-knows width tag (row_before n kept) rows text row (Knows-kept tag kept rows n size keeps) spelt;
-  behind = is;
+  after = is;
   passes = passes;
 }
 
@@ -82,13 +82,13 @@ pub ReadSoFar-one : (coding : Coding) (width : ℕ) (tag next : Bool) (rows all 
     → ReadSoFar coding width octets rows 0 tag old.left → ReadSoFar coding width octets all 0 next new.left
 ReadSoFar-one coding width tag next rows all old new octets one read =
     subst (λ (rs : List Elements). ReadSoFar coding width octets rs 0 next new.left) (sym one.all_are)
-    (ReadSoFar-row coding width octets rows one.row tag next old.left one.line one.separator new.left read one.spelt one.behind one.passes.bits)
+    (ReadSoFar-row coding width octets rows one.row tag next old.left one.line one.separator new.left read one.spelt one.after one.passes.bits)
 
 -- fewer bits are left
 pub ReadsOne-shorter : (coding : Coding) (width : ℕ) (tag next : Bool) (rows all : List Elements) (old new : Place) → ReadsOne coding width tag next rows all old new
     → length new.left < length old.left
 ReadsOne-shorter coding width tag next rows all old new one =
-    let separator = one.behind in
+    let separator = one.after in
     let whole = ap length one.passes.bits ∙ length-append (one.line ++ one.separator) new.left in
     let both = length-append one.line one.separator in
     let own = ap length separator.4 ∙ length-append (replicate separator.0 false) (true ∷ separator.1) in
@@ -178,9 +178,9 @@ last_of_at (first ∷ []) (suc i) row size e = absurd (omega arith)
 last_of_at (first ∷ (next ∷ rows)) zero row size e = absurd (omega arith)
 last_of_at (first ∷ (next ∷ rows)) (suc i) row size e = last_of_at (next ∷ rows) i row (omega arith) e
 
--- white elements up to a place, and behind it
-white_behind : (w p : ℕ) → p ≤ w → drop p (replicate w White) ≡ replicate (w - p) White
-white_behind w p le =
+-- white elements up to a place, and after it
+white_after : (w p : ℕ) → p ≤ w → drop p (replicate w White) ≡ replicate (w - p) White
+white_after w p le =
     let parts : replicate w White ≡ replicate p White ++ replicate (w - p) White =
     let whole : p + (w - p) ≡ w = omega arith in
     ap (λ n. replicate n White) (sym whole) ∙ sym (replicate-append-replicate p (w - p) White) in
@@ -200,7 +200,7 @@ white_same w [] rising =
     drop-length (replicate w White) ∙ ap (λ n. replicate n (colour_before (replicate w White) (length (replicate w White)))) (sym none)
 white_same w (p ∷ places) rising =
     let inside : p + 1 ≤ w = rising_le (p + 1) places w rising.1 in
-    white_behind w p (omega arith)
+    white_after w p (omega arith)
     ∙ ap (λ n. replicate (n - p) White) (sym (length-replicate w White))
     ∙ ap (λ (c : Colour). replicate (length (replicate w White) - p) c) (sym (white_before w p (omega arith)))
 
@@ -262,7 +262,7 @@ drop_place octets place le =
     let whole : 8 * (place / 8) + place % 8 ≡ place = omega arith in
     ap (drop (place % 8)) (sym (drop-bits_of (place / 8) octets inside)) ∙ drop-drop (place % 8) (8 * (place / 8)) (bits_of octets) ∙ ap (λ n. drop n (bits_of octets)) whole
 
--- behind all octets
+-- after all octets
 pub nothing_left : (octets : List ℕ) (place : ℕ) → place ≡ 8 * length octets → drop place (bits_of octets) ≡ []
 nothing_left octets place all = nil_from_length (drop place (bits_of octets)) (omega (arith, length-drop place (bits_of octets), length-bits_of octets))
 
@@ -295,12 +295,12 @@ IsReadUpTo-octets coding width octets piece rows None left (none, before, whole,
 )
 IsReadUpTo-octets coding width octets piece rows (Some tag) left read = ReadSoFar-octets coding width octets piece rows tag left read
 
--- the bits that are not used, with a piece behind them
+-- the bits that are not used, with a piece after them
 with_piece : (held piece all : List ℕ) (used : ℕ) → used ≤ 8 * length held → all ≡ held ++ piece → drop used (bits_of all) ≡ drop used (bits_of held) ++ bits_of piece
 with_piece held piece all used le e =
     ap (λ o. drop used (bits_of o)) e ∙ ap (drop used) (bits_of-append held piece) ∙ drop-append-le used (bits_of held) (bits_of piece) (omega (arith, length-bits_of held))
 
--- the same where the octets that are kept have more behind them
+-- the same where the octets that are kept have more after them
 pub IsReadUpTo-more : (coding : Coding) (width : ℕ) (octets piece held all : List ℕ) (used : ℕ) (rows : List Elements) (tag : Option Bool) → used ≤ 8 * length held → all ≡ held ++ piece
     → IsReadUpTo coding width octets rows tag (drop used (bits_of held)) → IsReadUpTo coding width (octets ++ piece) rows tag (drop used (bits_of all))
 IsReadUpTo-more coding width octets piece held all used rows tag le e read =
@@ -310,13 +310,13 @@ IsReadUpTo-more coding width octets piece held all used rows tag le e read =
 
 Passes-more : (old new : Place) (text more : List Bool) → Passes old new text
     → (let before : Place = record { passed = old.passed; left = old.left ++ more } in
-    let behind : Place = record { passed = new.passed; left = new.left ++ more } in
-    Passes before behind text)
+    let after : Place = record { passed = new.passed; left = new.left ++ more } in
+    Passes before after text)
 Passes-more old new text more p = record { bits = ap (λ b. b ++ more) p.bits ∙ append_assoc text new.left more; place = p.place }
 
 -- a fault that stays
 pub fault_stays : (coding : Coding) (width : ℕ) (octets more : List ℕ) (rows : List Elements) (tag : Bool) (bits : List Bool) (fault : PageFault) → length rows ≤ most_rows
-    → ReadSoFar coding width octets rows 0 tag bits → ((behind : List Bool) → Stops coding width rows 0 tag (bits ++ behind) fault) → FailsPage width coding (octets ++ more) fault
+    → ReadSoFar coding width octets rows 0 tag bits → ((after : List Bool) → Stops coding width rows 0 tag (bits ++ after) fault) → FailsPage width coding (octets ++ more) fault
 fault_stays coding width octets more rows tag bits fault few read stops =
     stops_fail coding width (octets ++ more) rows tag (bits ++ bits_of more) fault few (ReadSoFar-octets coding width octets more rows tag bits read) (stops (bits_of more))
 
@@ -340,8 +340,8 @@ rows_stay coding width octets more rows tag old new some few read (text, in_a_ro
     (ReadSoFar-octets coding width octets more rows tag old.left read) (text, in_a_row, Passes-more old new text (bits_of more) p)
 
 -- a reader of which it is settled takes any octets
-pub IsBehind-settled : (octets piece : List ℕ) (reader : ReaderValue) → IsSome reader.settled → IsBehind octets reader → IsBehind (octets ++ piece) reader
-IsBehind-settled octets piece reader some has = record {
+pub IsAfter-settled : (octets piece : List ℕ) (reader : ReaderValue) → IsSome reader.settled → IsAfter octets reader → IsAfter (octets ++ piece) reader
+IsAfter-settled octets piece reader some has = record {
   read = λ not_yet. absurd (cc (some, not_yet));
   waits = λ not_yet. absurd (cc (some, not_yet));
   settled = λ what is. (
@@ -356,13 +356,13 @@ IsBehind-settled octets piece reader some has = record {
 -- where no EOL stands
 pub no_eol_waits : (coding : Coding) (width : ℕ) (rows : List Elements) (tag : Bool) (left : List Bool) → (HoldsEol left → ⊥) → NoMoreIsWhole coding width rows (Some tag) left
 no_eol_waits coding width rows tag left none r =
-    let next : Bool = r.behind.0 in
-    let separator : List Bool = r.behind.1 in
-    let rest : List Bool = r.behind.2 in
-    let ends = separator_ends coding next separator r.behind.3 in
+    let next : Bool = r.after.0 in
+    let separator : List Bool = r.after.1 in
+    let rest : List Bool = r.after.2 in
+    let ends = separator_ends coding next separator r.after.3 in
     let text : r.line ++ separator ≡ (r.line ++ ends.0) ++ (end_of_line ++ ends.1) = ap (λ b. r.line ++ b) ends.2 ∙ sym (append_assoc r.line ends.0 (end_of_line ++ ends.1)) in
     none (ends_hold (r.line ++ separator) (r.line ++ ends.0) ends.1 rest left text
-    (r.bits_are ∙ ap (λ b. r.line ++ b) r.behind.4 ∙ sym (append_assoc r.line separator rest)))
+    (r.bits_are ∙ ap (λ b. r.line ++ b) r.after.4 ∙ sym (append_assoc r.line separator rest)))
 
 -- where no line begins
 pub no_line_waits : (coding : Coding) (width : ℕ) (rows : List Elements) (tag : Bool) (left : List Bool) → 0 < width → (LineBegins left → ⊥) → NoMoreIsWhole coding width rows (Some tag) left
@@ -400,12 +400,12 @@ piece_row : (coding : Coding) (width : ℕ) (rows : List Elements) (tag : Bool) 
     → n ≤ (used + length (drop used (bits_of held))) - 13 → (HoldsEol (drop n (bits_of all)) → ⊥)
     → (BeginsRow coding width tag (last_of rows) (drop used (bits_of held)) → ⊥) → BeginsRow coding width tag (last_of rows) (drop used (bits_of all)) → ⊥
 piece_row coding width rows tag held piece all used n bits le none before r =
-    let next : Bool = r.behind.0 in
-    let separator : List Bool = r.behind.1 in
-    let rest : List Bool = r.behind.2 in
-    let ends = separator_ends coding next separator r.behind.3 in
+    let next : Bool = r.after.0 in
+    let separator : List Bool = r.after.1 in
+    let rest : List Bool = r.after.2 in
+    let ends = separator_ends coding next separator r.after.3 in
     let text : r.line ++ separator ≡ (r.line ++ ends.0) ++ (end_of_line ++ ends.1) = ap (λ b. r.line ++ b) ends.2 ∙ sym (append_assoc r.line ends.0 (end_of_line ++ ends.1)) in
-    let whole : drop used (bits_of held) ++ bits_of piece ≡ (r.line ++ separator) ++ rest = sym bits ∙ r.bits_are ∙ ap (λ b. r.line ++ b) r.behind.4 ∙ sym (append_assoc r.line separator rest) in
+    let whole : drop used (bits_of held) ++ bits_of piece ≡ (r.line ++ separator) ++ rest = sym bits ∙ r.bits_are ∙ ap (λ b. r.line ++ b) r.after.4 ∙ sym (append_assoc r.line separator rest) in
     let was = begins_before (bits_of all) (drop used (bits_of held)) (bits_of piece) (r.line ++ separator) (r.line ++ ends.0) ends.1 rest used n bits le none text ends.3 whole in
     before record {
       line = r.line;
@@ -413,7 +413,7 @@ piece_row coding width rows tag held piece all used n bits le none before r =
       rest = separator ++ was.0;
       spelt = r.spelt;
       bits_are = was.1 ∙ append_assoc r.line separator was.0;
-      behind = (next, separator, was.0, r.behind.3, refl);
+      after = (next, separator, was.0, r.after.3, refl);
     }
 
 pub piece_waits : (coding : Coding) (width : ℕ) (rows : List Elements) (tag : Option Bool) (held piece all : List ℕ) (used n : ℕ) → IsSome tag → used ≤ 8 * length held
@@ -434,21 +434,21 @@ front_read coding width octets rows tag old new (none, before, whole, begin) (fr
   separators = [];
   front_tag = tag;
   row_tag = tag;
-  is_front = front_behind coding tag before old.left front new.left begin is p.bits;
+  is_front = front_after coding tag before old.left front new.left begin is p.bits;
   spelt = subst (λ (rs : List Elements). SpellsRows coding width tag None rs [] tag) (sym none) (refl, refl);
   in_a_row = (refl, refl);
   bits_are = whole ∙ ap (λ b. before ++ b) p.bits ∙ sym (append_assoc before front new.left);
 }
 
--- where the bits that are left hold no EOL with its tag, only those behind this place are kept
+-- where the bits that are left hold no EOL with its tag, only those after this place are kept
 pub none_used : (coding : Coding) (width : ℕ) (octets held : List ℕ) (rows : List Elements) (used place : ℕ) → used ≤ place → (used < place → place + 13 ≤ 8 * length held)
     → HoldsNoTaggedEol coding (drop used (bits_of held)) → IsReadUpTo coding width octets rows None (drop used (bits_of held)) → IsReadUpTo coding width octets rows None (drop place (bits_of held))
 none_used coding width octets held rows used place le enough none read =
-    let behind = left_behind coding octets held used place le enough none (read.1, read.2, read.3) in
-    (read.0, behind.0, behind.1, behind.2)
+    let after = left_after coding octets held used place le enough none (read.1, read.2, read.3) in
+    (read.0, after.0, after.1, after.2)
 
 -- nothing came
-pub nothing_read : (format : Format) (coding : Coding) → IsBehind [] (new_reader format coding)
+pub nothing_read : (format : Format) (coding : Coding) → IsAfter [] (new_reader format coding)
 nothing_read format coding = record {
   read = λ not_yet. (refl, [], bits_of-nil, BeginNoEol-none []);
   waits = λ not_yet. HoldsNoTaggedEol-none coding;
@@ -464,7 +464,7 @@ new_is format coding rows items none no_items =
 -- ---- what is judged
 
 -- by what is settled
-pub settled_judged : (octets : List ℕ) (reader : ReaderValue) (what : Settled) → IsBehind octets reader → reader.settled ≡ Some what
+pub settled_judged : (octets : List ℕ) (reader : ReaderValue) (what : Settled) → IsAfter octets reader → reader.settled ≡ Some what
     → AreJudged reader.coding (elements_of reader.format.width) octets reader.rows (fault_of what)
 settled_judged octets reader what has is =
     subst (λ all. AreJudged reader.coding (elements_of reader.format.width) all reader.rows (fault_of what)) (append-nil octets) ((has.settled what is).1 [])
@@ -538,7 +538,7 @@ none_if None is = refl
 
 -- ---- where no further row is read
 
--- an EOL behind a place is behind one before it
+-- an EOL after a place is after one before it
 holds_before : (bits : List Bool) (n m : ℕ) → n ≤ m → HoldsEol (drop m bits) → HoldsEol (drop n bits)
 holds_before bits n m le (before, rest, e) =
     let whole : n + (m - n) ≡ m = omega arith in
@@ -546,9 +546,9 @@ holds_before bits n m le (before, rest, e) =
     sym (take-append-drop (m - n) (drop n bits)) ∙ ap (λ b. take (m - n) (drop n bits) ++ b) (drop-drop (m - n) n bits ∙ ap (λ k. drop k bits) whole) in
     (take (m - n) (drop n bits) ++ before, rest, split ∙ ap (λ b. take (m - n) (drop n bits) ++ b) e ∙ sym (append_assoc (take (m - n) (drop n bits)) before (end_of_line ++ rest)))
 
--- where so many bits of octets were passed, behind all EOLs
-pub behind_all : (octets : List ℕ) (first used : ℕ) (place : Place) → (HoldsEol (drop (8 * first) (bits_of octets)) → ⊥) → IsReached octets used place → 8 * first ≤ place.passed → HoldsEol place.left → ⊥
-behind_all octets first used place none is le holds = none (holds_before (bits_of octets) (8 * first) place.passed le (subst HoldsEol (sym is.left_is) holds))
+-- where so many bits of octets were passed, after all EOLs
+pub after_all : (octets : List ℕ) (first used : ℕ) (place : Place) → (HoldsEol (drop (8 * first) (bits_of octets)) → ⊥) → IsReached octets used place → 8 * first ≤ place.passed → HoldsEol place.left → ⊥
+after_all octets first used place none is le holds = none (holds_before (bits_of octets) (8 * first) place.passed le (subst HoldsEol (sym is.left_is) holds))
 
 pub stopped_waits : (coding : Coding) (width : ℕ) (rows : List Elements) (tag : Bool) (left : List Bool) (stop : Stop) → IsWidth width → All (λ row. length row ≡ width) rows
     → (stop ≡ NoEols → HoldsEol left → ⊥) → (stop ≡ NoLine → LineBegins left → ⊥) → ((fault : PageFault) → stop ≡ Fault fault → Stops coding width rows 0 tag left fault)

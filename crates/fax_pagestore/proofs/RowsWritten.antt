@@ -17,7 +17,7 @@ abbrev pub IsReference : Bool → Option Elements → Option Elements → Type 0
 IsReference true before reference = reference ≡ None
 IsReference false before reference = (row : Elements) × (before ≡ Some row) × (reference ≡ Some row)
 
--- Behind a row the reference is kept by the tag.
+-- After a row the reference is kept by the tag.
 kept_reference : (tag : Bool) (row : Elements) → IsReference tag (Some row) (then_some (not tag) row)
 kept_reference true row = refl
 kept_reference false row = (row, refl, refl)
@@ -36,7 +36,7 @@ written_by_tag true before reference row line e w = subst (λ r. WritesRow (is_n
 written_by_tag false before reference row line (other, b, e) w =
     subst (λ r. WritesRow false r row line) (sym b) (subst (λ r. WritesRow (is_none r) r row line) e w)
 
--- The rows so far are written: the text of the others, put behind theirs, is the text of all.
+-- The rows so far are written: the text of the others, put after theirs, is the text of all.
 pub record RowsSoFar (width : ℕ) (coding : Coding) (fine : Bool) (least : ℕ) (rows : List Elements) (i : ℕ) (reference : Option Elements) (old new : List Bool) : Type 0 where
   pub text : List Bool
   pub before : Option Elements
@@ -65,7 +65,7 @@ RowsSoFar-all width coding fine least rows i reference old new le s =
     let none : WritesRows coding fine least i s.before (drop i rows) [] = subst (λ r. WritesRows coding fine least i s.before r []) (sym (drop_all i rows le)) refl in
     (s.text ++ [], s.goes_on [] none, s.bits_are ∙ ap (λ b. old ++ b) (sym (append-nil s.text)))
 
--- the text of a row, of which the line is written with its fill and then an EOL and its tag, and of others behind it
+-- the text of a row, of which the line is written with its fill and then an EOL and its tag, and of others after it
 pub row_bits : (line filled tag_text more : List Bool)
     → ((line ++ filled) ++ (end_of_line ++ tag_text)) ++ more ≡ line ++ (filled ++ (end_of_line ++ (tag_text ++ more)))
 row_bits line filled tag_text more =
@@ -73,20 +73,20 @@ row_bits line filled tag_text more =
     ∙ ap (λ b. (line ++ filled) ++ b) (append_assoc end_of_line tag_text more)
     ∙ append_assoc line filled (end_of_line ++ (tag_text ++ more))
 
--- Where rows are left, the tag behind the row before them is that of the first.
+-- Where rows are left, the tag after the row before them is that of the first.
 next_tag-some : (coding : Coding) (fine : Bool) (i : ℕ) (rows : List Elements) → 0 < length rows → next_tag coding fine i rows ≡ is_one_dimensional coding fine (i + 1)
 next_tag-some coding fine i [] lt = absurd (omega arith)
 next_tag-some coding fine i (row ∷ rows) lt = refl
 
--- Behind the last row stands the tag 1.
-pub tag_behind_last : (coding : Coding) (fine : Bool) (i : ℕ) (rows : List Elements) (tag : Bool) → length rows ≤ i + 1 → tag ≡ true
+-- After the last row stands the tag 1.
+pub tag_after_last : (coding : Coding) (fine : Bool) (i : ℕ) (rows : List Elements) (tag : Bool) → length rows ≤ i + 1 → tag ≡ true
     → tag ≡ next_tag coding fine i (drop (i + 1) rows)
-tag_behind_last coding fine i rows tag le t = subst (λ r. tag ≡ next_tag coding fine i r) (sym (drop_all (i + 1) rows le)) t
+tag_after_last coding fine i rows tag le t = subst (λ r. tag ≡ next_tag coding fine i r) (sym (drop_all (i + 1) rows le)) t
 
--- Behind another stands the tag of the next.
-pub tag_behind_inner : (coding : Coding) (fine : Bool) (i : ℕ) (rows : List Elements) (tag : Bool) → i + 1 < length rows
+-- After another stands the tag of the next.
+pub tag_after_inner : (coding : Coding) (fine : Bool) (i : ℕ) (rows : List Elements) (tag : Bool) → i + 1 < length rows
     → tag ≡ is_one_dimensional coding fine (i + 1) → tag ≡ next_tag coding fine i (drop (i + 1) rows)
-tag_behind_inner coding fine i rows tag lt t =
+tag_after_inner coding fine i rows tag lt t =
     let some : 0 < length (drop (i + 1) rows) = omega (arith, length-drop (i + 1) rows) in
     t ∙ sym (next_tag-some coding fine i (drop (i + 1) rows) some)
 

@@ -46,12 +46,12 @@ BeginsWith-less colour bits more w (is, rest, e) none whole = elim (cases_lt (le
 
 -- bits that end inside a word do so with fewer of them
 EndsInside-less : (colour : Colour) (bits more : List Bool) → EndsInside colour (bits ++ more) → EndsInside colour bits
-EndsInside-less colour bits more (w, is, behind, some, e) = (
+EndsInside-less colour bits more (w, is, after, some, e) = (
   w,
   is,
-  more ++ behind,
-  (λ empty. some (nil_from_length behind (omega (arith, ap length empty, length-append more behind)))),
-  e ∙ append_assoc bits more behind,
+  more ++ after,
+  (λ empty. some (nil_from_length after (omega (arith, ap length empty, length-append more after)))),
+  e ∙ append_assoc bits more after,
 )
 
 run_stops : (colour : Colour) (run : ℕ) (bits more : List Bool) (fault : RunFault) → fault ≢ End → run_faults.Stops colour run bits fault → run_faults.Stops colour run (bits ++ more) fault
@@ -205,7 +205,7 @@ bad_numbered coding width rows tag bits more fault n is stops stays =
     let number : n ≡ length rows = (subst (Stops coding width rows 0 tag bits) is stops).0 in
     subst (Stops coding width rows 0 tag more) (sym (is ∙ ap (λ k. BadLine k) number)) stays
 
--- a line behind so many rows
+-- a line after so many rows
 pub many_stay : (coding : Coding) (width : ℕ) (rows : List Elements) (tag : Bool) (bits more : List Bool) (fault : PageFault) → fault ≡ TooManyRows
     → Stops coding width rows 0 tag bits fault → Stops coding width rows 0 tag (bits ++ more) fault
 many_stay coding width rows tag bits more fault is stops =
@@ -213,10 +213,10 @@ many_stay coding width rows tag bits more fault is stops =
     let stay : Stops coding width rows 0 tag (bits ++ more) TooManyRows = (many.0, LineBegins-more bits more many.1, many.2) in
     subst (Stops coding width rows 0 tag (bits ++ more)) (sym is) stay
 
--- a 1 behind a line before 11 zeros
-pub behind_stays : (coding : Coding) (width : ℕ) (rows : List Elements) (tag : Bool) (bits rest more : List Bool) → WantsLine rows 0 bits → ReadsRow width tag (last_of rows) bits rest
+-- a 1 after a line before 11 zeros
+pub after_stays : (coding : Coding) (width : ℕ) (rows : List Elements) (tag : Bool) (bits rest more : List Bool) → WantsLine rows 0 bits → ReadsRow width tag (last_of rows) bits rest
     → LineBegins rest → Stops coding width rows 0 tag (bits ++ more) (BadLine (length rows))
-behind_stays coding width rows tag bits rest more wants (line, row, spelt, e) begins = (
+after_stays coding width rows tag bits rest more wants (line, row, spelt, e) begins = (
   refl,
   record { one_separator = refl; begins = LineBegins-more bits more wants.begins; room = wants.room },
   inr (rest ++ more, (line, row, spelt, ap (λ b. b ++ more) e ∙ append_assoc line rest more), LineBegins-more rest more begins),

@@ -24,7 +24,7 @@ use Rattle.fax_pagestore.specs.PageFaults.{AreZeros, RunsOut, LineBegins, Separa
 
 -- ---- zeros up to a 1
 
--- How many zeros come before the first 1, and what comes behind it, is told by the bits.
+-- How many zeros come before the first 1, and what comes after it, is told by the bits.
 pub zeros_one : (a b : ℕ) (x y : List Bool) → replicate a false ++ true ∷ x ≡ replicate b false ++ true ∷ y → (a ≡ b) × (x ≡ y)
 zeros_one zero zero x y e = (refl, cc)
 zeros_one zero (suc b) x y e = cc
@@ -119,12 +119,12 @@ separator_not_line coding bits s (z, rest, few, e) =
     let same : (r.0 ≡ z) × (r.1 ≡ rest) = zeros_one r.0 z r.1 rest (sym r.3 ∙ e) in
     omega (arith, same.0, r.2)
 
--- behind at least 11 zeros and a 1
-behind_eol : (coding : Coding) (zeros : ℕ) (rest bits : List Bool) → 11 ≤ zeros → bits ≡ replicate zeros false ++ true ∷ rest → SeparatorBegins coding bits ⊎ RunsOut coding bits
-behind_eol Mh zeros rest bits le e =
+-- after at least 11 zeros and a 1
+after_eol : (coding : Coding) (zeros : ℕ) (rest bits : List Bool) → 11 ≤ zeros → bits ≡ replicate zeros false ++ true ∷ rest → SeparatorBegins coding bits ⊎ RunsOut coding bits
+after_eol Mh zeros rest bits le e =
     inl (true, replicate zeros false ++ true ∷ [], rest, (zeros, [], le, (refl, refl), refl), e ∙ sym (append_assoc (replicate zeros false) (true ∷ []) rest))
-behind_eol Mr zeros [] bits le e = inr (inr (zeros, le, e, refl))
-behind_eol Mr zeros (tag ∷ rest) bits le e =
+after_eol Mr zeros [] bits le e = inr (inr (zeros, le, e, refl))
+after_eol Mr zeros (tag ∷ rest) bits le e =
     inl (tag, replicate zeros false ++ true ∷ tag ∷ [], rest, (zeros, tag ∷ [], le, refl, refl), e ∙ sym (append_assoc (replicate zeros false) (true ∷ tag ∷ []) rest))
 
 -- Any bits begin with a separator or as a line does, or run out.
@@ -133,7 +133,7 @@ what_begins coding bits = elim (zeros_or_one bits) [
   | inl zeros ↦ inr (inr (inl zeros))
   | inr one ↦ elim (cases_lt one.0 11) [
     | inl few ↦ inr (inl (one.0, one.1, few, one.2))
-    | inr enough ↦ elim (behind_eol coding one.0 one.1 bits enough one.2) [ inl separator ↦ inl separator | inr out ↦ inr (inr out) ]
+    | inr enough ↦ elim (after_eol coding one.0 one.1 bits enough one.2) [ inl separator ↦ inl separator | inr out ↦ inr (inr out) ]
   ]
 ]
 
@@ -152,7 +152,7 @@ pub record OneMore (coding : Coding) (m n : ℕ) (last : Bool) (bits : List Bool
   pub begins : SeparatorBegins coding bits
 
 -- Of two rows of separators that begin the same bits either both are as many and leave the same, or
--- behind the shorter one a separator follows.
+-- after the shorter one a separator follows.
 pub InARow-meet : (coding : Coding) (tag : Bool) (m n : ℕ) (s t : List Bool) (a b : Bool) (x y : List Bool)
     → InARow coding tag m s a → InARow coding tag n t b → s ++ x ≡ t ++ y
     → ((m ≡ n) × (a ≡ b) × (x ≡ y)) ⊎ (OneMore coding m n a x ⊎ OneMore coding n m b y)
@@ -212,14 +212,14 @@ IsFront-one coding a b f g x y p q e =
     let whole : p.front ++ (p.tag_text ++ x) ≡ q.front ++ (q.tag_text ++ y) =
     sym (append_assoc p.front p.tag_text x) ∙ ap (λ c. c ++ x) (sym p.text_is) ∙ e ∙ ap (λ c. c ++ y) q.text_is ∙ append_assoc q.front q.tag_text y in
     let fronts : p.front ≡ q.front = front_one p.front q.front (p.tag_text ++ x) (q.tag_text ++ y) p.ends p.shortest q.ends q.shortest whole in
-    let behind : p.tag_text ++ x ≡ q.tag_text ++ y =
+    let after : p.tag_text ++ x ≡ q.tag_text ++ y =
     append_cancel_left p.front (p.tag_text ++ x) (q.tag_text ++ y) (whole ∙ ap (λ c. c ++ (q.tag_text ++ y)) (sym fronts)) in
-    let tags : (a ≡ b) × (p.tag_text ≡ q.tag_text) × (x ≡ y) = IsTag-one coding a b p.tag_text q.tag_text x y p.is_tag q.is_tag behind in
+    let tags : (a ≡ b) × (p.tag_text ≡ q.tag_text) × (x ≡ y) = IsTag-one coding a b p.tag_text q.tag_text x y p.is_tag q.is_tag after in
     (tags.0, p.text_is ∙ ap (λ c. c ++ p.tag_text) fronts ∙ ap (λ c. q.front ++ c) tags.1 ∙ sym q.text_is, tags.2)
 
 -- ---- lines
 
--- a 1 comes behind at most so many zeros
+-- a 1 comes after at most so many zeros
 abbrev pub few_zeros : ℕ → List Bool → Bool
 few_zeros k [] = false
 few_zeros k (true ∷ bits) = true
@@ -241,7 +241,7 @@ few_zeros_begin word x h =
     let r : (zeros : ℕ) × (rest : List Bool) × (zeros ≤ 7) × (word ≡ replicate zeros false ++ true ∷ rest) = few_zeros_are 7 word h in
     (r.0, r.1 ++ x, omega (arith, r.2), ap (λ b. b ++ x) r.3 ∙ append_assoc (replicate r.0 false) (true ∷ r.1) x)
 
--- the test, computed over the tables: in each word a 1 comes behind at most 7 zeros
+-- the test, computed over the tables: in each word a 1 comes after at most 7 zeros
 words_few_zeros : (colour : Colour) → all_words (λ w. few_zeros 7 w.word) (words colour) ≡ true
 unfolding white_terminating white_make_up black_terminating black_make_up common_make_up
 words_few_zeros White = refl
@@ -276,7 +276,7 @@ runs_begin (run ∷ runs) text x (first, rest, e, p, more) lt =
 one_dimensional_begins : (width : ℕ) (text x : List Bool) (row : Elements) → 0 < width → mh.SpellsLine width text row → LineBegins (text ++ x)
 one_dimensional_begins width text x row lt p = runs_begin p.runs text x p.spelt (omega (arith, p.whole))
 
--- in the word of each mode a 1 comes behind at most 7 zeros
+-- in the word of each mode a 1 comes after at most 7 zeros
 offset_few_zeros : (offset : Offset) → few_zeros 7 (mode_word (Vertical offset)) ≡ true
 offset_few_zeros Zero = refl
 offset_few_zeros Right1 = refl

@@ -15,7 +15,7 @@ pub length-padded : (octets : List ℕ) (bits : List Bool) (padded : IsPadded oc
 length-padded octets bits (zeros, lt, e) =
     sym (length-bits_of octets) ∙ ap length e ∙ length-append bits (replicate zeros false) ∙ ap (λ k. length bits + k) (length-replicate zeros false)
 
--- the octets behind the first n hold the bits behind theirs
+-- the octets after the first n hold the bits after theirs
 pub IsPadded-drop : (octets : List ℕ) (bits : List Bool) (n : ℕ) → IsPadded octets bits → IsPadded (drop n octets) (drop (8 * n) bits)
 IsPadded-drop octets bits n padded =
     let size = length-padded octets bits padded in
@@ -70,9 +70,9 @@ AreHeld-all octets bits n is padded = record {
   padded = subst (IsPadded octets) (sym (held_is octets bits n is padded)) padded;
 }
 
--- the octets behind the first n, or none
-held_behind : (octets : List ℕ) (bits n : ℕ) → AreHeld octets bits → take (bits - 8 * n) (bits_of (drop n octets)) ≡ drop (8 * n) (take bits (bits_of octets))
-held_behind octets bits n held = elim (cases_lt bits (8 * n)) [
+-- the octets after the first n, or none
+held_after : (octets : List ℕ) (bits n : ℕ) → AreHeld octets bits → take (bits - 8 * n) (bits_of (drop n octets)) ≡ drop (8 * n) (take bits (bits_of octets))
+held_after octets bits n held = elim (cases_lt bits (8 * n)) [
   | inl past ↦
       let none : bits - 8 * n ≡ 0 = omega arith in
       ap (λ k. take k (bits_of (drop n octets))) none
@@ -85,10 +85,10 @@ held_behind octets bits n held = elim (cases_lt bits (8 * n)) [
       ∙ ap (λ k. drop (8 * n) (take k (bits_of octets))) whole
 ]
 
-AreHeld-behind : (octets : List ℕ) (bits n : ℕ) → AreHeld octets bits → AreHeld (drop n octets) (bits - 8 * n)
-AreHeld-behind octets bits n held = record {
+AreHeld-after : (octets : List ℕ) (bits n : ℕ) → AreHeld octets bits → AreHeld (drop n octets) (bits - 8 * n)
+AreHeld-after octets bits n held = record {
   within = let within = held.within in omega (arith, length-drop n octets);
-  padded = subst (IsPadded (drop n octets)) (sym (held_behind octets bits n held)) (IsPadded-drop octets (take bits (bits_of octets)) n held.padded);
+  padded = subst (IsPadded (drop n octets)) (sym (held_after octets bits n held)) (IsPadded-drop octets (take bits (bits_of octets)) n held.padded);
 }
 
 -- the first n are passed, or all
@@ -110,14 +110,14 @@ drop_passed octets given bits n count rest is =
 pub AreHeld-passed : (octets : List ℕ) (given bits n count rest : ℕ) → IsPassed octets given bits n count rest → AreHeld (drop (given + count) octets) rest
 AreHeld-passed octets given bits n count rest is =
     subst (λ (o : List ℕ). AreHeld o rest) (sym (drop_passed octets given bits n count rest is))
-    (subst (λ k. AreHeld (drop n (drop given octets)) k) (sym is.rest_is) (AreHeld-behind (drop given octets) bits n is.held))
+    (subst (λ k. AreHeld (drop n (drop given octets)) k) (sym is.rest_is) (AreHeld-after (drop given octets) bits n is.held))
 
 pub held_passed : (octets : List ℕ) (given bits n count rest : ℕ) → IsPassed octets given bits n count rest
     → take rest (bits_of (drop (given + count) octets)) ≡ drop (8 * n) (take bits (bits_of (drop given octets)))
 held_passed octets given bits n count rest is =
     ap (λ (o : List ℕ). take rest (bits_of o)) (drop_passed octets given bits n count rest is)
     ∙ ap (λ k. take k (bits_of (drop n (drop given octets)))) is.rest_is
-    ∙ held_behind (drop given octets) bits n is.held
+    ∙ held_after (drop given octets) bits n is.held
 
 -- ---- octets that are gone over
 

@@ -59,7 +59,7 @@ none_rising : (n : ℕ) → AreRising 0 [] n
 unfolding AreRising
 none_rising n = omega arith
 
--- V0 spells a white row behind a white one.
+-- V0 spells a white row after a white one.
 pub white_again : (n : ℕ) → mr.SpellsLine (replicate n White) (true ∷ []) (replicate n White)
 white_again n =
     let row : Elements = replicate n White in
@@ -87,7 +87,7 @@ pub front_is : (window n word : ℕ) (bits text : List Bool) → n ≤ 56 → 56
     → window / 2 ^ (56 - n) ≡ word → word_bits n word ≡ text → take n bits ≡ text
 front_is window n word bits text few enough e same spelt = sym (window_front window n bits few enough e) ∙ ap (word_bits n) same ∙ spelt
 
--- So does the front with the bit behind it.
+-- So does the front with the bit after it.
 pub front_and_bit : (window n word : ℕ) (bits text : List Bool) → n < 56 → 56 ≤ length bits → word_bits 56 window ≡ padded 56 bits
     → window / 2 ^ (56 - n) ≡ word → word_bits n word ≡ text → take (n + 1) bits ≡ text ++ (window / 2 ^ (56 - n - 1) % 2 == 1) ∷ []
 front_and_bit window n word bits text few enough e same spelt =
@@ -99,7 +99,7 @@ front_and_bit window n word bits text few enough e same spelt =
     sym (window_front window (n + 1) bits (omega arith) enough e) ∙ word_bits-add n 1 x
     ∙ ap₂ (λ (s t : List Bool). s ++ t) (ap (word_bits n) high ∙ spelt) (low ∙ ap (λ k. (window / 2 ^ k % 2 == 1) ∷ []) (sym less))
 
--- ---- a white row, and the EOL behind it with no fill
+-- ---- a white row, and the EOL after it with no fill
 
 -- An EOL is a separator where there are no tags.
 pub untagged_eol : IsSeparator Mh true end_of_line
@@ -111,13 +111,13 @@ pub tagged_eol : (tag : Bool) → IsSeparator Mr tag (end_of_line ++ tag ∷ [])
 unfolding end_of_line
 tagged_eol tag = (11, tag ∷ [], omega arith, refl, refl)
 
--- ---- a line behind rows
+-- ---- a line after rows
 
--- Behind a white row V0 spells another.
-pub white_behind : (width n : ℕ) (tag : Bool) (kept : Elements) (places : List ℕ) → tag ≡ false → 0 < n → length kept ≡ width → kept ≡ painted White 0 places (length kept) → places ≡ []
+-- After a white row V0 spells another.
+pub white_after : (width n : ℕ) (tag : Bool) (kept : Elements) (places : List ℕ) → tag ≡ false → 0 < n → length kept ≡ width → kept ≡ painted White 0 places (length kept) → places ≡ []
     → SpellsRow width tag (row_before n kept) (true ∷ []) (replicate width White)
-white_behind width zero tag kept places two some size e none = absurd (omega arith)
-white_behind width (suc n) tag kept places two some size e none =
+white_after width zero tag kept places two some size e none = absurd (omega arith)
+white_after width (suc n) tag kept places two some size e none =
     let white : kept ≡ replicate width White = e ∙ ap (λ (ps : List ℕ). painted White 0 ps (length kept)) none ∙ white_row (length kept) ∙ ap (λ k. replicate k White) size in
     subst (λ (t : Bool). SpellsRow width t (Some kept) (true ∷ []) (replicate width White)) (sym two)
     (subst (λ (row : Elements). mr.SpellsLine row (true ∷ []) (replicate width White)) (sym white) (white_again width))

@@ -55,8 +55,8 @@ pub first_kept : (n : ℕ) (old new : List Bool) → n ≡ length old → (bits 
 first_kept n old new is (bits, e) = ap (take n) e ∙ take_at old bits n (sym is)
 
 -- the same, said of bits that were before and of bits that are
-pub put_behind : (old start new held : List Bool) → start ≡ old → held ≡ new → (bits : List Bool) × (new ≡ start ++ bits) → (bits : List Bool) × (held ≡ old ++ bits)
-put_behind old start new held is are (bits, e) = (bits, are ∙ e ∙ ap (λ b. b ++ bits) is)
+pub put_after : (old start new held : List Bool) → start ≡ old → held ≡ new → (bits : List Bool) × (new ≡ start ++ bits) → (bits : List Bool) × (held ≡ old ++ bits)
+put_after old start new held is are (bits, e) = (bits, are ∙ e ∙ ap (λ b. b ++ bits) is)
 
 -- a writer that lets no more bits wait than before
 pub as_before : (w : WriterValue) (n : ℕ) (new : List Bool) → n ≡ length w.waiting → (bits : List Bool) × (new ≡ w.waiting ++ bits) → record w { waiting = take n new } ≡ w
@@ -169,24 +169,24 @@ row_longer coding tag old line lined new e f = omega (arith, front_longer coding
 pub reference_alone : (tag : Bool) (before reference : Option Elements) → tag ≡ true → reference ≡ None → IsReference tag before reference
 reference_alone tag before reference alone none = subst (λ t. IsReference t before reference) (sym alone) none
 
-behind_first : (coding : Coding) (fine : Bool) (n : ℕ) → is_one_dimensional coding fine n ≡ false → 0 < n
-behind_first coding fine zero e =
+after_first : (coding : Coding) (fine : Bool) (n : ℕ) → is_one_dimensional coding fine n ≡ false → 0 < n
+after_first coding fine zero e =
     let contradiction : true ≡ false = sym (first_is_one_dimensional coding fine) ∙ e in
     absurd (cc)
-behind_first coding fine (suc n) e = omega arith
+after_first coding fine (suc n) e = omega arith
 
 -- a row that is written against the row before
-pub reference_behind : (coding : Coding) (fine : Bool) (rows : List Elements) (n : ℕ) (row : Elements) (reference : Option Elements)
+pub reference_after : (coding : Coding) (fine : Bool) (rows : List Elements) (n : ℕ) (row : Elements) (reference : Option Elements)
     → is_one_dimensional coding fine n ≡ false → slice_get rows (n - 1) ≡ Some row → reference ≡ Some row
     → IsReference (is_one_dimensional coding fine n) (row_ahead rows n) reference
-reference_behind coding fine rows zero row reference behind is e = absurd (omega (arith, behind_first coding fine zero behind))
-reference_behind coding fine rows (suc n) row reference behind is e =
+reference_after coding fine rows zero row reference after is e = absurd (omega (arith, after_first coding fine zero after))
+reference_after coding fine rows (suc n) row reference after is e =
     let before : suc n - 1 ≡ n = omega arith in
-    subst (λ t. IsReference t (slice_get rows n) reference) (sym behind) (row, ap (slice_get rows) (sym before) ∙ is, e)
+    subst (λ t. IsReference t (slice_get rows n) reference) (sym after) (row, ap (slice_get rows) (sym before) ∙ is, e)
 
 -- ---- what is given
 
--- what is behind the bits that wait, and what is left where n octets are given
+-- what is after the bits that wait, and what is left where n octets are given
 pub record Gives (page : PageValue) (octets : List ℕ) (w : WriterValue) (place : Place) (new : List Bool) (n : ℕ) : Type 0 where
   pub more : List Bool
   pub padded : IsPadded octets (new ++ more)
@@ -206,12 +206,12 @@ enough_of coding least page place new more n written (inr end) = inr (subst (λ 
 pub gives : (page : PageValue) (octets : List ℕ) (w : WriterValue) (place : Place) (new : List Bool) (n : ℕ) → HasLeft page octets w
     → WritesOn w.coding w.least page w.place place w.waiting new → (8 * n ≤ length new) ⊎ (place ≡ End) → Gives page octets w place new n
 gives page octets w place new n has on enough =
-    let behind = on.rest has.text has.written in
-    let more : List Bool = behind.0 in
+    let after = on.rest has.text has.written in
+    let more : List Bool = after.0 in
     let all : w.waiting ++ has.text ≡ new ++ more =
-    ap (λ t. w.waiting ++ t) behind.1 ∙ sym (append_assoc w.waiting on.bits more) ∙ ap (λ b. b ++ more) (sym on.put) in
+    ap (λ t. w.waiting ++ t) after.1 ∙ sym (append_assoc w.waiting on.bits more) ∙ ap (λ b. b ++ more) (sym on.put) in
     let padded : IsPadded octets (new ++ more) = subst (IsPadded octets) all has.padded in
-    let is_enough : (8 * n ≤ length new) ⊎ (more ≡ []) = enough_of w.coding w.least page place new more (8 * n) behind.2 enough in
+    let is_enough : (8 * n ≤ length new) ⊎ (more ≡ []) = enough_of w.coding w.least page place new more (8 * n) after.2 enough in
     record {
       more = more;
       padded = padded;
@@ -220,7 +220,7 @@ gives page octets w place new n has on enough =
         are_octets = All-drop (λ o. o < 256) n octets has.are_octets;
         same_format = has.same_format;
         text = more;
-        written = behind.2;
+        written = after.2;
         padded = subst (IsPadded (drop n octets)) (drop_front new more (8 * n) is_enough) (IsPadded-drop octets (new ++ more) n padded);
       };
     }

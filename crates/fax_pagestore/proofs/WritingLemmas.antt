@@ -48,7 +48,7 @@ ends_of_line-push coding (suc n) =
     ∙ ap (λ b. end_of_line ++ b) (sym (append_assoc (tag_bits coding true) (ends_of_line coding n) (end_of_line ++ tag_bits coding true)))
     ∙ sym (append_assoc end_of_line (tag_bits coding true ++ ends_of_line coding n) (end_of_line ++ tag_bits coding true))
 
--- One more EOL behind some that were put behind other bits.
+-- One more EOL after some that were put after other bits.
 pub ends_of_line-more : (coding : Coding) (n : ℕ) (old now new : List Bool) → now ≡ old ++ ends_of_line coding n
     → new ≡ now ++ (end_of_line ++ tag_bits coding true) → new ≡ old ++ ends_of_line coding (n + 1)
 ends_of_line-more coding n old now new e more =
@@ -57,7 +57,7 @@ ends_of_line-more coding n old now new e more =
 
 -- ---- a line and its fill
 
--- So many zeros are the fill, by the bits that are held before and behind the line.
+-- So many zeros are the fill, by the bits that are held before and after the line.
 fill-zeros : (least before after zeros : ℕ) (old line new : List Bool) → before ≡ length old → new ≡ old ++ line → after ≡ length new
     → zeros ≡ least - (after - before + 12) → replicate zeros false ≡ fill least line
 unfolding fill end_of_line
@@ -73,7 +73,7 @@ no_fill least old line new few e =
     let none : least - (length line + 12) ≡ 0 = omega arith in
     e ∙ ap (λ b. old ++ b) (sym (append-nil line) ∙ ap (λ n. line ++ replicate n false) (sym none))
 
--- A line and its fill, put one behind the other.
+-- A line and its fill, put one after the other.
 pub filled_line : (least before after zeros : ℕ) (old line lined new : List Bool) → before ≡ length old → lined ≡ old ++ line → after ≡ length lined
     → zeros ≡ least - (after - before + 12) → new ≡ lined ++ replicate zeros false → new ≡ old ++ (line ++ fill least line)
 filled_line least before after zeros old line lined new is e are n f =

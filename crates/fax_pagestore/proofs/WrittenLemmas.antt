@@ -30,12 +30,12 @@ first_tag : (coding : Coding) (fine : Bool) (rows : List Elements) → true ≡ 
 first_tag coding fine [] = refl
 first_tag coding fine (row ∷ rows) = sym (first_is_one_dimensional coding fine)
 
--- The tag behind a row is the tag before those that follow.
+-- The tag after a row is the tag before those that follow.
 next_tag_is : (coding : Coding) (fine : Bool) (index : ℕ) (rows : List Elements) → next_tag coding fine index rows ≡ tag_before coding fine (index + 1) rows
 next_tag_is coding fine index [] = refl
 next_tag_is coding fine index (row ∷ rows) = refl
 
--- The bits of a tag behind a row are its text.
+-- The bits of a tag after a row are its text.
 next_tag-text : (coding : Coding) (fine : Bool) (index : ℕ) (rows : List Elements) → IsTag coding (next_tag coding fine index rows) (tag_bits coding (next_tag coding fine index rows))
 next_tag-text Mh fine index [] = (refl, refl)
 next_tag-text Mh fine index (row ∷ rows) = (refl, refl)
@@ -80,7 +80,7 @@ fill-separator : (coding : Coding) (tag : Bool) (tag_text : List Bool) (least : 
 unfolding fill
 fill-separator coding tag tag_text least line is = zeros-separator coding tag tag_text (least - (length line + length end_of_line)) is
 
--- So many EOL of tag 1 behind another are as many separators in a row.
+-- So many EOL of tag 1 after another are as many separators in a row.
 ends_of_line-in_a_row : (coding : Coding) (n : ℕ) → InARow coding true n (ends_of_line coding n) true
 unfolding ends_of_line
 ends_of_line-in_a_row coding zero = (refl, refl)
@@ -104,7 +104,7 @@ written_row_is_spelt width true before row line is size w =
 written_row_is_spelt width false (Some reference) row line is size w = mr_laws.written_line_is_spelt reference row line (subst IsWidth (sym size) is) w
 written_row_is_spelt width false None row line is size w = w
 
--- the text of a row with its fill, an EOL and a tag, and of those behind it, grouped as it is read
+-- the text of a row with its fill, an EOL and a tag, and of those after it, grouped as it is read
 row_bits : (line filled tag_text rest : List Bool)
     → line ++ (filled ++ (end_of_line ++ (tag_text ++ rest))) ≡ line ++ ((filled ++ (end_of_line ++ tag_text)) ++ rest)
 row_bits line filled tag_text rest =

@@ -15,7 +15,7 @@ use Rattle.fax_pagestore.proofs.WrittenLemmas.{first_is_one_dimensional}
 
 -- ---- in one way only
 
--- A row has one line behind a tag.
+-- A row has one line after a tag.
 pub row_one : (tag : Bool) (before : Option Elements) (row : Elements) (line other : List Bool) → 0 < length row
     → WritesRow tag before row line → WritesRow tag before row other → line ≡ other
 row_one true before row line other some v w = mh_once.written_line_one row line other some v w
@@ -50,7 +50,7 @@ written_octets_are_unique width coding fine least rows text other a b is are v w
 
 -- ---- in some way
 
--- A line of this tag may be written behind this row.
+-- A line of this tag may be written after this row.
 MayBeWritten : ℕ → Bool → Option Elements → Type 0
 MayBeWritten width tag before = (tag ≡ true) ⊎ ((reference : Elements) × (before ≡ Some reference) × (length reference ≡ width))
 
@@ -62,10 +62,10 @@ row_some width false before row size (inl e) = absurd (cc)
 row_some width false before row size (inr (reference, e, also)) =
     subst (λ (o : Option Elements). (line : List Bool) × WritesRow false o row line) (sym e) (mr_once.row_is_written reference row (size ∙ sym also))
 
--- behind a row any line may be written
-behind_row : (width : ℕ) (tag : Bool) (row : Elements) → length row ≡ width → MayBeWritten width tag (Some row)
+-- after a row any line may be written
+after_row : (width : ℕ) (tag : Bool) (row : Elements) → length row ≡ width → MayBeWritten width tag (Some row)
 unfolding MayBeWritten
-behind_row width tag row size = inr (row, refl, size)
+after_row width tag row size = inr (row, refl, size)
 
 -- the first line of a page too
 at_first : (width : ℕ) (coding : Coding) (fine : Bool) → MayBeWritten width (is_one_dimensional coding fine 0) None
@@ -82,7 +82,7 @@ rows_some coding fine width least index before (row ∷ rows) each may =
     row_some width (is_one_dimensional coding fine index) before row size may in
     let more : (text : List Bool) × WritesRows coding fine least (index + 1) (Some row) rows text =
     rows_some coding fine width least (index + 1) (Some row) rows (All-tail (λ (r : Elements). length r ≡ width) row rows each)
-    (behind_row width (is_one_dimensional coding fine (index + 1)) row size) in
+    (after_row width (is_one_dimensional coding fine (index + 1)) row size) in
     (line.0 ++ (fill least line.0 ++ (end_of_line ++ (tag_bits coding (next_tag coding fine index rows) ++ more.0))), (line.0, more.0, line.1, refl, more.1))
 
 -- A page is written as some text.

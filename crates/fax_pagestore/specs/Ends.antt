@@ -7,7 +7,7 @@ use Rattle.fax_pagestore.specs.PageTexts.{end_of_line, IsTag}
 abbrev pub HoldsEol : List Bool → Type 0
 HoldsEol bits = (before rest : List Bool) × (bits ≡ before ++ (end_of_line ++ rest))
 
--- nowhere in these bits an EOL stands with its tag behind it
+-- nowhere in these bits an EOL stands with its tag after it
 abbrev pub HoldsNoTaggedEol : Coding → List Bool → Type 0
 HoldsNoTaggedEol coding bits = (tag : Bool) (before tag_text rest : List Bool) → IsTag coding tag tag_text → bits ≡ before ++ (end_of_line ++ (tag_text ++ rest)) → ⊥
 
@@ -15,7 +15,7 @@ HoldsNoTaggedEol coding bits = (tag : Bool) (before tag_text rest : List Bool) �
 abbrev pub BeginNoEol : (before left : List Bool) → Type 0
 BeginNoEol before left = (more front rest : List Bool) → before ++ (left ++ more) ≡ front ++ (end_of_line ++ rest) → length before ≤ length front
 
--- An octet does not count as an EOL, before this one: it is not 0, and where it ends with four zeros the octet behind does not
+-- An octet does not count as an EOL, before this one: it is not 0, and where it ends with four zeros the octet after does not
 -- begin with four. Each EOL has one that counts, wherever its 11 zeros begin (ITU-T T.4, 4.1.2).
-abbrev pub CountsNot : (octet behind : ℕ) → Type 0
-CountsNot octet behind = (0 < octet) × (octet % 16 ≡ 0 → 16 ≤ behind)
+abbrev pub CountsNot : (octet after : ℕ) → Type 0
+CountsNot octet after = (0 < octet) × (octet % 16 ≡ 0 → 16 ≤ after)

@@ -19,7 +19,7 @@ pub record HasRowAt (places : List ℕ) (start count width : ℕ) : Type 0 where
   pub rising : AreRising 0 (places_at places start count) width
   pub is_width : IsWidth width
 
--- the places of each extent end before those of the extents behind it begin
+-- the places of each extent end before those of the extents after it begin
 abbrev pub AreInOrder : List Extent → Type 0
 AreInOrder extents = (j k : ℕ) (e : Extent) → j < k → k < length extents
     → (slice_index_or extents j e).start + (slice_index_or extents j e).count ≤ (slice_index_or extents k e).start

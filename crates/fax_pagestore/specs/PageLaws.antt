@@ -46,14 +46,14 @@ abbrev pub PagesAreWritten : Type 0
 PagesAreWritten = (width : ℕ) (coding : Coding) (fine : Bool) (least : ℕ) (rows : List Elements) → AreRows width rows
     → (text : List Bool) × WritesPage coding fine least rows text
 
--- octets that hold the written text of one page, with fewer than eight zeros behind it, are the same
+-- octets that hold the written text of one page, with fewer than eight zeros after it, are the same
 abbrev pub WrittenOctetsAreUnique : Type 0
 WrittenOctetsAreUnique = (width : ℕ) (coding : Coding) (fine : Bool) (least : ℕ) (rows : List Elements) (text other : List Bool) (a b : List ℕ) → IsWidth width
     → AreRows width rows → WritesPage coding fine least rows text → WritesPage coding fine least rows other
     → AreOctets a → AreOctets b → IsPadded a text → IsPadded b other → a ≡ b
 
 -- Long fill means nothing by the number of its zeros: octets mean the same rows, or meet the same fault, with all of them and
--- without those octets of zeros that stand behind four others.
+-- without those octets of zeros that stand after four others.
 abbrev pub FillIsFree : Type 0
 FillIsFree = (width : ℕ) (coding : Coding) (octets : List ℕ)
     → ((rows : List Elements) → MeansRows width coding (less_fill 0 octets) rows ↔ MeansRows width coding octets rows)

@@ -15,7 +15,7 @@ use Rattle.fax_pagestore.specs.Pages.{PageValue}
 unfoldable pub end_of_line : List Bool
 end_of_line = replicate 11 false ++ true ∷ []
 
--- The tag bit behind an EOL. One-dimensional coding has none, and each of its lines counts as tagged 1.
+-- The tag bit after an EOL. One-dimensional coding has none, and each of its lines counts as tagged 1.
 abbrev pub IsTag : Coding → Bool → List Bool → Type 0
 IsTag Mh tag text = (tag ≡ true) × (text ≡ [])
 IsTag Mr tag text = text ≡ tag ∷ []
@@ -25,7 +25,7 @@ abbrev pub IsSeparator : Coding → Bool → List Bool → Type 0
 IsSeparator coding tag text = (zeros : ℕ) × (tag_text : List Bool) × (11 ≤ zeros) × IsTag coding tag tag_text
     × (text ≡ replicate zeros false ++ true ∷ tag_text)
 
--- So many separators behind one of this tag, of which the last has the tag `last`: each that is followed
+-- So many separators after one of this tag, of which the last has the tag `last`: each that is followed
 -- by another has tag 1.
 abbrev pub InARow : Coding → Bool → ℕ → List Bool → Bool → Type 0
 InARow coding tag zero text last = (text ≡ []) × (last ≡ tag)
@@ -44,15 +44,15 @@ pub record IsFront (coding : Coding) (tag : Bool) (text : List Bool) : Type 0 wh
   pub shortest : (k : ℕ) → k < length front → EndsWithEol (take k front) → ⊥
   pub is_tag : IsTag coding tag tag_text
 
--- Bits spell a row behind a separator of this tag: tag 1 chooses a one-dimensional line, and tag 0 a
+-- Bits spell a row after a separator of this tag: tag 1 chooses a one-dimensional line, and tag 0 a
 -- two-dimensional one against the row before.
 abbrev pub SpellsRow : ℕ → Bool → Option Elements → List Bool → Elements → Type 0
 SpellsRow width true before text row = mh.SpellsLine width text row
 SpellsRow width false (Some reference) text row = mr.SpellsLine reference text row
 SpellsRow width false None text row = ⊥
 
--- Behind a separator of this tag, and this row before, the bits are the lines of rows, each with a
--- separator behind it, of which the last has the tag `last`.
+-- After a separator of this tag, and this row before, the bits are the lines of rows, each with a
+-- separator after it, of which the last has the tag `last`.
 abbrev pub SpellsRows : Coding → ℕ → Bool → Option Elements → List Elements → List Bool → Bool → Type 0
 SpellsRows coding width tag before [] text last = (text ≡ []) × (last ≡ tag)
 SpellsRows coding width tag before (row ∷ rows) text last =
@@ -60,8 +60,8 @@ SpellsRows coding width tag before (row ∷ rows) text last =
     × SpellsRow width tag before line row × IsSeparator coding next separator
     × SpellsRows coding width next (Some row) rows rest last
 
--- What is read of octets up to a place behind a separator of this tag: any bits up to the first EOL, the
--- lines of these rows, each with a separator behind it, and so many further separators.
+-- What is read of octets up to a place after a separator of this tag: any bits up to the first EOL, the
+-- lines of these rows, each with a separator after it, and so many further separators.
 pub record ReadSoFar (coding : Coding) (width : ℕ) (octets : List ℕ) (rows : List Elements) (further : ℕ) (tag : Bool) (rest : List Bool) : Type 0 where
   pub front : List Bool
   pub lines : List Bool
@@ -74,7 +74,7 @@ pub record ReadSoFar (coding : Coding) (width : ℕ) (octets : List ℕ) (rows :
   pub bits_are : bits_of octets ≡ front ++ (lines ++ (separators ++ rest))
 
 -- Octets mean these rows of a width: any bits up to the first EOL, the lines, each with a separator
--- behind it, five more separators, and anything. The last six separators have tag 1.
+-- after it, five more separators, and anything. The last six separators have tag 1.
 pub record MeansRows (width : ℕ) (coding : Coding) (octets : List ℕ) (rows : List Elements) : Type 0 where
   pub are_rows : AreRows width rows
   pub more : List Bool

@@ -18,7 +18,7 @@ use Rattle.fax_pagestore.specs.PageTexts.{IsSeparator, SpellsRow, ReadSoFar, Mea
 use Rattle.fax_pagestore.specs.PageFaults.{FailsPage, SeparatorBegins, last_of}
 
 -- A reader: its rows, the tag of the last separator that is read, or none before the first EOL, the bits
--- behind that, how many octets of zeros came last, of which four are counted, and what the octets are, where
+-- after that, how many octets of zeros came last, of which four are counted, and what the octets are, where
 -- that is settled.
 pub record ReaderValue : Type 0 where
   pub format : Format
@@ -33,22 +33,22 @@ pub record ReaderValue : Type 0 where
 abbrev pub new_reader : Format → Coding → ReaderValue
 new_reader format coding = record { format = format; coding = coding; rows = []; tag = None; left = []; zeros = 0; settled = None }
 
--- Of octets these rows are read, and a separator of this tag behind the last; these bits are left. Before the
+-- Of octets these rows are read, and a separator of this tag after the last; these bits are left. Before the
 -- first EOL there are no rows, and none begins before what is left.
 abbrev pub IsReadUpTo : Coding → ℕ → List ℕ → List Elements → Option Bool → List Bool → Type 0
 IsReadUpTo coding width octets rows None left = (rows ≡ []) × (before : List Bool) × (bits_of octets ≡ before ++ left) × BeginNoEol before left
 IsReadUpTo coding width octets rows (Some tag) left = ReadSoFar coding width octets rows 0 tag left
 
--- bits begin with the line of some row, behind a separator of this tag, and a separator behind it
+-- bits begin with the line of some row, after a separator of this tag, and a separator after it
 pub record BeginsRow (coding : Coding) (width : ℕ) (tag : Bool) (before : Option Elements) (bits : List Bool) : Type 0 where
   pub line : List Bool
   pub row : Elements
   pub rest : List Bool
   pub spelt : SpellsRow width tag before line row
   pub bits_are : bits ≡ line ++ rest
-  pub behind : SeparatorBegins coding rest
+  pub after : SeparatorBegins coding rest
 
--- Of the bits that are left nothing more can be read: no first EOL with its tag, or no row with a separator behind it.
+-- Of the bits that are left nothing more can be read: no first EOL with its tag, or no row with a separator after it.
 abbrev pub NoMoreIsWhole : Coding → ℕ → List Elements → Option Bool → List Bool → Type 0
 NoMoreIsWhole coding width rows None left = HoldsNoTaggedEol coding left
 NoMoreIsWhole coding width rows (Some tag) left = BeginsRow coding width tag (last_of rows) left → ⊥
@@ -69,8 +69,8 @@ abbrev pub StaysBad : LineFault → List Bool → Type 0
 StaysBad fault bits = (fault ≢ Run End) × (fault ≡ NoMode → 7 ≤ length bits)
 
 -- A reader is at the end of these octets. What can be read of them is read. Once it is settled what they are, no
--- bits are kept, and they are that with any octets behind them.
-pub record IsBehind (octets : List ℕ) (reader : ReaderValue) : Type 0 where
+-- bits are kept, and they are that with any octets after them.
+pub record IsAfter (octets : List ℕ) (reader : ReaderValue) : Type 0 where
   pub read : reader.settled ≡ None → IsReadUpTo reader.coding (elements_of reader.format.width) octets reader.rows reader.tag reader.left
   pub waits : reader.settled ≡ None → NoMoreIsWhole reader.coding (elements_of reader.format.width) reader.rows reader.tag reader.left
   pub settled : (what : Settled) → reader.settled ≡ Some what
@@ -78,10 +78,10 @@ pub record IsBehind (octets : List ℕ) (reader : ReaderValue) : Type 0 where
 
 -- These octets came to a reader, whatever the pieces in which they came: it is at the end of them, less long fill.
 pub record HasRead (octets : List ℕ) (reader : ReaderValue) : Type 0 where
-  pub behind : IsBehind (less_fill 0 octets) reader
+  pub after : IsAfter (less_fill 0 octets) reader
   pub zeros : reader.settled ≡ None → reader.zeros ≡ zeros_after 0 octets
 
--- how many bits a reader keeps beside its rows, with those that it would keep of fill behind them
+-- how many bits a reader keeps beside its rows, with those that it would keep of fill after them
 abbrev pub most_kept : ReaderValue → ℕ
 most_kept reader = length reader.left + 8 * (most_zeros - reader.zeros)
 
@@ -118,12 +118,12 @@ reader_at mark rows = record {
   settled = mark.settled;
 }
 
--- From one place to the next a row was read, and a separator of this tag behind it.
+-- From one place to the next a row was read, and a separator of this tag after it.
 pub record ReadsOne (coding : Coding) (width : ℕ) (tag next : Bool) (rows all : List Elements) (old new : Place) : Type 0 where
   pub row : Elements
   pub line : List Bool
   pub separator : List Bool
   pub all_are : all ≡ rows ++ row ∷ []
   pub spelt : SpellsRow width tag (last_of rows) line row
-  pub behind : IsSeparator coding next separator
+  pub after : IsSeparator coding next separator
   pub passes : Passes old new (line ++ separator)

@@ -10,7 +10,7 @@ use Rattle.fax_pagestore.specs.declared.writer.Place.TheVariants.{Front, Row, En
 use Rattle.fax_pagestore.specs.Pages.{PageValue}
 use Rattle.fax_pagestore.specs.WrittenPages.{WritesPage, WritesRows, ends_of_line}
 
--- octets that hold the written text of a page, with fewer than eight zeros behind it
+-- octets that hold the written text of a page, with fewer than eight zeros after it
 pub record IsTextOf (page : PageValue) (coding : Coding) (least : ℕ) (octets : List ℕ) : Type 0 where
   pub are_octets : AreOctets octets
   pub text : List Bool
@@ -50,7 +50,7 @@ pub record HasLeft (page : PageValue) (octets : List ℕ) (writer : WriterValue)
   pub written : IsWrittenFrom writer.coding writer.least page writer.place text
   pub padded : IsPadded octets (writer.waiting ++ text)
 
--- Bits were put behind others, with which a page is written from one place to the next.
+-- Bits were put after others, with which a page is written from one place to the next.
 pub record WritesOn (coding : Coding) (least : ℕ) (page : PageValue) (place next : Place) (old new : List Bool) : Type 0 where
   pub bits : List Bool
   pub put : new ≡ old ++ bits

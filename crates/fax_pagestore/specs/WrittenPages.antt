@@ -16,12 +16,12 @@ abbrev pub is_one_dimensional : Coding → Bool → ℕ → Bool
 is_one_dimensional Mh fine index = true
 is_one_dimensional Mr fine index = index % parameter_k fine == 0
 
--- the tag bit behind an EOL
+-- the tag bit after an EOL
 abbrev pub tag_bits : Coding → Bool → List Bool
 tag_bits Mh tag = []
 tag_bits Mr tag = tag ∷ []
 
--- the tag behind a row, where these rows follow: that of the next row, and 1 behind the last
+-- the tag after a row, where these rows follow: that of the next row, and 1 after the last
 abbrev pub next_tag : Coding → Bool → ℕ → List Elements → Bool
 next_tag coding fine index [] = true
 next_tag coding fine index (row ∷ rows) = is_one_dimensional coding fine (index + 1)
@@ -41,7 +41,7 @@ WritesRow true before row line = mh.WritesLine row line
 WritesRow false (Some reference) row line = mr.WritesLine reference row line
 WritesRow false None row line = ⊥
 
--- the lines of rows from this index on, each with its fill, an EOL and the tag behind it
+-- the lines of rows from this index on, each with its fill, an EOL and the tag after it
 abbrev pub WritesRows : Coding → Bool → ℕ → ℕ → Option Elements → List Elements → List Bool → Type 0
 WritesRows coding fine least index before [] text = text ≡ []
 WritesRows coding fine least index before (row ∷ rows) text = (line rest : List Bool)

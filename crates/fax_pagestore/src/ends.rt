@@ -11,12 +11,12 @@ const HALF: u8 = 16;
 /// How many octets are looked at side by side.
 pub(crate) const BLOCK: usize = 16;
 
-/// How many octets stand behind a separator before they are looked at though no EOL stands in them.
+/// How many octets stand after a separator before they are looked at though no EOL stands in them.
 const LONG: usize = 4096;
 
-/// From which octet on, at this one or behind it, no EOL stands in octets: behind all of them where these are many, and as
+/// From which octet on, at this one or after it, no EOL stands in octets: after all of them where these are many, and as
 /// many again as when they were last looked at, so that a line is refused that can be none any more.
-pub(crate) fn behind_eols(octets: &[u8], from: usize) -> usize
+pub(crate) fn after_eols(octets: &[u8], from: usize) -> usize
     requires { from ≤ length octets.now }
     ensures within { (from ≤ result) × (result ≤ length octets.now) }
     ensures none { HoldsEol (drop (8 * result) (bits_of octets.now)) → ⊥ }
@@ -25,13 +25,13 @@ pub(crate) fn behind_eols(octets: &[u8], from: usize) -> usize
     if len >= LONG && len.leading_zeros() < from.leading_zeros() {
         return len;
     }
-    behind_last(octets, from)
+    after_last(octets, from)
 }
 
-/// From which octet on, at this one or behind it, no EOL stands in octets. It may be a later one than need be where one
+/// From which octet on, at this one or after it, no EOL stands in octets. It may be a later one than need be where one
 /// stands there: an octet of zeros counts as an EOL, and so do two half octets of zeros side by side in two octets, since each
 /// EOL has one of them, wherever its 11 zeros begin (ITU-T T.4, 4.1.2). Zeros at the end are none, to which the 1 is missing.
-fn behind_last(octets: &[u8], from: usize) -> usize
+fn after_last(octets: &[u8], from: usize) -> usize
     requires { from ≤ length octets.now }
     ensures within { (from ≤ result) × (result ≤ length octets.now) }
     ensures none { HoldsEol (drop (8 * result) (bits_of octets.now)) → ⊥ }
@@ -40,14 +40,14 @@ fn behind_last(octets: &[u8], from: usize) -> usize
     if end == from {
         return from;
     }
-    let place = behind_counted(&octets[..end], from);
+    let place = after_counted(&octets[..end], from);
     if place > from && place_of_eol(&octets[from..end]) == end - from {
         return from;
     }
     place
 }
 
-/// From which octet on, at this one or behind it, all octets are 0.
+/// From which octet on, at this one or after it, all octets are 0.
 fn before_zeros(octets: &[u8], from: usize) -> usize
     requires { from ≤ length octets.now }
     ensures within { (from ≤ result) × (result ≤ length octets.now) }
@@ -62,14 +62,14 @@ fn before_zeros(octets: &[u8], from: usize) -> usize
     from
 }
 
-/// From which octet on, at this one or behind it, none counts as an EOL.
-fn behind_counted(octets: &[u8], from: usize) -> usize
+/// From which octet on, at this one or after it, none counts as an EOL.
+fn after_counted(octets: &[u8], from: usize) -> usize
     requires from { from < length octets.now }
     requires last { 0 < get_or octets.now (length octets.now - 1) 0 }
     ensures within { (from ≤ result) × (result ≤ length octets.now) }
     ensures none { HoldsEol (drop (8 * result) (bits_of octets.now)) → ⊥ }
 {
-    for place in (from..behind_blocks(octets, from)).rev() {
+    for place in (from..after_blocks(octets, from)).rev() {
         if counts(octets[place], octets[place + 1]) {
             return place + 1;
         }
@@ -78,7 +78,7 @@ fn behind_counted(octets: &[u8], from: usize) -> usize
 }
 
 /// The place of the last octet, or of one so many whole blocks before it that none of them has an EOL.
-fn behind_blocks(octets: &[u8], from: usize) -> usize
+fn after_blocks(octets: &[u8], from: usize) -> usize
     requires from { from < length octets.now }
     requires last { 0 < get_or octets.now (length octets.now - 1) 0 }
     ensures within { (from ≤ result) × (result < length octets.now) }
@@ -104,7 +104,7 @@ fn block_is_clear(octets: &[u8], first: usize) -> bool
     !found
 }
 
-/// Before which octet no EOL ends: that in which the first one does, which has the 1 behind its 11 zeros (ITU-T T.4, 4.1.2),
+/// Before which octet no EOL ends: that in which the first one does, which has the 1 after its 11 zeros (ITU-T T.4, 4.1.2),
 /// or the end.
 fn place_of_eol(octets: &[u8]) -> usize
     ensures within { result ≤ length octets.now }
@@ -139,8 +139,8 @@ pub(crate) fn bits_before_eol(octets: &[u8]) -> u32
 }
 
 /// Whether an octet counts as an EOL, before this one.
-fn counts(octet: u8, behind: u8) -> bool
-    ensures { result ≡ false → CountsNot octet behind }
+fn counts(octet: u8, after: u8) -> bool
+    ensures { result ≡ false → CountsNot octet after }
 {
-    (octet % HALF == 0) & ((octet == 0) | (behind < HALF))
+    (octet % HALF == 0) & ((octet == 0) | (after < HALF))
 }

@@ -11,16 +11,16 @@ pub enum PageFault {
     /// There is no EOL.
     #[error("no EOL")]
     NoEol,
-    /// The line behind so many rows cannot be read, or a 1 comes behind it before 11 zeros.
+    /// The line after so many rows cannot be read, or a 1 comes after it before 11 zeros.
     #[error("line {0} cannot be read")]
     BadLine(u32),
-    /// The text ends before six EOLs in a row, or a line begins behind two to five in a row.
+    /// The text ends before six EOLs in a row, or a line begins after two to five in a row.
     #[error("no return to control")]
     NoRtc,
     /// Six EOLs in a row and no line before them.
     #[error("no line")]
     Empty,
-    /// A line begins behind 65,535 rows.
+    /// A line begins after 65,535 rows.
     #[error("more than 65,535 rows")]
     TooManyRows,
     #[error("out of memory")]

@@ -13,7 +13,7 @@ mod mark;
 mod rows;
 mod settled;
 
-use crate::ends::behind_eols;
+use crate::ends::after_eols;
 use crate::front::drop_front;
 use crate::{Coding, Format, Page, PageFault, RowStore};
 use fax_bits::NoMemory;
@@ -27,9 +27,9 @@ use std::marker::Model;
 use std::mem;
 
 /// Reads a page whose octets come in pieces, as [`crate::read_page`] reads them at once. It keeps the rows
-/// that are read, and the octets behind the last separator, until it is settled what they all are; before the
-/// first EOL two octets at most, and no octet of zeros behind four others, since the zeros of fill mean nothing by
-/// their number (ITU-T T.4, 4.1.3). A line is read once the EOL behind it is there, and room for lines is taken only while some
+/// that are read, and the octets after the last separator, until it is settled what they all are; before the
+/// first EOL two octets at most, and no octet of zeros after four others, since the zeros of fill mean nothing by
+/// their number (ITU-T T.4, 4.1.3). A line is read once the EOL after it is there, and room for lines is taken only while some
 /// are read.
 #[derive(Drop)]
 pub struct PageReader<S: RowStore> {
@@ -84,8 +84,8 @@ impl<S: RowStore> PageReader<S> {
         }
     }
 
-    /// Takes the next octets, and reads each row of which the line and the separator are there. Behind the end
-    /// of a page, and behind a fault that no octets mend, it takes nothing and no memory. An `Err` is that of
+    /// Takes the next octets, and reads each row of which the line and the separator are there. After the end
+    /// of a page, and after a fault that no octets mend, it takes nothing and no memory. An `Err` is that of
     /// memory, and changes nothing.
     pub fn feed(&mut self, piece: &[u8]) -> Result<(), PageFault>
         ensures read { OnOk result ((octets : List ℕ) → HasRead octets self.old → HasRead (octets ++ piece.now) self.new) }
@@ -105,7 +105,7 @@ impl<S: RowStore> PageReader<S> {
         let zeros = append(&mut self.octets, self.zeros, piece)?;
         // an EOL that ends in the piece begins at most two octets before it
         let from = len.saturating_sub(2);
-        let end = behind_eols(self.octets.as_slice(), from);
+        let end = after_eols(self.octets.as_slice(), from);
         if self.tag.is_some() && end == from {
             self.zeros = zeros;
             return Ok(());

@@ -9,7 +9,7 @@ ghost use Rattle.fax_pagestore.specs.declared.fault.PageFault.{PageFault};
 ghost use Rattle.fax_pagestore.specs.Pages.{PageValue};
 ghost use Rattle.fax_pagestore.specs.PageTexts.{IsTag, IsFront, IsSeparator, InARow, SpellsRow, ReadSoFar, MeansRows, MeansPage};
 ghost use Rattle.fax_pagestore.specs.Ends.{HoldsNoTaggedEol};
-ghost use Rattle.fax_pagestore.specs.PageFaults.{RunsOut, LineBegins, BreaksReturn, BreaksOff, StopsInReturn, FailsRow, WantsLine, Stops, FailsBehindFront, HasNoEol, FailsPage, last_of, row_before};
+ghost use Rattle.fax_pagestore.specs.PageFaults.{RunsOut, LineBegins, BreaksReturn, BreaksOff, StopsInReturn, FailsRow, WantsLine, Stops, FailsAfterFront, HasNoEol, FailsPage, last_of, row_before};
 
 use crate::ends::bits_before_eol;
 use crate::white::pass_white_row;
@@ -30,7 +30,7 @@ pub(crate) const EOL_ZEROS: u32 = 11;
 /// The bits of a reader's window.
 pub(crate) const WINDOW_BITS: u32 = 56;
 
-/// The EOLs of a return to control behind its first (ITU-T T.4, 4.1.4 and 4.2.4).
+/// The EOLs of a return to control after its first (ITU-T T.4, 4.1.4 and 4.2.4).
 const FURTHER_EOLS: u32 = 5;
 
 /// Reads the page that octets mean.
@@ -59,7 +59,7 @@ pub fn read_page<S: RowStore>(
     Ok(Page::new(format, rows))
 }
 
-/// Passes the tag behind an EOL, and answers it: `true` for a one-dimensional line, `false` for a
+/// Passes the tag after an EOL, and answers it: `true` for a one-dimensional line, `false` for a
 /// two-dimensional one (ITU-T T.4, 4.2.2). One-dimensional coding has no tag bit, and each of its lines
 /// counts as tagged 1. `None` says that the tag bit is missing.
 #[inline]
@@ -106,10 +106,10 @@ pub(crate) fn pass_front(reader: &mut BitReader, coding: Coding) -> Option<bool>
     }
 }
 
-/// What stands behind a separator or a line.
+/// What stands after a separator or a line.
 #[derive(Clone, Copy)]
 pub(crate) enum Ahead {
-    /// Fill and an EOL, that is at least 11 zeros and a 1, and this tag behind them (ITU-T T.4, 4.1.2,
+    /// Fill and an EOL, that is at least 11 zeros and a 1, and this tag after them (ITU-T T.4, 4.1.2,
     /// 4.1.3 and 4.2.2).
     Separator(bool),
     /// A line, or at least no separator: a 1 comes before 11 zeros.
@@ -191,7 +191,7 @@ pub(crate) enum Ending {
     BreaksOff,
 }
 
-/// Passes the last five of the six EOLs that end a page, behind the first and its tag. Each of the six
+/// Passes the last five of the six EOLs that end a page, after the first and its tag. Each of the six
 /// has tag 1 (ITU-T T.4, 4.1.4 and 4.2.4).
 #[cold]
 pub(crate) fn pass_return_to_control(reader: &mut BitReader, coding: Coding, first: bool) -> Ending
@@ -212,7 +212,7 @@ pub(crate) fn pass_return_to_control(reader: &mut BitReader, coding: Coding, fir
     if tag { Ending::Whole } else { Ending::Broken }
 }
 
-/// Reads the line behind n rows, of which the last is kept, into the builder, in place of what is there,
+/// Reads the line after n rows, of which the last is kept, into the builder, in place of what is there,
 /// and answers whether it could be read. A two-dimensional line is read against the row before, and
 /// without one it cannot be.
 fn read_line(
@@ -237,8 +237,8 @@ fn read_line(
     read_line_2d_into(line, reader, &kept.lend()).is_ok()
 }
 
-/// Reads the line behind n rows and this tag into the builder, in place of what is there, passes the
-/// separator behind the line, and answers its tag. Where the tag is 0 the last of the rows is kept.
+/// Reads the line after n rows and this tag into the builder, in place of what is there, passes the
+/// separator after the line, and answers its tag. Where the tag is 0 the last of the rows is kept.
 #[inline(always)]
 pub(crate) fn read_row(
     line: &mut RowBuilder,
@@ -264,7 +264,7 @@ pub(crate) fn read_row(
     }
 }
 
-/// Reads the one-dimensional line behind n rows into the builder, in place of what is there, passes the separator behind
+/// Reads the one-dimensional line after n rows into the builder, in place of what is there, passes the separator after
 /// the line, and answers its tag.
 #[inline]
 pub(crate) fn read_row_alone(
@@ -288,7 +288,7 @@ pub(crate) fn read_row_alone(
     }
 }
 
-/// Reads the lines of a page behind its first EOL and the tag of that, and passes the return to control.
+/// Reads the lines of a page after its first EOL and the tag of that, and passes the return to control.
 fn read_rows<S: RowStore>(
     alloc: Global,
     reader: &mut BitReader,
@@ -299,7 +299,7 @@ fn read_rows<S: RowStore>(
     ensures ok { IfOk result (λ rows. (octets : List ℕ) → ReadSoFar coding (elements_of width) octets [] 0 first reader.old.left
         → MeansRows (elements_of width) coding octets (S.rows rows)) }
     ensures fault { IfErr result (λ fault. fault ≢ PageFault.NoMemory → (octets : List ℕ) → ReadSoFar coding (elements_of width) octets [] 0 first reader.old.left
-        → FailsBehindFront coding (elements_of width) octets fault) }
+        → FailsAfterFront coding (elements_of width) octets fault) }
 {
     let mut rows = S::empty(alloc);
     let mut line = RowBuilder::new(alloc)?;

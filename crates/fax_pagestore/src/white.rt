@@ -1,4 +1,4 @@
-//! Rows that are white throughout, each passed in one step with the EOL behind it.
+//! Rows that are white throughout, each passed in one step with the EOL after it.
 ghost use Rattle.std.specs.Prelude.{◌≡◌, ◌<◌, ◌≤◌, ◌++◌, List, Bool, true, false, IfSome, IsNone, length, replicate};
 ghost use Rattle.fax_bits.specs.Bits.{word_bits};
 ghost use Rattle.fax_bits.specs.Reading.{Passes, padded};
@@ -14,7 +14,7 @@ use crate::reading::WINDOW_BITS;
 use fax_bits::BitReader;
 use fax_runcodes::{Colour, RowBuilder, Width};
 
-/// The bits of a white line and of the EOL behind it, with no fill between them, as a number of so many
+/// The bits of a white line and of the EOL after it, with no fill between them, as a number of so many
 /// bits, the first the most significant.
 #[derive(Clone, Copy)]
 struct LineAndEol {
@@ -63,10 +63,10 @@ fn white_line(width: Width) -> LineAndEol
     }
 }
 
-/// The bits of a white line behind n rows and this tag, and of an EOL. Where the tag is 0 the last of the
+/// The bits of a white line after n rows and this tag, and of an EOL. Where the tag is 0 the last of the
 /// rows is kept, and without a row that is white too there is no such line.
 #[inline(always)]
-fn white_line_behind(width: Width, tag: bool, kept: &RowBuilder, n: u32) -> Option<LineAndEol>
+fn white_line_after(width: Width, tag: bool, kept: &RowBuilder, n: u32) -> Option<LineAndEol>
     requires { tag ≡ false → 0 < n → length kept.now ≡ elements_of width }
     ensures spelt { IfSome result (λ line. (text : List Bool) × SpellsRow (elements_of width) tag (row_before n kept.now) text (replicate (elements_of width) White)
         × (word_bits line.bits line.word ≡ text ++ end_of_line)) }
@@ -81,7 +81,7 @@ fn white_line_behind(width: Width, tag: bool, kept: &RowBuilder, n: u32) -> Opti
     None
 }
 
-/// Passes a white line behind n rows and this tag, the EOL that follows it with no fill, and the tag of
+/// Passes a white line after n rows and this tag, the EOL that follows it with no fill, and the tag of
 /// that, and answers the tag. The row is kept in place of the one before. The window is the reader's.
 /// `None` says that the bits may begin with something else, and changes nothing.
 #[inline(always)]
@@ -100,7 +100,7 @@ pub(crate) fn pass_white_row(
         × Passes reader.old reader.new (text ++ separator)) }
     ensures none { IsNone result → (reader.new ≡ reader.old) × (kept.new ≡ kept.old) }
 {
-    let line = white_line_behind(width, tag, kept, n)?;
+    let line = white_line_after(width, tag, kept, n)?;
     if !reader.has(WINDOW_BITS) || window >> (WINDOW_BITS - line.bits) != line.word {
         return None;
     }

@@ -21,7 +21,7 @@ use waiting::Waiting;
 enum Place {
     /// Nothing is.
     Front,
-    /// The first EOL is, and the lines of so many rows, each with its fill and the EOL behind it.
+    /// The first EOL is, and the lines of so many rows, each with its fill and the EOL after it.
     Row(u32),
     /// All of it is.
     End,
@@ -176,7 +176,7 @@ fn write_step<S: RowStore>(
     }
 }
 
-/// Writes the line of a row with its fill, and the EOL behind it.
+/// Writes the line of a row with its fill, and the EOL after it.
 fn write_row<S: RowStore>(
     writer: &mut BitWriter,
     page: &Page<S>,

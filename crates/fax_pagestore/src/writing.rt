@@ -13,19 +13,19 @@ use fax_mrcode::write_lent_line_2d;
 use fax_runcodes::RowRef;
 use std::alloc::Global;
 
-/// EOL is a 1 behind 11 zeros (ITU-T T.4, 4.1.2).
+/// EOL is a 1 after 11 zeros (ITU-T T.4, 4.1.2).
 const END_OF_LINE: u32 = 1;
 
 /// How many bits EOL has.
 const END_OF_LINE_BITS: u32 = 12;
 
-/// How many EOL stand behind the EOL of the last line, so that there are six in a row (ITU-T T.4, 4.1.4
+/// How many EOL stand after the EOL of the last line, so that there are six in a row (ITU-T T.4, 4.1.4
 /// and 4.2.4).
 pub(crate) const FURTHER_ENDS: u32 = 5;
 
 /// Writes the text of a page: an EOL, each line with the least fill for which line, fill and EOL have at
-/// least `least_bits` bits, and an EOL behind it, and five more EOLs; in two-dimensional coding a tag bit
-/// behind each EOL.
+/// least `least_bits` bits, and an EOL after it, and five more EOLs; in two-dimensional coding a tag bit
+/// after each EOL.
 pub fn write_page<S: RowStore>(
     alloc: Global,
     page: &Page<S>,
@@ -41,8 +41,8 @@ pub fn write_page<S: RowStore>(
     Ok(writer.finish())
 }
 
-/// Writes the line of each row with its fill, and behind it an EOL whose tag is 1 where the next line is
-/// one-dimensional, and behind the last (ITU-T T.4, 4.2.2 and 4.2.4).
+/// Writes the line of each row with its fill, and after it an EOL whose tag is 1 where the next line is
+/// one-dimensional, and after the last (ITU-T T.4, 4.2.2 and 4.2.4).
 fn write_rows<S: RowStore>(
     writer: &mut BitWriter,
     page: &Page<S>,
@@ -150,7 +150,7 @@ pub(crate) fn write_ends_of_line(
     Ok(())
 }
 
-/// Writes an EOL, and in two-dimensional coding the tag bit behind it (ITU-T T.4, 4.1.2 and 4.2.2).
+/// Writes an EOL, and in two-dimensional coding the tag bit after it (ITU-T T.4, 4.1.2 and 4.2.2).
 pub(crate) fn write_end_of_line(
     writer: &mut BitWriter,
     coding: Coding,

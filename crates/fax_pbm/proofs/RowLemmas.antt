@@ -34,7 +34,7 @@ row_size W2432 = (refl, omega arith, omega arith)
 
 -- ---- rows that are read
 
--- the next row, behind others
+-- the next row, after others
 pub rows_of-next : (rows : List Elements) (size n : ℕ) (raster : List ℕ)
     → (rows ++ map element (bits_of (take size raster)) ∷ []) ++ rows_of size n (drop size raster) ≡ rows ++ rows_of size (suc n) raster
 unfolding rows_of
@@ -128,7 +128,7 @@ elements-next octets k within =
 pub no_elements : map element (bits_of []) ≡ []
 no_elements = ap (map element) bits_of-nil
 
--- an element and those of the bits behind it
+-- an element and those of the bits after it
 pub bits-next : (row : Elements) (octet i : ℕ) → i < 8
     → (row ++ replicate 1 (element (bit octet (7 - i)))) ++ map element (word_bits (8 - (i + 1)) octet) ≡ row ++ map element (word_bits (8 - i) octet)
 unfolding word_bits
@@ -164,9 +164,9 @@ pub rows_of-none : (size n : ℕ) (raster : List ℕ) → n ≡ 0 → rows_of si
 unfolding rows_of
 rows_of-none size n raster none = ap (λ (k : ℕ). rows_of size k raster) none
 
--- what is left behind a row
-pub left_behind : (size m a b : ℕ) → a ≡ suc m * size → b + size ≡ a → b ≡ m * size
-left_behind size m a b all part = omega arith
+-- what is left after a row
+pub left_after : (size m a b : ℕ) → a ≡ suc m * size → b + size ≡ a → b ≡ m * size
+left_after size m a b all part = omega arith
 
 pub raster_rows-none : (elements height : ℕ) (raster : List ℕ) → is_height height ≡ false → raster_rows elements height raster ≡ Err BadHeight
 unfolding raster_rows

@@ -9,19 +9,19 @@ is_space c = c == 32 || c == 9 || c == 10 || c == 13
 abbrev pub ends_line : ℕ → Bool
 ends_line c = c == 10 || c == 13
 
--- What stands behind white space and comments. A comment goes from a '#' (35) to the end of its line; where told so, the text
+-- What stands after white space and comments. A comment goes from a '#' (35) to the end of its line; where told so, the text
 -- begins inside one.
-unfoldable pub behind_blanks : Bool → List ℕ → List ℕ
-behind_blanks within [] = []
-behind_blanks true (c ∷ text) = behind_blanks (not (ends_line c)) text
-behind_blanks false (c ∷ text) = if is_space c || c == 35 then behind_blanks (c == 35) text else c ∷ text
+unfoldable pub after_blanks : Bool → List ℕ → List ℕ
+after_blanks within [] = []
+after_blanks true (c ∷ text) = after_blanks (not (ends_line c)) text
+after_blanks false (c ∷ text) = if is_space c || c == 35 then after_blanks (c == 35) text else c ∷ text
 
--- the number that the digits at the front spell, behind those of n
+-- the number that the digits at the front spell, after those of n
 unfoldable pub number_after : ℕ → List ℕ → ℕ
 number_after n [] = n
 number_after n (c ∷ text) = if is_ascii_digit c then number_after (10 * n + (c - 48)) text else n
 
--- what stands behind the digits at the front
-unfoldable pub behind_digits : List ℕ → List ℕ
-behind_digits [] = []
-behind_digits (c ∷ text) = if is_ascii_digit c then behind_digits text else c ∷ text
+-- what stands after the digits at the front
+unfoldable pub after_digits : List ℕ → List ℕ
+after_digits [] = []
+after_digits (c ∷ text) = if is_ascii_digit c then after_digits text else c ∷ text

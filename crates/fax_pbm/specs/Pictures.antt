@@ -15,7 +15,7 @@ use Rattle.fax_pbm.specs.declared.fault.PbmFault.{PbmFault}
 use Rattle.fax_pbm.specs.declared.fault.PbmFault.TheVariants.{NoHead, BadWidth, BadHeight, Cut, Longer}
 use Rattle.fax_pbm.specs.declared.head.Number.{Number as NumberRead}
 use Rattle.fax_pbm.specs.declared.head.Head.{Head as HeadRead}
-use Rattle.fax_pbm.specs.Heads.{behind_blanks, behind_digits, is_space, number_after}
+use Rattle.fax_pbm.specs.Heads.{after_blanks, after_digits, is_space, number_after}
 
 -- Reading answers a value, or the first fault. The next part is read where the one before it was.
 infixl 10 ◌>>=◌
@@ -34,22 +34,22 @@ Gives view (Err e) read = read ≡ Err e
 abbrev pub most_number : ℕ
 most_number = 4294967295
 
--- A number in decimal, and what stands behind it. One that 32 bits do not hold counts as the greatest that they hold.
+-- A number in decimal, and what stands after it. One that 32 bits do not hold counts as the greatest that they hold.
 pub record Number : Type 0 where
   pub value : ℕ
-  pub behind : List ℕ
+  pub after : List ℕ
 
 -- the number of these digits
 abbrev pub number_at : List ℕ → Result Number PbmFault
 number_at digits =
-    if is_ascii_digit (slice_index digits 0) then Ok (record { value = min (number_after 0 digits) most_number; behind = behind_digits digits })
+    if is_ascii_digit (slice_index digits 0) then Ok (record { value = min (number_after 0 digits) most_number; after = after_digits digits })
     else Err NoHead
 
--- the number behind white space and comments
+-- the number after white space and comments
 unfoldable pub number_of : List ℕ → Result Number PbmFault
-number_of text = number_at (behind_blanks false text)
+number_of text = number_at (after_blanks false text)
 
--- the raster stands behind one white space
+-- the raster stands after one white space
 unfoldable pub raster_of : List ℕ → Result (List ℕ) PbmFault
 raster_of text = if is_space (slice_index text 0) then Ok (drop 1 text) else Err NoHead
 
@@ -59,9 +59,9 @@ pub record Head : Type 0 where
   pub height : ℕ
   pub raster : List ℕ
 
--- the head behind its first two octets
-unfoldable pub head_behind : List ℕ → Result Head PbmFault
-head_behind text = number_of text >>= (λ width. number_of width.behind >>= (λ height. raster_of height.behind >>= (λ raster.
+-- the head after its first two octets
+unfoldable pub head_after : List ℕ → Result Head PbmFault
+head_after text = number_of text >>= (λ width. number_of width.after >>= (λ height. raster_of height.after >>= (λ raster.
     Ok (record { width = width.value; height = height.value; raster = raster }))))
 
 -- the octets begin with `P4`
@@ -69,11 +69,11 @@ abbrev pub begins_as_picture : List ℕ → Bool
 begins_as_picture octets = pointwise nat_eq (take 2 octets) (codes "P4")
 
 unfoldable pub head_of : List ℕ → Result Head PbmFault
-head_of octets = if begins_as_picture octets then head_behind (drop 2 octets) else Err NoHead
+head_of octets = if begins_as_picture octets then head_after (drop 2 octets) else Err NoHead
 
 -- what the program reads, seen as these
 abbrev pub number_shown : NumberRead → Number
-number_shown n = record { value = n.value; behind = n.behind.now }
+number_shown n = record { value = n.value; after = n.after.now }
 
 abbrev pub head_shown : HeadRead → Head
 head_shown h = record { width = h.width; height = h.height; raster = h.raster.now }

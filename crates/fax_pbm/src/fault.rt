@@ -17,7 +17,7 @@ pub enum PbmFault {
     /// It ends inside its rows.
     #[error("a picture that is cut")]
     Cut,
-    /// There are octets behind its rows, as of a second picture.
+    /// There are octets after its rows, as of a second picture.
     #[error("more than one picture")]
     Longer,
     #[error("no memory")]

@@ -1,20 +1,20 @@
 //! The head of a picture.
 ghost use Rattle.std.specs.Prelude.{◌≡◌, false, min, slice_index};
 ghost use Rattle.std.specs.Char.{is_ascii_digit};
-ghost use Rattle.fax_pbm.specs.Heads.{behind_blanks, behind_digits, ends_line, is_space, number_after};
-ghost use Rattle.fax_pbm.specs.Pictures.{Gives, head_behind, head_of, head_shown, number_of, number_shown, raster_of};
+ghost use Rattle.fax_pbm.specs.Heads.{after_blanks, after_digits, ends_line, is_space, number_after};
+ghost use Rattle.fax_pbm.specs.Pictures.{Gives, head_after, head_of, head_shown, number_of, number_shown, raster_of};
 
 use crate::fault::PbmFault;
 
-/// A number, and what stands behind it.
+/// A number, and what stands after it.
 #[derive(Drop)]
 pub(crate) struct Number<'a> {
     /// At most the greatest of 32 bits.
     value: u32,
-    behind: &'a [u8],
+    after: &'a [u8],
 }
 
-/// The head of a picture, and the raster behind it.
+/// The head of a picture, and the raster after it.
 #[derive(Drop)]
 pub(crate) struct Head<'a> {
     /// How many elements each row has.
@@ -34,14 +34,14 @@ pub(crate) fn read_head(octets: &[u8]) -> Result<Head<'_>, PbmFault>
     }
 }
 
-/// Reads the head behind its first two octets.
-#[tactic(auto, unfolding(crate::specs::Pictures::head_behind))]
+/// Reads the head after its first two octets.
+#[tactic(auto, unfolding(crate::specs::Pictures::head_after))]
 fn read_numbers(text: &[u8]) -> Result<Head<'_>, PbmFault>
-    ensures { Gives head_shown result (head_behind text.now) }
+    ensures { Gives head_shown result (head_after text.now) }
 {
     let width = read_number(text)?;
-    let height = read_number(width.behind)?;
-    let raster = skip_space(height.behind)?;
+    let height = read_number(width.after)?;
+    let raster = skip_space(height.after)?;
     Ok(Head {
         width: width.value,
         height: height.value,
@@ -49,7 +49,7 @@ fn read_numbers(text: &[u8]) -> Result<Head<'_>, PbmFault>
     })
 }
 
-/// Reads the number that stands behind white space and comments.
+/// Reads the number that stands after white space and comments.
 fn read_number(text: &[u8]) -> Result<Number<'_>, PbmFault>
     ensures { Gives number_shown result (number_of text.now) }
 {
@@ -61,7 +61,7 @@ fn read_number(text: &[u8]) -> Result<Number<'_>, PbmFault>
     }
 }
 
-/// What stands behind one white space.
+/// What stands after one white space.
 fn skip_space(text: &[u8]) -> Result<&[u8], PbmFault>
     ensures { Gives (λ raster. raster.now) result (raster_of text.now) }
 {
@@ -85,10 +85,10 @@ fn begins_with_digit(text: &[u8]) -> bool
     is_digit(text[0])
 }
 
-/// What stands behind white space and comments.
-#[tactic(auto, unfolding(crate::specs::Heads::behind_blanks))]
+/// What stands after white space and comments.
+#[tactic(auto, unfolding(crate::specs::Heads::after_blanks))]
 fn skip_blanks(text: &[u8]) -> &[u8]
-    ensures { result.now ≡ behind_blanks false text.now }
+    ensures { result.now ≡ after_blanks false text.now }
 {
     let mut within = false;
     for i in 0..text.len() {
@@ -104,11 +104,11 @@ fn skip_blanks(text: &[u8]) -> &[u8]
     &text[text.len()..]
 }
 
-/// The number that the digits at the front spell, at most the greatest of 32 bits, and what stands behind them.
-#[tactic(auto, unfolding(crate::specs::Heads::number_after, crate::specs::Heads::behind_digits))]
+/// The number that the digits at the front spell, at most the greatest of 32 bits, and what stands after them.
+#[tactic(auto, unfolding(crate::specs::Heads::number_after, crate::specs::Heads::after_digits))]
 fn read_digits(text: &[u8]) -> Number<'_>
     ensures value { result.value ≡ min (number_after 0 text.now) u32.MAX }
-    ensures behind { result.behind.now ≡ behind_digits text.now }
+    ensures after { result.after.now ≡ after_digits text.now }
 {
     let mut value: u32 = 0;
     for i in 0..text.len() {
@@ -116,7 +116,7 @@ fn read_digits(text: &[u8]) -> Number<'_>
         if !is_digit(octet) {
             return Number {
                 value,
-                behind: &text[i..],
+                after: &text[i..],
             };
         }
         value = value
@@ -125,7 +125,7 @@ fn read_digits(text: &[u8]) -> Number<'_>
     }
     Number {
         value,
-        behind: &text[text.len()..],
+        after: &text[text.len()..],
     }
 }
 

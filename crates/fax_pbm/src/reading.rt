@@ -13,7 +13,7 @@ use fax_runcodes::{RowBuilder, Width};
 use std::alloc::Global;
 
 /// The page of a P4 picture (pbm(5)), in the fine resolution or the standard one, of which a picture says nothing. White
-/// space and comments may stand before the width and before the height, a comment from a `#` to the end of its line; behind
+/// space and comments may stand before the width and before the height, a comment from a `#` to the end of its line; after
 /// the height stands one white space, and then the rows, each in octets of its own, 1 for black.
 #[tactic(auto, unfolding(crate::specs::Pictures::page_of))]
 pub fn read_pbm(alloc: Global, octets: &[u8], fine: bool) -> Result<Page<PackedRows>, PbmFault>
@@ -102,11 +102,11 @@ fn read_rows(
     let mut row = RowBuilder::new(alloc)?;
     let mut rest = raster;
     for _ in 0..height {
-        let (octets, behind) = rest.split_at(size);
+        let (octets, after) = rest.split_at(size);
         row.clear();
         paint_octets(&mut row, octets);
         rows.push_lent(&row.lend())?;
-        rest = behind;
+        rest = after;
     }
     Ok(rows)
 }

@@ -34,12 +34,12 @@ fn write_head(alloc: Global, width: u32, height: u32) -> Result<Vec<u8>, NoMemor
     Ok(octets)
 }
 
-/// Adds a number in decimal, and an octet behind it.
-fn push_number(octets: &mut Vec<u8>, number: u32, behind: u8) -> Result<(), NoMemory>
-    ensures { OnOk result (octets.new.items ≡ octets.old.items ++ (decimal number ++ behind ∷ [])) }
+/// Adds a number in decimal, and an octet after it.
+fn push_number(octets: &mut Vec<u8>, number: u32, after: u8) -> Result<(), NoMemory>
+    ensures { OnOk result (octets.new.items ≡ octets.old.items ++ (decimal number ++ after ∷ [])) }
 {
     octets.extend_from_slice(Buffer::new().format(number).as_bytes())?;
-    octets.push(behind)?;
+    octets.push(after)?;
     Ok(())
 }
 

@@ -15,7 +15,7 @@ use Rattle.fax_pcap.specs.Captures.{BlockValue, FailsAs, Follow, HeadValue, Read
 
 -- ---- readers that go on alike
 
--- what was read, with more octets behind it
+-- what was read, with more octets after it
 abbrev pub with_more : {X : Type 0} → List ℕ → Result (X × List ℕ) CaptureFault → Result (X × List ℕ) CaptureFault
 with_more more (Ok parts) = Ok (parts.0, parts.1 ++ more)
 with_more more (Err fault) = Err fault
@@ -59,7 +59,7 @@ if_lasts : {X : Type 0} → (b : Bool) (p q : List ℕ → Result (X × List ℕ
 if_lasts true p q l m = l
 if_lasts false p q l m = m
 
--- one behind the other
+-- one after the other
 abbrev join : {X Y : Type 0} → (X → List ℕ → Result (Y × List ℕ) CaptureFault) → Result (X × List ℕ) CaptureFault → Result (Y × List ℕ) CaptureFault
 join q r = r >>= λ parts. q parts.0 parts.1
 
@@ -75,7 +75,7 @@ then_lasts : {X Y : Type 0} → (p : List ℕ → Result (X × List ℕ) Capture
     → Lasts p → ((x : X) → Lasts (q x)) → Lasts (λ octets. join q (p octets))
 then_lasts p q l m octets more h = then_by q more (p octets) (p (octets ++ more)) (l octets more (not_cut q (p octets) h)) m h
 
--- one behind something that is looked at
+-- one after something that is looked at
 abbrev look_by : {O Y : Type 0} → (O → List ℕ → Result (Y × List ℕ) CaptureFault) → List ℕ → Result O CaptureFault → Result (Y × List ℕ) CaptureFault
 look_by q octets r = r >>= λ seen. q seen octets
 
@@ -115,9 +115,9 @@ block_of_lasts order kind count =
     (fault_lasts Damaged)
     (then_lasts (front_of Cut (count - 12)) (λ body rest. front_of Cut 4 rest >>= λ last. if number_32 order last.0 0 == count then Ok (record { kind = kind; body = body }, last.1) else Err Damaged)
     (front_lasts (count - 12))
-    (λ body. then_lasts (front_of Cut 4) (λ last behind. if number_32 order last 0 == count then Ok (record { kind = kind; body = body }, behind) else Err Damaged)
+    (λ body. then_lasts (front_of Cut 4) (λ last after. if number_32 order last 0 == count then Ok (record { kind = kind; body = body }, after) else Err Damaged)
     (front_lasts 4)
-    (λ last. if_lasts (number_32 order last 0 == count) (λ behind. Ok (record { kind = kind; body = body }, behind)) (λ behind. Err Damaged) (done_lasts (record { kind = kind; body = body })) (fault_lasts Damaged))))
+    (λ last. if_lasts (number_32 order last 0 == count) (λ after. Ok (record { kind = kind; body = body }, after)) (λ after. Err Damaged) (done_lasts (record { kind = kind; body = body })) (fault_lasts Damaged))))
 
 block_at_lasts : (order : ByteOrder) → Lasts (block_at order)
 unfolding block_at
@@ -140,15 +140,15 @@ unfolding section_at
 section_at_lasts =
     look_lasts section_order_at (λ order octets. block_at order octets >>= λ block. front_of Damaged 16 block.0.body >>= λ parts. if number_16 order parts.0 4 == 1 then Ok (order, block.1) else Err Damaged)
     section_order_lasts
-    (λ order. then_lasts (block_at order) (λ block behind. front_of Damaged 16 block.body >>= λ parts. if number_16 order parts.0 4 == 1 then Ok (order, behind) else Err Damaged)
+    (λ order. then_lasts (block_at order) (λ block after. front_of Damaged 16 block.body >>= λ parts. if number_16 order parts.0 4 == 1 then Ok (order, after) else Err Damaged)
     (block_at_lasts order)
-    (λ block. fixed_lasts (front_of Damaged 16 block.body) (λ parts behind. if number_16 order parts.0 4 == 1 then Ok (order, behind) else Err Damaged)
-    (λ parts. if_lasts (number_16 order parts.0 4 == 1) (λ behind. Ok (order, behind)) (λ behind. Err Damaged) (done_lasts order) (fault_lasts Damaged))))
+    (λ block. fixed_lasts (front_of Damaged 16 block.body) (λ parts after. if number_16 order parts.0 4 == 1 then Ok (order, after) else Err Damaged)
+    (λ parts. if_lasts (number_16 order parts.0 4 == 1) (λ after. Ok (order, after)) (λ after. Err Damaged) (done_lasts order) (fault_lasts Damaged))))
 
 section_record_lasts : Lasts section_record
 unfolding section_record
 section_record_lasts =
-    then_lasts section_at (λ order behind. Ok (record { packet = None; head = section_head order }, behind)) section_at_lasts
+    then_lasts section_at (λ order after. Ok (record { packet = None; head = section_head order }, after)) section_at_lasts
     (λ order. done_lasts (record { packet = None; head = section_head order }))
 
 pcap_of_lasts : (order : ByteOrder) (unit : ℕ) → Lasts (pcap_of order unit)
@@ -162,7 +162,7 @@ pcap_of_lasts order unit =
 pcap_record_lasts : (order : ByteOrder) (unit : ℕ) → Lasts (pcap_record order unit)
 unfolding pcap_record
 pcap_record_lasts order unit =
-    then_lasts (pcap_of order unit) (λ file behind. Ok (record { packet = None; head = file }, behind)) (pcap_of_lasts order unit)
+    then_lasts (pcap_of order unit) (λ file after. Ok (record { packet = None; head = file }, after)) (pcap_of_lasts order unit)
     (λ file. done_lasts (record { packet = None; head = file }))
 
 -- a magic number that was found, or not
@@ -214,14 +214,14 @@ pcap_packet_lasts file =
     (λ header. if_lasts (nat_lt most_of_record (number_32 file.order header 8)) (λ rest. Err Damaged)
     (λ rest. front_of Cut (number_32 file.order header 8) rest >>= λ packet. Ok (pcap_packet_of file header packet.0, packet.1))
     (fault_lasts Damaged)
-    (then_lasts (front_of Cut (number_32 file.order header 8)) (λ packet behind. Ok (pcap_packet_of file header packet, behind))
+    (then_lasts (front_of Cut (number_32 file.order header 8)) (λ packet after. Ok (pcap_packet_of file header packet, after))
     (front_lasts (number_32 file.order header 8))
     (λ packet. done_lasts (pcap_packet_of file header packet))))
 
 packet_record_lasts : (head : HeadValue) (file : PcapFile) → Lasts (packet_record head file)
 unfolding packet_record
 packet_record_lasts head file =
-    then_lasts (pcap_packet_at file) (λ packet behind. Ok (record { packet = Some packet; head = head }, behind)) (pcap_packet_lasts file)
+    then_lasts (pcap_packet_at file) (λ packet after. Ok (record { packet = Some packet; head = head }, after)) (pcap_packet_lasts file)
     (λ packet. done_lasts (record { packet = Some packet; head = head }))
 
 -- a block of a section
@@ -230,8 +230,8 @@ block_here head octets = block_at head.order octets >>= λ block. block_record h
 
 block_here_lasts : (head : HeadValue) → Lasts (block_here head)
 block_here_lasts head =
-    then_lasts (block_at head.order) (λ block behind. block_record head block >>= λ told. Ok (told, behind)) (block_at_lasts head.order)
-    (λ block. fixed_lasts (block_record head block) (λ told behind. Ok (told, behind)) (λ told. done_lasts told))
+    then_lasts (block_at head.order) (λ block after. block_record head block >>= λ told. Ok (told, after)) (block_at_lasts head.order)
+    (λ block. fixed_lasts (block_record head block) (λ told after. Ok (told, after)) (λ told. done_lasts told))
 
 pcapng_record_lasts : (head : HeadValue) → Lasts (pcapng_record head)
 unfolding pcapng_record
@@ -250,8 +250,8 @@ record_lasts Pcapng head = pcapng_record_lasts head
 read_lasts : (head : HeadValue) → Lasts (λ octets. read_of (record_at head octets))
 unfolding read_of
 read_lasts head =
-    then_lasts (record_at head) (λ told behind. read_of_record told >>= λ read. Ok (read, behind)) (record_lasts head.kind head)
-    (λ told. fixed_lasts (read_of_record told) (λ read behind. Ok (read, behind)) (λ read. done_lasts read))
+    then_lasts (record_at head) (λ told after. read_of_record told >>= λ read. Ok (read, after)) (record_lasts head.kind head)
+    (λ told. fixed_lasts (read_of_record told) (λ read after. Ok (read, after)) (λ read. done_lasts read))
 
 -- the fault of a result, or this one
 abbrev fault_in : {X : Type 0} → CaptureFault → Result X CaptureFault → CaptureFault
@@ -261,14 +261,14 @@ fault_in fault (Err other) = other
 same_fault : {X : Type 0} → (fault other : CaptureFault) (r : Result X CaptureFault) → r ≡ Err fault → r ≡ Err other → fault ≡ other
 same_fault fault other r is was = sym (ap (fault_in fault) is) ∙ ap (fault_in fault) was
 
--- A record that was read is read, and one that was refused is refused, with more octets behind it too.
+-- A record that was read is read, and one that was refused is refused, with more octets after it too.
 no_cut : {X : Type 0} → (x : X) (r : Result X CaptureFault) → r ≡ Ok x → r ≢ Err Cut
 no_cut x r is cut = let wrong : Ok x ≡ Err Cut = sym is ∙ cut in cc
 
-pub ReadsAs-more : (old : HeadValue) (octets : List ℕ) (found : Option TimedDatagram) (head : HeadValue) (behind more : List ℕ)
-    → ReadsAs (record_at old octets) found head behind → ReadsAs (record_at old (octets ++ more)) found head (behind ++ more)
-ReadsAs-more old octets found head behind more is =
-    read_lasts old octets more (no_cut (record { found = found; head = head }, behind) (read_of (record_at old octets)) is) ∙ ap (with_more more) is
+pub ReadsAs-more : (old : HeadValue) (octets : List ℕ) (found : Option TimedDatagram) (head : HeadValue) (after more : List ℕ)
+    → ReadsAs (record_at old octets) found head after → ReadsAs (record_at old (octets ++ more)) found head (after ++ more)
+ReadsAs-more old octets found head after more is =
+    read_lasts old octets more (no_cut (record { found = found; head = head }, after) (read_of (record_at old octets)) is) ∙ ap (with_more more) is
 
 pub refused-more : (old : HeadValue) (octets more : List ℕ) (fault : CaptureFault) → fault ≢ Cut
     → read_of (record_at old octets) ≡ Err fault → read_of (record_at old (octets ++ more)) ≡ Err fault
@@ -276,24 +276,24 @@ refused-more old octets more fault other is =
     let not_cut_here : read_of (record_at old octets) ≢ Err Cut = λ cut. other (same_fault fault Cut (read_of (record_at old octets)) is cut) in
     read_lasts old octets more not_cut_here ∙ ap (with_more more) is
 
-pub Follow-more : (old : HeadValue) (octets : List ℕ) (founds : List (Option TimedDatagram)) (new : HeadValue) (behind more : List ℕ)
-    → Follow old octets founds new behind → Follow old (octets ++ more) founds new (behind ++ more)
-Follow-more old octets [] new behind more all = (all.0, ap (λ (l : List ℕ). l ++ more) all.1)
-Follow-more old octets (found ∷ founds) new behind more all =
-    (all.0, all.1 ++ more, ReadsAs-more old octets found all.0 all.1 more all.2, Follow-more all.0 all.1 founds new behind more all.3)
+pub Follow-more : (old : HeadValue) (octets : List ℕ) (founds : List (Option TimedDatagram)) (new : HeadValue) (after more : List ℕ)
+    → Follow old octets founds new after → Follow old (octets ++ more) founds new (after ++ more)
+Follow-more old octets [] new after more all = (all.0, ap (λ (l : List ℕ). l ++ more) all.1)
+Follow-more old octets (found ∷ founds) new after more all =
+    (all.0, all.1 ++ more, ReadsAs-more old octets found all.0 all.1 more all.2, Follow-more all.0 all.1 founds new after more all.3)
 
 -- one record more, and the records of two runs
-pub Follow-push : (old : HeadValue) (octets : List ℕ) (founds : List (Option TimedDatagram)) (found : Option TimedDatagram) (mid : HeadValue) (rest : List ℕ) (new : HeadValue) (behind : List ℕ)
-    → Follow old octets founds mid rest → ReadsAs (record_at mid rest) found new behind → Follow old octets (founds ++ found ∷ []) new behind
-Follow-push old octets [] found mid rest new behind all one =
-    let here : ReadsAs (record_at old octets) found new behind = subst (λ (h : HeadValue). ReadsAs (record_at h octets) found new behind) all.0 (subst (λ (l : List ℕ). ReadsAs (record_at mid l) found new behind) all.1 one) in
-    (new, behind, here, (refl, refl))
-Follow-push old octets (f ∷ founds) found mid rest new behind all one =
-    (all.0, all.1, all.2, Follow-push all.0 all.1 founds found mid rest new behind all.3 one)
+pub Follow-push : (old : HeadValue) (octets : List ℕ) (founds : List (Option TimedDatagram)) (found : Option TimedDatagram) (mid : HeadValue) (rest : List ℕ) (new : HeadValue) (after : List ℕ)
+    → Follow old octets founds mid rest → ReadsAs (record_at mid rest) found new after → Follow old octets (founds ++ found ∷ []) new after
+Follow-push old octets [] found mid rest new after all one =
+    let here : ReadsAs (record_at old octets) found new after = subst (λ (h : HeadValue). ReadsAs (record_at h octets) found new after) all.0 (subst (λ (l : List ℕ). ReadsAs (record_at mid l) found new after) all.1 one) in
+    (new, after, here, (refl, refl))
+Follow-push old octets (f ∷ founds) found mid rest new after all one =
+    (all.0, all.1, all.2, Follow-push all.0 all.1 founds found mid rest new after all.3 one)
 
-pub Follow-append : (old : HeadValue) (octets : List ℕ) (founds others : List (Option TimedDatagram)) (mid : HeadValue) (rest : List ℕ) (new : HeadValue) (behind : List ℕ)
-    → Follow old octets founds mid rest → Follow mid rest others new behind → Follow old octets (founds ++ others) new behind
-Follow-append old octets [] others mid rest new behind all more =
-    subst (λ (h : HeadValue). Follow h octets others new behind) all.0 (subst (λ (l : List ℕ). Follow mid l others new behind) all.1 more)
-Follow-append old octets (f ∷ founds) others mid rest new behind all more =
-    (all.0, all.1, all.2, Follow-append all.0 all.1 founds others mid rest new behind all.3 more)
+pub Follow-append : (old : HeadValue) (octets : List ℕ) (founds others : List (Option TimedDatagram)) (mid : HeadValue) (rest : List ℕ) (new : HeadValue) (after : List ℕ)
+    → Follow old octets founds mid rest → Follow mid rest others new after → Follow old octets (founds ++ others) new after
+Follow-append old octets [] others mid rest new after all more =
+    subst (λ (h : HeadValue). Follow h octets others new after) all.0 (subst (λ (l : List ℕ). Follow mid l others new after) all.1 more)
+Follow-append old octets (f ∷ founds) others mid rest new after all more =
+    (all.0, all.1, all.2, Follow-append all.0 all.1 founds others mid rest new after all.3 more)

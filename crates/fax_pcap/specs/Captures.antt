@@ -1,4 +1,4 @@
--- CAPTURES: the records of a file, one behind the other, and the datagrams in them. (pcap savefiles: pcap-savefile(5) of
+-- CAPTURES: the records of a file, one after the other, and the datagrams in them. (pcap savefiles: pcap-savefile(5) of
 -- libpcap, version 2.4; pcapng: draft-ietf-opsawg-pcapng. Options other than the unit and the offset of time are not read: this
 -- project's profile.)
 use Rattle.std.specs.Prelude.{◌≡◌, ◌⊎◌, ℕ, zero, suc, ◌+◌, ◌-◌, ◌*◌, ◌/◌, ◌%◌, ◌^◌, ◌==◌, ◌&&◌, ◌||◌, not, nat_lt, min, Bool, true, false, List, [], ◌∷◌, ◌++◌, take, drop, length, slice_index, slice_get, Option, Some, None, Result, Ok, Err, if◌then◌else◌}
@@ -30,7 +30,7 @@ pub record TimedDatagram : Type 0 where
   pub time : Option ℕ
   pub datagram : DatagramValue
 
--- What was told of a capture so far: by its head, and in pcapng by the head of the last section and the interfaces behind it.
+-- What was told of a capture so far: by its head, and in pcapng by the head of the last section and the interfaces after it.
 pub record HeadValue : Type 0 where
   pub kind : FileKind
   pub order : ByteOrder
@@ -106,7 +106,7 @@ section_order_at octets = do
   parts ← front_of Cut 12 octets
   if number_32 Big parts.0 8 == 439041101 then Ok Big else if number_32 Little parts.0 8 == 439041101 then Ok Little else Err Damaged
 
--- Behind it stand the version, of which the first number is 1, and the section's length, which is not read.
+-- After it stand the version, of which the first number is 1, and the section's length, which is not read.
 unfoldable pub section_at : List ℕ → Result (ByteOrder × List ℕ) CaptureFault
 section_at octets = do
   order ← section_order_at octets
@@ -114,17 +114,17 @@ section_at octets = do
   parts ← front_of Damaged 16 block.0.body
   if number_16 order parts.0 4 == 1 then Ok (order, block.1) else Err Damaged
 
--- an option: its code, the octets of its value, and those behind the value, which fills up to a multiple of four
+-- an option: its code, the octets of its value, and those after the value, which fills up to a multiple of four
 pub record OptionValue : Type 0 where
   pub code : ℕ
   pub value : List ℕ
-  pub behind : List ℕ
+  pub after : List ℕ
 
 unfoldable pub option_at : ByteOrder → List ℕ → Result OptionValue CaptureFault
 option_at order octets = do
   parts ← front_of Damaged 4 octets
   value ← front_of Damaged (4 * ((number_16 order parts.0 2 + 3) / 4)) parts.1
-  Ok (record { code = number_16 order parts.0 0; value = take (number_16 order parts.0 2) value.0; behind = value.1 })
+  Ok (record { code = number_16 order parts.0 0; value = take (number_16 order parts.0 2) value.0; after = value.1 })
 
 unfoldable pub first_octet : List ℕ → Result ℕ CaptureFault
 first_octet value = front_of Damaged 1 value >>= λ parts. Ok (slice_index parts.0 0)
@@ -147,7 +147,7 @@ times_in (suc most) order octets times =
     if nat_lt (length octets) 4 then Ok times
     else (option_at order octets >>= λ option.
     if option.code == 0 then Ok times
-    else (times_with order option times >>= λ told. times_in most order option.behind told))
+    else (times_with order option times >>= λ told. times_in most order option.after told))
 
 -- where no option tells it: microseconds, and nothing is added
 abbrev pub untold : Times
@@ -177,7 +177,7 @@ moment_of times count = moved_by times.offset (nanoseconds times.resolution coun
 unfoldable pub interface_at : List Interface → ℕ → Result Interface CaptureFault
 interface_at interfaces number = elim (slice_get interfaces number) [ Some interface ↦ Ok interface | None ↦ Err Damaged ]
 
--- behind the four octets of a packet's interface: its time in two numbers, the high one first, the octets captured of it, those
+-- after the four octets of a packet's interface: its time in two numbers, the high one first, the octets captured of it, those
 -- that it had; and the octets
 unfoldable pub timed_packet : ByteOrder → Interface → List ℕ → List ℕ → Result PacketValue CaptureFault
 timed_packet order interface header octets = do
@@ -275,7 +275,7 @@ record_of_kind Unopened head octets = head_record octets
 record_of_kind (Pcap file) head octets = packet_record head file octets
 record_of_kind Pcapng head octets = pcapng_record head octets
 
--- what stands at the front of octets, and those behind it
+-- what stands at the front of octets, and those after it
 abbrev pub record_at : HeadValue → List ℕ → Result (RecordValue × List ℕ) CaptureFault
 record_at head octets = record_of_kind head.kind head octets
 
@@ -314,23 +314,23 @@ FailsBlock told fault = (fault ≡ NoMemory) ⊎ (told >>= read_of_record ≡ Er
 unfoldable pub read_of : Result (RecordValue × List ℕ) CaptureFault → Result (ReadValue × List ℕ) CaptureFault
 read_of recorded = recorded >>= λ told. read_of_record told.0 >>= λ read. Ok (read, told.1)
 
--- what is read at the front of octets, and those behind it
+-- what is read at the front of octets, and those after it
 abbrev pub read_at : HeadValue → List ℕ → Result (ReadValue × List ℕ) CaptureFault
 read_at head octets = read_of (record_at head octets)
 
--- a record is read so: this was found, this is told of the capture then, and these octets stand behind it
+-- a record is read so: this was found, this is told of the capture then, and these octets stand after it
 abbrev pub ReadsAs : Result (RecordValue × List ℕ) CaptureFault → Option TimedDatagram → HeadValue → List ℕ → Type 0
-ReadsAs recorded found head behind = read_of recorded ≡ Ok (record { found = found; head = head }, behind)
+ReadsAs recorded found head after = read_of recorded ≡ Ok (record { found = found; head = head }, after)
 
 -- or not, for want of memory or for this fault
 abbrev pub FailsAs : Result (RecordValue × List ℕ) CaptureFault → CaptureFault → Type 0
 FailsAs recorded fault = (fault ≡ NoMemory) ⊎ (read_of recorded ≡ Err fault)
 
--- One record after the other, from octets to those behind them, this is found.
+-- One record after the other, from octets to those after them, this is found.
 abbrev pub Follow : HeadValue → List ℕ → List (Option TimedDatagram) → HeadValue → List ℕ → Type 0
-Follow old octets [] new behind = (new ≡ old) × (behind ≡ octets)
-Follow old octets (found ∷ more) new behind =
-    (head : HeadValue) × (rest : List ℕ) × ReadsAs (record_at old octets) found head rest × Follow head rest more new behind
+Follow old octets [] new after = (new ≡ old) × (after ≡ octets)
+Follow old octets (found ∷ more) new after =
+    (head : HeadValue) × (rest : List ℕ) × ReadsAs (record_at old octets) found head rest × Follow head rest more new after
 
 -- What is wrong where a capture ends before a record did: fewer than four octets are no capture.
 unfoldable pub fault_of_end : FileKind → List ℕ → Option CaptureFault

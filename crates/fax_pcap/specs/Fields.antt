@@ -9,7 +9,7 @@ abbrev pub ◌>>=◌ : {A B E : Type 0} → Result A E → (A → Result B E) �
 (Ok x) >>= f = f x
 (Err e) >>= f = Err e
 
--- so many octets, and those behind them; this fault where there are fewer
+-- so many octets, and those after them; this fault where there are fewer
 unfoldable pub front_of : {E : Type 0} → E → ℕ → List ℕ → Result (List ℕ × List ℕ) E
 front_of fault count octets = if nat_lt (length octets) count then Err fault else Ok (take count octets, drop count octets)
 

@@ -50,7 +50,7 @@ data_at source destination is_fragment count octets =
       octets = take (count - 8) octets;
     })
 
--- UDP (RFC 768): the ports of both sides, the length and a checksum, which is not read
+-- UDP (RFC 768): the ports of both ends, the length and a checksum, which is not read
 unfoldable pub udp_at : List ℕ → List ℕ → Bool → List ℕ → FrameRead
 udp_at source destination is_fragment octets = do
   parts ← front_of Short 8 octets
@@ -91,13 +91,13 @@ ip_at octets = do
   parts ← front_of Short 1 octets
   if slice_index parts.0 0 / 16 == 4 then ip_4_at octets else ip_6_at octets
 
--- a type of protocol, and the octets that it names; behind a tag of IEEE 802.1Q, where there is one, the type within
+-- a type of protocol, and the octets that it names; after a tag of IEEE 802.1Q, where there is one, the type within
 unfoldable pub untagged : ℕ → List ℕ → Result (ℕ × List ℕ) FrameFault
 untagged protocol octets =
     if protocol == 33024 || protocol == 34984 then (front_of Short 4 octets >>= λ parts. Ok (number_16 Big parts.0 2, parts.1))
     else Ok (protocol, octets)
 
--- two tags at most: IPv4 or IPv6 behind them
+-- two tags at most: IPv4 or IPv6 after them
 unfoldable pub protocol_at : ℕ → List ℕ → FrameRead
 protocol_at protocol octets = do
   outer ← untagged protocol octets
@@ -105,8 +105,8 @@ protocol_at protocol octets = do
   if inner.0 == 2048 then ip_4_at inner.1 else if inner.0 == 34525 then ip_6_at inner.1 else Err Other
 
 -- the header of a link, and the type of protocol at its place in it
-unfoldable pub behind_header : ℕ → ℕ → List ℕ → FrameRead
-behind_header count place octets = front_of Short count octets >>= λ parts. protocol_at (number_16 Big parts.0 place) parts.1
+unfoldable pub after_header : ℕ → ℕ → List ℕ → FrameRead
+after_header count place octets = front_of Short count octets >>= λ parts. protocol_at (number_16 Big parts.0 place) parts.1
 
 -- the families of addresses of loopback interfaces: 2 is IPv4; 24, 28 and 30 are IPv6
 unfoldable pub family_at : ℕ → List ℕ → FrameRead
@@ -121,9 +121,9 @@ unfoldable pub loopback_at : List ℕ → FrameRead
 loopback_at octets = front_of Short 4 octets >>= λ parts. family_at (min (number_32 Big parts.0 0) (number_32 Little parts.0 0)) parts.1
 
 unfoldable pub frame_at : LinkType → List ℕ → FrameRead
-frame_at Ethernet octets = behind_header 14 12 octets
-frame_at LinuxCooked octets = behind_header 16 14 octets
-frame_at LinuxCooked2 octets = behind_header 20 0 octets
+frame_at Ethernet octets = after_header 14 12 octets
+frame_at LinuxCooked octets = after_header 16 14 octets
+frame_at LinuxCooked2 octets = after_header 20 0 octets
 frame_at Loopback octets = loopback_at octets
 frame_at RawIp octets = ip_at octets
 frame_at Unread octets = Err Other

@@ -7,7 +7,7 @@ use crate::fault::CaptureFault;
 use crate::fields::{ByteOrder, read_16, read_32, split_front};
 use crate::interface::{Interface, read_interface};
 use crate::link::LinkType;
-use crate::packet::{Captured, read_packet};
+use crate::packet::{CapturedPacket, read_packet};
 use crate::pcap::{PcapFile, read_pcap_packet, unit_of};
 use crate::pcapng::{Block, read_block, read_enhanced, read_old_packet, read_section, read_simple};
 use std::alloc::Global;
@@ -52,11 +52,11 @@ impl Model for Capture {
     ghost view = { λ c. record { kind = c.kind; order = c.order; interfaces = c.interfaces.items } };
 }
 
-/// A record that was read: the datagram that it has, where it has one; and the octets behind it.
+/// A record that was read: the datagram that it has, where it has one; and the octets after it.
 #[derive(Drop)]
 pub struct RecordRead<'a> {
-    pub found: Option<Captured<'a>>,
-    pub behind: &'a [u8],
+    pub found: Option<CapturedPacket<'a>>,
+    pub after: &'a [u8],
 }
 
 impl Capture {
@@ -80,13 +80,13 @@ impl Capture {
         &mut self,
         octets: &'a [u8],
     ) -> Result<Option<RecordRead<'a>>, CaptureFault>
-        ensures ok { IfOk result (λ read. IfSome read (λ r. ReadsAs (record_at self.old octets.now) r.found self.new r.behind.now)) }
+        ensures ok { IfOk result (λ read. IfSome read (λ r. ReadsAs (record_at self.old octets.now) r.found self.new r.after.now)) }
         ensures more { IfOk result (λ read. read ≡ None → read_of (record_at self.old octets.now) ≡ Err CaptureFault.Cut) }
         ensures unread { IfOk result (λ read. read ≡ None → self.new ≡ self.old) }
         ensures err { IfErr result (λ e. FailsAs (record_at self.old octets.now) e) }
         ensures uncut { result ≢ Err CaptureFault.Cut }
         ensures same { OnErr result (self.new ≡ self.old) }
-        ensures shorter { IfOk result (λ read. IfSome read (λ r. length r.behind.now < length octets.now)) }
+        ensures shorter { IfOk result (λ read. IfSome read (λ r. length r.after.now < length octets.now)) }
     {
         match self.read_whole(octets) {
             Ok(read) => Ok(Some(read)),
@@ -95,7 +95,7 @@ impl Capture {
         }
     }
 
-    /// What is wrong where the capture ends with these octets, inside a record, or before its head; None behind a record.
+    /// What is wrong where the capture ends with these octets, inside a record, or before its head; None after a record.
     #[tactic(auto, unfolding(crate::specs::Captures::fault_of_end))]
     pub fn fault_at_end(&self, left: &[u8]) -> Option<CaptureFault>
         ensures { result ≡ fault_of_end self.now.kind left.now }
@@ -116,10 +116,10 @@ impl Capture {
     /// Reads the record at the front of octets. `Cut` says that they end inside it.
     #[tactic(auto, unfolding(crate::specs::Captures::record_of_kind))]
     fn read_whole<'a>(&mut self, octets: &'a [u8]) -> Result<RecordRead<'a>, CaptureFault>
-        ensures ok { IfOk result (λ r. ReadsAs (record_at self.old octets.now) r.found self.new r.behind.now) }
+        ensures ok { IfOk result (λ r. ReadsAs (record_at self.old octets.now) r.found self.new r.after.now) }
         ensures err { IfErr result (λ e. FailsAs (record_at self.old octets.now) e) }
         ensures same { OnErr result (self.new ≡ self.old) }
-        ensures shorter { IfOk result (λ r. length r.behind.now < length octets.now) }
+        ensures shorter { IfOk result (λ r. length r.after.now < length octets.now) }
     {
         match self.kind {
             FileKind::Unopened => self.read_head(octets),
@@ -135,25 +135,25 @@ impl Capture {
         file: PcapFile,
         octets: &'a [u8],
     ) -> Result<RecordRead<'a>, CaptureFault>
-        ensures ok { IfOk result (λ r. ReadsAs (packet_record self.old file octets.now) r.found self.new r.behind.now) }
+        ensures ok { IfOk result (λ r. ReadsAs (packet_record self.old file octets.now) r.found self.new r.after.now) }
         ensures err { IfErr result (λ e. FailsAs (packet_record self.old file octets.now) e) }
         ensures same { self.new ≡ self.old }
-        ensures shorter { IfOk result (λ r. length r.behind.now < length octets.now) }
+        ensures shorter { IfOk result (λ r. length r.after.now < length octets.now) }
     {
-        let (packet, behind) = read_pcap_packet(file, octets)?;
+        let (packet, after) = read_pcap_packet(file, octets)?;
         Ok(RecordRead {
             found: read_packet(&packet)?,
-            behind,
+            after,
         })
     }
 
     /// Reads the head of a file.
     #[tactic(auto, unfolding(crate::specs::Captures::head_record, crate::specs::Captures::read_of, crate::specs::Fields::front_of))]
     fn read_head<'a>(&mut self, octets: &'a [u8]) -> Result<RecordRead<'a>, CaptureFault>
-        ensures ok { IfOk result (λ r. ReadsAs (head_record octets.now) r.found self.new r.behind.now) }
+        ensures ok { IfOk result (λ r. ReadsAs (head_record octets.now) r.found self.new r.after.now) }
         ensures err { IfErr result (λ e. FailsAs (head_record octets.now) e) }
         ensures same { OnErr result (self.new ≡ self.old) }
-        ensures shorter { IfOk result (λ r. length r.behind.now < length octets.now) }
+        ensures shorter { IfOk result (λ r. length r.after.now < length octets.now) }
     {
         let (magic, _) = split_front(CaptureFault::Cut, 4, octets)?;
         let number = read_32(ByteOrder::Big, magic, 0);
@@ -172,19 +172,16 @@ impl Capture {
     /// Reads the head of a section of pcapng, in which no interface is described so far.
     #[tactic(auto, unfolding(crate::specs::Captures::section_record, crate::specs::Captures::read_of, crate::specs::Captures::read_of_record))]
     fn begin_section<'a>(&mut self, octets: &'a [u8]) -> Result<RecordRead<'a>, CaptureFault>
-        ensures ok { IfOk result (λ r. ReadsAs (section_record octets.now) r.found self.new r.behind.now) }
+        ensures ok { IfOk result (λ r. ReadsAs (section_record octets.now) r.found self.new r.after.now) }
         ensures err { IfErr result (λ e. FailsAs (section_record octets.now) e) }
         ensures same { OnErr result (self.new ≡ self.old) }
-        ensures shorter { IfOk result (λ r. length r.behind.now < length octets.now) }
+        ensures shorter { IfOk result (λ r. length r.after.now < length octets.now) }
     {
-        let (order, behind) = read_section(octets)?;
+        let (order, after) = read_section(octets)?;
         self.kind = FileKind::Pcapng;
         self.order = order;
         self.interfaces.clear();
-        Ok(RecordRead {
-            found: None,
-            behind,
-        })
+        Ok(RecordRead { found: None, after })
     }
 
     /// Reads the head of a pcap file, whose magic number told its byte order and the unit of fractions of a second.
@@ -195,12 +192,12 @@ impl Capture {
         unit: u16,
         octets: &'a [u8],
     ) -> Result<RecordRead<'a>, CaptureFault>
-        ensures ok { IfOk result (λ r. ReadsAs (pcap_record order unit octets.now) r.found self.new r.behind.now) }
+        ensures ok { IfOk result (λ r. ReadsAs (pcap_record order unit octets.now) r.found self.new r.after.now) }
         ensures err { IfErr result (λ e. FailsAs (pcap_record order unit octets.now) e) }
         ensures same { OnErr result (self.new ≡ self.old) }
-        ensures shorter { IfOk result (λ r. length r.behind.now < length octets.now) }
+        ensures shorter { IfOk result (λ r. length r.after.now < length octets.now) }
     {
-        let (head, behind) = split_front(CaptureFault::Cut, 24, octets)?;
+        let (head, after) = split_front(CaptureFault::Cut, 24, octets)?;
         if read_16(order, head, 4) != 2 || read_16(order, head, 6) != 4 {
             return Err(CaptureFault::NoCapture);
         }
@@ -213,19 +210,16 @@ impl Capture {
         });
         self.order = order;
         self.interfaces.clear();
-        Ok(RecordRead {
-            found: None,
-            behind,
-        })
+        Ok(RecordRead { found: None, after })
     }
 
     /// Reads a record of pcapng: the head of a section, or a block of the section.
     #[tactic(auto, unfolding(crate::specs::Captures::pcapng_record, crate::specs::Captures::read_of, crate::specs::Fields::front_of))]
     fn read_pcapng<'a>(&mut self, octets: &'a [u8]) -> Result<RecordRead<'a>, CaptureFault>
-        ensures ok { IfOk result (λ r. ReadsAs (pcapng_record self.old octets.now) r.found self.new r.behind.now) }
+        ensures ok { IfOk result (λ r. ReadsAs (pcapng_record self.old octets.now) r.found self.new r.after.now) }
         ensures err { IfErr result (λ e. FailsAs (pcapng_record self.old octets.now) e) }
         ensures same { OnErr result (self.new ≡ self.old) }
-        ensures shorter { IfOk result (λ r. length r.behind.now < length octets.now) }
+        ensures shorter { IfOk result (λ r. length r.after.now < length octets.now) }
     {
         let (kind, _) = split_front(CaptureFault::Cut, 4, octets)?;
         if read_32(ByteOrder::Big, kind, 0) == SECTION {
@@ -235,13 +229,16 @@ impl Capture {
         let found = self.take_block(&block)?;
         Ok(RecordRead {
             found,
-            behind: block.behind,
+            after: block.after,
         })
     }
 
     /// Takes a block of the section: that of an interface, or one of a packet, or one that is passed over.
     #[tactic(auto, unfolding(crate::specs::Captures::block_record, crate::specs::Captures::read_of_record))]
-    fn take_block<'a>(&mut self, block: &Block<'a>) -> Result<Option<Captured<'a>>, CaptureFault>
+    fn take_block<'a>(
+        &mut self,
+        block: &Block<'a>,
+    ) -> Result<Option<CapturedPacket<'a>>, CaptureFault>
         ensures ok { IfOk result (λ found. ReadsBlock (block_record self.old (block_shown block.now)) found self.new) }
         ensures err { IfErr result (λ e. FailsBlock (block_record self.old (block_shown block.now)) e) }
         ensures same { OnErr result (self.new ≡ self.old) }

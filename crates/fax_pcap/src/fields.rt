@@ -11,7 +11,7 @@ pub enum ByteOrder {
     Little,
 }
 
-/// So many octets, and those behind them; this fault where there are fewer.
+/// So many octets, and those after them; this fault where there are fewer.
 #[tactic(auto, unfolding(crate::specs::Fields::front_of))]
 pub(crate) fn split_front<E: Copy + Drop>(
     fault: E,
@@ -20,7 +20,7 @@ pub(crate) fn split_front<E: Copy + Drop>(
 ) -> Result<(&[u8], &[u8]), E>
     ensures gives { Gives (λ parts. (parts.0.now, parts.1.now)) result (front_of fault count octets.now) }
     ensures front { IfOk result (λ parts. length parts.0.now ≡ count) }
-    ensures behind { IfOk result (λ parts. count + length parts.1.now ≡ length octets.now) }
+    ensures after { IfOk result (λ parts. count + length parts.1.now ≡ length octets.now) }
 {
     if octets.len() < count {
         return Err(fault);

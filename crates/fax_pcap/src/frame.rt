@@ -1,7 +1,7 @@
 //! Where a UDP datagram stands in a packet.
 ghost use Rattle.std.specs.Prelude.{◌≡◌, ◌+◌, ◌≤◌};
 ghost use Rattle.fax_pcap.specs.Fields.{Gives};
-ghost use Rattle.fax_pcap.specs.Frames.{untagged, protocol_at, behind_header, family_at, loopback_at, frame_at};
+ghost use Rattle.fax_pcap.specs.Frames.{untagged, protocol_at, after_header, family_at, loopback_at, frame_at};
 
 use crate::datagram::Datagram;
 use crate::fields::{ByteOrder, read_16, read_32, split_front};
@@ -32,16 +32,16 @@ pub(crate) fn read_frame(link: LinkType, octets: &[u8]) -> Result<Datagram<'_>, 
     ensures { Gives (λ d. d) result (frame_at link octets.now) }
 {
     match link {
-        LinkType::Ethernet => read_behind_header(14, 12, octets),
-        LinkType::LinuxCooked => read_behind_header(16, 14, octets),
-        LinkType::LinuxCooked2 => read_behind_header(20, 0, octets),
+        LinkType::Ethernet => read_after_header(14, 12, octets),
+        LinkType::LinuxCooked => read_after_header(16, 14, octets),
+        LinkType::LinuxCooked2 => read_after_header(20, 0, octets),
         LinkType::Loopback => read_loopback(octets),
         LinkType::RawIp => read_ip(octets),
         LinkType::Unread => Err(FrameFault::Other),
     }
 }
 
-/// The datagram behind the header of a loopback interface.
+/// The datagram after the header of a loopback interface.
 #[tactic(auto, unfolding(crate::specs::Frames::loopback_at, crate::specs::Fields::front_of))]
 fn read_loopback(octets: &[u8]) -> Result<Datagram<'_>, FrameFault>
     ensures { Gives (λ d. d) result (loopback_at octets.now) }
@@ -64,17 +64,17 @@ fn read_family(family: u32, octets: &[u8]) -> Result<Datagram<'_>, FrameFault>
     }
 }
 
-/// The datagram behind a header of so many octets, in which the type of protocol stands at a place.
-#[tactic(auto, unfolding(crate::specs::Frames::behind_header, crate::specs::Fields::front_of))]
-fn read_behind_header(count: usize, place: usize, octets: &[u8]) -> Result<Datagram<'_>, FrameFault>
+/// The datagram after a header of so many octets, in which the type of protocol stands at a place.
+#[tactic(auto, unfolding(crate::specs::Frames::after_header, crate::specs::Fields::front_of))]
+fn read_after_header(count: usize, place: usize, octets: &[u8]) -> Result<Datagram<'_>, FrameFault>
     requires { place + 2 ≤ count }
-    ensures { Gives (λ d. d) result (behind_header count place octets.now) }
+    ensures { Gives (λ d. d) result (after_header count place octets.now) }
 {
     let (header, rest) = split_front(FrameFault::Short, count, octets)?;
     read_protocol(read_16(ByteOrder::Big, header, place), rest)
 }
 
-/// The datagram in the octets of a protocol, behind two tags at most.
+/// The datagram in the octets of a protocol, after two tags at most.
 #[tactic(auto, unfolding(crate::specs::Frames::protocol_at))]
 fn read_protocol(protocol: u16, octets: &[u8]) -> Result<Datagram<'_>, FrameFault>
     ensures { Gives (λ d. d) result (protocol_at protocol octets.now) }
@@ -88,7 +88,7 @@ fn read_protocol(protocol: u16, octets: &[u8]) -> Result<Datagram<'_>, FrameFaul
     }
 }
 
-/// The type of protocol behind a tag, where there is one, and its octets.
+/// The type of protocol after a tag, where there is one, and its octets.
 #[tactic(auto, unfolding(crate::specs::Frames::untagged, crate::specs::Fields::front_of))]
 fn pass_tag(protocol: u16, octets: &[u8]) -> Result<(u16, &[u8]), FrameFault>
     ensures { Gives (λ p. (p.0, p.1.now)) result (untagged protocol octets.now) }

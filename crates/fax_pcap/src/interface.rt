@@ -69,7 +69,7 @@ fn read_times(order: ByteOrder, options: &[u8]) -> Result<Times, CaptureFault>
             return Ok(times);
         }
         times = read_option_of_times(order, &option, times)?;
-        rest = option.behind;
+        rest = option.after;
     }
     Ok(times)
 }
@@ -114,12 +114,12 @@ fn read_eight(order: ByteOrder, value: &[u8]) -> Result<u64, CaptureFault>
     Ok(read_64(order, octets, 0))
 }
 
-/// An option: its code, its value, and the octets behind it.
+/// An option: its code, its value, and the octets after it.
 #[derive(Drop)]
 struct InterfaceOption<'a> {
     code: u16,
     value: &'a [u8],
-    behind: &'a [u8],
+    after: &'a [u8],
 }
 
 /// The first of some options.
@@ -129,11 +129,11 @@ fn read_option(order: ByteOrder, octets: &[u8]) -> Result<InterfaceOption<'_>, C
 {
     let (header, rest) = split_front(CaptureFault::Damaged, 4, octets)?;
     let length = usize::from(read_16(order, header, 2));
-    let (value, behind) = split_front(CaptureFault::Damaged, 4 * ((length + 3) / 4), rest)?;
+    let (value, after) = split_front(CaptureFault::Damaged, 4 * ((length + 3) / 4), rest)?;
     Ok(InterfaceOption {
         code: read_16(order, header, 0),
         value: &value[..length],
-        behind,
+        after,
     })
 }
 

@@ -17,4 +17,4 @@ mod pcapng;
 pub use capture::{Capture, RecordRead};
 pub use datagram::{Datagram, Endpoint};
 pub use fault::CaptureFault;
-pub use packet::Captured;
+pub use packet::CapturedPacket;

@@ -33,12 +33,12 @@ impl<'a> Model for Packet<'a> {
 
 /// A datagram, whole or in part, and when it was captured, in nanoseconds since 1970, where the capture tells that.
 #[derive(Drop)]
-pub struct Captured<'a> {
+pub struct CapturedPacket<'a> {
     time: Option<u128>,
     datagram: Datagram<'a>,
 }
 
-impl<'a> Model for Captured<'a> {
+impl<'a> Model for CapturedPacket<'a> {
     ghost use Rattle.fax_pcap.specs.Captures.{TimedDatagram};
 
     ghost Value = { TimedDatagram };
@@ -46,7 +46,7 @@ impl<'a> Model for Captured<'a> {
     ghost view = { λ c. record { time = c.time; datagram = c.datagram } };
 }
 
-impl<'a> Captured<'a> {
+impl<'a> CapturedPacket<'a> {
     /// When it was captured, in nanoseconds since 1970; None where the capture does not tell.
     pub fn time(&self) -> Option<u128>
         ensures { result ≡ self.now.time }
@@ -64,7 +64,9 @@ impl<'a> Captured<'a> {
 
 /// The datagram that a packet is, where it is one. `Snapped` says that it was captured up to a place inside its headers.
 #[tactic(auto, unfolding(crate::specs::Captures::datagram_of_frame))]
-pub(crate) fn read_packet<'a>(packet: &Packet<'a>) -> Result<Option<Captured<'a>>, CaptureFault>
+pub(crate) fn read_packet<'a>(
+    packet: &Packet<'a>,
+) -> Result<Option<CapturedPacket<'a>>, CaptureFault>
     ensures { Gives (λ found. found) result (datagram_of_packet packet.now) }
 {
     match read_frame(packet.link, packet.octets) {
@@ -72,7 +74,7 @@ pub(crate) fn read_packet<'a>(packet: &Packet<'a>) -> Result<Option<Captured<'a>
             if !datagram.is_whole && !(packet.is_cut || datagram.is_fragment) {
                 return Ok(None);
             }
-            Ok(Some(Captured {
+            Ok(Some(CapturedPacket {
                 time: packet.time,
                 datagram,
             }))

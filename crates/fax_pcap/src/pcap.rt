@@ -29,7 +29,7 @@ pub(crate) fn unit_of(magic: u32) -> Option<u16>
     }
 }
 
-/// The packet of a record, and the octets behind it.
+/// The packet of a record, and the octets after it.
 #[tactic(auto, unfolding(crate::specs::Captures::pcap_packet_at, crate::specs::Fields::front_of))]
 pub(crate) fn read_pcap_packet<'a>(
     file: PcapFile,
@@ -45,12 +45,12 @@ pub(crate) fn read_pcap_packet<'a>(
     if captured > MOST_OF_RECORD {
         return Err(CaptureFault::Damaged);
     }
-    let (octets, behind) = split_front(CaptureFault::Cut, captured as usize, rest)?;
+    let (octets, after) = split_front(CaptureFault::Cut, captured as usize, rest)?;
     let packet = Packet {
         time: Some(1_000_000_000 * seconds + u128::from(file.unit) * fraction),
         link: file.link,
         is_cut: captured < read_32(file.order, header, 12),
         octets,
     };
-    Ok((packet, behind))
+    Ok((packet, after))
 }

@@ -11,19 +11,19 @@ use crate::packet::{MOST_OF_RECORD, Packet};
 /// The number with which the body of a section's head begins, in the section's byte order.
 const BYTE_ORDER_MAGIC: u32 = 0x1a2b_3c4d;
 
-/// A block, and the octets behind it.
+/// A block, and the octets after it.
 #[derive(Drop)]
 pub(crate) struct Block<'a> {
     pub kind: u32,
     pub body: &'a [u8],
-    pub behind: &'a [u8],
+    pub after: &'a [u8],
 }
 
 /// The first block of some octets.
 #[tactic(auto, unfolding(crate::specs::Captures::block_at, crate::specs::Fields::front_of))]
 pub(crate) fn read_block(order: ByteOrder, octets: &[u8]) -> Result<Block<'_>, CaptureFault>
-    ensures gives { Gives (λ b. (record { kind = b.kind; body = b.body.now }, b.behind.now)) result (block_at order octets.now) }
-    ensures shorter { IfOk result (λ b. length b.behind.now < length octets.now) }
+    ensures gives { Gives (λ b. (record { kind = b.kind; body = b.body.now }, b.after.now)) result (block_at order octets.now) }
+    ensures shorter { IfOk result (λ b. length b.after.now < length octets.now) }
 {
     let (header, rest) = split_front(CaptureFault::Cut, 8, octets)?;
     read_block_body(
@@ -42,18 +42,18 @@ fn read_block_body(
     count: u32,
     octets: &[u8],
 ) -> Result<Block<'_>, CaptureFault>
-    ensures gives { Gives (λ b. (record { kind = b.kind; body = b.body.now }, b.behind.now)) result (block_of order kind count octets.now) }
-    ensures shorter { IfOk result (λ b. length b.behind.now < length octets.now) }
+    ensures gives { Gives (λ b. (record { kind = b.kind; body = b.body.now }, b.after.now)) result (block_of order kind count octets.now) }
+    ensures shorter { IfOk result (λ b. length b.after.now < length octets.now) }
 {
     if count < 12 || count % 4 != 0 || count > MOST_OF_RECORD {
         return Err(CaptureFault::Damaged);
     }
     let (body, rest) = split_front(CaptureFault::Cut, (count - 12) as usize, octets)?;
-    let (last, behind) = split_front(CaptureFault::Cut, 4, rest)?;
+    let (last, after) = split_front(CaptureFault::Cut, 4, rest)?;
     if read_32(order, last, 0) != count {
         return Err(CaptureFault::Damaged);
     }
-    Ok(Block { kind, body, behind })
+    Ok(Block { kind, body, after })
 }
 
 /// The byte order of the section whose head begins some octets.
@@ -71,7 +71,7 @@ fn read_section_order(octets: &[u8]) -> Result<ByteOrder, CaptureFault>
     }
 }
 
-/// The byte order of the section whose head begins some octets, and the octets behind the head.
+/// The byte order of the section whose head begins some octets, and the octets after the head.
 #[tactic(auto, unfolding(crate::specs::Captures::section_at, crate::specs::Fields::front_of))]
 pub(crate) fn read_section(octets: &[u8]) -> Result<(ByteOrder, &[u8]), CaptureFault>
     ensures gives { Gives (λ s. (s.0, s.1.now)) result (section_at octets.now) }
@@ -83,7 +83,7 @@ pub(crate) fn read_section(octets: &[u8]) -> Result<(ByteOrder, &[u8]), CaptureF
     if read_16(order, fixed, 4) != 1 {
         return Err(CaptureFault::Damaged);
     }
-    Ok((order, block.behind))
+    Ok((order, block.after))
 }
 
 /// The interface of a number.
@@ -125,7 +125,7 @@ pub(crate) fn read_old_packet<'a>(
     read_timed(order, interface, header, rest)
 }
 
-/// The packet of an interface, behind its header.
+/// The packet of an interface, after its header.
 #[tactic(auto, unfolding(crate::specs::Captures::timed_packet, crate::specs::Fields::front_of))]
 fn read_timed<'a>(
     order: ByteOrder,

@@ -25,7 +25,7 @@ abbrev pub outcome_status : Outcome → Status
 outcome_status Delivered = status.Done
 outcome_status outcome = status.Undelivered
 
--- THE PROCESS ENDS behind a run of a server that was told to stop. One whose spool has failed is followed by another one, which opens
+-- THE PROCESS ENDS after a run of a server that was told to stop. One whose spool has failed is followed by another one, which opens
 -- that anew, where words come on a control socket; words that come on the standard input are of one run alone.
 abbrev pub IsEndedBy : RunEnd → (has_control : Bool) → Option Status → Type 0
 IsEndedBy Stopped has_control ends = ends ≡ Some status.Done

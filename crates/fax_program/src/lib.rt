@@ -16,5 +16,5 @@ mod terminals;
 
 pub use descriptors::most_descriptors;
 pub use failures::tell_loop;
-pub use run::{Ran, run_words};
+pub use run::{RunOutcome, run_words};
 pub use serving::Service;

@@ -2,8 +2,8 @@
 ghost use Rattle.std.specs.Prelude.{◌≡◌};
 
 use crate::failures::tell;
-use fax_explain::{KeepFault, PageKeeper, Place};
-use fax_gateway::Side;
+use fax_explain::{PageStore, Place, StoreFault};
+use fax_gateway::Leg;
 use fax_pagestore::{PackedRows, Page};
 use fax_pbm::write_pbm;
 use std::alloc::{AllocError, Global};
@@ -33,29 +33,29 @@ impl<'a, E: Eprint, H: Files> Pictures<'a, E, H> {
     }
 
     /// Writes the picture of a page, and tells where that fails.
-    fn write(&self, place: Place, page: &Page<PackedRows>) -> Result<(), KeepFault> {
+    fn write(&self, place: Place, page: &Page<PackedRows>) -> Result<(), StoreFault> {
         let Ok(path) = path_of(self.alloc, self.prefix, place) else {
             tell(self.stderr, "a picture: no memory");
-            return Err(KeepFault);
+            return Err(StoreFault);
         };
         let Ok(octets) = write_pbm(self.alloc, page) else {
             tell(self.stderr, format_args!("{path}: no memory"));
-            return Err(KeepFault);
+            return Err(StoreFault);
         };
         match fs::write(self.host, path.as_str(), octets.as_slice()) {
             Ok(()) => Ok(()),
             Err(error) => {
                 tell(self.stderr, format_args!("{path}: {error}"));
-                Err(KeepFault)
+                Err(StoreFault)
             }
         }
     }
 }
 
-impl<E: Eprint, H: Files> PageKeeper for Pictures<'_, E, H> {
+impl<E: Eprint, H: Files> PageStore for Pictures<'_, E, H> {
     ghost failed = { λ pictures. pictures.failed };
 
-    fn keep(&mut self, place: Place, page: &Page<PackedRows>) -> Result<(), KeepFault> {
+    fn keep(&mut self, place: Place, page: &Page<PackedRows>) -> Result<(), StoreFault> {
         let written = self.write(place, page);
         if written.is_err() {
             self.failed = true;
@@ -66,9 +66,9 @@ impl<E: Eprint, H: Files> PageKeeper for Pictures<'_, E, H> {
 
 /// The name of the file of a page: one that was sent is told apart from one that was confirmed.
 fn path_of(alloc: Global, prefix: &str, place: Place) -> Result<String, AllocError> {
-    let Place { side, call, page } = place;
-    match side {
-        Side::Calling => format!(in alloc; "{prefix}-{call}-{page}.pbm"),
-        Side::Called => format!(in alloc; "{prefix}-{call}-{page}-sent.pbm"),
+    let Place { leg, call, page } = place;
+    match leg {
+        Leg::Calling => format!(in alloc; "{prefix}-{call}-{page}.pbm"),
+        Leg::Called => format!(in alloc; "{prefix}-{call}-{page}-sent.pbm"),
     }
 }

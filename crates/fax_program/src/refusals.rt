@@ -29,7 +29,7 @@ pub(crate) fn tell_refusal<R: Print + Eprint>(rt: &R, error: &clap::Error) -> St
     }
 }
 
-/// Prints why the words could not be read, and of one that is no UTF-8 which it is: 1 is the first behind the program's name.
+/// Prints why the words could not be read, and of one that is no UTF-8 which it is: 1 is the first after the program's name.
 pub(crate) fn tell_unread_words<R: Print + Eprint + Env>(rt: &R, error: io::Error) -> Status {
     if error.kind() == io::ErrorKind::OutOfMemory {
         return tell_no_memory(rt);

@@ -14,7 +14,7 @@ use std::{env, io};
 
 /// What a run of the program comes to.
 #[derive(Drop)]
-pub enum Ran {
+pub enum RunOutcome {
     /// The process ends with this exit status.
     Ends(u8),
     /// These lines are to be served (`Service::run`).
@@ -26,14 +26,14 @@ pub enum Ran {
 pub fn run_words<
     R: Print + Eprint + Input + Env + AllocGlobal,
     N: Net + Files + Clock + AllocGlobal,
->(rt: &R, system: &N) -> Ran {
+>(rt: &R, system: &N) -> RunOutcome {
     let words = match words_of(rt) {
         Ok(words) => words,
-        Err(error) => return Ran::Ends(tell_unread_words(rt, error).code()),
+        Err(error) => return RunOutcome::Ends(tell_unread_words(rt, error).code()),
     };
     match request_of(rt.alloc(), words.as_slice()) {
         Ok(request) => run_request(rt, system, request),
-        Err(error) => Ran::Ends(tell_refusal(rt, &error).code()),
+        Err(error) => RunOutcome::Ends(tell_refusal(rt, &error).code()),
     }
 }
 
@@ -47,7 +47,7 @@ fn run_request<R: Print + Eprint + Input + AllocGlobal, N: Net + Files + Clock +
     rt: &R,
     system: &N,
     request: Request<'_>,
-) -> Ran
+) -> RunOutcome
     requires { IsAllowed request }
 {
     let status = match request {
@@ -57,7 +57,7 @@ fn run_request<R: Print + Eprint + Input + AllocGlobal, N: Net + Files + Clock +
         Request::Capture(machines) => answer_capture(rt, machines),
         Request::Loop(settings) => answer_loop(rt, system, settings),
         Request::Serve(path) => match service_of(rt, system, path) {
-            Ok(service) => return Ran::Serves(service),
+            Ok(service) => return RunOutcome::Serves(service),
             Err(status) => status.code(),
         },
         Request::Check(path) => check(rt, system, path).code(),
@@ -66,5 +66,5 @@ fn run_request<R: Print + Eprint + Input + AllocGlobal, N: Net + Files + Clock +
         Request::Send(options, files) => send(rt, system, options, files.as_slice()).code(),
         Request::Receive(options) => receive(rt, system, options).code(),
     };
-    Ran::Ends(status)
+    RunOutcome::Ends(status)
 }

@@ -6,8 +6,8 @@ use crate::descriptors::{descriptor_limit, most_descriptors};
 use crate::failures::tell_unprinted;
 use fax_command::Status;
 use fax_config::{Config, ConfigFault, Misfit, read_config};
-use fax_keep::{FolderFault, Folders};
 use fax_serve::{RunEnd, ServeFault, answer_unserved, run_serve};
+use fax_spool_folder::{FolderFault, Folders};
 use sqlite_disk::Start;
 use std::fmt::Display;
 use std::net::Net;
@@ -17,7 +17,7 @@ use std::{fs, io};
 /// A spool that could not be opened anew is tried again so many milliseconds later.
 const BETWEEN_OPENINGS_MS: u64 = 10_000;
 
-/// The lines of a configuration, which are served by one run behind the other: a run whose spool has failed ends, and the next one opens
+/// The lines of a configuration, which are served by one run after the other: a run whose spool has failed ends, and the next one opens
 /// that anew.
 #[derive(Drop)]
 pub struct Service {

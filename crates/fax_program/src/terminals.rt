@@ -1,12 +1,12 @@
 //! `faxgate send` and `faxgate receive`.
 ghost use Rattle.fax_gateway.specs.Setups.{AreAllowed};
-ghost use Rattle.fax_machine.specs.Runs.{status_of_fault};
+ghost use Rattle.fax_send_receive.specs.Runs.{status_of_fault};
 ghost use Rattle.fax_program.specs.Statuses.{IsToldAs, outcome_status};
 
 use crate::failures::tell_unprinted;
 use fax_command::Status;
 use fax_jobs::{Outcome, Report};
-use fax_machine::{ReceiveOptions, RunFault, SendOptions, Watch, run_receive, run_send};
+use fax_send_receive::{ReceiveOptions, RunFault, SendOptions, Watch, run_receive, run_send};
 use std::net::Net;
 use std::rt::{Clock, Files};
 

@@ -16,6 +16,6 @@ gap_at (gap ∷ more) zero = None
 gap_at (gap ∷ more) (suc zero) = Some gap
 gap_at (gap ∷ more) (suc (suc place)) = gap_at more (suc place)
 
--- the gap behind so many sends
-abbrev pub gap_behind : RepeatPolicy → ℕ → Option ℕ
-gap_behind policy sends = gap_at (gaps policy) sends
+-- the gap after so many sends
+abbrev pub gap_after : RepeatPolicy → ℕ → Option ℕ
+gap_after policy sends = gap_at (gaps policy) sends

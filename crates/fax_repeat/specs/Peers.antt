@@ -1,8 +1,8 @@
 -- The peers of a wire's legs. (This project's profile.)
 use Rattle.std.specs.Prelude.{◌≡◌, Bool, true, false, ◌&&◌, ◌||◌, ◌⊎◌, Option, Some, None, is_some, not, option_map, if◌then◌else◌}
 use Rattle.std.specs.declared.net.socket_addr.SocketAddr.{SocketAddr}
-use Rattle.fax_gateway.specs.declared.side.Side.{Side}
-use Rattle.fax_gateway.specs.declared.side.Side.TheVariants as side
+use Rattle.fax_gateway.specs.declared.leg.Leg.{Leg}
+use Rattle.fax_gateway.specs.declared.leg.Leg.TheVariants as legs
 use Rattle.fax_repeat.specs.declared.peers.Bounds.{Bounds}
 use Rattle.fax_repeat.specs.declared.peers.LegState.{LegState}
 use Rattle.fax_repeat.specs.declared.peers.Peer.{Peer}
@@ -74,28 +74,28 @@ pub record Peers : Type 0 where
   pub calling : Option PeerValue
   pub called : Option PeerValue
 
-abbrev pub peer_on : Side → Peers → Option PeerValue
-peer_on side.Calling peers = peers.calling
-peer_on side.Called peers = peers.called
+abbrev pub peer_on : Leg → Peers → Option PeerValue
+peer_on legs.Calling peers = peers.calling
+peer_on legs.Called peers = peers.called
 
-abbrev pub peer_beside : Side → Peers → Option PeerValue
-peer_beside side.Calling peers = peers.called
-peer_beside side.Called peers = peers.calling
+abbrev pub peer_beside : Leg → Peers → Option PeerValue
+peer_beside legs.Calling peers = peers.called
+peer_beside legs.Called peers = peers.calling
 
 -- those of a wire, where it tells them
-abbrev pub peers_of : {W : Type 0} → (Side → W → Option PeerValue) → W → Peers
-peers_of peer wire = record { calling = peer side.Calling wire; called = peer side.Called wire }
+abbrev pub peers_of : {W : Type 0} → (Leg → W → Option PeerValue) → W → Peers
+peers_of peer wire = record { calling = peer legs.Calling wire; called = peer legs.Called wire }
 
 -- a wire that tells none
 abbrev pub not_told : Peers
 not_told = record { calling = None; called = None }
 
 -- that of one leg changes so
-abbrev pub change_on : Side → (PeerValue → PeerValue) → Peers → Peers
-change_on side.Calling change peers = record peers { calling = option_map change peers.calling }
-change_on side.Called change peers = record peers { called = option_map change peers.called }
+abbrev pub change_on : Leg → (PeerValue → PeerValue) → Peers → Peers
+change_on legs.Calling change peers = record peers { calling = option_map change peers.calling }
+change_on legs.Called change peers = record peers { called = option_map change peers.called }
 
 -- THE PEER OF A LEG STAYS OR IS HEARD; that of the other one stays.
-pub record HearsOn (at : Side) (old new : Peers) : Type 0 where
+pub record HearsOn (at : Leg) (old new : Peers) : Type 0 where
   pub hears : HearsWhere (peer_on at old) (peer_on at new)
   pub beside : peer_beside at new ≡ peer_beside at old

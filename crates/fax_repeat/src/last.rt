@@ -1,7 +1,7 @@
 //! The last datagram of a leg.
 ghost use Rattle.std.specs.Prelude.{◌≡◌, ◌<◌, ◌≤◌, ℕ, Bool, true, false, nat_le, List, [], ◌++◌, take, length, OnOk};
 ghost use Rattle.fax_repeat.specs.Gaps.{gaps};
-ghost use Rattle.fax_repeat.specs.Policies.{ceased, behind, earlier_of, has_come, kept_of, repeated, unknown};
+ghost use Rattle.fax_repeat.specs.Policies.{ceased, after, earlier_of, has_come, kept_of, repeated, unknown};
 ghost use Rattle.fax_repeat.specs.Repeats.{IsWithin, same_octets};
 
 use crate::policy::RepeatPolicy;
@@ -98,7 +98,7 @@ impl Last {
         let is_other = self.sends == 0 || !self.is_like(octets);
         self.octets.set(octets);
         self.sends = 1;
-        self.due = moment_behind(now, policy.gap(1));
+        self.due = moment_after(now, policy.gap(1));
         is_other
     }
 
@@ -133,7 +133,7 @@ impl Last {
         ensures { self.new ≡ repeated policy now self.old }
     {
         self.sends += 1;
-        self.due = moment_behind(now, policy.gap(self.sends));
+        self.due = moment_after(now, policy.gap(self.sends));
     }
 
     /// It is sent no more.
@@ -151,9 +151,9 @@ impl Last {
     }
 }
 
-/// The moment that lies so long behind another one; at most the greatest.
-fn moment_behind(now: u64, gap: Option<u64>) -> Option<u64>
-    ensures { result ≡ behind now gap }
+/// The moment that lies so long after another one; at most the greatest.
+fn moment_after(now: u64, gap: Option<u64>) -> Option<u64>
+    ensures { result ≡ after now gap }
 {
     match gap {
         None => None,

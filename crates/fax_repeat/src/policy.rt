@@ -1,11 +1,11 @@
 //! When datagrams are sent again.
 ghost use Rattle.std.specs.Prelude.{◌≡◌, ◌∷◌, [], ℕ, Option, length, ◌≤◌, slice_get};
-ghost use Rattle.fax_repeat.specs.Gaps.{gap_behind};
+ghost use Rattle.fax_repeat.specs.Gaps.{gap_after};
 
 /// How often a datagram is sent again while nothing newer is handed over on its leg.
 #[derive(Clone, Copy, PartialEq, Eq, Debug)]
 pub enum RepeatPolicy {
-    /// After 20 ms, and then 40, 80, 160, 320 and 640 ms behind the repeat before.
+    /// After 20 ms, and then 40, 80, 160, 320 and 640 ms after the repeat before.
     Full,
     /// Once, after 40 ms.
     Once,
@@ -14,9 +14,9 @@ pub enum RepeatPolicy {
 }
 
 impl RepeatPolicy {
-    /// How long behind the last send it is sent again, in milliseconds, where it was sent so often. `None`: it is not.
+    /// How long after the last send it is sent again, in milliseconds, where it was sent so often. `None`: it is not.
     pub(crate) fn gap(self, sends: u8) -> Option<u64>
-        ensures { result ≡ gap_behind self sends }
+        ensures { result ≡ gap_after self sends }
     {
         match self {
             RepeatPolicy::Full => match sends {

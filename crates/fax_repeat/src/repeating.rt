@@ -1,7 +1,7 @@
 //! The wire that repeats.
 ghost use Rattle.std.specs.Prelude.{◌≡◌, ◌<◌, ℕ, Bool, List, [], ◌∷◌, max, true, false};
 ghost use Rattle.fax_gateway.specs.Wires.{Grows, failures_after, receipt_of};
-ghost use Rattle.fax_gateway.specs.declared.side.Side.TheVariants as side_shown;
+ghost use Rattle.fax_gateway.specs.declared.leg.Leg.TheVariants as leg_shown;
 ghost use Rattle.fax_repeat.specs.Peers.{peers_of};
 ghost use Rattle.fax_repeat.specs.Policies.{GoesOn, HandsOver, IsToldAs, ceased, earlier_of, last_beside, last_on, repeat_of, repeated, unknown};
 ghost use Rattle.fax_repeat.specs.Repeats.{IsWithin, Repeats, TellsNone, told_if, told_of};
@@ -10,7 +10,7 @@ use crate::last::{Last, earlier};
 use crate::peers::{Bounds, LegState, LegWire, NoRoute, Peer};
 use crate::policy::RepeatPolicy;
 use crate::timed::TimedWire;
-use fax_gateway::{Side, Wire, WireFault};
+use fax_gateway::{Leg, Wire, WireFault};
 use std::marker::Model;
 
 /// A wire over another one. What is handed over is sent at once; and the last datagram of each leg is sent again by a policy,
@@ -71,28 +71,28 @@ impl<W: LegWire + Drop> RepeatingWire<W> {
 
     /// Sends on the calling leg.
     fn send_on_calling(&mut self, octets: &[u8]) -> Result<(), WireFault>
-        ensures handed { HandsOver side_shown.Calling octets.now self.old self.new }
+        ensures handed { HandsOver leg_shown.Calling octets.now self.old self.new }
         ensures failures { self.new.failures ≡ failures_after self.old.failures result }
         ensures received { Grows [] self.old.wire.received self.new.wire.received }
-        ensures told { Grows (record { side = side_shown.Calling; octets = octets.now } ∷ []) (told_if self.old.tells self.old.wire.sent) (told_if self.new.tells self.new.wire.sent) }
+        ensures told { Grows (record { leg = leg_shown.Calling; octets = octets.now } ∷ []) (told_if self.old.tells self.old.wire.sent) (told_if self.new.tells self.new.wire.sent) }
     {
         let is_other = self.calling.hand(self.policy, self.clock, octets);
         self.tells = both(self.tells, is_other);
-        let answer = self.wire.send(Side::Calling, octets);
+        let answer = self.wire.send(Leg::Calling, octets);
         self.failures = counted(self.failures, answer);
         answer
     }
 
     /// Sends on the called leg.
     fn send_on_called(&mut self, octets: &[u8]) -> Result<(), WireFault>
-        ensures handed { HandsOver side_shown.Called octets.now self.old self.new }
+        ensures handed { HandsOver leg_shown.Called octets.now self.old self.new }
         ensures failures { self.new.failures ≡ failures_after self.old.failures result }
         ensures received { Grows [] self.old.wire.received self.new.wire.received }
-        ensures told { Grows (record { side = side_shown.Called; octets = octets.now } ∷ []) (told_if self.old.tells self.old.wire.sent) (told_if self.new.tells self.new.wire.sent) }
+        ensures told { Grows (record { leg = leg_shown.Called; octets = octets.now } ∷ []) (told_if self.old.tells self.old.wire.sent) (told_if self.new.tells self.new.wire.sent) }
     {
         let is_other = self.called.hand(self.policy, self.clock, octets);
         self.tells = both(self.tells, is_other);
-        let answer = self.wire.send(Side::Called, octets);
+        let answer = self.wire.send(Leg::Called, octets);
         self.failures = counted(self.failures, answer);
         answer
     }
@@ -117,15 +117,15 @@ fn counted(failures: u64, answer: Result<(), WireFault>) -> u64
 }
 
 /// Sends the last datagram of a leg again, where its moment has come.
-fn send_again<W: LegWire>(wire: &mut W, side: Side, last: &mut Last, policy: RepeatPolicy, now: u64)
+fn send_again<W: LegWire>(wire: &mut W, leg: Leg, last: &mut Last, policy: RepeatPolicy, now: u64)
     requires { IsWithin policy last.old }
     ensures last { last.new ≡ repeated policy now last.old }
     ensures received { Grows [] (W.known wire.old).received (W.known wire.new).received }
     ensures peers { peers_of W.peer_at wire.new ≡ peers_of W.peer_at wire.old }
-    ensures sent { Grows (repeat_of side now last.old) (W.known wire.old).sent (W.known wire.new).sent }
+    ensures sent { Grows (repeat_of leg now last.old) (W.known wire.old).sent (W.known wire.new).sent }
 {
     if last.is_due(now) {
-        let _ = wire.send(side, last.octets());
+        let _ = wire.send(leg, last.octets());
         last.repeat(policy, now);
     }
 }
@@ -137,12 +137,12 @@ impl<W: LegWire + Drop> Wire for RepeatingWire<W> {
 
     ghost known = { told_of };
 
-    ghost receives = { λ side old new. HearsOn side old.peers new.peers × (new.clock ≡ old.clock) };
+    ghost receives = { λ leg old new. HearsOn leg old.peers new.peers × (new.clock ≡ old.clock) };
 
-    ghost sends = { λ side octets is_sent old new. (new.peers ≡ old.peers) × (new.clock ≡ old.clock) };
+    ghost sends = { λ leg octets is_sent old new. (new.peers ≡ old.peers) × (new.clock ≡ old.clock) };
 
-    fn receive(&mut self, side: Side, buffer: &mut [u8]) -> Result<Option<usize>, WireFault> {
-        match self.wire.receive(side, buffer) {
+    fn receive(&mut self, leg: Leg, buffer: &mut [u8]) -> Result<Option<usize>, WireFault> {
+        match self.wire.receive(leg, buffer) {
             Ok(came) => Ok(came),
             Err(WireFault) => {
                 self.failures = self.failures.saturating_add(1);
@@ -152,16 +152,16 @@ impl<W: LegWire + Drop> Wire for RepeatingWire<W> {
     }
 
     /// The datagram is sent at once, and is the last of its leg.
-    fn send(&mut self, side: Side, octets: &[u8]) -> Result<(), WireFault>
+    fn send(&mut self, leg: Leg, octets: &[u8]) -> Result<(), WireFault>
         ensures failures { self.new.failures ≡ failures_after self.old.failures result }
         ensures received { Grows [] self.old.wire.received self.new.wire.received }
-        ensures sent { Grows (record { side = side; octets = octets.now } ∷ []) (told_if self.old.tells self.old.wire.sent) (told_if self.new.tells self.new.wire.sent) }
-        ensures handed { HandsOver side octets.now self.old self.new }
+        ensures sent { Grows (record { leg = leg; octets = octets.now } ∷ []) (told_if self.old.tells self.old.wire.sent) (told_if self.new.tells self.new.wire.sent) }
+        ensures handed { HandsOver leg octets.now self.old self.new }
         ensures repeats { Repeats self.new }
     {
-        let answer = match side {
-            Side::Calling => self.send_on_calling(octets),
-            Side::Called => self.send_on_called(octets),
+        let answer = match leg {
+            Leg::Calling => self.send_on_calling(octets),
+            Leg::Called => self.send_on_called(octets),
         };
         let _ = &self.tells;
         answer
@@ -173,7 +173,7 @@ impl<W: LegWire + Drop> LegWire for RepeatingWire<W> {
     ghost use Rattle.fax_repeat.specs.Peers.{peer_on};
     ghost use Rattle.fax_repeat.specs.Policies.{TellsPeers};
 
-    ghost peer_at = { λ side wire. peer_on side wire.peers };
+    ghost peer_at = { λ leg wire. peer_on leg wire.peers };
 
     ghost is_told = { TellsPeers };
 
@@ -181,41 +181,41 @@ impl<W: LegWire + Drop> LegWire for RepeatingWire<W> {
 
     ghost keeps_on_send = { λ at octets is_sent old new made. made.0 };
 
-    fn set_peer(&mut self, side: Side, peer: Peer) -> Result<(), NoRoute> {
-        self.wire.set_peer(side, peer)
+    fn set_peer(&mut self, leg: Leg, peer: Peer) -> Result<(), NoRoute> {
+        self.wire.set_peer(leg, peer)
     }
 
-    fn cut(&mut self, side: Side) {
-        self.wire.cut(side);
+    fn cut(&mut self, leg: Leg) {
+        self.wire.cut(leg);
     }
 
-    fn begin(&mut self, side: Side, bounds: Bounds) {
-        self.wire.begin(side, bounds);
+    fn begin(&mut self, leg: Leg, bounds: Bounds) {
+        self.wire.begin(leg, bounds);
     }
 
-    fn hang_up(&mut self, side: Side) {
-        self.wire.hang_up(side);
+    fn hang_up(&mut self, leg: Leg) {
+        self.wire.hang_up(leg);
     }
 
-    fn settle(&mut self, side: Side, is_on: bool) {
-        self.wire.settle(side, is_on);
+    fn settle(&mut self, leg: Leg, is_on: bool) {
+        self.wire.settle(leg, is_on);
     }
 
-    fn leg_state(&self, side: Side) -> LegState {
-        self.wire.leg_state(side)
+    fn leg_state(&self, leg: Leg) -> LegState {
+        self.wire.leg_state(leg)
     }
 }
 
 impl<W: LegWire + Drop> TimedWire for RepeatingWire<W> {
     ghost use Rattle.fax_repeat.specs.Telling.{told_due};
 
-    ghost due = { λ side wire. (last_on side wire).due };
+    ghost due = { λ leg wire. (last_on leg wire).due };
 
     ghost clock = { λ wire. wire.clock };
 
     ghost goes_on = { λ old new. new.peers ≡ old.peers };
 
-    ghost ceases = { λ side old new. (new.peers ≡ old.peers) × (new.clock ≡ old.clock) };
+    ghost ceases = { λ leg old new. (new.peers ≡ old.peers) × (new.clock ≡ old.clock) };
 
     ghost keeps_due = { told_due };
 
@@ -240,14 +240,14 @@ impl<W: LegWire + Drop> TimedWire for RepeatingWire<W> {
         self.clock = self.clock.max(now);
         send_again(
             &mut self.wire,
-            Side::Calling,
+            Leg::Calling,
             &mut self.calling,
             self.policy,
             self.clock,
         );
         send_again(
             &mut self.wire,
-            Side::Called,
+            Leg::Called,
             &mut self.called,
             self.policy,
             self.clock,
@@ -255,19 +255,19 @@ impl<W: LegWire + Drop> TimedWire for RepeatingWire<W> {
     }
 
     /// The last datagram of the leg is sent no more.
-    fn cease(&mut self, side: Side)
+    fn cease(&mut self, leg: Leg)
         ensures told { IsToldAs (told_of self.old) (told_of self.new) }
-        ensures ceased { last_on side self.new ≡ ceased (last_on side self.old) }
-        ensures beside { last_beside side self.new ≡ last_beside side self.old }
+        ensures ceased { last_on leg self.new ≡ ceased (last_on leg self.old) }
+        ensures beside { last_beside leg self.new ≡ last_beside leg self.old }
         ensures policy { self.new.policy ≡ self.old.policy }
         ensures clock { self.new.clock ≡ self.old.clock }
         ensures wire { self.new.wire ≡ self.old.wire }
         ensures peers { self.new.peers ≡ self.old.peers }
         ensures repeats { Repeats self.new }
     {
-        match side {
-            Side::Calling => self.calling.cease(),
-            Side::Called => self.called.cease(),
+        match leg {
+            Leg::Calling => self.calling.cease(),
+            Leg::Called => self.called.cease(),
         }
     }
 

@@ -16,8 +16,8 @@ use Rattle.fax_capture.specs.declared.address.Host.{Host}
 use Rattle.fax_capture.specs.declared.address.Host.TheVariants as host
 use Rattle.fax_capture.specs.declared.address.Address.{Address}
 use Rattle.fax_capture.specs.Addresses.{AreApart}
-use Rattle.fax_machine.specs.declared.sending.SendOptions.{SendOptions}
-use Rattle.fax_machine.specs.declared.receiving.ReceiveOptions.{ReceiveOptions}
+use Rattle.fax_send_receive.specs.declared.sending.SendOptions.{SendOptions}
+use Rattle.fax_send_receive.specs.declared.receiving.ReceiveOptions.{ReceiveOptions}
 use Rattle.fax_request.specs.declared.explain_options.ExplainOptions.{ExplainOptions}
 use Rattle.fax_request.specs.declared.machines.Machines.{Machines}
 use Rattle.fax_request.specs.declared.request.Request.{Request}

@@ -5,8 +5,8 @@ ghost use Rattle.fax_request.specs.Requests.{AreMachinesOf, HasOctets, IsHostOf,
 
 use crate::given::text_of;
 use clap::{ArgMatches, Error};
+use fax_arguments::{refused_address, refused_machines};
 use fax_capture::{Address, Host};
-use fax_words::{refused_address, refused_machines};
 use std::alloc::Global;
 use std::net::{IpAddr, SocketAddr};
 

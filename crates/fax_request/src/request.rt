@@ -11,12 +11,12 @@ use crate::say_words::saying_of;
 use crate::spool_words::spool_options_of;
 use crate::terminal_words::{receive_options_of, send_files_of, send_options_of};
 use clap::{ArgMatches, Error};
+use fax_arguments::{faxgate_command, refused_command};
 use fax_command::PageOptions;
 use fax_gateway::Settings;
 use fax_listing::SpoolOptions;
-use fax_machine::{ReceiveOptions, SendOptions};
 use fax_say::Saying;
-use fax_words::{faxgate_command, refused_command};
+use fax_send_receive::{ReceiveOptions, SendOptions};
 use std::alloc::Global;
 use std::convert::AsStr;
 

@@ -4,8 +4,8 @@ ghost use Rattle.clap.specs.Words.{found_of, rows_of};
 ghost use Rattle.fax_request.specs.Requests.{words_said};
 
 use clap::{ArgMatches, Error};
+use fax_arguments::refused_words;
 use fax_say::{Saying, Unsayable};
-use fax_words::refused_words;
 use std::alloc::{AllocError, Global};
 
 /// The line that the words given to `faxgate say` make. An `Err` tells why it cannot be said.

@@ -5,7 +5,7 @@ ghost use Rattle.fax_request.specs.Requests.{AreReceiveOptionsOf, AreSendOptions
 
 use crate::given::{coding_of, format_of, number_of, repeat_of, settings_of, text_of};
 use clap::ArgMatches;
-use fax_machine::{ReceiveOptions, SendOptions};
+use fax_send_receive::{ReceiveOptions, SendOptions};
 use std::alloc::{AllocError, Global};
 
 /// The options that were given to `faxgate send`, and the defaults of those that were not.

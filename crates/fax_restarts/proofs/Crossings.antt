@@ -8,10 +8,10 @@ use Rattle.fax_spool.specs.Calls.{CrashesLeaveWhatWaits, NewSpoolsTellNone}
 use Rattle.fax_spool.specs.Spools.{MayLeaveBoth}
 use Rattle.fax_spool.specs.Stopped.{StoppedOpeningsLeaveWhatWaits}
 use Rattle.fax_spool.specs.declared.spool.Spool.{Spool}
-use Rattle.fax_shelf.specs.Jobs.{PagesWait, WaitSo}
-use Rattle.fax_shelf.specs.Shelves.{ShelfValue}
-use Rattle.fax_shelf.specs.Restorations.{Restores}
-use Rattle.fax_shelf.specs.Histories.{BeginsRun, HasPast, LeavesRun, OpeningsFindWhatWaits, RunsMakeHistory, WasOpened}
+use Rattle.fax_queue.specs.Jobs.{PagesWait, WaitSo}
+use Rattle.fax_queue.specs.Queues.{QueueValue}
+use Rattle.fax_queue.specs.Restorations.{Restores}
+use Rattle.fax_queue.specs.Histories.{BeginsRun, HasPast, LeavesRun, OpeningsFindWhatWaits, RunsMakeHistory, WasOpened}
 use Rattle.fax_restarts.specs.Runs.{OneRun, WasRun}
 use Rattle.fax_restarts.specs.Crossings.{HasLives, HasPastOver, LeavesOver, NewFilesHaveNoPast, RunsCross, RunsGoOn, RunsJoin, RunsLead, StoppedOpeningsLeaveThePast}
 
@@ -19,7 +19,7 @@ pub new_files : NewSpoolsTellNone → NewFilesHaveNoPast
 new_files none writes line older newer older_tells newer_tells = record {
   pages = [];
   tell = none older newer older_tells newer_tells;
-  past = record { deeds = []; state = record { waits = []; notes = true; pages = [] }; done = (refl, refl); there = refl; are = record { traces = tt; same = refl }; put = refl };
+  past = record { actions = []; state = record { waits = []; notes = true; pages = [] }; done = (refl, refl); there = refl; are = record { traces = tt; same = refl }; put = refl };
 }
 
 pub stopped : StoppedOpeningsLeaveWhatWaits → StoppedOpeningsLeaveThePast
@@ -33,9 +33,9 @@ module _ {D : Type 0} (seen : D → List ℕ) (may_leave : D → List ℕ → Ty
       let it = leave now wait.0 wait.1 older newer left in record { pages = it.0; tell = it.1; past = subst (HasPast writes line lives puts) (sym it.2) wait.2 }
   crash_over leave writes line lives puts now (inr refuses) older newer left = let it = refuses.1 older newer left in record { pages = it.0; tell = it.1; past = it.2 }
 
-  module _ {K : Type 0} (shelves_of : K → List ShelfValue) (spool_of : K → Spool D) where
-    pub begins : (line : List ℕ) (pages : List spool.PageValue) (run : OneRun D K) → WasOpened seen may_leave is_usable run.opened pages → WasRun seen may_leave is_usable shelves_of spool_of line run
-        → BeginsRun seen may_leave is_usable run.number line pages run.setup run.begun (shelves_of run.before) (spool_of run.before)
+  module _ {K : Type 0} (queues_of : K → List QueueValue) (spool_of : K → Spool D) where
+    pub begins : (line : List ℕ) (pages : List spool.PageValue) (run : OneRun D K) → WasOpened seen may_leave is_usable run.opened pages → WasRun seen may_leave is_usable queues_of spool_of line run
+        → BeginsRun seen may_leave is_usable run.number line pages run.setup run.begun (queues_of run.before) (spool_of run.before)
     begins line pages run found was = record {
       waits = subst (λ (s : Spool D). PagesWait seen may_leave is_usable s pages) (sym was.spool_is) found.wait;
       restored = was.restored;
@@ -45,12 +45,12 @@ module _ {D : Type 0} (seen : D → List ℕ) (may_leave : D → List ℕ → Ty
       begins = was.begins;
       fresh = was.fresh;
       set = was.set;
-      shelved = was.shelved;
+      queued = was.queued;
       as_many = was.as_many;
       alone = was.alone;
     }
 
-    pub runs_cross : OpeningsFindWhatWaits seen may_leave is_usable → RunsMakeHistory seen may_leave is_usable shelves_of spool_of → CrashesLeaveWhatWaits seen may_leave is_usable → RunsCross seen may_leave is_usable shelves_of spool_of
+    pub runs_cross : OpeningsFindWhatWaits seen may_leave is_usable → RunsMakeHistory seen may_leave is_usable queues_of spool_of → CrashesLeaveWhatWaits seen may_leave is_usable → RunsCross seen may_leave is_usable queues_of spool_of
     runs_cross find history leave writes line lives puts older newer one other run writing past both is was =
         let found : WasOpened seen may_leave is_usable run.opened past.pages = find older newer one other past.pages run.opened past.tell both is in
         let left : LeavesRun seen may_leave is_usable writes run.number line lives puts run.setup run.settled run.left (spool_of run.after) =
@@ -59,7 +59,7 @@ module _ {D : Type 0} (seen : D → List ℕ) (may_leave : D → List ℕ → Ty
         record {
           life = record { setup = run.setup; trace = left.trace };
           kept = left.kept;
-          is_life = record { setup = refl; place = left.place; there = left.there; reached = left.reached; are_kept = left.are_kept; leg = left.leg; did = left.did; on_leg = left.on_leg };
+          is_life = record { setup = refl; place = left.place; there = left.there; reached = left.reached; are_stored = left.are_stored; leg = left.leg; did = left.did; on_leg = left.on_leg };
           left = crash_over leave writes line (record { setup = run.setup; trace = left.trace } ∷ lives) (puts ++ left.kept) (spool_of run.after) left.past;
         }
 
@@ -77,13 +77,13 @@ runs_join none stop writes line (step ∷ earlier) last joined =
       past = stopped stop writes line (led.0 ∷ had.lives) (had.puts ++ led.1) joined.1 joined.0.older joined.0.newer last.older last.newer led.3 joined.3;
     }
 
-module _ {D K : Type 0} (seen : D → List ℕ) (may_leave : D → List ℕ → Type 0) (is_usable : D → Bool) (shelves_of : K → List ShelfValue) (spool_of : K → Spool D) where
-  pub runs_lead : RunsCross seen may_leave is_usable shelves_of spool_of → RunsLead seen may_leave is_usable shelves_of spool_of
+module _ {D K : Type 0} (seen : D → List ℕ) (may_leave : D → List ℕ → Type 0) (is_usable : D → Bool) (queues_of : K → List QueueValue) (spool_of : K → Spool D) where
+  pub runs_lead : RunsCross seen may_leave is_usable queues_of spool_of → RunsLead seen may_leave is_usable queues_of spool_of
   runs_lead cross writes line before after one other run writing both is was left lives puts past =
       let over : LeavesOver may_leave spool_of writes line lives puts run = cross writes line lives puts before.older before.newer one other run writing past both is was in
       (over.life, over.kept, over.is_life, over.left after.older after.newer left)
 
-  pub runs_go_on : RunsJoin → RunsCross seen may_leave is_usable shelves_of spool_of → RunsGoOn seen may_leave is_usable shelves_of spool_of
+  pub runs_go_on : RunsJoin → RunsCross seen may_leave is_usable queues_of spool_of → RunsGoOn seen may_leave is_usable queues_of spool_of
   runs_go_on join cross writes line steps last one other run writing joined both is was =
-      let behind : HasLives writes line steps last = join writes line steps last joined in
-      record { behind = behind; leaves = cross writes line behind.lives behind.puts last.older last.newer one other run writing behind.past both is was }
+      let after : HasLives writes line steps last = join writes line steps last joined in
+      record { after = after; leaves = cross writes line after.lives after.puts last.older last.newer one other run writing after.past both is was }

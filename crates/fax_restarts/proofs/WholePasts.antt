@@ -7,11 +7,11 @@ use Rattle.fax_spool.specs.RecordOctets as spool
 use Rattle.fax_spool.specs.Calls.{CrashesLeaveWhatWaits, NewSpoolsTellNone}
 use Rattle.fax_spool.specs.Spools.{MayLeaveBoth}
 use Rattle.fax_spool.specs.declared.spool.Spool.{Spool}
-use Rattle.fax_shelf.specs.Jobs.{WaitSo}
-use Rattle.fax_shelf.specs.Shelves.{ShelfValue}
-use Rattle.fax_shelf.specs.Restorations.{Restores}
-use Rattle.fax_shelf.specs.Histories.{OpeningsFindWhatWaits, WasOpened}
-use Rattle.fax_shelf.specs.NotedRuns.{HasWholePast, LeavesWhole, NewLinesHaveWholePasts, RestartsFindWhatIsLeft, RunsNoteAll}
+use Rattle.fax_queue.specs.Jobs.{WaitSo}
+use Rattle.fax_queue.specs.Queues.{QueueValue}
+use Rattle.fax_queue.specs.Restorations.{Restores}
+use Rattle.fax_queue.specs.Histories.{OpeningsFindWhatWaits, WasOpened}
+use Rattle.fax_queue.specs.NotedRuns.{HasWholePast, LeavesWhole, NewLinesHaveWholePasts, RestartsFindWhatIsLeft, RunsNoteAll}
 use Rattle.fax_restarts.specs.WholePasts.{HasWholePastOver, NewFilesHaveWholePasts, OpeningsFindWhatIsLeft, WholeRunsCross}
 use Rattle.fax_restarts.proofs.Crossings.{begins}
 
@@ -30,18 +30,18 @@ module _ {D : Type 0} (seen : D → List ℕ) (may_leave : D → List ℕ → Ty
       let found : WasOpened seen may_leave is_usable opened past.pages = find older newer one other past.pages opened past.tell both is in
       restart writes line lives puts past.pages restored past.past (subst (λ (l : List spool.PageValue). Restores line l restored) found.told restores)
 
-  module _ {K : Type 0} (shelves_of : K → List ShelfValue) (spool_of : K → Spool D) where
-    pub whole_runs_cross : OpeningsFindWhatWaits seen may_leave is_usable → RunsNoteAll seen may_leave is_usable shelves_of spool_of → CrashesLeaveWhatWaits seen may_leave is_usable
-        → WholeRunsCross seen may_leave is_usable shelves_of spool_of
+  module _ {K : Type 0} (queues_of : K → List QueueValue) (spool_of : K → Spool D) where
+    pub whole_runs_cross : OpeningsFindWhatWaits seen may_leave is_usable → RunsNoteAll seen may_leave is_usable queues_of spool_of → CrashesLeaveWhatWaits seen may_leave is_usable
+        → WholeRunsCross seen may_leave is_usable queues_of spool_of
     whole_runs_cross find note leave writes line lives puts older newer one other run writing past both is ran =
         let found : WasOpened seen may_leave is_usable run.opened past.pages = find older newer one other past.pages run.opened past.tell both is in
         let it : LeavesWhole seen may_leave is_usable writes run.number line lives puts run.setup run.settled run.left (spool_of run.after) =
         note writes run.number line past.pages lives puts run.setup run.first run.done run.settled run.begun run.left run.before run.after writing past.past
-        (begins seen may_leave is_usable shelves_of spool_of line past.pages run found ran.was) ran.oks in
+        (begins seen may_leave is_usable queues_of spool_of line past.pages run found ran.was) ran.oks in
         let left = it.leaves in
         record {
           life = record { setup = run.setup; trace = left.trace };
           kept = left.kept;
-          is_life = record { setup = refl; place = left.place; there = left.there; reached = left.reached; are_kept = left.are_kept; leg = left.leg; did = left.did; on_leg = left.on_leg };
+          is_life = record { setup = refl; place = left.place; there = left.there; reached = left.reached; are_stored = left.are_stored; leg = left.leg; did = left.did; on_leg = left.on_leg };
           left = crash_whole leave writes line (record { setup = run.setup; trace = left.trace } ∷ lives) (puts ++ left.kept) (spool_of run.after) it.whole;
         }

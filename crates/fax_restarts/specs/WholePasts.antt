@@ -9,16 +9,16 @@ use Rattle.fax_spool.specs.RecordOctets as spool
 use Rattle.fax_spool.specs.Calls.{TellWaits}
 use Rattle.fax_spool.specs.Opened.{AreBoth, IsOpened}
 use Rattle.fax_spool.specs.Spools.{MayLeaveBoth, Tells}
-use Rattle.fax_spool.specs.declared.opening.Opened.{Opened}
+use Rattle.fax_spool.specs.declared.opening.OpenedSpool.{OpenedSpool}
 use Rattle.fax_spool.specs.declared.spool.Spool.{Spool}
-use Rattle.fax_shelf.specs.Shelves.{ShelfValue}
-use Rattle.fax_shelf.specs.Restorations.{Restores}
-use Rattle.fax_shelf.specs.declared.restored.Restored.{Restored}
-use Rattle.fax_shelf.specs.NotedRuns.{FindsWhatIsLeft, HasWholePast, RanWithOks}
+use Rattle.fax_queue.specs.Queues.{QueueValue}
+use Rattle.fax_queue.specs.Restorations.{Restores}
+use Rattle.fax_queue.specs.declared.restored.RestoredLine.{RestoredLine}
+use Rattle.fax_queue.specs.NotedRuns.{FindsWhatIsLeft, HasWholePast, RanWithOks}
 use Rattle.fax_restarts.specs.Files.{CanBeTold, file_of}
 use Rattle.fax_restarts.specs.Runs.{IsLifeOf, OneRun, WasRun, told_of}
 
--- A LINE HAS THIS PAST OVER TWO FILES, in which all was put and noted: they tell pages that wait, behind which it has these lives.
+-- A LINE HAS THIS PAST OVER TWO FILES, in which all was put and noted: they tell pages that wait, after which it has these lives.
 pub record HasWholePastOver (writes : Writing) (line : List ℕ) (lives : List Life) (puts : List CallPage) (older newer : List ℕ) : Type 0 where
   pub pages : List spool.PageValue
   pub tell : TellWaits older newer pages
@@ -35,9 +35,9 @@ WholePastsHaveFiles =
     → (0 < length (file_of pages)) × HasWholePastOver writes line lives puts [] (file_of pages)
 
 -- It ran, and all puts of the line's pages and all ends of its jobs answered Ok.
-pub record WasRunWithOks {D K : Type 0} (seen : D → List ℕ) (may_leave : D → List ℕ → Type 0) (is_usable : D → Bool) (shelves_of : K → List ShelfValue) (spool_of : K → Spool D) (line : List ℕ) (run : OneRun D K) : Type 0 where
-  pub was : WasRun seen may_leave is_usable shelves_of spool_of line run
-  pub oks : RanWithOks seen may_leave is_usable shelves_of spool_of run.number run.first run.done run.settled run.begun run.left run.before run.after
+pub record WasRunWithOks {D K : Type 0} (seen : D → List ℕ) (may_leave : D → List ℕ → Type 0) (is_usable : D → Bool) (queues_of : K → List QueueValue) (spool_of : K → Spool D) (line : List ℕ) (run : OneRun D K) : Type 0 where
+  pub was : WasRun seen may_leave is_usable queues_of spool_of line run
+  pub oks : RanWithOks seen may_leave is_usable queues_of spool_of run.number run.first run.done run.settled run.begun run.left run.before run.after
 
 -- what such a run was to a line: one life more, in which all was put and noted, whatever a crash leaves of its files
 pub record LeavesWholeOver {D K : Type 0} (may_leave : D → List ℕ → Type 0) (spool_of : K → Spool D) (writes : Writing) (line : List ℕ) (lives : List Life) (puts : List CallPage) (run : OneRun D K) : Type 0 where
@@ -47,15 +47,15 @@ pub record LeavesWholeOver {D K : Type 0} (may_leave : D → List ℕ → Type 0
   pub left : (older newer : List ℕ) → MayLeaveBoth may_leave (spool_of run.after) older newer → HasWholePastOver writes line (life ∷ lives) (puts ++ kept) older newer
 
 -- SUCH RUNS LEAD FROM FILES TO FILES, and so any number of them: in the line's past all was put and noted.
-abbrev pub WholeRunsCross : {D K : Type 0} → (D → List ℕ) → (D → List ℕ → Type 0) → (D → Bool) → (K → List ShelfValue) → (K → Spool D) → Type 0
-WholeRunsCross {D} {K} seen may_leave is_usable shelves_of spool_of =
+abbrev pub WholeRunsCross : {D K : Type 0} → (D → List ℕ) → (D → List ℕ → Type 0) → (D → Bool) → (K → List QueueValue) → (K → Spool D) → Type 0
+WholeRunsCross {D} {K} seen may_leave is_usable queues_of spool_of =
     (writes : Writing) (line : List ℕ) (lives : List Life) (puts : List CallPage) (older newer one other : List ℕ) (run : OneRun D K)
     → IsWriting writes → HasWholePastOver writes line lives puts older newer → AreBoth older newer one other → IsOpened seen may_leave is_usable one other run.opened
-    → WasRunWithOks seen may_leave is_usable shelves_of spool_of line run → LeavesWholeOver may_leave spool_of writes line lives puts run
+    → WasRunWithOks seen may_leave is_usable queues_of spool_of line run → LeavesWholeOver may_leave spool_of writes line lives puts run
 
 -- A RESTART OVER SUCH FILES FINDS WHAT IS OWED, AND NOTHING ELSE, whichever file it is handed first.
 abbrev pub OpeningsFindWhatIsLeft : {D : Type 0} → (D → List ℕ) → (D → List ℕ → Type 0) → (D → Bool) → Type 0
 OpeningsFindWhatIsLeft {D} seen may_leave is_usable =
-    (writes : Writing) (line : List ℕ) (lives : List Life) (puts : List CallPage) (older newer one other : List ℕ) (opened : Opened D) (restored : Restored)
+    (writes : Writing) (line : List ℕ) (lives : List Life) (puts : List CallPage) (older newer one other : List ℕ) (opened : OpenedSpool D) (restored : RestoredLine)
     → HasWholePastOver writes line lives puts older newer → AreBoth older newer one other → IsOpened seen may_leave is_usable one other opened
     → Restores line opened.pages.items restored → FindsWhatIsLeft writes lives (map call_shown restored.calls.items)

@@ -3,9 +3,9 @@ ghost use Rattle.fax_restarts.specs.Crossings.{NewFilesHaveNoPast, RunsCross, Ru
 ghost use Rattle.fax_restarts.specs.Files.{PastsHaveFiles};
 ghost use Rattle.fax_restarts.specs.Kills.{KilledRunsCross, RunsCanBeCut};
 ghost use Rattle.fax_restarts.specs.WholePasts.{NewFilesHaveWholePasts, OpeningsFindWhatIsLeft, WholePastsHaveFiles, WholeRunsCross};
-ghost use Rattle.fax_shelf.specs.declared.keeper.SpoolKeeper.{SpoolKeeper as KeeperShown};
+ghost use Rattle.fax_queue.specs.declared.store.SpoolStore.{SpoolStore as StoreShown};
 
-use fax_shelf::laws::histories::{
+use fax_queue::laws::histories::{
     openings_find_what_waits, restarts_find_what_is_left, runs_make_history, runs_note_all,
 };
 use fax_spool::laws::{
@@ -29,18 +29,18 @@ pub fn stopped_openings_leave_the_past()
 
 /// A run leads from what its files held to whatever a crash leaves of them: the line has one life more, which is that run.
 pub fn runs_cross<D: Disk>()
-    ensures { RunsCross D.seen D.may_leave D.is_usable (λ (keeper : KeeperShown D). keeper.keeping.shelves.items) (λ (keeper : KeeperShown D). keeper.keeping.spool) }
+    ensures { RunsCross D.seen D.may_leave D.is_usable (λ (store : StoreShown D). store.storage.queues.items) (λ (store : StoreShown D). store.storage.spool) }
 {
     openings_find_what_waits::<D>();
     runs_make_history::<D>();
     crashes_leave_what_waits::<D>();
 }
 
-/// Behind whichever of its orders the process of a run is killed, it was a run so far, which leads from what its files held to whatever
+/// After whichever of its orders the process of a run is killed, it was a run so far, which leads from what its files held to whatever
 /// that leaves of them.
 pub fn killed_runs_cross<D: Disk>()
-    ensures cut { RunsCanBeCut D.seen D.may_leave D.is_usable (λ (keeper : KeeperShown D). keeper.keeping.shelves.items) (λ (keeper : KeeperShown D). keeper.keeping.spool) }
-    ensures crosses { KilledRunsCross D.seen D.may_leave D.is_usable (λ (keeper : KeeperShown D). keeper.keeping.shelves.items) (λ (keeper : KeeperShown D). keeper.keeping.spool) }
+    ensures cut { RunsCanBeCut D.seen D.may_leave D.is_usable (λ (store : StoreShown D). store.storage.queues.items) (λ (store : StoreShown D). store.storage.spool) }
+    ensures crosses { KilledRunsCross D.seen D.may_leave D.is_usable (λ (store : StoreShown D). store.storage.queues.items) (λ (store : StoreShown D). store.storage.spool) }
 {
     runs_cross::<D>();
 }
@@ -54,11 +54,11 @@ pub fn runs_join()
     stopped_openings_leave_what_waits();
 }
 
-/// A run may be any of these, by what its files held and what a crash left of them; and behind any number of them it is one life more,
+/// A run may be any of these, by what its files held and what a crash left of them; and after any number of them it is one life more,
 /// whatever a crash leaves.
 pub fn runs_go_on<D: Disk>()
-    ensures leads { RunsLead D.seen D.may_leave D.is_usable (λ (keeper : KeeperShown D). keeper.keeping.shelves.items) (λ (keeper : KeeperShown D). keeper.keeping.spool) }
-    ensures goes_on { RunsGoOn D.seen D.may_leave D.is_usable (λ (keeper : KeeperShown D). keeper.keeping.shelves.items) (λ (keeper : KeeperShown D). keeper.keeping.spool) }
+    ensures leads { RunsLead D.seen D.may_leave D.is_usable (λ (store : StoreShown D). store.storage.queues.items) (λ (store : StoreShown D). store.storage.spool) }
+    ensures goes_on { RunsGoOn D.seen D.may_leave D.is_usable (λ (store : StoreShown D). store.storage.queues.items) (λ (store : StoreShown D). store.storage.spool) }
 {
     runs_join();
     runs_cross::<D>();
@@ -73,7 +73,7 @@ pub fn pasts_have_files()
 /// and noted, where it began over such files, whatever a crash leaves: so any number of them. New files are such.
 pub fn whole_runs_cross<D: Disk>()
     ensures begins { NewFilesHaveWholePasts }
-    ensures crosses { WholeRunsCross D.seen D.may_leave D.is_usable (λ (keeper : KeeperShown D). keeper.keeping.shelves.items) (λ (keeper : KeeperShown D). keeper.keeping.spool) }
+    ensures crosses { WholeRunsCross D.seen D.may_leave D.is_usable (λ (store : StoreShown D). store.storage.queues.items) (λ (store : StoreShown D). store.storage.spool) }
 {
     new_spools_tell_none();
     restarts_find_what_is_left();

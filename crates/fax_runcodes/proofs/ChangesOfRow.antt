@@ -9,7 +9,7 @@ use Rattle.fax_runcodes.specs.declared.Colour.{Colour}
 use Rattle.fax_runcodes.specs.declared.Colour.TheVariants.{White, Black}
 use Rattle.fax_runcodes.specs.Rows.{other, differ, colour_at, is_changing, AreChanges}
 use Rattle.fax_runcodes.specs.Painted.{painted, AreRising, colour_after_changes}
-use Rattle.fax_runcodes.proofs.PaintedLemmas.{rising_le, rising_lower, length-painted_all, colour_behind, colour_behind_white}
+use Rattle.fax_runcodes.proofs.PaintedLemmas.{rising_le, rising_lower, length-painted_all, colour_then, colour_after_white}
 
 -- ---- rising places
 
@@ -46,7 +46,7 @@ rising_in_order ps end r = IsNonDecreasingBy-from_all_adjacent (λ (y : ℕ). y)
 
 -- ---- the colour at a place
 
--- behind the changes that lie no further right
+-- after the changes that lie no further right
 colour_in : Colour → List ℕ → ℕ → Colour
 colour_in colour [] place = colour
 colour_in colour (p ∷ ps) place = cond (ltb place p) colour (colour_in (other colour) ps place)
@@ -177,7 +177,7 @@ painted_are_changes ps end r = record {
 -- ---- the colour by the number of changes no further right
 
 colour_in-count : (colour : Colour) (ps : List ℕ) (place n : ℕ) → AllWithin (λ p. p ≤ place) ps 0 n → AllWithin (λ p. place < p) ps n (length ps)
-    → colour_in colour ps place ≡ colour_behind colour (take n ps)
+    → colour_in colour ps place ≡ colour_then colour (take n ps)
 unfolding colour_in
 colour_in-count colour [] place zero some more = refl
 colour_in-count colour [] place (suc n) some more = refl
@@ -192,5 +192,5 @@ pub painted-count : (ps : List ℕ) (end place n : ℕ) (d : Colour) → AreRisi
 painted-count ps end place n d r within few point =
     painted_all_at ps end place d r within
     ∙ colour_in-count White ps place n (λ k e low high. leb-true (get_or ps k e) place (point.0 k e low high)) (λ k e low high. leb-false (get_or ps k e) place (point.1 k e low high))
-    ∙ colour_behind_white (take n ps)
+    ∙ colour_after_white (take n ps)
     ∙ ap colour_after_changes (length-take-le n ps few)

@@ -29,7 +29,7 @@ agree_fronts (true ∷ xs) (false ∷ ys) x y e = cc
 agree_fronts (false ∷ xs) (true ∷ ys) x y e = cc
 agree_fronts (false ∷ xs) (false ∷ ys) x y e = let tails : xs ++ x ≡ ys ++ y = cc in agree_fronts xs ys x y tails
 
--- what a list goes on with behind one that begins it
+-- what a list goes on with after one that begins it
 pub begins_rest : (xs ys : List Bool) → begins xs ys ≡ true → (rest : List Bool) × (ys ≡ xs ++ rest)
 begins_rest [] ys h = (ys, refl)
 begins_rest (x ∷ xs) [] h = cc

@@ -15,7 +15,7 @@ use Rattle.fax_runcodes.proofs.WordLaws.{word_size, is_terminating, is_make_up}
 
 -- ---- the word that begins bits
 
--- an element is the first of a list, or stands behind it
+-- an element is the first of a list, or stands after it
 first_or_later : (v : Word) (ws : List Word) (w : Word) → Contains (v ∷ ws) w → (v ≡ w) ⊎ Contains ws w
 first_or_later v ws w (zero, lt, e) = inl e
 first_or_later v ws w (suc k, lt, e) = inr (k, omega arith, e)
@@ -39,7 +39,7 @@ word_or_none bits (v ∷ ws) = elim (begins_or_not v.word bits) [
     | inl found ↦ inl (found.0, later v ws found.0 found.1, found.2, found.3)
     | inr none ↦ inr (λ w is rest e. elim (first_or_later v ws w is) [
       | inl same ↦ not rest (e ∙ ap (λ (x : Word). x.word ++ rest) (sym same))
-      | inr behind ↦ none w behind rest e
+      | inr after ↦ none w after rest e
     ])
   ]
 ]
@@ -55,7 +55,7 @@ inside_or_none bits (v ∷ ws) = elim (inside_or_not bits v.word) [
     | inl found ↦ inl (found.0, later v ws found.0 found.1, found.2, found.3, found.4)
     | inr none ↦ inr (λ w is more some e. elim (first_or_later v ws w is) [
       | inl same ↦ not more some (ap (λ (x : Word). x.word) same ∙ e)
-      | inr behind ↦ none w behind more some e
+      | inr after ↦ none w after more some e
     ])
   ]
 ]

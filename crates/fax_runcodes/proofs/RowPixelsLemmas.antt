@@ -14,7 +14,7 @@ pub map_pixel_replicate : (n : ℕ) (colour : Colour) → map pixel (replicate n
 map_pixel_replicate zero colour = refl
 map_pixel_replicate (suc n) colour = ap (λ (bits : List Bool). pixel colour ∷ bits) (map_pixel_replicate n colour)
 
--- ---- rising places: each is behind the one before it, and before the end
+-- ---- rising places: each is after the one before it, and before the end
 
 rising_at : (from : ℕ) (ps : List ℕ) (end i : ℕ) → i < length ps → AreRising from ps end → (from ≤ get_or ps i 0) × (get_or ps i 0 < end)
 unfolding AreRising
@@ -55,11 +55,11 @@ set_is_blackened bits es from to e =
     ∙ ap (λ (b : List Bool). b ++ (replicate (to - from) true ++ map pixel (drop to es))) (sym (take-map pixel from es))
     ∙ ap (λ (b : List Bool). take from (map pixel es) ++ (replicate (to - from) true ++ b)) (sym (drop-map pixel to es))))
 
--- what stands before a place behind which all is white, and behind a later place
-white_behind : (ps : List ℕ) (from to end : ℕ) → AreRising 0 ps from → length ps % 2 ≡ 0 → from ≤ to → to ≤ end
+-- what stands before a place after which all is white, and after a later place
+white_after : (ps : List ℕ) (from to end : ℕ) → AreRising 0 ps from → length ps % 2 ≡ 0 → from ≤ to → to ≤ end
     → take from (painted White 0 ps end) ++ (replicate (to - from) Black ++ drop to (painted White 0 ps end))
     ≡ painted White 0 ps from ++ (replicate (to - from) Black ++ replicate (end - to) White)
-white_behind ps from to end r even order within =
+white_after ps from to end r even order within =
     let size : length (painted White 0 ps from) ≡ from = length-painted_all ps from r in
     let sum : from + (end - from) ≡ end = omega arith in
     let parts : end - from ≡ (to - from) + (end - to) = omega arith in
@@ -83,7 +83,7 @@ painted_black ps from end r even order =
     let none : end - end ≡ 0 = omega arith in
     let black : painted White 0 (ps ++ from ∷ []) (from + (end - from)) ≡ painted White 0 ps from ++ replicate (end - from) Black =
     painted-other ps from (end - from) Black r (ap other (after_even (length ps) even)) in
-    white_behind ps from end end r even order (omega arith)
+    white_after ps from end end r even order (omega arith)
     ∙ ap (λ n. painted White 0 ps from ++ (replicate (end - from) Black ++ replicate n White)) none
     ∙ ap (λ (es : Elements). painted White 0 ps from ++ es) (append-nil (replicate (end - from) Black))
     ∙ sym black ∙ ap (λ n. painted White 0 (ps ++ from ∷ []) n) sum
@@ -100,7 +100,7 @@ painted_pair ps from to end r even order within =
     let odd : length (ps ++ from ∷ []) % 2 ≢ 0 = λ h. omega (arith, length-append ps (from ∷ [])) in
     let white : painted White 0 ((ps ++ from ∷ []) ++ to ∷ []) (to + (end - to)) ≡ painted White 0 (ps ++ from ∷ []) to ++ replicate (end - to) White =
     painted-other (ps ++ from ∷ []) to (end - to) White rising (ap other (after_odd (length (ps ++ from ∷ [])) odd)) in
-    white_behind ps from to end r even (omega arith) within
+    white_after ps from to end r even (omega arith) within
     ∙ sym (append_assoc (painted White 0 ps from) (replicate (to - from) Black) (replicate (end - to) White))
     ∙ ap (λ (es : Elements). es ++ replicate (end - to) White) (sym black ∙ ap (λ n. painted White 0 (ps ++ from ∷ []) n) sum)
     ∙ sym white ∙ ap (λ n. painted White 0 ((ps ++ from ∷ []) ++ to ∷ []) n) sum_end

@@ -53,13 +53,13 @@ run_at_short colour bits found n entry short is =
       within = omega arith;
     }
 
-pub run_at_long : (colour : Colour) (window behind : List Bool) (first last : CodeWord) (n m : ℕ) → length window ≡ 56
-    → IsEntryAt colour window first → 64 ≤ first.run → n ≡ first.bits → behind ≡ drop n window ++ replicate n false
-    → IsEntryAt colour behind last → last.run < 64 → m ≡ last.bits → first.run + last.run ≤ longest_run
+pub run_at_long : (colour : Colour) (window after : List Bool) (first last : CodeWord) (n m : ℕ) → length window ≡ 56
+    → IsEntryAt colour window first → 64 ≤ first.run → n ≡ first.bits → after ≡ drop n window ++ replicate n false
+    → IsEntryAt colour after last → last.run < 64 → m ≡ last.bits → first.run + last.run ≤ longest_run
     → IsRunAt colour window (record { elements = first.run + last.run; bits = n + m })
-run_at_long colour window behind first last n m wide entry long is is_behind entry_behind short is_last fits =
+run_at_long colour window after first last n m wide entry long is is_after entry_after short is_last fits =
     let f = entry_found colour window first entry (omega arith) in
-    let g = entry_found colour behind last entry_behind (omega arith) in
+    let g = entry_found colour after last entry_after (omega arith) in
     let begins = is_make_up colour f.word f.begins.0 (omega (arith, f.run_is)) in
     let ends = is_terminating colour g.word g.begins.0 (omega (arith, g.run_is)) in
     let few_first : length f.word.word ≤ 13 = (word_size colour f.word f.begins.0).few in
@@ -67,7 +67,7 @@ run_at_long colour window behind first last n m wide entry long is is_behind ent
     let size : n ≡ length f.word.word = is ∙ sym f.bits_is in
     let rest : drop n window ≡ f.begins.1 = ap (λ (k : ℕ). drop k window) size ∙ ap (drop (length f.word.word)) f.begins.2 ∙ drop-append_seam f.word.word f.begins.1 in
     let ahead : length (drop n window) ≡ 56 - n = length-drop n window ∙ ap (λ (k : ℕ). k - n) wide in
-    let begun : g.word.word ++ g.begins.1 ≡ drop n window ++ replicate n false = sym g.begins.2 ∙ is_behind in
+    let begun : g.word.word ++ g.begins.1 ≡ drop n window ++ replicate n false = sym g.begins.2 ∙ is_after in
     let there : drop n window ≡ g.word.word ++ drop (length g.word.word) (drop n window) =
     front_of g.word.word (drop n window) g.begins.1 (replicate n false) begun (omega (arith, ahead, size)) in
     let both : length (f.word.word ++ g.word.word) ≡ length f.word.word + length g.word.word = length-append f.word.word g.word.word in

@@ -50,7 +50,7 @@ inside_begins colour bits u (is_word, rest, begun) (v, is_word_v, more, some, in
     let empty : length more ≡ 0 = omega arith in
     some (nil_from_length more empty)
 
--- the word that begins make-up words and a terminating word behind them, or make-up words alone
+-- the word that begins make-up words and a terminating word after them, or make-up words alone
 first_word : (colour : Colour) (more : List Word) (last : Word) (rest bits : List Bool) → AreMakeUp colour more → Contains (terminating_words colour) last
     → bits ≡ text_of more ++ (last.word ++ rest) → (w : Word) × BeginsWith colour bits w × (w.run ≤ run_of more + last.run)
 first_word colour [] last rest bits p q e = (last, (from_terminating colour last q, rest, e), omega arith)

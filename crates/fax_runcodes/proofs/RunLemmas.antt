@@ -55,7 +55,7 @@ SpellsRun-from colour old mid new run w r is_word p = (
   Passes-then old mid new (text_of r.make_up) w.word r.passes p,
 )
 
--- a fault behind the words so far
+-- a fault after the words so far
 pub FailsRun-from : (colour : Colour) (old mid : Place) (run : ℕ) (fault : RunFault) → RunSoFar colour old mid run → Stops colour run mid.left fault → FailsRun colour old.left fault
 FailsRun-from colour old mid run fault r s = record {
   make_up = r.make_up;

@@ -21,7 +21,7 @@ unfolding painted runs_between
 painted_is colour from [] end = sym (append-nil (replicate (end - from) colour))
 painted_is colour from (p ∷ ps) end = ap (λ (es : Elements). replicate (p - from) colour ++ es) (painted_is (other colour) p ps end)
 
--- from a place behind a change, no run is empty
+-- from a place after a change, no run is empty
 runs_not_empty : (from : ℕ) (ps : List ℕ) (end : ℕ) → AreRising (from + 1) ps end → All (λ n. 0 < n) (runs_between from ps end)
 unfolding AreRising runs_between
 runs_not_empty from [] end r =
@@ -43,7 +43,7 @@ runs_between_are_runs changes width r = record {
   not_empty = later_not_empty 0 changes width r;
 }
 
--- ---- step by step over a list of places: at place i, and behind the last
+-- ---- step by step over a list of places: at place i, and after the last
 
 pub runs_between-drop_more : (from : ℕ) (ps : List ℕ) (i : ℕ) (end : ℕ) → i < length ps
     → runs_between from (drop i ps) end ≡ (get_or ps i 0 - from) ∷ runs_between (get_or ps i 0) (drop (i + 1) ps) end
@@ -54,7 +54,7 @@ pub runs_between-drop_all : (from : ℕ) (ps : List ℕ) (i : ℕ) (end : ℕ) �
 unfolding runs_between
 runs_between-drop_all from ps i end past = ap (λ (qs : List ℕ). runs_between from qs end) (drop_all i ps past)
 
--- the place is no less than the one before it, and more rise from behind it on
+-- the place is no less than the one before it, and more rise from after it on
 pub rising-drop_more : (from : ℕ) (ps : List ℕ) (i : ℕ) (end : ℕ) → i < length ps → AreRising from (drop i ps) end
     → (from ≤ get_or ps i 0) × AreRising (get_or ps i 0 + 1) (drop (i + 1) ps) end
 unfolding AreRising

@@ -260,11 +260,11 @@ bits_set old new from to order within size set kept =
                 | inl inside ↦
                     get_or_append_left (replicate (to - from) true) (drop to (bits_of old)) false (i - from) (omega arith)
                     ∙ get_or-replicate (to - from) (i - from) true false (omega arith) ∙ sym (set i past inside)
-                | inr behind ↦
+                | inr after ↦
                     let place : to + (i - from - (to - from)) ≡ i = omega arith in
                     get_or-append_right (replicate (to - from) true) (drop to (bits_of old)) (to - from) (i - from) false ones (omega arith)
                     ∙ get_or-drop to (bits_of old) (i - from - (to - from)) false
-                    ∙ ap (λ k. get_or (bits_of old) k false) place ∙ sym (kept i lt (inr behind))
+                    ∙ ap (λ k. get_or (bits_of old) k false) place ∙ sym (kept i lt (inr after))
               ]
         ]
 
@@ -366,8 +366,8 @@ before_part xs ys a k j within before =
     let front : length (take a xs) ≡ a = length-take-le a xs (omega arith) in
     get_or_append_left (take a xs) (ys ++ post_of a k xs) 0 j (omega arith) ∙ get_or-take a xs j 0 before
 
-behind_part : (xs ys : List ℕ) (a k j : ℕ) → a + k ≤ length xs → length ys ≡ k → a + k ≤ j → get_or (put_mid a k xs ys) j 0 ≡ get_or xs j 0
-behind_part xs ys a k j within size past =
+after_part : (xs ys : List ℕ) (a k j : ℕ) → a + k ≤ length xs → length ys ≡ k → a + k ≤ j → get_or (put_mid a k xs ys) j 0 ≡ get_or xs j 0
+after_part xs ys a k j within size past =
     let front : length (take a xs) ≡ a = length-take-le a xs (omega arith) in
     let place : a + (k + (j - a - k)) ≡ j = omega arith in
     get_or-append_right (take a xs) (ys ++ post_of a k xs) a j 0 front (omega arith)
@@ -380,7 +380,7 @@ length-part xs ys a k within size =
     let all : length (put_mid a k xs ys) ≡ length (take a xs) + length (ys ++ post_of a k xs) = length-append (take a xs) (ys ++ post_of a k xs) in
     let rest : length (ys ++ post_of a k xs) ≡ length ys + length (post_of a k xs) = length-append ys (post_of a k xs) in
     let dropped : length (post_of a k xs) ≡ length (drop a xs) - k = length-drop k (drop a xs) in
-    let behind : length (drop a xs) ≡ length xs - a = length-drop a xs in
+    let after : length (drop a xs) ≡ length xs - a = length-drop a xs in
     omega arith
 
 pub many_words : (octets ones : List ℕ) (from to k : ℕ) → from < to → to ≤ 8 * length octets → length octets % 4 ≡ 0 → from / 32 + 1 < (to - 1) / 32 → k ≡ 4 * ((to - 1) / 32) - 4 * (from / 32 + 1) → ones ≡ replicate k 255
@@ -410,7 +410,7 @@ many_words octets ones from to k order within fours more is filled =
         bits_of_at new i (omega (arith, size, size_both)) ∙ ap (λ n. bit n (7 - i % 8)) (before_part (both octets from to) ones (4 * (from / 32 + 1)) k (i / 8) room before)
         ∙ sym (bits_of_at (both octets from to) i (omega (arith, size_both)))
     elsewhere i lt (inr past) =
-        bits_of_at new i (omega (arith, size, size_both)) ∙ ap (λ n. bit n (7 - i % 8)) (behind_part (both octets from to) ones (4 * (from / 32 + 1)) k (i / 8) room size_ones past)
+        bits_of_at new i (omega (arith, size, size_both)) ∙ ap (λ n. bit n (7 - i % 8)) (after_part (both octets from to) ones (4 * (from / 32 + 1)) k (i / 8) room size_ones past)
         ∙ sym (bits_of_at (both octets from to) i (omega (arith, size_both)))
 
     sets : (i : ℕ) → from ≤ i → i < to → get_or (bits_of new) i false ≡ true

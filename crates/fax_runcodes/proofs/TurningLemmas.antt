@@ -1,4 +1,4 @@
--- Elements that turn at places behind the changes so far.
+-- Elements that turn at places after the changes so far.
 use Rattle.std.proofs.Common.{◌≡◌, ℕ, zero, suc, ◌+◌, ◌-◌, ◌<◌, ◌≤◌, List, [], ◌∷◌, ◌++◌, length, take, drop, replicate, slice_index_or, get_or, Contains, IsTrue, refl, sym, ◌∙◌, ap, subst, arith, inl, inr, take_at, append-nil}
 use Rattle.std.proofs.lemmas.Bool.{cases_lt, cases_eq, false≢true}
 use Rattle.std.proofs.lemmas.List.{get_or-drop, get_or-replicate, take-append-drop, drop_at}
@@ -7,7 +7,7 @@ use Rattle.fax_runcodes.specs.declared.Colour.{Colour}
 use Rattle.fax_runcodes.specs.declared.Colour.TheVariants.{White}
 use Rattle.fax_runcodes.specs.Rows.{Elements, other, colour_at, colour_before, is_changing}
 use Rattle.fax_runcodes.specs.Painted.{painted, AreRising}
-use Rattle.fax_runcodes.proofs.PaintedLemmas.{colour_behind, rising_le, rising_lower, rising_join, painted-extend, painted-join, painted-turn, length-painted_all}
+use Rattle.fax_runcodes.proofs.PaintedLemmas.{colour_then, rising_le, rising_lower, rising_join, painted-extend, painted-join, painted-turn, length-painted_all}
 use Rattle.fax_runcodes.proofs.ChangesOfRow.{painted_are_changes, differ-same}
 
 -- rising places that all lie before one rise up to it
@@ -66,27 +66,27 @@ module _ (ps : List ℕ) (end place : ℕ) (rising : AreRising 0 ps end) (low : 
     pub changes_rise : AreRising 0 ps place
     changes_rise = rising_up_to 0 ps end place rising (omega arith) changes_before
 
-    parts : row ≡ painted White 0 ps place ++ replicate (end - place) (colour_behind White ps)
+    parts : row ≡ painted White 0 ps place ++ replicate (end - place) (colour_then White ps)
     parts =
         let sum : place + (end - place) ≡ end = omega (arith, within) in
         ap (λ (n : ℕ). painted White 0 ps n) (sym sum) ∙ painted-extend White 0 ps place (end - place) changes_rise
 
     pub in_front : take place row ≡ painted White 0 ps place
-    in_front = ap (take place) parts ∙ take_at (painted White 0 ps place) (replicate (end - place) (colour_behind White ps)) place (length-painted_all ps place changes_rise)
+    in_front = ap (take place) parts ∙ take_at (painted White 0 ps place) (replicate (end - place) (colour_then White ps)) place (length-painted_all ps place changes_rise)
 
-    pub colour_is : colour_behind White ps ≡ colour_before row place
+    pub colour_is : colour_then White ps ≡ colour_before row place
     colour_is =
-        let rest : drop place row ≡ replicate (end - place) (colour_behind White ps) =
-        ap (drop place) parts ∙ drop_at (painted White 0 ps place) (replicate (end - place) (colour_behind White ps)) place (length-painted_all ps place changes_rise) in
-        sym (get_or-replicate (end - place) 0 (colour_behind White ps) White (omega (arith, within)))
+        let rest : drop place row ≡ replicate (end - place) (colour_then White ps) =
+        ap (drop place) parts ∙ drop_at (painted White 0 ps place) (replicate (end - place) (colour_then White ps)) place (length-painted_all ps place changes_rise) in
+        sym (get_or-replicate (end - place) 0 (colour_then White ps) White (omega (arith, within)))
         ∙ ap (λ (es : Elements). colour_at es 0) (sym rest ∙ same)
         ∙ get_or-replicate (end - place) 0 colour White (omega (arith, within))
 
-    -- the changes and more behind them
+    -- the changes and more after them
     pub turned : (qs : List ℕ) → painted White 0 (ps ++ place ∷ qs) end ≡ take place row ++ painted (other (colour_before row place)) place qs end
     turned qs =
         painted-turn White 0 ps place qs end
-        ∙ ap (λ (es : Elements). es ++ painted (other (colour_behind White ps)) place qs end) (sym in_front)
+        ∙ ap (λ (es : Elements). es ++ painted (other (colour_then White ps)) place qs end) (sym in_front)
         ∙ ap (λ (c : Colour). take place row ++ painted (other c) place qs end) colour_is
 
     pub turned_rise : (qs : List ℕ) → AreRising (place + 1) qs end → AreRising 0 (ps ++ place ∷ qs) end
@@ -134,18 +134,18 @@ turned_at_all ps (p ∷ qs) end r s same =
 -- ---- fewer elements
 
 -- rising places from an index on
-pub rising_behind : (from : ℕ) (ps : List ℕ) (end i : ℕ) → AreRising from ps end → AreRising from (drop i ps) end
+pub rising_after : (from : ℕ) (ps : List ℕ) (end i : ℕ) → AreRising from ps end → AreRising from (drop i ps) end
 unfolding AreRising
-rising_behind from ps end zero r = r
-rising_behind from [] end (suc i) r = r
-rising_behind from (p ∷ ps) end (suc i) r = let here : from ≤ p = r.0 in rising_lower (p + 1) from (drop i ps) end (omega arith) (rising_behind (p + 1) ps end i r.1)
+rising_after from ps end zero r = r
+rising_after from [] end (suc i) r = r
+rising_after from (p ∷ ps) end (suc i) r = let here : from ≤ p = r.0 in rising_lower (p + 1) from (drop i ps) end (omega arith) (rising_after (p + 1) ps end i r.1)
 
 -- the changes before a place paint the elements before it
 pub shortened : (ps : List ℕ) (end n i : ℕ) → AreRising 0 (take i ps) n → AreRising n (drop i ps) end → painted White 0 (take i ps) n ≡ take n (painted White 0 ps end)
 shortened ps end n i r s =
-    let join : painted White 0 (take i ps ++ drop i ps) end ≡ painted White 0 (take i ps) n ++ painted (colour_behind White (take i ps)) n (drop i ps) end = painted-join White 0 (take i ps) n (drop i ps) end r s in
+    let join : painted White 0 (take i ps ++ drop i ps) end ≡ painted White 0 (take i ps) n ++ painted (colour_then White (take i ps)) n (drop i ps) end = painted-join White 0 (take i ps) n (drop i ps) end r s in
     let whole : take i ps ++ drop i ps ≡ ps = take-append-drop i ps in
-    sym (take_at (painted White 0 (take i ps) n) (painted (colour_behind White (take i ps)) n (drop i ps) end) n (length-painted_all (take i ps) n r))
+    sym (take_at (painted White 0 (take i ps) n) (painted (colour_then White (take i ps)) n (drop i ps) end) n (length-painted_all (take i ps) n r))
     ∙ ap (take n) (sym join ∙ ap (λ (qs : List ℕ). painted White 0 qs end) whole)
 
 -- rising places as far as one before a place

@@ -107,7 +107,7 @@ is_make_up colour w h le = elim (Contains-append_cases (terminating_words colour
   | inr there ↦ there
 ]
 
--- no word begins bits that begin with eight zeros, nor ends behind them
+-- no word begins bits that begin with eight zeros, nor ends after them
 pub eight_zeros : (colour : Colour) (w : Word) (x y : List Bool) → Contains (words colour) w → w.word ++ x ≡ replicate 8 false ++ y → ⊥
 eight_zeros colour w x y h e =
     let apart : not (agree w.word (replicate 8 false)) ≡ true = all_words_at (λ v. not (agree v.word (replicate 8 false))) (words colour) (not_eight_zeros colour) w h in

@@ -20,6 +20,6 @@ unfoldable pub AreRising : ℕ → List ℕ → ℕ → Type 0
 AreRising from [] end = from ≤ end
 AreRising from (place ∷ places) end = (from ≤ place) × AreRising (place + 1) places end
 
--- the colour behind so many changes, white first
+-- the colour after so many changes, white first
 abbrev pub colour_after_changes : ℕ → Colour
 colour_after_changes n = if n % 2 == 0 then White else Black

@@ -1,4 +1,4 @@
--- A white run and a black one behind it, whose words are short (ITU-T T.4, 4.1.1).
+-- A white run and a black one after it, whose words are short (ITU-T T.4, 4.1.1).
 use Rattle.std.specs.Prelude.{◌≡◌, ℕ, ◌+◌, ◌<◌, ◌≤◌, Bool, List, ◌++◌, Contains, length}
 use Rattle.fax_runcodes.specs.declared.Colour.TheVariants.{White, Black}
 use Rattle.fax_runcodes.specs.declared.tables.WordPair.{WordPair}

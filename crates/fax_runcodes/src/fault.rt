@@ -37,7 +37,7 @@ impl RunFault {
 /// Why no row could be made of runs.
 #[derive(Clone, Copy, PartialEq, Eq, Debug, Error)]
 pub enum RowFault {
-    /// They add to no width, or one behind the first is 0.
+    /// They add to no width, or one after the first is 0.
     #[error("no run lengths of a row")]
     BadRuns,
     #[error("out of memory")]

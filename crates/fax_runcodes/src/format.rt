@@ -13,6 +13,6 @@ pub struct Format {
 pub enum Coding {
     /// Each line in one dimension (ITU-T T.4, 4.1).
     Mh,
-    /// Some lines in two dimensions; a tag bit behind each EOL tells which (ITU-T T.4, 4.2).
+    /// Some lines in two dimensions; a tag bit after each EOL tells which (ITU-T T.4, 4.2).
     Mr,
 }

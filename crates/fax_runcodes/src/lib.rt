@@ -41,7 +41,7 @@ impl Colour {
         }
     }
 
-    /// The colour behind so many changes of colour, white first.
+    /// The colour after so many changes of colour, white first.
     #[inline]
     pub fn after_changes(changes: usize) -> Colour
         ensures { result ≡ colour_after_changes changes }

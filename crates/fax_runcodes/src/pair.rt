@@ -1,11 +1,11 @@
-//! White runs with the black ones behind them, looked up at once.
+//! White runs with the black ones after them, looked up at once.
 ghost use Rattle.std.specs.Prelude.{◌≡◌, ◌<◌, ◌^◌, IfSome, IsNone};
 ghost use Rattle.fax_bits.specs.Bits.{word_bits};
 ghost use Rattle.fax_runcodes.specs.Pairs.{IsPairAt, BeginsWithNoPair};
 
 use crate::tables::{WordPair, pairs};
 
-/// The white word and the black one behind it that begin 56 bits, which are those of a number, the most
+/// The white word and the black one after it that begin 56 bits, which are those of a number, the most
 /// significant first, where both are terminating words (ITU-T T.4, table 2/T.4) of runs that are not empty
 /// and have 11 bits together at most.
 #[inline]

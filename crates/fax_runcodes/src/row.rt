@@ -204,7 +204,7 @@ impl<'a> RowRef<'a> {
     /// `None` where the slice has no room for them. It takes no memory.
     pub fn put_runs(&self, runs: &mut [u16]) -> Option<usize>
         ensures some { IfSome result (λ count. AreRuns (take count runs.new) self.now × (count ≤ length runs.old)) }
-        ensures behind { IfSome result (λ count. drop count runs.new ≡ drop count runs.old) }
+        ensures after { IfSome result (λ count. drop count runs.new ≡ drop count runs.old) }
         ensures same_room { length runs.new ≡ length runs.old }
         ensures none { IfNone result ((list : List ℕ) × AreRuns list self.now × (length runs.old < length list)) }
         ensures untouched { IsNone result → runs.new ≡ runs.old }
@@ -281,7 +281,7 @@ impl RowBuilder {
         self.len += n;
     }
 
-    /// Adds a white run and a black one behind it, neither of them empty. It takes no memory.
+    /// Adds a white run and a black one after it, neither of them empty. It takes no memory.
     #[inline]
     pub fn paint_pair(&mut self, white: u16, black: u16)
         requires white { 0 < white }

@@ -12,7 +12,7 @@ use crate::Colour;
 use crate::fault::RunFault;
 use crate::tables::{CodeWord, black, white};
 use crate::writing::run_word;
-use fax_bits::{BitReader, BitWriter, NoMemory, behind};
+use fax_bits::{BitReader, BitWriter, NoMemory, after};
 
 /// The longest run that is written, in elements: what one make-up word and one terminating word stand
 /// for (ITU-T T.4, 4.1.1).
@@ -92,7 +92,7 @@ fn run_at(colour: Colour, window: u64) -> Option<FoundRun>
     if first.run > LONGEST_RUN {
         return None;
     }
-    let last = look_up(colour, behind(window, bits));
+    let last = look_up(colour, after(window, bits));
     let elements = first.run + last.run;
     if last.run >= 64 || elements > LONGEST_RUN {
         return None;

@@ -33,7 +33,7 @@ impl CodeWord {
     }
 }
 
-/// A white word with a black one behind it, both of runs that are short and not empty: how many bits both
+/// A white word with a black one after it, both of runs that are short and not empty: how many bits both
 /// words have, and the lengths of the runs, in elements. It is loaded as four octets, and its bits stand in
 /// the lowest, since the next look-up waits for them.
 #[derive(Clone, Copy, PartialEq, Eq, Debug)]

@@ -9,7 +9,7 @@ use crate::run::LONGEST_WRITTEN_RUN;
 use crate::tables::written::{WrittenWord, make_up_word, terminating_word};
 use fax_bits::RoomyWriter;
 
-/// Writes a word of n bits, at most 5, and behind it a run of a colour and a run of the other colour,
+/// Writes a word of n bits, at most 5, and after it a run of a colour and a run of the other colour,
 /// each as [`crate::write_run`] does. Together they are of at most 57 bits. It takes no memory.
 #[inline(always)]
 pub fn put_two_runs(

@@ -23,7 +23,7 @@ goes_on octets part more begun none = record {
   one_line = joined_have_none part more begun.one_line none;
 }
 
--- one more line, behind others
+-- one more line, after others
 pushed : (lines : List (List ℕ)) (part : List ℕ) → (flat_map ended lines ++ part) ++ 10 ∷ [] ≡ flat_map ended (lines ++ part ∷ []) ++ []
 pushed lines part =
     append_assoc (flat_map ended lines) part (10 ∷ [])
@@ -60,7 +60,7 @@ heard_so octets rest heard old now said line begins is =
           (ended_so said (before ++ end) (part ++ end) now (goes_on before part end so_far ends.in_one_line) (is ∙ ap said_by_heard (was part same)) begins),
     )
 
--- less is left behind a line
+-- less is left after a line
 pub shorter : (octets rest end : List ℕ) → EndsALine octets end rest → length rest < length octets
 shorter octets rest end ends = omega (arith, ap length ends.cut, length-append end (10 ∷ rest))
 
@@ -72,5 +72,5 @@ heard_none octets old now none waits before begun =
     let (part, so_far, same) = begun in (part ++ octets, goes_on before part octets so_far none, waits part same)
 
 -- lines that went on, and what follows them
-pub behind_front : (octets front rest more left : List ℕ) → octets ≡ front ++ rest → rest ≡ more ++ left → octets ≡ (front ++ more) ++ left
-behind_front octets front rest more left all e = all ∙ ap (λ l. front ++ l) e ∙ sym (append_assoc front more left)
+pub after_front : (octets front rest more left : List ℕ) → octets ≡ front ++ rest → rest ≡ more ++ left → octets ≡ (front ++ more) ++ left
+after_front octets front rest more left all e = all ∙ ap (λ l. front ++ l) e ∙ sym (append_assoc front more left)

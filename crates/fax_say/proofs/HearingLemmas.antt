@@ -6,37 +6,37 @@ use Rattle.std.proofs.KnownBytes.{Appends-trans, Consumes-trans}
 use Rattle.fax_say.specs.declared.last.Last.{Last}
 use Rattle.fax_say.specs.declared.ending.Ending.TheVariants.{Answered, Unanswered}
 use Rattle.fax_say.specs.Answers.{IsAnswer}
-use Rattle.fax_say.specs.Hearings.{HasBegun, HasComeTo, HasHeard, HasPassed, HasPrinted, HasPrintedAll, HearingValue, IsTold, ending_behind, over, waits}
+use Rattle.fax_say.specs.Hearings.{HasBegun, HasComeTo, HasHeard, HasPassed, HasPrinted, HasPrintedAll, HearingValue, IsTold, ending_after, over, waits}
 
 -- The octets in which a last line ends are told: up to its end, or all of them.
-told_by : (w : Bool) (stays : Bool) (last : Last) (octets front behind shown before : List ℕ) → waits stays last ≡ w → octets ≡ front ++ behind
+told_by : (w : Bool) (stays : Bool) (last : Last) (octets front after shown before : List ℕ) → waits stays last ≡ w → octets ≡ front ++ after
     → shown ≡ (if w then octets else front) → IsAnswer (before ++ front) last → IsTold stays last (before ++ shown)
-told_by true stays last octets front behind shown before waiting cut is answer = record {
+told_by true stays last octets front after shown before waiting cut is answer = record {
   answer = before ++ front;
-  behind = behind;
-  whole = ap (λ l. before ++ l) (is ∙ cut) ∙ sym (append_assoc before front behind);
+  after = after;
+  whole = ap (λ l. before ++ l) (is ∙ cut) ∙ sym (append_assoc before front after);
   is_answer = answer;
   no_more = λ e. absurd (true≢false (sym waiting ∙ e));
 }
-told_by false stays last octets front behind shown before waiting cut is answer = record {
+told_by false stays last octets front after shown before waiting cut is answer = record {
   answer = before ++ front;
-  behind = [];
+  after = [];
   whole = ap (λ l. before ++ l) is ∙ sym (append-nil (before ++ front));
   is_answer = answer;
   no_more = λ e. refl;
 }
 
-pub told_so : (stays : Bool) (last : Last) (octets front behind shown before : List ℕ) → octets ≡ front ++ behind
+pub told_so : (stays : Bool) (last : Last) (octets front after shown before : List ℕ) → octets ≡ front ++ after
     → shown ≡ (if waits stays last then octets else front) → IsAnswer (before ++ front) last → IsTold stays last (before ++ shown)
-told_so stays last octets front behind shown before cut is answer = told_by (waits stays last) stays last octets front behind shown before refl cut is answer
+told_so stays last octets front after shown before cut is answer = told_by (waits stays last) stays last octets front after shown before refl cut is answer
 
--- What comes behind an answer is told, or nothing of it.
+-- What comes after an answer is told, or nothing of it.
 more_by : (w : Bool) (stays : Bool) (last : Last) (octets shown before : List ℕ) → waits stays last ≡ w → shown ≡ (if w then octets else [])
     → IsTold stays last before → IsTold stays last (before ++ shown)
 more_by true stays last octets shown before waiting is told = record {
   answer = told.answer;
-  behind = told.behind ++ shown;
-  whole = ap (λ l. l ++ shown) told.whole ∙ append_assoc told.answer told.behind shown;
+  after = told.after ++ shown;
+  whole = ap (λ l. l ++ shown) told.whole ∙ append_assoc told.answer told.after shown;
   is_answer = told.is_answer;
   no_more = λ e. absurd (true≢false (sym waiting ∙ e));
 }
@@ -47,10 +47,10 @@ pub more_so : (stays : Bool) (last : Last) (octets shown before : List ℕ) → 
 more_so stays last octets shown before is told = more_by (waits stays last) stays last octets shown before refl is told
 
 -- what is told stands at the front of what came
-pub front_so : (w : Bool) (octets front behind shown : List ℕ) → octets ≡ front ++ behind → shown ≡ (if w then octets else front)
+pub front_so : (w : Bool) (octets front after shown : List ℕ) → octets ≡ front ++ after → shown ≡ (if w then octets else front)
     → (dropped : List ℕ) × (octets ≡ shown ++ dropped)
-front_so true octets front behind shown cut is = ([], sym (append-nil octets) ∙ ap (λ l. l ++ []) (sym is))
-front_so false octets front behind shown cut is = (behind, cut ∙ ap (λ l. l ++ behind) (sym is))
+front_so true octets front after shown cut is = ([], sym (append-nil octets) ∙ ap (λ l. l ++ []) (sym is))
+front_so false octets front after shown cut is = (after, cut ∙ ap (λ l. l ++ after) (sym is))
 
 -- and is all of it while more is waited for
 pub whole_so : (w : Bool) (last : Last) (octets front shown : List ℕ) → shown ≡ (if w then octets else front)
@@ -96,9 +96,9 @@ printed_so stays said part last coming comes held holds octets dropped is come p
       to_its_end = λ more. absurd (true≢false (sym more ∙ done));
     }
 
--- The stream was closed behind an answer.
+-- The stream was closed after an answer.
 pub closed_so : (stays : Bool) (said : Option Last) (part : Option (List ℕ)) (last : Last) (coming comes held holds : Option (List ℕ)) (octets : List ℕ)
-    → ending_behind said ≡ Answered last → HasComeTo stays part said octets → HasPassed coming comes held holds octets [] → IsAtEnd comes
+    → ending_after said ≡ Answered last → HasComeTo stays part said octets → HasPassed coming comes held holds octets [] → IsAtEnd comes
     → HasPrinted stays last coming comes held holds
 closed_so stays None part last coming comes held holds octets is come passed end = absurd (cc)
 closed_so stays (Some said) part last coming comes held holds octets is come passed end =
@@ -113,17 +113,17 @@ closed_so stays (Some said) part last coming comes held holds octets is come pas
 
 -- It was closed, and no answer has come.
 pub unanswered_so : (stays : Bool) (said : Option Last) (part : Option (List ℕ)) (coming comes held holds : Option (List ℕ)) (octets : List ℕ)
-    → ending_behind said ≡ Unanswered → HasComeTo stays part said octets → HasPassed coming comes held holds octets [] → IsAtEnd comes
+    → ending_after said ≡ Unanswered → HasComeTo stays part said octets → HasPassed coming comes held holds octets [] → IsAtEnd comes
     → HasPrintedAll coming comes held holds
 unanswered_so stays None part coming comes held holds octets is come passed end =
     let (line, begun, same) = come in record { octets = octets; no_answer = (line, begun); passed = passed; at_its_end = end }
 unanswered_so stays (Some said) part coming comes held holds octets is come passed end = absurd (cc)
 
 -- the front of octets before what stands at their end
-pub slice_so : (octets front behind : List ℕ) → octets ≡ front ++ behind → take (length octets - length behind) octets ≡ front
-slice_so octets front behind cut =
-    ap (take (length octets - length behind)) cut
-    ∙ take_at front behind (length octets - length behind) (omega (arith, ap length cut, length-append front behind))
+pub slice_so : (octets front after : List ℕ) → octets ≡ front ++ after → take (length octets - length after) octets ≡ front
+slice_so octets front after cut =
+    ap (take (length octets - length after)) cut
+    ∙ take_at front after (length octets - length after) (omega (arith, ap length cut, length-append front after))
 
 -- an answer whose last line has not come is begun
 pub begun_so : (hearing : HearingValue) (octets : List ℕ) → hearing.last ≡ None → HasHeard hearing octets → HasBegun hearing.part octets

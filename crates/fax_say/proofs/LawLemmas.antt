@@ -31,22 +31,22 @@ both : (line other : List ℕ) (last : Last) → line ≡ other → last_of line
 both line other last same is goes = let no : None ≡ Some last = sym goes.1 ∙ ap last_of (sym same) ∙ is in absurd (cc)
 
 -- the lines before a last one, and that line, are those of the octets
-one_by : (lines others : List (List ℕ)) (line other rest behind : List ℕ) (last next : Last) → All GoesOn lines → All GoesOn others
+one_by : (lines others : List (List ℕ)) (line other rest after : List ℕ) (last next : Last) → All GoesOn lines → All GoesOn others
     → HasNoLineFeed line → HasNoLineFeed other → last_of line ≡ Some last → last_of other ≡ Some next
-    → flat_map ended lines ++ (line ++ 10 ∷ rest) ≡ flat_map ended others ++ (other ++ 10 ∷ behind) → (lines ≡ others) × (line ≡ other)
-one_by [] [] line other rest behind last next p q one two is so e = (refl, (cut_once line rest other behind one two e).0)
-one_by [] (o ∷ others) line other rest behind last next p q one two is so e =
+    → flat_map ended lines ++ (line ++ 10 ∷ rest) ≡ flat_map ended others ++ (other ++ 10 ∷ after) → (lines ≡ others) × (line ≡ other)
+one_by [] [] line other rest after last next p q one two is so e = (refl, (cut_once line rest other after one two e).0)
+one_by [] (o ∷ others) line other rest after last next p q one two is so e =
     let first = All-head GoesOn o others q in
-    absurd (both line o last (cut_once line rest o (flat_map ended others ++ (other ++ 10 ∷ behind)) one first.0 (e ∙ apart o (flat_map ended others) (other ++ 10 ∷ behind))).0 is first)
-one_by (l ∷ lines) [] line other rest behind last next p q one two is so e =
+    absurd (both line o last (cut_once line rest o (flat_map ended others ++ (other ++ 10 ∷ after)) one first.0 (e ∙ apart o (flat_map ended others) (other ++ 10 ∷ after))).0 is first)
+one_by (l ∷ lines) [] line other rest after last next p q one two is so e =
     let first = All-head GoesOn l lines p in
-    absurd (both other l next (cut_once other behind l (flat_map ended lines ++ (line ++ 10 ∷ rest)) two first.0 (sym e ∙ apart l (flat_map ended lines) (line ++ 10 ∷ rest))).0 so first)
-one_by (l ∷ lines) (o ∷ others) line other rest behind last next p q one two is so e =
+    absurd (both other l next (cut_once other after l (flat_map ended lines ++ (line ++ 10 ∷ rest)) two first.0 (sym e ∙ apart l (flat_map ended lines) (line ++ 10 ∷ rest))).0 so first)
+one_by (l ∷ lines) (o ∷ others) line other rest after last next p q one two is so e =
     let left = flat_map ended lines ++ (line ++ 10 ∷ rest) in
-    let right = flat_map ended others ++ (other ++ 10 ∷ behind) in
+    let right = flat_map ended others ++ (other ++ 10 ∷ after) in
     let (first, later) = cut_once l left o right (All-head GoesOn l lines p).0 (All-head GoesOn o others q).0
-    (sym (apart l (flat_map ended lines) (line ++ 10 ∷ rest)) ∙ e ∙ apart o (flat_map ended others) (other ++ 10 ∷ behind)) in
-    let (same, line_is) = one_by lines others line other rest behind last next (All-tail GoesOn l lines p) (All-tail GoesOn o others q) one two is so later in
+    (sym (apart l (flat_map ended lines) (line ++ 10 ∷ rest)) ∙ e ∙ apart o (flat_map ended others) (other ++ 10 ∷ after)) in
+    let (same, line_is) = one_by lines others line other rest after last next (All-tail GoesOn l lines p) (All-tail GoesOn o others q) one two is so later in
     (ap₂ (λ x xs. x ∷ xs) first same, line_is)
 
 -- an answer, and what follows it
@@ -55,11 +55,11 @@ cut_so octets begun line lines rest whole is =
     ap (λ l. l ++ rest) (whole ∙ ap (λ l. l ++ 10 ∷ []) is) ∙ append_assoc (lines ++ line) (10 ∷ []) rest ∙ append_assoc lines line (10 ∷ rest)
 
 pub one : OneAnswer
-one octets rest others behind last other first second e =
-    let (lines, line) = one_by first.is_begun.lines second.is_begun.lines first.line second.line rest behind last other first.is_begun.each second.is_begun.each
+one octets rest others after last other first second e =
+    let (lines, line) = one_by first.is_begun.lines second.is_begun.lines first.line second.line rest after last other first.is_begun.each second.is_begun.each
     first.is_begun.one_line second.is_begun.one_line first.says second.says
     (sym (cut_so octets first.begun first.line (flat_map ended first.is_begun.lines) rest first.whole first.is_begun.whole) ∙ e
-    ∙ cut_so others second.begun second.line (flat_map ended second.is_begun.lines) behind second.whole second.is_begun.whole) in
+    ∙ cut_so others second.begun second.line (flat_map ended second.is_begun.lines) after second.whole second.is_begun.whole) in
     let said : Some last ≡ Some other = sym first.says ∙ ap last_of line ∙ second.says in (
       first.whole
           ∙ ap (λ l. l ++ 10 ∷ []) (first.is_begun.whole ∙ ap₂ (λ xs x. flat_map ended xs ++ x) lines line ∙ sym second.is_begun.whole)

@@ -28,12 +28,12 @@ one_stands_between [] rest none = head_is_none 10 rest none refl
 one_stands_between (x ∷ first) rest none = one_stands_between first rest (tail_has_none x (first ++ 10 ∷ rest) none)
 
 -- there is one way to cut a text at its first line feed
-pub cut_once : (first rest other behind : List ℕ) → HasNoLineFeed first → HasNoLineFeed other → first ++ 10 ∷ rest ≡ other ++ 10 ∷ behind
-    → (first ≡ other) × (rest ≡ behind)
-cut_once [] rest [] behind p q e = (refl, tails 10 10 rest behind e)
-cut_once [] rest (y ∷ other) behind p q e = absurd (head_is_none y other q (sym (heads 10 y rest (other ++ 10 ∷ behind) e)))
-cut_once (x ∷ first) rest [] behind p q e = absurd (head_is_none x first p (heads x 10 (first ++ 10 ∷ rest) behind e))
-cut_once (x ∷ first) rest (y ∷ other) behind p q e =
-    let (same, left) = cut_once first rest other behind (tail_has_none x first p) (tail_has_none y other q) (tails x y (first ++ 10 ∷ rest) (other ++ 10 ∷ behind) e) in
-    let head : x ≡ y = heads x y (first ++ 10 ∷ rest) (other ++ 10 ∷ behind) e in
+pub cut_once : (first rest other after : List ℕ) → HasNoLineFeed first → HasNoLineFeed other → first ++ 10 ∷ rest ≡ other ++ 10 ∷ after
+    → (first ≡ other) × (rest ≡ after)
+cut_once [] rest [] after p q e = (refl, tails 10 10 rest after e)
+cut_once [] rest (y ∷ other) after p q e = absurd (head_is_none y other q (sym (heads 10 y rest (other ++ 10 ∷ after) e)))
+cut_once (x ∷ first) rest [] after p q e = absurd (head_is_none x first p (heads x 10 (first ++ 10 ∷ rest) after e))
+cut_once (x ∷ first) rest (y ∷ other) after p q e =
+    let (same, left) = cut_once first rest other after (tail_has_none x first p) (tail_has_none y other q) (tails x y (first ++ 10 ∷ rest) (other ++ 10 ∷ after) e) in
+    let head : x ≡ y = heads x y (first ++ 10 ∷ rest) (other ++ 10 ∷ after) e in
     (cc, left)

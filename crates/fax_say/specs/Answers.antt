@@ -28,7 +28,7 @@ last_of line = said_by_heard (fitting line)
 abbrev pub GoesOn : List ℕ → Type 0
 GoesOn line = HasNoLineFeed line × (last_of line ≡ None)
 
--- The octets are lines of an answer, none of them its last one, and behind them what has come of one more.
+-- The octets are lines of an answer, none of them its last one, and after them what has come of one more.
 pub record IsBegun (octets part : List ℕ) : Type 0 where
   pub lines : List (List ℕ)
   pub whole : octets ≡ flat_map ended lines ++ part

@@ -10,20 +10,20 @@ use Rattle.fax_say.specs.declared.ending.Ending.{Ending}
 use Rattle.fax_say.specs.declared.ending.Ending.TheVariants.{Answered, Unanswered}
 use Rattle.fax_say.specs.Answers.{IsAnswer, IsBegun, IsNoAnswer}
 
--- whether more is waited for behind an answer that says this, where more is behind a word that was done
+-- whether more is waited for after an answer that says this, where more is after a word that was done
 abbrev pub waits : Bool → Last → Bool
 waits stays Done = stays
 waits stays Refused = false
 
--- The octets are an answer that says this, and what came behind it where more is waited for.
+-- The octets are an answer that says this, and what came after it where more is waited for.
 pub record IsTold (stays : Bool) (last : Last) (octets : List ℕ) : Type 0 where
   pub answer : List ℕ
-  pub behind : List ℕ
-  pub whole : octets ≡ answer ++ behind
+  pub after : List ℕ
+  pub whole : octets ≡ answer ++ after
   pub is_answer : IsAnswer answer last
-  pub no_more : waits stays last ≡ false → behind ≡ []
+  pub no_more : waits stays last ≡ false → after ≡ []
 
--- How far an answer has come: whether more is waited for behind it where the word was done, what has come of a line (none where that is
+-- How far an answer has come: whether more is waited for after it where the word was done, what has come of a line (none where that is
 -- too long), and what its last line said, once that has come.
 pub record HearingValue : Type 0 where
   pub stays : Bool
@@ -52,13 +52,13 @@ abbrev pub over : Bool → Option Last → Option Last
 over stays None = None
 over stays (Some last) = if waits stays last then None else Some last
 
--- Octets of one stream were printed on another, and those behind them were dropped: what was to come and what was held, before and
+-- Octets of one stream were printed on another, and those after them were dropped: what was to come and what was held, before and
 -- after, where that is known.
 pub record HasPassed (coming comes held holds : Option (List ℕ)) (octets dropped : List ℕ) : Type 0 where
   pub came : Consumes coming comes (octets ++ dropped)
   pub printed : Appends held holds octets
 
--- A word was answered so: the answer was printed, and where more is waited for behind it all that came until the stream ended.
+-- A word was answered so: the answer was printed, and where more is waited for after it all that came until the stream ended.
 pub record HasPrinted (stays : Bool) (last : Last) (coming comes held holds : Option (List ℕ)) : Type 0 where
   pub octets : List ℕ
   pub dropped : List ℕ
@@ -74,9 +74,9 @@ pub record HasPrintedAll (coming comes held holds : Option (List ℕ)) : Type 0 
   pub at_its_end : IsAtEnd comes
 
 -- how a word ends whose stream was closed, by what the last line of its answer said
-abbrev pub ending_behind : Option Last → Ending
-ending_behind None = Unanswered
-ending_behind (Some last) = Answered last
+abbrev pub ending_after : Option Last → Ending
+ending_after None = Unanswered
+ending_after (Some last) = Answered last
 
 -- the exit status
 abbrev pub status_of_ending : Ending → Status

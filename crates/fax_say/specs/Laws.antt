@@ -11,8 +11,8 @@ AnswersAreKnown = (answer : Answer) → length (answer_text answer) ≤ 256 → 
 
 -- What comes has one answer at its front.
 abbrev pub OneAnswer : Type 0
-OneAnswer = (octets rest others behind : List ℕ) (last other : Last) → IsAnswer octets last → IsAnswer others other
-    → octets ++ rest ≡ others ++ behind → (octets ≡ others) × (last ≡ other)
+OneAnswer = (octets rest others after : List ℕ) (last other : Last) → IsAnswer octets last → IsAnswer others other
+    → octets ++ rest ≡ others ++ after → (octets ≡ others) × (last ≡ other)
 
 -- Where one stands there, what comes is not without an answer.
 abbrev pub NoneIsPassedOver : Type 0

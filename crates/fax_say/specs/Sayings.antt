@@ -18,6 +18,6 @@ IsUnsayable text TooLong = 256 < length text
 abbrev pub ended : List ℕ → List ℕ
 ended line = line ++ 10 ∷ []
 
--- behind the answers to these words more is waited for: behind `stop` that the server is gone, behind `events` events
-abbrev pub waits_behind : List ℕ → Bool
-waits_behind text = bytes_eq text (codes "stop") || bytes_eq text (codes "events")
+-- after the answers to these words more is waited for: after `stop` that the server is gone, after `events` events
+abbrev pub waits_after : List ℕ → Bool
+waits_after text = bytes_eq text (codes "stop") || bytes_eq text (codes "events")

@@ -1,7 +1,7 @@
 //! How far an answer has come.
 ghost use Rattle.std.specs.Prelude.{◌≡◌, ◌<◌, ℕ, List, [], ◌++◌, None, Some, length, IfNone, IfSome, if◌then◌else◌};
 ghost use Rattle.fax_say.specs.Answers.{IsAnswer};
-ghost use Rattle.fax_say.specs.Hearings.{HasBegun, HasHeard, IsEnded, ending_behind, over, waits};
+ghost use Rattle.fax_say.specs.Hearings.{HasBegun, HasHeard, IsEnded, ending_after, over, waits};
 
 use crate::ending::Ending;
 use crate::last::{Last, last_of};
@@ -11,7 +11,7 @@ use std::marker::Model;
 /// How far the answer to a word has come. It keeps at most 256 octets.
 #[derive(Drop)]
 pub(crate) struct Hearing {
-    /// Whether more is waited for behind the answer, where the word was done.
+    /// Whether more is waited for after the answer, where the word was done.
     stays: bool,
     lines: ClientLines,
     last: Option<Last>,
@@ -27,7 +27,7 @@ impl Model for Hearing {
 }
 
 impl Hearing {
-    /// Nothing has come. `stays`: more is waited for behind the answer, where the word was done.
+    /// Nothing has come. `stays`: more is waited for after the answer, where the word was done.
     pub(crate) fn new(stays: bool) -> Self
         ensures nothing { HasHeard result [] }
         ensures begins { (result.stays ≡ stays) × (result.last ≡ None) }
@@ -39,7 +39,7 @@ impl Hearing {
         }
     }
 
-    /// Takes octets that came, and gives the front of them that belongs to the answer, or is waited for behind it.
+    /// Takes octets that came, and gives the front of them that belongs to the answer, or is waited for after it.
     pub(crate) fn take<'a>(&mut self, octets: &'a [u8]) -> &'a [u8]
         ensures heard { (before : List ℕ) → HasHeard self.old before → HasHeard self.new (before ++ result.now) }
         ensures front { (dropped : List ℕ) × (octets.now ≡ result.now ++ dropped) }
@@ -60,11 +60,11 @@ impl Hearing {
         ensures whole { over self.new.stays self.new.last ≡ None → result.now ≡ octets.now }
         ensures stays { self.new.stays ≡ self.old.stays }
     {
-        let Some((last, behind)) = last_line(&mut self.lines, octets) else {
+        let Some((last, after)) = last_line(&mut self.lines, octets) else {
             return octets;
         };
         self.last = Some(last);
-        let front = &octets[..octets.len() - behind.len()];
+        let front = &octets[..octets.len() - after.len()];
         told(self.stays, last, octets, front)
     }
 
@@ -80,7 +80,7 @@ impl Hearing {
 
     /// How the word ended, where nothing more comes.
     pub(crate) fn ending(&self) -> Ending
-        ensures { result ≡ ending_behind self.now.last }
+        ensures { result ≡ ending_after self.now.last }
     {
         match self.last {
             Some(last) => Ending::Answered(last),
@@ -89,7 +89,7 @@ impl Hearing {
     }
 }
 
-/// Whether more is waited for behind an answer that says this.
+/// Whether more is waited for after an answer that says this.
 fn waits(stays: bool, last: Last) -> bool
     ensures { result ≡ waits stays last }
 {
@@ -99,37 +99,37 @@ fn waits(stays: bool, last: Last) -> bool
     }
 }
 
-/// All octets where more is waited for behind the answer, else their front.
+/// All octets where more is waited for after the answer, else their front.
 fn told<'a>(stays: bool, last: Last, octets: &'a [u8], front: &'a [u8]) -> &'a [u8]
     ensures { result.now ≡ if waits stays last then octets.now else front.now }
 {
     if waits(stays, last) { octets } else { front }
 }
 
-/// The first line that ends in these octets and is the last of its answer: what it says, and the octets behind it.
+/// The first line that ends in these octets and is the last of its answer: what it says, and the octets after it.
 fn last_line<'a>(lines: &mut ClientLines, octets: &'a [u8]) -> Option<(Last, &'a [u8])>
     ensures none { IfNone result ((before : List ℕ) → HasBegun lines.old before → HasBegun lines.new (before ++ octets.now)) }
     ensures some { IfSome result (λ found. (front : List ℕ) × (octets.now ≡ front ++ found.1.now)
         × ((before : List ℕ) → HasBegun lines.old before → IsAnswer (before ++ front) found.0)) }
 {
     let mut rest = octets;
-    while let Some((last, behind)) = next_line(lines, rest) {
+    while let Some((last, after)) = next_line(lines, rest) {
         if let Some(last) = last {
-            return Some((last, behind));
+            return Some((last, after));
         }
-        rest = behind;
+        rest = after;
     }
     None
 }
 
-/// The first line that ends in these octets: what it says, if it is the last of its answer, and the octets behind it.
+/// The first line that ends in these octets: what it says, if it is the last of its answer, and the octets after it.
 fn next_line<'a>(lines: &mut ClientLines, octets: &'a [u8]) -> Option<(Option<Last>, &'a [u8])>
     ensures none { IfNone result ((before : List ℕ) → HasBegun lines.old before → HasBegun lines.new (before ++ octets.now)) }
     ensures line { IfSome result (λ found. (front : List ℕ) × (octets.now ≡ front ++ found.1.now)
         × ((before : List ℕ) → HasBegun lines.old before → IsEnded found.0 lines.new (before ++ front))) }
     ensures shorter { IfSome result (λ found. length found.1.now < length octets.now) }
 {
-    let (heard, behind) = lines.hear(octets);
+    let (heard, after) = lines.hear(octets);
     let heard = heard?;
-    Some((last_of(&heard), behind))
+    Some((last_of(&heard), after))
 }

@@ -3,24 +3,24 @@ ghost use Rattle.std.specs.Prelude.{◌≡◌};
 ghost use Rattle.fax_control.specs.ClientStreams.{octets_of_heard};
 ghost use Rattle.fax_say.specs.Answers.{is_done, said_by, said_by_heard};
 
-use fax_control::Heard;
+use fax_control::HeardLine;
 
 /// What the last line of an answer says.
 #[derive(Clone, Copy, PartialEq, Eq, Debug)]
 pub enum Last {
-    /// `ok`, `ok ..`, or `# EOF` behind counts.
+    /// `ok`, `ok ..`, or `# EOF` after counts.
     Done,
     /// `refused NUMBER NAME`.
     Refused,
 }
 
 /// What a line says that was heard, if it may be the last one of an answer.
-pub(crate) fn last_of(heard: &Heard) -> Option<Last>
+pub(crate) fn last_of(heard: &HeardLine) -> Option<Last>
     ensures { result ≡ said_by_heard (octets_of_heard heard.now) }
 {
     match heard {
-        Heard::Line(octets) => said_by(octets.as_slice()),
-        Heard::TooLong => None,
+        HeardLine::Line(octets) => said_by(octets.as_slice()),
+        HeardLine::TooLong => None,
     }
 }
 

@@ -3,7 +3,7 @@ ghost use Rattle.std.specs.Prelude.{◌≡◌, ◌≢◌, ◌≤◌, ◌⊎◌, 
 ghost use Rattle.std.specs.Io.KnownBytes.{Appends};
 ghost use Rattle.fax_command.specs.Streams.{failed_after_write, greatest_count};
 ghost use Rattle.fax_say.specs.Hearings.{HasHeard, HasPrinted, HasPrintedAll, over};
-ghost use Rattle.fax_say.specs.Sayings.{ended, waits_behind};
+ghost use Rattle.fax_say.specs.Sayings.{ended, waits_after};
 
 use crate::ending::Ending;
 use crate::hearing::Hearing;
@@ -14,7 +14,7 @@ use fax_command::{ReadFault, Sink, Source, WriteFault, write_text};
 /// The most octets of an answer that are read at once.
 const ROOM: usize = 4_096;
 
-/// Says a word to a server, and prints its answer as it comes: up to its last line, or, where more is waited for behind it (`stop`,
+/// Says a word to a server, and prints its answer as it comes: up to its last line, or, where more is waited for after it (`stop`,
 /// `events`), all that comes until the server closes the stream.
 pub fn say<I: Source, S: Sink, O: Sink>(
     source: &mut I,
@@ -27,7 +27,7 @@ pub fn say<I: Source, S: Sink, O: Sink>(
     ensures handed_on { result ≢ Ending.Unsaid → S.held_back server.new ≡ false }
 
     // What is printed is its answer.
-    ensures answered { (last : Last) → result ≡ Ending.Answered last → HasPrinted (waits_behind saying.now) last
+    ensures answered { (last : Last) → result ≡ Ending.Answered last → HasPrinted (waits_after saying.now) last
         (I.remaining source.old) (I.remaining source.new) (O.contents output.old) (O.contents output.new) }
     ensures unanswered { result ≡ Ending.Unanswered
         → HasPrintedAll (I.remaining source.old) (I.remaining source.new) (O.contents output.old) (O.contents output.new) }

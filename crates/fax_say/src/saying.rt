@@ -1,7 +1,7 @@
 //! The line of a control word.
 ghost use Rattle.std.specs.Prelude.{◌≡◌, ◌<◌, length, slice_index, string_bytes, IfErr, IfOk, IsOk, MatchBool};
 ghost use Rattle.fax_control.specs.ClientStreams.{HasNoLineFeed};
-ghost use Rattle.fax_say.specs.Sayings.{IsSayable, IsUnsayable, waits_behind};
+ghost use Rattle.fax_say.specs.Sayings.{IsSayable, IsUnsayable, waits_after};
 
 use fax_control::MOST_OCTETS;
 use std::marker::Model;
@@ -57,9 +57,9 @@ impl Saying {
         self.text.as_bytes()
     }
 
-    /// Whether more is waited for behind its answer: `stop`, `events`.
+    /// Whether more is waited for after its answer: `stop`, `events`.
     pub fn stays(&self) -> bool
-        ensures { result ≡ waits_behind self.now }
+        ensures { result ≡ waits_after self.now }
     {
         let text = self.text.as_str();
         text == "stop" || text == "events"

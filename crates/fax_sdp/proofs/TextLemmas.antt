@@ -17,12 +17,12 @@ Lacks mark text = (i : ℕ) → i < length text → get_or text i 0 ≢ mark
 
 -- ---- cut at an octet
 
-pub cut_at_behind : (mark : ℕ) (front rest : List ℕ) → Lacks mark front → cut_at mark (front ++ mark ∷ rest) ≡ Some (front, rest)
+pub cut_at_after : (mark : ℕ) (front rest : List ℕ) → Lacks mark front → cut_at mark (front ++ mark ∷ rest) ≡ Some (front, rest)
 unfolding cut_at
-cut_at_behind mark [] rest lacks = ap (λ b. cond b (Some ([], rest)) (option_map (onto_front mark) (cut_at mark rest))) (eq-eqb mark mark refl)
-cut_at_behind mark (x ∷ front) rest lacks =
+cut_at_after mark [] rest lacks = ap (λ b. cond b (Some ([], rest)) (option_map (onto_front mark) (cut_at mark rest))) (eq-eqb mark mark refl)
+cut_at_after mark (x ∷ front) rest lacks =
     ap (λ b. cond b (Some ([], front ++ mark ∷ rest)) (option_map (onto_front x) (cut_at mark (front ++ mark ∷ rest)))) (ne_eqb x mark (lacks 0 (omega arith)))
-    ∙ ap (option_map (onto_front x)) (cut_at_behind mark front rest (λ i h. lacks (suc i) (omega arith)))
+    ∙ ap (option_map (onto_front x)) (cut_at_after mark front rest (λ i h. lacks (suc i) (omega arith)))
 
 pub cut_at_none : (mark : ℕ) (text : List ℕ) → Lacks mark text → cut_at mark text ≡ None
 unfolding cut_at
@@ -36,7 +36,7 @@ pub cut_at_parts : (mark : ℕ) (text : List ℕ) (r : Option (Bor (List ℕ) ×
     → MatchOption r (Lacks mark text) (λ x. (text ≡ x.0.now ++ (mark ∷ x.1.now)) × Lacks mark x.0.now)
     → cut_at mark text ≡ option_map (λ parts. (parts.0.now, parts.1.now)) r
 cut_at_parts mark text None lacks = cut_at_none mark text lacks
-cut_at_parts mark text (Some parts) is = ap (cut_at mark) is.0 ∙ cut_at_behind mark parts.0.now parts.1.now is.1
+cut_at_parts mark text (Some parts) is = ap (cut_at mark) is.0 ∙ cut_at_after mark parts.0.now parts.1.now is.1
 
 -- ---- lines
 

@@ -36,7 +36,7 @@ use Rattle.fax_sdp.specs.Sessions.{MediumText, Reading, before_slash, begun, des
 use Rattle.fax_sdp.specs.Texts.{cut_at, is_word, lines_of, number, without_space}
 use Rattle.fax_sdp.specs.Writing.{CanBeTold, FitsLines, IsInLine, address_kind, audio_lines, description_lines, fax_lines, connection_line, format_lines, medium_line, numbers_of, origin_line, refused_lines, section_lines, session_lines, spaced, text_of, told_media, told_medium}
 use Rattle.fax_sdp.proofs.ReadLemmas.{media_of_text}
-use Rattle.fax_sdp.proofs.TextLemmas.{Lacks, all_digits, cut_at_behind, cut_at_none, number_of_digits}
+use Rattle.fax_sdp.proofs.TextLemmas.{Lacks, all_digits, cut_at_after, cut_at_none, number_of_digits}
 use Rattle.fax_sdp.proofs.WriteLemmas.{Lacks-append, Lacks-by_test, lacks, lines_of_text}
 
 -- ---- numbers
@@ -99,9 +99,9 @@ bare host direction name port transport formats = record {
 medium_told : (host : Option (List ℕ)) (direction : Direction) (name digits transport formats : List ℕ) (port : ℕ) → Lacks 32 name → Lacks 32 digits → Lacks 32 transport → port_of digits ≡ Some port
     → medium_of host direction (name ++ 32 ∷ (digits ++ 32 ∷ (transport ++ 32 ∷ formats))) ≡ Some (bare host direction name port transport formats)
 medium_told host direction name digits transport formats port p q r is =
-    let first = cut_at_behind 32 name (digits ++ 32 ∷ (transport ++ 32 ∷ formats)) p in
-    let second = cut_at_behind 32 digits (transport ++ 32 ∷ formats) q in
-    let third = cut_at_behind 32 transport formats r in
+    let first = cut_at_after 32 name (digits ++ 32 ∷ (transport ++ 32 ∷ formats)) p in
+    let second = cut_at_after 32 digits (transport ++ 32 ∷ formats) q in
+    let third = cut_at_after 32 transport formats r in
     rw (first, second, third, is) refl
 
 -- of a session only the host is said, with these whole media and this one

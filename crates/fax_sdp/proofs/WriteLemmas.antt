@@ -9,7 +9,7 @@ use Rattle.std.specs.Result.{OnOk}
 use Rattle.fax_sdp.specs.declared.writing.Section.{Section}
 use Rattle.fax_sdp.specs.Texts.{cut_at, lines_of}
 use Rattle.fax_sdp.specs.Writing.{ended, section_lines, spaced, text_of}
-use Rattle.fax_sdp.proofs.TextLemmas.{Lacks, cut_at_behind, lines_of_cut, lines_of_nil, without_return_at}
+use Rattle.fax_sdp.proofs.TextLemmas.{Lacks, cut_at_after, lines_of_cut, lines_of_nil, without_return_at}
 
 -- ---- what is added
 
@@ -42,7 +42,7 @@ pub lines_of_ended : (line rest : List ℕ) → Lacks 10 line → lines_of (ende
 lines_of_ended line rest whole =
     let front : List ℕ = line ++ 13 ∷ [] in
     let spelled : (line ++ 13 ∷ 10 ∷ []) ++ rest ≡ front ++ 10 ∷ rest = append_assoc line (13 ∷ 10 ∷ []) rest ∙ sym (append_assoc line (13 ∷ []) (10 ∷ rest)) in
-    let cut : cut_at 10 ((line ++ 13 ∷ 10 ∷ []) ++ rest) ≡ Some (front, rest) = ap (cut_at 10) spelled ∙ cut_at_behind 10 front rest (Lacks-append 10 line (13 ∷ []) whole (Lacks-by_test 10 (13 ∷ []) refl)) in
+    let cut : cut_at 10 ((line ++ 13 ∷ 10 ∷ []) ++ rest) ≡ Some (front, rest) = ap (cut_at 10) spelled ∙ cut_at_after 10 front rest (Lacks-append 10 line (13 ∷ []) whole (Lacks-by_test 10 (13 ∷ []) refl)) in
     lines_of_cut ((line ++ 13 ∷ 10 ∷ []) ++ rest) front rest line cut (sym (without_return_at line))
 
 -- a text has the lines of which it is written
@@ -86,10 +86,10 @@ pub only_line : {T E : Type 0} (r : Result T E) (old new line : List ℕ) → On
 only_line (Ok done) old new line e = one_line old new line e
 only_line (Err fault) old new line e = tt
 
--- lines behind a line
-pub lines_behind : {T E : Type 0} (r : Result T E) (old mid new line : List ℕ) (lines : List (List ℕ)) → mid ≡ old ++ ended line → OnOk r (new ≡ mid ++ text_of lines) → OnOk r (new ≡ old ++ text_of (line ∷ lines))
-lines_behind (Ok done) old mid new line lines e f = f ∙ ap (λ u. u ++ text_of lines) e ∙ append_assoc old (ended line) (text_of lines)
-lines_behind (Err fault) old mid new line lines e f = tt
+-- lines after a line
+pub lines_after : {T E : Type 0} (r : Result T E) (old mid new line : List ℕ) (lines : List (List ℕ)) → mid ≡ old ++ ended line → OnOk r (new ≡ mid ++ text_of lines) → OnOk r (new ≡ old ++ text_of (line ∷ lines))
+lines_after (Ok done) old mid new line lines e f = f ∙ ap (λ u. u ++ text_of lines) e ∙ append_assoc old (ended line) (text_of lines)
+lines_after (Err fault) old mid new line lines e f = tt
 
 pub origin_text : (s v k h : List ℕ) → codes "o=- " ++ (s ++ (codes " " ++ (v ++ (codes " IN " ++ (k ++ (codes " " ++ (h ++ codes "\r\n"))))))) ≡ ended (spaced (codes "o=-" ∷ s ∷ v ∷ codes "IN" ∷ k ∷ h ∷ []))
 origin_text s v k h = simp append_assoc

@@ -51,6 +51,6 @@ abbrev pub flag_or_valued : List ℕ → Option (List ℕ × List ℕ) → Attri
 flag_or_valued text None = flag text
 flag_or_valued text (Some parts) = valued parts.0 (without_space parts.1)
 
--- what the text behind `a=` says; white space behind the colon is passed over
+-- what the text after `a=` says; white space after the colon is passed over
 abbrev pub attribute : List ℕ → Attribute
 attribute text = flag_or_valued text (cut_at 58 text)

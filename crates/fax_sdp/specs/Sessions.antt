@@ -58,7 +58,7 @@ abbrev pub short : Option ℕ → Option ℕ
 short None = None
 short (Some n) = if nat_lt n (2 ^ 16) then Some n else None
 
--- the port of a medium; a count of ports may follow it behind a slash
+-- the port of a medium; a count of ports may follow it after a slash
 abbrev pub port_of : List ℕ → Option ℕ
 port_of word = short (number (before_slash word (cut_at 47 word)))
 
@@ -83,7 +83,7 @@ host_of text =
     (if is_word kind.0 (codes "IP4") || is_word kind.0 (codes "IP6") then Some (before_slash kind.1 (cut_at 47 kind.1)) else None)
     else None) (cut_at 32 net.1)) (cut_at 32 text)
 
--- the media with one more behind them, of which there are eight at most
+-- the media with one more after them, of which there are eight at most
 abbrev pub kept : List MediumText → Option MediumText → Result (List MediumText) SdpFault
 kept whole None = Ok whole
 kept whole (Some medium) = if nat_lt (length whole) 8 then Ok (whole ++ medium ∷ []) else Err TooManyMedia
@@ -156,12 +156,12 @@ abbrev pub ◌>>=◌ : {A B : Type 0} → Result A SdpFault → (A → Result B 
 (Ok x) >>= f = f x
 (Err fault) >>= f = Err fault
 
--- what the lines say behind what has been said, each in its turn
+-- what the lines say after what has been said, each in its turn
 unfoldable pub read_on : Reading → List (List ℕ) → Result Reading SdpFault
 read_on reading [] = Ok reading
 read_on reading (line ∷ lines) = with_line reading line >>= (λ next. read_on next lines)
 
--- the media of which the lines behind the first tell
+-- the media of which the lines after the first tell
 abbrev pub media_of_lines : List (List ℕ) → Result (List MediumText) SdpFault
 media_of_lines lines = read_on nothing_said lines >>= (λ reading. kept reading.whole reading.current)
 

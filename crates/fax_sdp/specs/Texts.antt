@@ -1,4 +1,4 @@
--- Texts: their lines, what stands before and behind an octet, words and numbers (RFC 8866, 5 and 9).
+-- Texts: their lines, what stands before and after an octet, words and numbers (RFC 8866, 5 and 9).
 use Rattle.std.specs.Prelude.{ℕ, ◌^◌, Bool, ◌&&◌, ◌==◌, nat_lt, if◌then◌else◌, List, [], ◌∷◌, length, map, drop, Option, None, Some, option_map}
 use Rattle.std.specs.Char.{to_ascii_lowercase, is_ascii_digit, is_ascii_whitespace}
 use Rattle.std.specs.List.{list_all, list_any, onto_first, prefix_len, slice_split}
@@ -9,7 +9,7 @@ use Rattle.std.specs.Str.Parse.{digits_value}
 abbrev pub onto_front : ℕ → List ℕ × List ℕ → List ℕ × List ℕ
 onto_front octet parts = (octet ∷ parts.0, parts.1)
 
--- what stands before the first such octet, and what behind it; none where there is no such octet
+-- what stands before the first such octet, and what after it; none where there is no such octet
 unfoldable pub cut_at : ℕ → List ℕ → Option (List ℕ × List ℕ)
 cut_at mark [] = None
 cut_at mark (octet ∷ text) = if octet == mark then Some ([], text) else option_map (onto_front octet) (cut_at mark text)

@@ -27,7 +27,7 @@ pub enum Attribute {
     Other,
 }
 
-/// What the text behind `a=` says.
+/// What the text after `a=` says.
 pub fn attribute_of(text: &str) -> Attribute
     ensures { result ≡ attribute text.now }
 {

@@ -13,7 +13,7 @@ pub fn cut(text: &str, mark: char) -> Option<(&str, &str)>
     text.split_once(mark)
 }
 
-/// The first line of a text, and the text behind it; none of an empty text.
+/// The first line of a text, and the text after it; none of an empty text.
 pub fn first_line(text: &str) -> Option<(&str, &str)>
     ensures none { IfNone result (text.now ≡ []) }
     ensures lines { IfSome result (λ cut. lines_of text.now ≡ cut.0.now ∷ lines_of cut.1.now) }
@@ -71,11 +71,11 @@ pub fn has_word(text: &str, word: &str) -> bool
     ensures { result ≡ has_word_of text.now word.now }
 {
     let mut rest = text;
-    while let Some((first, behind)) = cut(rest, ' ') {
+    while let Some((first, after)) = cut(rest, ' ') {
         if same_word(first, word) {
             return true;
         }
-        rest = behind;
+        rest = after;
     }
     same_word(rest, word)
 }

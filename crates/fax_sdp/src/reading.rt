@@ -95,7 +95,7 @@ fn session_in(text: &str) -> Result<Session<'_>, SdpFault>
     }
 }
 
-/// The media that the lines behind the first describe.
+/// The media that the lines after the first describe.
 fn media_in(text: &str) -> Result<Session<'_>, SdpFault>
     ensures { seen media_text result ≡ media_of_lines (lines_of text.now) }
 {
@@ -126,17 +126,17 @@ fn read_lines(text: &str) -> Result<Reader<'_>, SdpFault>
         current: None,
     };
     let mut rest = text;
-    while let Some((line, behind)) = first_line(rest) {
+    while let Some((line, after)) = first_line(rest) {
         match after_line(reader, line) {
             Ok(next) => reader = next,
             Err(fault) => return Err(fault),
         }
-        rest = behind;
+        rest = after;
     }
     Ok(reader)
 }
 
-/// The media with one more behind them.
+/// The media with one more after them.
 fn with_last<'a>(
     media: ArrayVec<Medium<'a>, MOST_MEDIA>,
     last: Option<Medium<'a>>,

@@ -14,7 +14,7 @@ use std::net::IpAddr;
 pub struct Origin {
     /// The number of the session, the same in all descriptions of a call.
     pub session: u64,
-    /// The version of the description, one more behind each change.
+    /// The version of the description, one more after each change.
     pub version: u64,
     /// Where its media are heard.
     pub host: IpAddr,

@@ -1,15 +1,15 @@
 -- What passes at the desk while the next order is asked for.
 use Rattle.std.proofs.Common.{◌≡◌, ℕ, List, [], ◌∷◌, ◌++◌, Option, None, refl, sym, ◌∙◌, ap, subst, append_assoc, append-nil}
-use Rattle.fax_line.specs.declared.asked.Answered.{Answered}
+use Rattle.fax_line.specs.declared.asked.LineAnswer.{LineAnswer}
 use Rattle.fax_line.specs.declared.order.Order.{Order as LoopOrder}
 use Rattle.fax_desk.specs.declared.card.Card.{Card}
-use Rattle.fax_desk.specs.declared.desk.Looked.TheVariants as looked
+use Rattle.fax_desk.specs.declared.desk.LookOutcome.TheVariants as looked
 use Rattle.fax_desk.specs.declared.desk.Waits.{Waits}
 use Rattle.fax_desk.specs.declared.next.Next.{Next}
 use Rattle.fax_desk.specs.declared.next.Next.TheVariants as next
 use Rattle.fax_desk.specs.declared.next.Order.{Order}
 use Rattle.fax_desk.specs.Desks.{done_of}
-use Rattle.fax_desk.specs.Laws.{Lapsed, Passed, Passes, Said, Told, told_of}
+use Rattle.fax_desk.specs.Laws.{DeskEvent, Lapsed, Passes, Said, Told, told_of}
 use Rattle.fax_desk.specs.Said.{unasked_if, waits_if}
 use Rattle.fax_serve.specs.Desking.{GivesOrder, Hears, LineAsked, PaceValue, asked_by, given_by, ordered}
 use Rattle.fax_serve.proofs.Desking.{orders_more, told_more}
@@ -58,22 +58,22 @@ lapsed_given order given old new waits is free = (
   λ none. absurd (some_are_not_none (asked_by order) [] (is ∙ none)),
 )
 
--- one behind the other, where the first gave no order
+-- one after the other, where the first gave no order
 pub then_given : (given : Option LoopOrder) (old mid new : PaceValue) → GivesOrder None old mid → GivesOrder given mid new → GivesOrder given old new
 then_given given old mid new first second free =
     let a = first free in
     let b = second (a.1 refl) in (
       record {
         passed = b.0.passed ++ a.0.passed;
-        passes = λ earlier p. subst (λ (l : List Passed). Passes l new.waits) (sym (append_assoc b.0.passed a.0.passed earlier)) (b.0.passes (a.0.passed ++ earlier) (a.0.passes earlier p));
+        passes = λ earlier p. subst (λ (l : List DeskEvent). Passes l new.waits) (sym (append_assoc b.0.passed a.0.passed earlier)) (b.0.passes (a.0.passed ++ earlier) (a.0.passes earlier p));
         orders = orders_more b.0.passed a.0.passed ∙ ap (λ (l : List LineAsked). l ++ ordered a.0.passed) b.0.orders ∙ ap (λ (l : List LineAsked). given_by given ++ l) a.0.orders ∙ append-nil (given_by given);
-        told_is = told_more b.0.passed a.0.passed ∙ ap (λ (l : List (Option Answered)). l ++ told_of a.0.passed) b.0.told_is ∙ a.0.told_is;
+        told_is = told_more b.0.passed a.0.passed ∙ ap (λ (l : List (Option LineAnswer)). l ++ told_of a.0.passed) b.0.told_is ∙ a.0.told_is;
       },
       b.1,
     )
 
 -- what a line answered is told
-pub told_heard : (cards : List Card) (answered : Option Answered) (old new : PaceValue) → new.waits ≡ None → Hears answered old new
+pub told_heard : (cards : List Card) (answered : Option LineAnswer) (old new : PaceValue) → new.waits ≡ None → Hears answered old new
 told_heard cards answered old new none = (
   record {
     passed = Told answered (done_of cards old.waits answered) ∷ [];

@@ -4,18 +4,18 @@ use Rattle.std.specs.Prelude.{option_map}
 use Rattle.fax_desk.specs.declared.view.AskedView.{AskedView}
 use Rattle.fax_desk.specs.declared.view.FirstJob.{FirstJob}
 use Rattle.fax_desk.specs.declared.view.LegView.{LegView}
-use Rattle.fax_gateway.specs.Sides.{job_asked}
-use Rattle.fax_gateway.specs.Turns.{call_kept}
-use Rattle.fax_gateway.specs.declared.side.Side.TheVariants as side
+use Rattle.fax_gateway.specs.BothLegs.{job_asked}
+use Rattle.fax_gateway.specs.Turns.{call_of_rep}
+use Rattle.fax_gateway.specs.declared.leg.Leg.TheVariants as legs
 use Rattle.fax_line.specs.Actions.{LineValue}
 use Rattle.fax_repeat.specs.Peers.{peer_on, state_of}
 use Rattle.fax_serve.specs.Views.{asked_seen, leg_seen, line_seen}
 
 pub seen_as :
     (line : LineValue) (first : FirstJob) (has_failed : Bool) (call sending : Option ℕ) (asked : Option AskedView) (calling called : LegView)
-    → call ≡ call_kept line.gateway.calling → sending ≡ option_map (λ job. job.call) line.gateway.book.sending
+    → call ≡ call_of_rep line.gateway.calling → sending ≡ option_map (λ job. job.call) line.gateway.book.sending
     → asked ≡ asked_seen has_failed (job_asked line.gateway.settings.asks line.gateway.book)
-    → calling ≡ leg_seen (state_of (peer_on side.Calling line.peers)) → called ≡ leg_seen (state_of (peer_on side.Called line.peers))
+    → calling ≡ leg_seen (state_of (peer_on legs.Calling line.peers)) → called ≡ leg_seen (state_of (peer_on legs.Called line.peers))
     → record { call = call; sending = sending; asked = asked; calling = calling; called = called; first = first } ≡ line_seen line first has_failed
 seen_as line first has_failed call sending asked calling called call_is sending_is asked_is calling_is called_is =
     let seen = line_seen line first has_failed in

@@ -9,30 +9,30 @@ use Rattle.fax_gateway.specs.Restored.{CallPage, call_shown}
 use Rattle.fax_gateway.specs.Setups.{AreSetWith, Setup}
 use Rattle.fax_gateway.specs.Lives.{Life}
 use Rattle.fax_line.specs.Places.{PlaceValue}
-use Rattle.fax_line.specs.declared.settling.PageToKeep.{PageToKeep}
+use Rattle.fax_line.specs.declared.settling.PageToStore.{PageToStore}
 use Rattle.fax_spool.specs.RecordOctets as spool
 use Rattle.fax_spool.specs.Opened.{closed}
 use Rattle.fax_spool.specs.declared.spool.Spool.{Spool}
-use Rattle.fax_shelf.specs.Restorations.{NoneIsTorn, Restores}
-use Rattle.fax_shelf.specs.Shelves.{ShelfValue}
-use Rattle.fax_shelf.specs.declared.restored.Restored.{Restored}
-use Rattle.fax_shelf.specs.Histories.{HasPast, LeavesRun, WasOpened}
-use Rattle.fax_shelf.specs.SpoolKeeping.{EndsJobIf, IsUnchanged, NotesPage, PutsPages}
-use Rattle.fax_serve.specs.KeptRuns.{ServedKept}
+use Rattle.fax_queue.specs.Restorations.{NoneIsTorn, Restores}
+use Rattle.fax_queue.specs.Queues.{QueueValue}
+use Rattle.fax_queue.specs.declared.restored.RestoredLine.{RestoredLine}
+use Rattle.fax_queue.specs.Histories.{HasPast, LeavesRun, WasOpened}
+use Rattle.fax_queue.specs.SpoolStorage.{EndsJobIf, IsUnchanged, NotesPage, PutsPages}
+use Rattle.fax_serve.specs.StoredRuns.{ServedStored}
 
 -- a gateway with these settings, restored with the calls of its own pages
 abbrev pub IsSetUp : Setup → List ℕ → List spool.PageValue → PlaceValue → Type 0
-IsSetUp setup line pages place = (restored : Restored) → Restores line (closed pages) restored → AreSetWith setup place.line.gateway.settings (map call_shown restored.calls.items)
+IsSetUp setup line pages place = (restored : RestoredLine) → Restores line (closed pages) restored → AreSetWith setup place.line.gateway.settings (map call_shown restored.calls.items)
 
 -- A SERVER'S RUN MAKES HISTORY: each of its lines, whose name no other has, none of whose calls lacks a page, and that has a past where
 -- the spool was opened, has one with one life more where the run stops; and so over any number of lives.
-abbrev pub ServersMakeHistory : {D K : Type 0} → (D → List ℕ) → (D → List ℕ → Type 0) → (D → Bool) → (K → List ShelfValue) → (K → Spool D) → Type 0
-ServersMakeHistory {D} {K} seen may_leave is_usable shelves_of spool_of =
+abbrev pub ServersMakeHistory : {D K : Type 0} → (D → List ℕ) → (D → List ℕ → Type 0) → (D → Bool) → (K → List QueueValue) → (K → Spool D) → Type 0
+ServersMakeHistory {D} {K} seen may_leave is_usable queues_of spool_of =
     (configs : List LineConfig)
-    (served : ServedKept (λ (old new : K). IsUnchanged (shelves_of old) (shelves_of new) (spool_of old) (spool_of new))
-    (λ (pages : List PageToKeep) (is_kept : Bool) (old new : K). PutsPages seen may_leave is_usable pages is_kept (shelves_of old) (shelves_of new) (spool_of old) (spool_of new))
-    (λ (line call : ℕ) (old new : K). NotesPage line call (shelves_of old) (shelves_of new) (spool_of old) (spool_of new))
-    (λ (line : ℕ) (report : Report) (old new : K). EndsJobIf seen may_leave is_usable line report (shelves_of old) (shelves_of new) (spool_of old) (spool_of new)) spool_of shelves_of configs)
+    (served : ServedStored (λ (old new : K). IsUnchanged (queues_of old) (queues_of new) (spool_of old) (spool_of new))
+    (λ (pages : List PageToStore) (is_stored : Bool) (old new : K). PutsPages seen may_leave is_usable pages is_stored (queues_of old) (queues_of new) (spool_of old) (spool_of new))
+    (λ (line call : ℕ) (old new : K). NotesPage line call (queues_of old) (queues_of new) (spool_of old) (spool_of new))
+    (λ (line : ℕ) (report : Report) (old new : K). EndsJobIf seen may_leave is_usable line report (queues_of old) (queues_of new) (spool_of old) (spool_of new)) spool_of queues_of configs)
     (number : ℕ) (config : LineConfig) (place : PlaceValue) (pages : List spool.PageValue) (writes : Writing) (lives : List Life) (puts : List CallPage) (setup : Setup)
     → AreUnlike (names_of_lines configs) → slice_get configs number ≡ Some config → slice_get served.begun number ≡ Some place → WasOpened seen may_leave is_usable served.opened pages
     → NoneIsTorn (string_bytes config.name) served.opened.torn.items served.opened.pages.items

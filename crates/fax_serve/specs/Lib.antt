@@ -1,6 +1,6 @@
 pub mod Desking
 pub mod Histories
-pub mod KeptRuns
+pub mod StoredRuns
 pub mod Openings
 pub mod Runs
 pub mod Views

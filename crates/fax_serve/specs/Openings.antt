@@ -7,33 +7,33 @@ use Rattle.fax_gateway.specs.Restored.{call_shown}
 use Rattle.fax_line.specs.Actions.{BeginsWith}
 use Rattle.fax_line.specs.Places.{PlaceValue}
 use Rattle.fax_spool.specs.RecordOctets as spool
-use Rattle.fax_shelf.specs.OnLeg.{HasDoneOn}
-use Rattle.fax_shelf.specs.Restorations.{Restores}
-use Rattle.fax_shelf.specs.Shelves.{ShelfValue}
-use Rattle.fax_shelf.specs.declared.restored.Restored.{Restored}
+use Rattle.fax_queue.specs.OnLeg.{HasDoneOn}
+use Rattle.fax_queue.specs.Restorations.{Restores}
+use Rattle.fax_queue.specs.Queues.{QueueValue}
+use Rattle.fax_queue.specs.declared.restored.RestoredLine.{RestoredLine}
 
 -- A line asks for the calls of its jobs where its configuration gives the called leg no peer.
 abbrev pub asks_by : LineConfig → Bool
 asks_by config = not (is_some config.called.peer)
 
 -- What is set for its gateway: a datagram has as many packets before its own as any call may have (its leg sends those that the call
--- has), and the packet behind a preamble waits as long as the configuration says, between 40 and 2,000 ms.
+-- has), and the packet after a preamble waits as long as the configuration says, between 40 and 2,000 ms.
 abbrev pub settings_by : LineConfig → Settings
 settings_by config = record { redundancy = 8; preamble_ms = min (max config.preamble_ms 40) 2000; asks = asks_by config }
 
--- A LINE BEGINS WITH THE CALLS OF ITS OWN of these pages: of those that have its name; and so does its shelf. Its wire holds nothing back.
-pub record IsRestored (pages : List spool.PageValue) (config : LineConfig) (place : PlaceValue) (shelf : ShelfValue) : Type 0 where
-  pub restored : Restored
+-- A LINE BEGINS WITH THE CALLS OF ITS OWN of these pages: of those that have its name; and so does its queue. Its wire holds nothing back.
+pub record IsRestored (pages : List spool.PageValue) (config : LineConfig) (place : PlaceValue) (queue : QueueValue) : Type 0 where
+  pub restored : RestoredLine
   pub restores : Restores (string_bytes config.name) pages restored
   pub begins : BeginsWith (map call_shown restored.calls.items) place.line
   pub fresh : HasDoneOn [] place.line.holding
   pub settings : place.line.gateway.settings ≡ settings_by config
-  pub shelf_is : restored.shelf ≡ shelf
+  pub queue_is : restored.queue ≡ queue
 
--- one more line, behind the others, and its shelf
-pub record AddsRestored (pages : List spool.PageValue) (config : LineConfig) (olds news : List PlaceValue) (shelves after : List ShelfValue) : Type 0 where
+-- one more line, after the others, and its queue
+pub record AddsRestored (pages : List spool.PageValue) (config : LineConfig) (olds news : List PlaceValue) (queues after : List QueueValue) : Type 0 where
   pub place : PlaceValue
-  pub shelf : ShelfValue
+  pub queue : QueueValue
   pub added : news ≡ olds ++ place ∷ []
-  pub shelved : after ≡ shelves ++ shelf ∷ []
-  pub is : IsRestored pages config place shelf
+  pub queued : after ≡ queues ++ queue ∷ []
+  pub is : IsRestored pages config place queue

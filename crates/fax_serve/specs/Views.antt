@@ -6,15 +6,15 @@ use Rattle.fax_desk.specs.declared.view.AskedView.{AskedView}
 use Rattle.fax_desk.specs.declared.view.FirstJob.{FirstJob}
 use Rattle.fax_desk.specs.declared.view.LegView.{LegView}
 use Rattle.fax_desk.specs.declared.view.LineView.{LineView}
-use Rattle.fax_gateway.specs.Sides.{job_asked}
-use Rattle.fax_gateway.specs.Turns.{call_kept}
-use Rattle.fax_gateway.specs.declared.side.Side.TheVariants as side
+use Rattle.fax_gateway.specs.BothLegs.{job_asked}
+use Rattle.fax_gateway.specs.Turns.{call_of_rep}
+use Rattle.fax_gateway.specs.declared.leg.Leg.TheVariants as legs
 use Rattle.fax_jobs.specs.Jobs.{JobValue}
 use Rattle.fax_line.specs.Actions.{LineValue}
 use Rattle.fax_line.specs.Places.{PlaceValue}
 use Rattle.fax_repeat.specs.Peers.{peer_on, state_of}
 use Rattle.fax_repeat.specs.declared.peers.LegState.{LegState}
-use Rattle.fax_shelf.specs.Shelves.{ShelfValue, first_tag, is_of_earlier_life}
+use Rattle.fax_queue.specs.Queues.{QueueValue, first_tag, is_of_earlier_life}
 
 abbrev pub leg_seen : LegState → LegView
 leg_seen leg = record { has_peer = leg.has_peer; is_fixed = leg.is_fixed; is_heard = leg.is_heard }
@@ -30,11 +30,11 @@ asked_seen false job = option_map job_seen job
 -- THE DESK SEES A LINE AS IT IS: the call that is on, the job that is being sent and the one whose call is asked for, and what its legs are.
 abbrev pub line_seen : LineValue → FirstJob → (has_failed : Bool) → LineView
 line_seen line first has_failed = record {
-  call = call_kept line.gateway.calling;
+  call = call_of_rep line.gateway.calling;
   sending = option_map (λ job. job.call) line.gateway.book.sending;
   asked = asked_seen has_failed (job_asked line.gateway.settings.asks line.gateway.book);
-  calling = leg_seen (state_of (peer_on side.Calling line.peers));
-  called = leg_seen (state_of (peer_on side.Called line.peers));
+  calling = leg_seen (state_of (peer_on legs.Calling line.peers));
+  called = leg_seen (state_of (peer_on legs.Called line.peers));
   first = first;
 }
 
@@ -47,19 +47,19 @@ abbrev pub tag_if : Option (List ℕ) → Option Tag
 tag_if None = None
 tag_if (Some text) = tag_of_text text
 
-abbrev pub first_on : ℕ → Option ShelfValue → FirstJob
+abbrev pub first_on : ℕ → Option QueueValue → FirstJob
 first_on life None = of_this_life
-first_on life (Some shelf) = if is_of_earlier_life life shelf.waits then record { is_restored = true; tag = tag_if (first_tag shelf) } else of_this_life
+first_on life (Some queue) = if is_of_earlier_life life queue.waits then record { is_restored = true; tag = tag_if (first_tag queue) } else of_this_life
 
 -- where something keeps the pages of the lines
 abbrev pub first_if : {K : Type 0} → Option K → (K → FirstJob) → FirstJob
 first_if None first = of_this_life
-first_if (Some keeper) first = first keeper
+first_if (Some store) first = first store
 
 -- whether what keeps the pages of the lines takes none, since its disk has failed
 abbrev pub failed_if : {K : Type 0} → Option K → (K → Bool) → Bool
 failed_if None failed = false
-failed_if (Some keeper) failed = failed keeper
+failed_if (Some store) failed = failed store
 
 -- line i, counted from 0
 abbrev pub line_at : List PlaceValue → (has_failed : Bool) → (ℕ → FirstJob) → ℕ → Option LineView

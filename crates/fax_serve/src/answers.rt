@@ -4,10 +4,10 @@ use crate::sockets::SocketLegs;
 use crate::view::Seen;
 use fax_bits::NoMemory;
 use fax_control::Answer;
-use fax_desk::{Desk, Happened, LineView, Tag, View};
+use fax_desk::{Desk, LineEvent, LineView, Tag, View};
 use fax_events::{Counters, Event, What, write_event};
-use fax_gateway::Side;
-use fax_hold::LineWire;
+use fax_gateway::Leg;
+use fax_holding_wire::LineWire;
 use fax_legs::LegCounts;
 use fax_line::{Line, Lines};
 use sqlite_disk::Disk;
@@ -53,10 +53,10 @@ fn reported<W: LineWire + Drop>(
     line: &Line<W>,
     k: usize,
     kept: usize,
-) -> Option<Happened> {
+) -> Option<LineEvent> {
     let report = line.report(k)?;
     let known = desk.report_texts(i, k, kept, report.call);
-    Some(Happened::Job(report, known.tag, known.cause))
+    Some(LineEvent::Job(report, known.tag, known.cause))
 }
 
 /// How many reports of a line are kept.
@@ -127,7 +127,7 @@ fn put_happened(
     desk: &Desk,
     i: usize,
     at: u64,
-    happened: Option<Happened>,
+    happened: Option<LineEvent>,
     text: &mut Vec<u8>,
 ) -> Result<(), NoMemory> {
     if let Some(happened) = happened
@@ -167,7 +167,7 @@ pub(crate) fn status_text<W: SocketLegs + Drop, D: Disk>(
             text.extend_from_slice(told.as_bytes())?;
         }
     }
-    if seen.keeper.is_some() {
+    if seen.store.is_some() {
         let told = spool_text(alloc, counters, seen.has_failed())?;
         text.extend_from_slice(told.as_bytes())?;
     }
@@ -239,8 +239,8 @@ pub(crate) fn is_calm<W: LineWire + Drop>(line: &Line<W>) -> bool {
 
 /// What failed on a line.
 pub(crate) fn failures_of<W: SocketLegs + Drop>(line: &Line<W>) -> Failures {
-    let calling = counts_of(line, Side::Calling);
-    let called = counts_of(line, Side::Called);
+    let calling = counts_of(line, Leg::Calling);
+    let called = counts_of(line, Leg::Called);
     Failures {
         calling_receives: calling.receive_failures,
         calling_sends: calling.send_failures,
@@ -250,8 +250,8 @@ pub(crate) fn failures_of<W: SocketLegs + Drop>(line: &Line<W>) -> Failures {
 }
 
 /// What went over a leg of a line.
-fn counts_of<W: SocketLegs + Drop>(line: &Line<W>, side: Side) -> LegCounts {
-    line.wire().leg(side).counts()
+fn counts_of<W: SocketLegs + Drop>(line: &Line<W>, leg: Leg) -> LegCounts {
+    line.wire().leg(leg).counts()
 }
 
 /// The counts, with what the lines count added.
@@ -270,8 +270,8 @@ fn add_line<W: SocketLegs + Drop>(sums: &mut Counters, line: &Line<W>) {
     let under_way = if line.sending().is_some() { 1 } else { 0 };
     let waiting = (line.waiting() as u64).saturating_add(under_way);
     sums.jobs_waiting = sums.jobs_waiting.saturating_add(waiting);
-    add_leg(sums, counts_of(line, Side::Calling));
-    add_leg(sums, counts_of(line, Side::Called));
+    add_leg(sums, counts_of(line, Leg::Calling));
+    add_leg(sums, counts_of(line, Leg::Called));
 }
 
 /// Adds what went over a leg.

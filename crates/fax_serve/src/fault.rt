@@ -1,7 +1,7 @@
 //! Why a server does not begin, or does not go on.
 use fax_bits::NoMemory;
 use fax_control::Leg;
-use fax_keep::FolderFault;
+use fax_spool_folder::FolderFault;
 use std::alloc::{AllocError, AllocFailed};
 use std::{fmt, io};
 

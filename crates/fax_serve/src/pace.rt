@@ -1,24 +1,24 @@
 //! What gives the orders: the clock, and those who say words.
 ghost use Rattle.std.specs.Prelude.{◌≡◌, ◌-◌, [], nat_lt, IfOk, None, Some, if◌then◌else◌};
 ghost use Rattle.fax_serve.specs.Desking.{GivesOrder, given_by};
-ghost use Rattle.fax_shelf.specs.SpoolKeeping.{IsUnchanged};
+ghost use Rattle.fax_queue.specs.SpoolStorage.{IsUnchanged};
 
 mod telling;
 mod words;
 
 use crate::answers::{is_calm, is_idle};
 use crate::clock::Stopwatch;
-use crate::keeper::SpoolKeeper;
 use crate::schedule::Schedule;
 use crate::sockets::SocketLegs;
+use crate::store::SpoolStore;
 use crate::telling::Teller;
 use crate::view::has_failed;
 use crate::watch::Watch;
 use fax_clients::Clients;
 use fax_desk::{Desk, RunEnd, Tag};
 use fax_gateway::Kept;
-use fax_hold::LineWire;
-use fax_line::{Answered, Lines, Order, Pace, SLOTS, SlotEnd};
+use fax_holding_wire::LineWire;
+use fax_line::{LineAnswer, Lines, Order, Pace, SLOTS, SlotEnd};
 use sqlite_disk::Disk;
 use std::alloc::{AllocError, Global};
 use std::io::{Read, Write};
@@ -34,13 +34,13 @@ const BETWEEN_LATE_MS: u64 = 1_000;
 /// Each slot has a turn once in a round of so many milliseconds.
 const ROUND_MS: u64 = 40;
 
-/// Behind time, the clients are asked at one turn of so many.
+/// After time, the clients are asked at one turn of so many.
 const TURNS_A_WORD: u64 = 16;
 
 /// At one turn of so many of a line its sockets are asked, whatever the system told: once a second.
 const TURNS_A_LOOK: u64 = 25;
 
-/// While nothing is due on any line, turns are waited for so many milliseconds longer at most, and then made one behind the
+/// While nothing is due on any line, turns are waited for so many milliseconds longer at most, and then made one after the
 /// other: each of them less than a round late.
 const MOST_QUIET_MS: u64 = 9;
 
@@ -73,8 +73,8 @@ pub struct RealPace<'a, C: Clock, I: Read + Drop, O: Write + Drop> {
     has_looked: bool,
     /// When the pages of a slot were handed to the spool, in microseconds, where that is to be told.
     put_from: Option<u64>,
-    /// The lines whose pages could not be kept in the turn that was ordered.
-    not_kept: Vec<usize>,
+    /// The lines whose pages could not be stored in the turn that was ordered.
+    not_stored: Vec<usize>,
 }
 
 /// Contracts see what the desk waits to be told of.
@@ -100,8 +100,8 @@ impl<'a, C: Clock, I: Read + Drop, O: Write + Drop> RealPace<'a, C, I, O> {
         requires { desk.waits ≡ None }
         ensures { IfOk result (λ pace. pace.waits ≡ None) }
     {
-        let mut not_kept = Vec::new(alloc);
-        not_kept.reserve(lines / SLOTS + 1)?;
+        let mut not_stored = Vec::new(alloc);
+        not_stored.reserve(lines / SLOTS + 1)?;
         Ok(RealPace {
             alloc,
             clock,
@@ -117,7 +117,7 @@ impl<'a, C: Clock, I: Read + Drop, O: Write + Drop> RealPace<'a, C, I, O> {
             woken: Vec::new(alloc),
             has_looked: false,
             put_from: None,
-            not_kept,
+            not_stored,
         })
     }
 
@@ -153,10 +153,10 @@ impl<'a, C: Clock, I: Read + Drop, O: Write + Drop> RealPace<'a, C, I, O> {
     }
 
     /// Looks whether the spool has failed, and tells that once.
-    fn look_at_spool<D: Disk>(&mut self, keeper: Option<&SpoolKeeper<D>>)
+    fn look_at_spool<D: Disk>(&mut self, store: Option<&SpoolStore<D>>)
         ensures { self.new ≡ self.old }
     {
-        if self.desk.see_spool(has_failed(keeper), self.now) {
+        if self.desk.see_spool(has_failed(store), self.now) {
             self.teller.tell_spool_failed(self.now);
         }
     }
@@ -177,7 +177,7 @@ impl<'a, C: Clock, I: Read + Drop, O: Write + Drop> RealPace<'a, C, I, O> {
         left.saturating_add(quiet).min(1_000)
     }
 
-    /// For how many milliseconds, behind those that are left until the next turn, all lines are left at rest by the turns that
+    /// For how many milliseconds, after those that are left until the next turn, all lines are left at rest by the turns that
     /// are due.
     fn quiet_ms<W: LineWire + Drop>(&self, left: u64, lines: &Lines<W>) -> u64 {
         let due = self.now.saturating_add(left);
@@ -196,7 +196,7 @@ impl<'a, C: Clock, I: Read + Drop, O: Write + Drop> RealPace<'a, C, I, O> {
     fn hear_words<W: SocketLegs + Drop, D: Disk>(
         &mut self,
         lines: &Lines<W>,
-        keeper: Option<&SpoolKeeper<D>>,
+        store: Option<&SpoolStore<D>>,
     ) -> Option<Order>
         requires { self.old.waits ≡ None }
         ensures { GivesOrder result self.old self.new }
@@ -204,7 +204,7 @@ impl<'a, C: Clock, I: Read + Drop, O: Write + Drop> RealPace<'a, C, I, O> {
         for _ in 0..MOST_WAKES {
             let most = self.most_waited(lines);
             if self.asks_clients()
-                && let Some(order) = self.wait(most, lines, keeper)
+                && let Some(order) = self.wait(most, lines, store)
             {
                 return Some(order);
             }
@@ -225,7 +225,7 @@ impl<'a, C: Clock, I: Read + Drop, O: Write + Drop> RealPace<'a, C, I, O> {
         }
     }
 
-    /// The turn of the next slot, behind the lines that are to be woken.
+    /// The turn of the next slot, after the lines that are to be woken.
     fn turn_or_wake<W: LineWire + Drop>(&mut self, lines: &Lines<W>) -> Order
         ensures same { self.new ≡ self.old }
         ensures no_ask { given_by (Some result) ≡ [] }
@@ -258,12 +258,12 @@ impl<'a, C: Clock, I: Read + Drop, O: Write + Drop> RealPace<'a, C, I, O> {
     fn next_order<W: SocketLegs + Drop, D: Disk>(
         &mut self,
         lines: &Lines<W>,
-        keeper: Option<&SpoolKeeper<D>>,
+        store: Option<&SpoolStore<D>>,
     ) -> Option<Order>
         requires { self.old.waits ≡ None }
         ensures { GivesOrder result self.old self.new }
     {
-        if let Some(order) = self.look_at_questions(lines, keeper) {
+        if let Some(order) = self.look_at_questions(lines, store) {
             return Some(order);
         }
         if self.has_looked {
@@ -273,7 +273,7 @@ impl<'a, C: Clock, I: Read + Drop, O: Write + Drop> RealPace<'a, C, I, O> {
         if self.is_over(lines) {
             return None;
         }
-        if let Some(order) = self.hear_words(lines, keeper) {
+        if let Some(order) = self.hear_words(lines, store) {
             return Some(order);
         }
         if self.is_over(lines) {
@@ -291,7 +291,7 @@ impl<'a, C: Clock, I: Read + Drop, O: Write + Drop> RealPace<'a, C, I, O> {
 }
 
 /// The moment of a turn that begins so late: the one at which it was due, while that is less than a round ago. So a turn that
-/// is late by a little does not take a packet from the next one of its line, which is due 40 ms behind it, as long as the pace
+/// is late by a little does not take a packet from the next one of its line, which is due 40 ms after it, as long as the pace
 /// lets through.
 fn moment_of(now: u64, late: u64) -> u64
     ensures { result ≡ (if nat_lt late 40 then now - late else now) }
@@ -313,7 +313,7 @@ fn kept_in<W: LineWire + Drop>(lines: &Lines<W>, i: usize) -> Option<Kept> {
 
 /// Notes the lines of a slot whose pages were confirmed in its turn and not kept.
 fn note_lost<W: LineWire + Drop>(
-    not_kept: &mut Vec<usize>,
+    not_stored: &mut Vec<usize>,
     slot: usize,
     end: &SlotEnd,
     lines: &Lines<W>,
@@ -321,20 +321,20 @@ fn note_lost<W: LineWire + Drop>(
     let rounds = lines.len() / SLOTS + 1;
     for round in 0..rounds {
         let i = round.saturating_mul(SLOTS).saturating_add(slot);
-        if kept_in(lines, i).is_some() && !end.is_kept(i) {
-            let _ = not_kept.push(i);
+        if kept_in(lines, i).is_some() && !end.is_stored(i) {
+            let _ = not_stored.push(i);
         }
     }
 }
 
 /// The tags of the calls in which lines of a slot confirmed pages in its last turn are noted. It answers whether one did.
 fn set_tags<W: LineWire + Drop, D: Disk>(
-    keeper: &mut SpoolKeeper<D>,
+    store: &mut SpoolStore<D>,
     desk: &Desk,
     slot: usize,
     lines: &Lines<W>,
 ) -> bool
-    ensures { IsUnchanged keeper.old.keeping.shelves.items keeper.new.keeping.shelves.items keeper.old.keeping.spool keeper.new.keeping.spool }
+    ensures { IsUnchanged store.old.storage.queues.items store.new.storage.queues.items store.old.storage.spool store.new.storage.spool }
 {
     let mut confirms = false;
     let rounds = lines.len() / SLOTS + 1;
@@ -342,18 +342,18 @@ fn set_tags<W: LineWire + Drop, D: Disk>(
         let i = round.saturating_mul(SLOTS).saturating_add(slot);
         if let Some(kept) = kept_in(lines, i) {
             confirms = true;
-            set_tag(keeper, i, desk.tag(i, kept.call));
+            set_tag(store, i, desk.tag(i, kept.call));
         }
     }
     confirms
 }
 
 /// The tag of the call of line i is noted, where it has one.
-fn set_tag<D: Disk>(keeper: &mut SpoolKeeper<D>, i: usize, tag: Option<Tag>)
-    ensures { IsUnchanged keeper.old.keeping.shelves.items keeper.new.keeping.shelves.items keeper.old.keeping.spool keeper.new.keeping.spool }
+fn set_tag<D: Disk>(store: &mut SpoolStore<D>, i: usize, tag: Option<Tag>)
+    ensures { IsUnchanged store.old.storage.queues.items store.new.storage.queues.items store.old.storage.spool store.new.storage.spool }
 {
     if let Some(tag) = tag {
-        keeper.set_tag(i, tag.text());
+        store.set_tag(i, tag.text());
     }
 }
 
@@ -395,7 +395,7 @@ fn are_calm<W: LineWire + Drop>(lines: &Lines<W>) -> bool {
 
 impl<'a, C: Clock, I: Read + Drop, O: Write + Drop, W: SocketLegs + Drop, D: Disk> Pace<
     W,
-    SpoolKeeper<D>,
+    SpoolStore<D>,
 > for RealPace<'a, C, I, O> {
     ghost use Rattle.std.specs.Prelude.{None};
     ghost use Rattle.fax_serve.specs.Desking.{GivesOrder, Hears, SeesNothing};
@@ -408,41 +408,41 @@ impl<'a, C: Clock, I: Read + Drop, O: Write + Drop, W: SocketLegs + Drop, D: Dis
 
     ghost sees = { λ old new. SeesNothing old new };
 
-    fn next(&mut self, lines: &Lines<W>, keeper: Option<&SpoolKeeper<D>>) -> Option<Order> {
+    fn next(&mut self, lines: &Lines<W>, store: Option<&SpoolStore<D>>) -> Option<Order> {
         if !self.desk.is_free() {
             self.tell_done(None);
         }
-        self.look_at_spool(keeper);
-        self.next_order(lines, keeper)
+        self.look_at_spool(store);
+        self.next_order(lines, store)
     }
 
-    fn before_put(&mut self, lines: &Lines<W>, keeper: &mut SpoolKeeper<D>) {
-        self.not_kept.clear();
+    fn before_put(&mut self, lines: &Lines<W>, store: &mut SpoolStore<D>) {
+        self.not_stored.clear();
         let Some(slot) = self.turned else {
             return;
         };
-        keeper.begin_slot();
-        if set_tags(keeper, &self.desk, slot, lines) {
+        store.begin_slot();
+        if set_tags(store, &self.desk, slot, lines) {
             self.put_from = Some(self.clock.micros().unwrap_or(0));
         }
     }
 
-    fn behind_put(&mut self, lines: &Lines<W>, end: &SlotEnd) {
+    fn after_put(&mut self, lines: &Lines<W>, end: &SlotEnd) {
         if let Some(slot) = self.turned
             && let Some(before) = self.put_from.take()
         {
-            let behind = self.clock.micros().unwrap_or(0);
-            self.teller.count_put(behind.saturating_sub(before));
-            note_lost(&mut self.not_kept, slot, end, lines);
+            let after = self.clock.micros().unwrap_or(0);
+            self.teller.count_put(after.saturating_sub(before));
+            note_lost(&mut self.not_stored, slot, end, lines);
         }
     }
 
-    fn turned(&mut self, lines: &Lines<W>, keeper: Option<&SpoolKeeper<D>>) {
+    fn turned(&mut self, lines: &Lines<W>, store: Option<&SpoolStore<D>>) {
         self.read_clock();
-        self.tell_turned(lines, keeper);
+        self.tell_turned(lines, store);
     }
 
-    fn done(&mut self, line: usize, answer: Option<Answered>) {
+    fn done(&mut self, line: usize, answer: Option<LineAnswer>) {
         let _ = self.woken.push(line);
         self.tell_done(answer);
     }

@@ -1,24 +1,24 @@
 //! A run of `faxgate serve`.
 ghost use Rattle.std.specs.Prelude.{◌≡◌, IfOk, None, OnOk, true, false, is_some, length};
-ghost use Rattle.fax_line.specs.Deeds.{AreBegun, AreNew};
-ghost use Rattle.fax_serve.specs.KeptRuns.{RanKept, ServedOver, ServedWith};
+ghost use Rattle.fax_line.specs.Operations.{AreBegun, AreNew};
+ghost use Rattle.fax_serve.specs.StoredRuns.{RunIsStored, ServedOver, ServedWith};
 ghost use Rattle.fax_serve.specs.Runs.{ServedAlone};
 
 use crate::clock::Stopwatch;
 use crate::control::{close_control, open_control};
 use crate::fault::ServeFault;
-use crate::keeper::SpoolKeeper;
 use crate::pace::RealPace;
 use crate::sockets::{ServedWire, SocketLegs, SocketWire, open_lines, open_restored_lines};
+use crate::store::SpoolStore;
 use crate::watch::Watch;
 use fax_clients::Clients;
 use fax_config::{Config, LineConfig};
 use fax_desk::{Card, Damage, Desk, RunEnd};
-use fax_hold::{HoldingWire, Keeper};
-use fax_keep::{Folders, KeptFile};
-use fax_line::{Lines, PageToKeep, RunKeeper, serve};
-use fax_shelf::Keeping;
-use fax_spool::Opened;
+use fax_holding_wire::{HoldingWire, PageStore};
+use fax_line::{Lines, PageToStore, RunStore, serve};
+use fax_queue::Storage;
+use fax_spool::OpenedSpool;
+use fax_spool_folder::{Folders, SpoolFolderFile};
 use sqlite_disk::{Disk, Start};
 use std::alloc::Global;
 use std::fs::Files;
@@ -29,7 +29,7 @@ use std::rt::Clock;
 /// Milliseconds of a second.
 const SECOND_MS: u64 = 1_000;
 
-/// Serves the lines of a configuration until it is told to stop, or its spool has failed and no line has a call, 10 s behind the failure
+/// Serves the lines of a configuration until it is told to stop, or its spool has failed and no line has a call, 10 s after the failure
 /// at the earliest: then it is to be served by another run, over a spool that is opened anew. Words come on the control socket where
 /// the configuration has one, and else on the input, whose answers and events go to the output. The spool has failed so often in runs
 /// before this one. An `Err` tells why nothing was served.
@@ -43,7 +43,7 @@ pub fn run_serve<N: Net + Files + Clock + Folders, I: Read + Drop, O: Write + Dr
     start: S,
 ) -> Result<RunEnd, ServeFault>
     ensures alone { OnOk result (ServedAlone (length config.now.lines.items) (is_some config.now.spool)) }
-    ensures kept { OnOk result (is_some config.now.spool ≡ true → ServedOver ⟦<KeptFile<S> as Disk>⟧.seen ⟦<KeptFile<S> as Disk>⟧.may_leave ⟦<KeptFile<S> as Disk>⟧.is_usable ⟦<KeptFile<S> as Disk>⟧.is_clean ⟦<SpoolKeeper<KeptFile<S>> as RunKeeper>⟧.is_same ⟦<SpoolKeeper<KeptFile<S>> as Keeper<PageToKeep>>⟧.puts ⟦<SpoolKeeper<KeptFile<S>> as RunKeeper>⟧.notes ⟦<SpoolKeeper<KeptFile<S>> as RunKeeper>⟧.ends (λ keeper. keeper.keeping.spool) (λ keeper. keeper.keeping.shelves.items) S.db S.log config.now.lines.items) }
+    ensures kept { OnOk result (is_some config.now.spool ≡ true → ServedOver ⟦<SpoolFolderFile<S> as Disk>⟧.seen ⟦<SpoolFolderFile<S> as Disk>⟧.may_leave ⟦<SpoolFolderFile<S> as Disk>⟧.is_usable ⟦<SpoolFolderFile<S> as Disk>⟧.is_clean ⟦<SpoolStore<SpoolFolderFile<S>> as RunStore>⟧.is_same ⟦<SpoolStore<SpoolFolderFile<S>> as PageStore<PageToStore>>⟧.puts ⟦<SpoolStore<SpoolFolderFile<S>> as RunStore>⟧.notes ⟦<SpoolStore<SpoolFolderFile<S>> as RunStore>⟧.ends (λ store. store.storage.spool) (λ store. store.storage.queues.items) S.db S.log config.now.lines.items) }
 {
     match &config.control {
         Some(path) => {
@@ -71,7 +71,7 @@ pub fn serve_clients<N: Net + Clock + Folders, I: Read + Drop, O: Write + Drop, 
     start: S,
 ) -> Result<RunEnd, ServeFault>
     ensures alone { OnOk result (ServedAlone (length config.now.lines.items) (is_some config.now.spool)) }
-    ensures kept { OnOk result (is_some config.now.spool ≡ true → ServedOver ⟦<KeptFile<S> as Disk>⟧.seen ⟦<KeptFile<S> as Disk>⟧.may_leave ⟦<KeptFile<S> as Disk>⟧.is_usable ⟦<KeptFile<S> as Disk>⟧.is_clean ⟦<SpoolKeeper<KeptFile<S>> as RunKeeper>⟧.is_same ⟦<SpoolKeeper<KeptFile<S>> as Keeper<PageToKeep>>⟧.puts ⟦<SpoolKeeper<KeptFile<S>> as RunKeeper>⟧.notes ⟦<SpoolKeeper<KeptFile<S>> as RunKeeper>⟧.ends (λ keeper. keeper.keeping.spool) (λ keeper. keeper.keeping.shelves.items) S.db S.log config.now.lines.items) }
+    ensures kept { OnOk result (is_some config.now.spool ≡ true → ServedOver ⟦<SpoolFolderFile<S> as Disk>⟧.seen ⟦<SpoolFolderFile<S> as Disk>⟧.may_leave ⟦<SpoolFolderFile<S> as Disk>⟧.is_usable ⟦<SpoolFolderFile<S> as Disk>⟧.is_clean ⟦<SpoolStore<SpoolFolderFile<S>> as RunStore>⟧.is_same ⟦<SpoolStore<SpoolFolderFile<S>> as PageStore<PageToStore>>⟧.puts ⟦<SpoolStore<SpoolFolderFile<S>> as RunStore>⟧.notes ⟦<SpoolStore<SpoolFolderFile<S>> as RunStore>⟧.ends (λ store. store.storage.spool) (λ store. store.storage.queues.items) S.db S.log config.now.lines.items) }
 {
     serve_over::<ServedWire, N, I, O, S>(system, alloc, config, clients, spool_failures, start)
 }
@@ -92,10 +92,10 @@ fn serve_over<
     start: S,
 ) -> Result<RunEnd, ServeFault>
     ensures alone { OnOk result (ServedAlone (length config.now.lines.items) (is_some config.now.spool)) }
-    ensures kept { OnOk result (is_some config.now.spool ≡ true → ServedOver ⟦<KeptFile<S> as Disk>⟧.seen ⟦<KeptFile<S> as Disk>⟧.may_leave ⟦<KeptFile<S> as Disk>⟧.is_usable ⟦<KeptFile<S> as Disk>⟧.is_clean ⟦<SpoolKeeper<KeptFile<S>> as RunKeeper>⟧.is_same ⟦<SpoolKeeper<KeptFile<S>> as Keeper<PageToKeep>>⟧.puts ⟦<SpoolKeeper<KeptFile<S>> as RunKeeper>⟧.notes ⟦<SpoolKeeper<KeptFile<S>> as RunKeeper>⟧.ends (λ keeper. keeper.keeping.spool) (λ keeper. keeper.keeping.shelves.items) S.db S.log config.now.lines.items) }
+    ensures kept { OnOk result (is_some config.now.spool ≡ true → ServedOver ⟦<SpoolFolderFile<S> as Disk>⟧.seen ⟦<SpoolFolderFile<S> as Disk>⟧.may_leave ⟦<SpoolFolderFile<S> as Disk>⟧.is_usable ⟦<SpoolFolderFile<S> as Disk>⟧.is_clean ⟦<SpoolStore<SpoolFolderFile<S>> as RunStore>⟧.is_same ⟦<SpoolStore<SpoolFolderFile<S>> as PageStore<PageToStore>>⟧.puts ⟦<SpoolStore<SpoolFolderFile<S>> as RunStore>⟧.notes ⟦<SpoolStore<SpoolFolderFile<S>> as RunStore>⟧.ends (λ store. store.storage.spool) (λ store. store.storage.queues.items) S.db S.log config.now.lines.items) }
 {
     match &config.spool {
-        None => serve_in_memory::<W, N, I, O, KeptFile<S>>(system, alloc, config, clients),
+        None => serve_in_memory::<W, N, I, O, SpoolFolderFile<S>>(system, alloc, config, clients),
         Some(folder) => serve_spooled::<W, N, I, O, S>(
             system,
             alloc,
@@ -108,7 +108,7 @@ fn serve_over<
     }
 }
 
-/// The same where pages are kept in memory alone, and on no disk of this type.
+/// The same where pages are stored in memory alone, and on no disk of this type.
 fn serve_in_memory<
     W: SocketWire + Drop,
     N: Net + Clock,
@@ -124,7 +124,7 @@ fn serve_in_memory<
     Ok(pace.finish())
 }
 
-/// The same where pages are kept in the spool of this folder: each line begins with those of its own that wait there, but for calls that
+/// The same where pages are stored in the spool of this folder: each line begins with those of its own that wait there, but for calls that
 /// lack a page.
 fn serve_spooled<
     W: SocketWire + Drop,
@@ -142,10 +142,17 @@ fn serve_spooled<
     start: S,
 ) -> Result<RunEnd, ServeFault>
     ensures alone { OnOk result (ServedAlone (length config.now.lines.items) true) }
-    ensures kept { OnOk result (ServedOver ⟦<KeptFile<S> as Disk>⟧.seen ⟦<KeptFile<S> as Disk>⟧.may_leave ⟦<KeptFile<S> as Disk>⟧.is_usable ⟦<KeptFile<S> as Disk>⟧.is_clean ⟦<SpoolKeeper<KeptFile<S>> as RunKeeper>⟧.is_same ⟦<SpoolKeeper<KeptFile<S>> as Keeper<PageToKeep>>⟧.puts ⟦<SpoolKeeper<KeptFile<S>> as RunKeeper>⟧.notes ⟦<SpoolKeeper<KeptFile<S>> as RunKeeper>⟧.ends (λ keeper. keeper.keeping.spool) (λ keeper. keeper.keeping.shelves.items) S.db S.log config.now.lines.items) }
+    ensures kept { OnOk result (ServedOver ⟦<SpoolFolderFile<S> as Disk>⟧.seen ⟦<SpoolFolderFile<S> as Disk>⟧.may_leave ⟦<SpoolFolderFile<S> as Disk>⟧.is_usable ⟦<SpoolFolderFile<S> as Disk>⟧.is_clean ⟦<SpoolStore<SpoolFolderFile<S>> as RunStore>⟧.is_same ⟦<SpoolStore<SpoolFolderFile<S>> as PageStore<PageToStore>>⟧.puts ⟦<SpoolStore<SpoolFolderFile<S>> as RunStore>⟧.notes ⟦<SpoolStore<SpoolFolderFile<S>> as RunStore>⟧.ends (λ store. store.storage.spool) (λ store. store.storage.queues.items) S.db S.log config.now.lines.items) }
 {
     let opened = system.open_spool(folder, start)?;
-    serve_opened::<W, N, I, O, KeptFile<S>>(system, alloc, config, clients, opened, spool_failures)
+    serve_opened::<W, N, I, O, SpoolFolderFile<S>>(
+        system,
+        alloc,
+        config,
+        clients,
+        opened,
+        spool_failures,
+    )
 }
 
 /// The same where the spool is open.
@@ -160,13 +167,13 @@ fn serve_opened<
     alloc: Global,
     config: &Config,
     clients: Clients<I, O>,
-    opened: Opened<D>,
+    opened: OpenedSpool<D>,
     spool_failures: u64,
 ) -> Result<RunEnd, ServeFault>
     ensures alone { OnOk result (ServedAlone (length config.now.lines.items) true) }
-    ensures kept { OnOk result (ServedWith ⟦<SpoolKeeper<D> as RunKeeper>⟧.is_same ⟦<SpoolKeeper<D> as Keeper<PageToKeep>>⟧.puts ⟦<SpoolKeeper<D> as RunKeeper>⟧.notes ⟦<SpoolKeeper<D> as RunKeeper>⟧.ends (λ keeper. keeper.keeping.spool) (λ keeper. keeper.keeping.shelves.items) config.now.lines.items opened) }
+    ensures kept { OnOk result (ServedWith ⟦<SpoolStore<D> as RunStore>⟧.is_same ⟦<SpoolStore<D> as PageStore<PageToStore>>⟧.puts ⟦<SpoolStore<D> as RunStore>⟧.notes ⟦<SpoolStore<D> as RunStore>⟧.ends (λ store. store.storage.spool) (λ store. store.storage.queues.items) config.now.lines.items opened) }
 {
-    let Opened {
+    let OpenedSpool {
         spool,
         pages,
         torn,
@@ -175,30 +182,25 @@ fn serve_opened<
         older_passed_over,
         newer_passed_over,
     } = opened;
-    let mut shelves = Vec::new(alloc);
+    let mut queues = Vec::new(alloc);
     let lines: Lines<HoldingWire<W>> = open_restored_lines(
         system,
         alloc,
         config.lines.as_slice(),
         pages.as_slice(),
         torn.as_slice(),
-        &mut shelves,
+        &mut queues,
     )?;
     let mut pace = pace_of(system, alloc, config, clients, &lines, spool_failures)?;
     let damage = Damage {
         records: older_damaged.saturating_add(newer_damaged) as u64,
         octets: older_passed_over.saturating_add(newer_passed_over) as u64,
     };
-    pace.tell_aside(
-        damage,
-        pages.as_slice(),
-        torn.as_slice(),
-        shelves.as_slice(),
-    );
-    let keeper = SpoolKeeper {
-        keeping: Keeping::new(alloc, spool, shelves),
+    pace.tell_aside(damage, pages.as_slice(), torn.as_slice(), queues.as_slice());
+    let store = SpoolStore {
+        storage: Storage::new(alloc, spool, queues),
     };
-    serve_restored(lines, keeper, &mut pace);
+    serve_restored(lines, store, &mut pace);
     Ok(pace.finish())
 }
 
@@ -240,24 +242,24 @@ fn serve_new<W: SocketWire + Drop, C: Clock, I: Read + Drop, O: Write + Drop, D:
     requires idle { pace.old.waits ≡ None }
     ensures { ServedAlone (length lines.lines) false }
 {
-    let mut keeper: Option<SpoolKeeper<D>> = None;
-    serve(&mut lines, &mut keeper, pace);
+    let mut store: Option<SpoolStore<D>> = None;
+    serve(&mut lines, &mut store, pace);
 }
 
 /// Serves lines that begin with the pages that wait.
 fn serve_restored<W: SocketWire + Drop, C: Clock, I: Read + Drop, O: Write + Drop, D: Disk + Drop>(
     mut lines: Lines<HoldingWire<W>>,
-    keeper: SpoolKeeper<D>,
+    store: SpoolStore<D>,
     pace: &mut RealPace<'_, C, I, O>,
 )
     requires begun { AreBegun lines.lines }
     requires first { lines.slot ≡ 0 }
     requires idle { pace.old.waits ≡ None }
     ensures alone { ServedAlone (length lines.lines) true }
-    ensures kept { RanKept ⟦<SpoolKeeper<D> as RunKeeper>⟧.is_same ⟦<SpoolKeeper<D> as Keeper<PageToKeep>>⟧.puts ⟦<SpoolKeeper<D> as RunKeeper>⟧.notes ⟦<SpoolKeeper<D> as RunKeeper>⟧.ends lines.lines keeper }
+    ensures kept { RunIsStored ⟦<SpoolStore<D> as RunStore>⟧.is_same ⟦<SpoolStore<D> as PageStore<PageToStore>>⟧.puts ⟦<SpoolStore<D> as RunStore>⟧.notes ⟦<SpoolStore<D> as RunStore>⟧.ends lines.lines store }
 {
-    let mut keeper = Some(keeper);
-    serve(&mut lines, &mut keeper, pace);
+    let mut store = Some(store);
+    serve(&mut lines, &mut store, pace);
 }
 
 /// The desk at which words about these lines come in; a stop takes so many milliseconds at most.

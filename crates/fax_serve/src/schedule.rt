@@ -1,8 +1,8 @@
 //! When slots have their turns.
 ghost use Rattle.std.specs.Prelude.{◌≡◌, ◌+◌, ◌-◌, ◌≤◌, ◌<◌, ◌^◌, min};
 
-/// So many milliseconds behind, turns are left out.
-const MOST_BEHIND_MS: u64 = 1_000;
+/// So many milliseconds after, turns are left out.
+const MOST_AFTER_MS: u64 = 1_000;
 
 /// A slot has its turn each millisecond.
 #[derive(Clone, Copy, PartialEq, Eq, Debug)]
@@ -35,7 +35,7 @@ impl Schedule {
         self.skipped
     }
 
-    /// The next turn begins now. It answers how late it is. Where that is at most 1 s the turn behind it is due a millisecond
+    /// The next turn begins now. It answers how late it is. Where that is at most 1 s the turn after it is due a millisecond
     /// after this one was; else it is due a millisecond from now, and what was left out is counted.
     pub fn begin(&mut self, now: u64) -> u64
         ensures late { result ≡ now - self.old.due }
@@ -44,7 +44,7 @@ impl Schedule {
         ensures counted { 1000 < result → self.new.skipped ≡ min (self.old.skipped + result) (2 ^ 64 - 1) }
     {
         let late = now.saturating_sub(self.due);
-        if late > MOST_BEHIND_MS {
+        if late > MOST_AFTER_MS {
             self.skipped = self.skipped.saturating_add(late);
             self.due = now;
         }

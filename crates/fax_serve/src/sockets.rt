@@ -2,24 +2,23 @@
 ghost use Rattle.std.specs.Prelude.{◌≡◌, ◌+◌, [], IfOk, OnOk, length, map};
 ghost use Rattle.fax_gateway.specs.Setups.{AreAllowed};
 ghost use Rattle.fax_gateway.specs.Restored.{call_shown};
-ghost use Rattle.fax_hold.specs.Keeping.{HasSent};
+ghost use Rattle.fax_holding_wire.specs.Storing.{HasSent};
 ghost use Rattle.fax_line.specs.Actions.{BeginsWith};
-ghost use Rattle.fax_line.specs.Deeds.{AreBegun, AreNew};
-ghost use Rattle.fax_shelf.specs.OnLeg.{HasDoneOn};
-ghost use Rattle.fax_shelf.specs.Restorations.{whole_pages};
-ghost use Rattle.fax_serve.specs.KeptRuns.{AreRestored};
+ghost use Rattle.fax_line.specs.Operations.{AreBegun, AreNew};
+ghost use Rattle.fax_queue.specs.OnLeg.{HasDoneOn};
+ghost use Rattle.fax_queue.specs.Restorations.{whole_pages};
+ghost use Rattle.fax_serve.specs.StoredRuns.{AreRestored};
 ghost use Rattle.fax_serve.specs.Openings.{AddsRestored, settings_by};
 
 use crate::fault::ServeFault;
 use fax_config::{LegConfig, LineConfig, Repeat};
-use fax_control::Leg;
-use fax_gateway::{RestoredCall, Settings, Side};
-use fax_hold::{HoldingWire, LineWire};
+use fax_gateway::{Leg, RestoredCall, Settings};
+use fax_holding_wire::{HoldingWire, LineWire};
 use fax_legs::{LegSocket, UdpWire};
 use fax_line::{Line, Lines};
 use fax_pagestore::PackedRows;
+use fax_queue::{Queue, RestoredLine, restore_line};
 use fax_repeat::{RepeatPolicy, RepeatingWire, TimedWire};
-use fax_shelf::{Restored, Shelf, restore_line};
 use fax_spool::{CallName, WaitingPage};
 use std::alloc::Global;
 use std::io;
@@ -31,7 +30,7 @@ pub type ServedWire = RepeatingWire<UdpWire<UdpSocket>>;
 /// The most of the packets before its own that a datagram has.
 const MOST_REDUNDANCY: u16 = 8;
 
-/// The least and the most that the packet behind a preamble waits, in milliseconds.
+/// The least and the most that the packet after a preamble waits, in milliseconds.
 const LEAST_PREAMBLE_MS: u16 = 40;
 
 const MOST_PREAMBLE_MS: u16 = 2_000;
@@ -44,7 +43,7 @@ pub trait SocketWire: TimedWire + Sized {
         ensures { IfOk result (λ wire. HasSent [] (Self.known wire).sent) };
 
     /// The socket of a leg.
-    fn leg(&self, side: Side) -> &LegSocket<UdpSocket>;
+    fn leg(&self, leg: Leg) -> &LegSocket<UdpSocket>;
 }
 
 impl SocketWire for RepeatingWire<UdpWire<UdpSocket>> {
@@ -53,27 +52,27 @@ impl SocketWire for RepeatingWire<UdpWire<UdpSocket>> {
         Ok(RepeatingWire::new(wire, policy_of(config.repeat)))
     }
 
-    fn leg(&self, side: Side) -> &LegSocket<UdpSocket> {
-        self.wire().leg(side)
+    fn leg(&self, leg: Leg) -> &LegSocket<UdpSocket> {
+        self.wire().leg(leg)
     }
 }
 
 /// A wire of a line whose legs are sockets.
 pub trait SocketLegs: LineWire {
     /// The socket of a leg.
-    fn leg(&self, side: Side) -> &LegSocket<UdpSocket>;
+    fn leg(&self, leg: Leg) -> &LegSocket<UdpSocket>;
 
-    /// Whether nothing goes out on the calling leg, since a page could not be kept.
-    fn is_mute(&self) -> bool;
+    /// Whether nothing goes out on the calling leg, since a page could not be stored.
+    fn is_silenced(&self) -> bool;
 }
 
 impl<W: SocketWire + Drop> SocketLegs for HoldingWire<W> {
-    fn leg(&self, side: Side) -> &LegSocket<UdpSocket> {
-        self.wire().leg(side)
+    fn leg(&self, leg: Leg) -> &LegSocket<UdpSocket> {
+        self.wire().leg(leg)
     }
 
-    fn is_mute(&self) -> bool {
-        HoldingWire::is_mute(self)
+    fn is_silenced(&self) -> bool {
+        HoldingWire::is_silenced(self)
     }
 }
 
@@ -101,29 +100,29 @@ pub fn open_lines<W: OpenedWire + Drop, N: Net>(
     ensures first { IfOk result (λ lines. lines.slot ≡ 0) }
     ensures as_many { IfOk result (λ lines. length lines.lines ≡ length configs.now) }
 {
-    let mut shelves = Vec::new(alloc);
-    open_restored_lines(net, alloc, configs, &[], &[], &mut shelves)
+    let mut queues = Vec::new(alloc);
+    open_restored_lines(net, alloc, configs, &[], &[], &mut queues)
 }
 
-/// The same behind a crash, where these pages wait and these calls lack one: each line begins with its own, but for those calls. What is
-/// known of the pages of each is added to these shelves.
+/// The same after a crash, where these pages wait and these calls lack one: each line begins with its own, but for those calls. What is
+/// known of the pages of each is added to these queues.
 pub(crate) fn open_restored_lines<W: OpenedWire + Drop, N: Net>(
     net: &N,
     alloc: Global,
     configs: &[LineConfig],
     pages: &[WaitingPage],
     torn: &[CallName],
-    shelves: &mut Vec<Shelf>,
+    queues: &mut Vec<Queue>,
 ) -> Result<Lines<W>, ServeFault>
     ensures begun { IfOk result (λ lines. AreBegun lines.lines) }
     ensures new { pages.now ≡ [] → IfOk result (λ lines. AreNew lines.lines) }
     ensures first { IfOk result (λ lines. lines.slot ≡ 0) }
     ensures as_many { IfOk result (λ lines. length lines.lines ≡ length configs.now) }
-    ensures restored { shelves.old.items ≡ [] → IfOk result (λ lines. AreRestored (whole_pages torn.now pages.now) configs.now lines.lines shelves.new.items) }
+    ensures restored { queues.old.items ≡ [] → IfOk result (λ lines. AreRestored (whole_pages torn.now pages.now) configs.now lines.lines queues.new.items) }
 {
     let mut lines = Lines::new(alloc)?;
     for config in configs {
-        add_line(net, alloc, config, pages, torn, &mut lines, shelves)?;
+        add_line(net, alloc, config, pages, torn, &mut lines, queues)?;
     }
     Ok(lines)
 }
@@ -136,18 +135,18 @@ fn add_line<W: OpenedWire + Drop, N: Net>(
     pages: &[WaitingPage],
     torn: &[CallName],
     lines: &mut Lines<W>,
-    shelves: &mut Vec<Shelf>,
+    queues: &mut Vec<Queue>,
 ) -> Result<(), ServeFault>
     ensures begun { OnOk result (AreBegun lines.old.lines → AreBegun lines.new.lines) }
-    ensures restored { OnOk result (AddsRestored (whole_pages torn.now pages.now) config.now lines.old.lines lines.new.lines shelves.old.items shelves.new.items) }
+    ensures restored { OnOk result (AddsRestored (whole_pages torn.now pages.now) config.now lines.old.lines lines.new.lines queues.old.items queues.new.items) }
     ensures new { OnOk result (pages.now ≡ [] → AreNew lines.old.lines → AreNew lines.new.lines) }
     ensures slot { OnOk result (lines.new.slot ≡ lines.old.slot) }
     ensures one_more { OnOk result (length lines.new.lines ≡ length lines.old.lines + 1) }
 {
-    let Restored { calls, shelf } = restore_line(alloc, config.name.as_str(), pages, torn)?;
+    let RestoredLine { calls, queue } = restore_line(alloc, config.name.as_str(), pages, torn)?;
     let line = open_line(net, alloc, config, calls)?;
     lines.add(line)?;
-    shelves.push(shelf)?;
+    queues.push(queue)?;
     Ok(())
 }
 

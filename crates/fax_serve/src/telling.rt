@@ -3,7 +3,7 @@ use crate::answers::failures_of;
 use crate::failures::Failures;
 use crate::sockets::SocketLegs;
 use fax_clients::Clients;
-use fax_desk::{Damage, Happened, Listener};
+use fax_desk::{Damage, LineEvent, Listener};
 use fax_events::{Counters, Event, PageAside, What, write_event};
 use fax_jobs::{Outcome, Report};
 use fax_line::Line;
@@ -105,24 +105,24 @@ impl<I: Read + Drop, O: Write + Drop> Teller<I, O> {
     }
 
     /// Counts what happened.
-    fn count(&mut self, what: Happened) {
+    fn count(&mut self, what: LineEvent) {
         let counters = &mut self.counters;
         match what {
-            Happened::Rung(_) => counters.calls = counters.calls.saturating_add(1),
-            Happened::Page(_, _) => {
+            LineEvent::Rung(_) => counters.calls = counters.calls.saturating_add(1),
+            LineEvent::Page(_, _) => {
                 counters.pages_confirmed = counters.pages_confirmed.saturating_add(1);
             }
-            Happened::NotKept(_) => {
+            LineEvent::NotKept(_) => {
                 counters.put_failures = counters.put_failures.saturating_add(1);
             }
-            Happened::RefusedPage(_, _) => {
+            LineEvent::RefusedPage(_, _) => {
                 counters.pages_refused = counters.pages_refused.saturating_add(1);
             }
-            Happened::Job(report, _, _) => self.count_report(report),
-            Happened::Ended(_, _)
-            | Happened::Dial(_)
-            | Happened::Asked(_, _)
-            | Happened::Connected(_) => {}
+            LineEvent::Job(report, _, _) => self.count_report(report),
+            LineEvent::Ended(_, _)
+            | LineEvent::Dial(_)
+            | LineEvent::Asked(_, _)
+            | LineEvent::Connected(_) => {}
         }
     }
 
@@ -161,7 +161,7 @@ impl<I: Read + Drop, O: Write + Drop> Teller<I, O> {
 impl<I: Read + Drop, O: Write + Drop> Listener for Teller<I, O> {
     ghost tells = { λ line at what old new. Unit {0} };
 
-    fn tell(&mut self, line: &str, at: u64, what: Happened) {
+    fn tell(&mut self, line: &str, at: u64, what: LineEvent) {
         self.count(what);
         self.tell_event(Some(line), at, what.shown());
     }

@@ -4,7 +4,7 @@ use crate::clock::Stopwatch;
 use crate::control::{close_control, open_control};
 use crate::fault::ServeFault;
 use fax_clients::{Clients, MOST_CLIENTS};
-use fax_control::{Answer, Heard, Refusal, Word, read_word};
+use fax_control::{Answer, HeardLine, Refusal, Word, read_word};
 use fax_desk::{Reply, unserved_reply};
 use std::alloc::Global;
 use std::fs::Files;
@@ -17,7 +17,7 @@ const WAIT_MS: u64 = 1_000;
 
 /// Whether a word of a client said to stop.
 #[derive(Clone, Copy, PartialEq, Eq, Debug)]
-enum Said {
+enum UnservedWord {
     Stop,
     Nothing,
 }
@@ -39,7 +39,7 @@ pub fn answer_unserved<N: Net + Files + Clock>(
     let said = answer_until(&watch, alloc, &mut clients, within_ms);
     clients.finish();
     close_control(system, path);
-    Ok(said == Said::Stop)
+    Ok(said == UnservedWord::Stop)
 }
 
 /// Answers clients until so many milliseconds have passed, or one of them said to stop.
@@ -48,45 +48,45 @@ fn answer_until<C: Clock>(
     alloc: Global,
     clients: &mut Clients<UnixStream, UnixStream>,
     within_ms: u64,
-) -> Said {
+) -> UnservedWord {
     for _ in 0..u64::MAX {
         let left = match watch.now() {
             Some(now) => within_ms.saturating_sub(now),
             None => 0,
         };
         if left == 0 {
-            return Said::Nothing;
+            return UnservedWord::Nothing;
         }
         clients.wait(left.min(WAIT_MS) as i32);
-        if answer_words(alloc, clients) == Said::Stop {
-            return Said::Stop;
+        if answer_words(alloc, clients) == UnservedWord::Stop {
+            return UnservedWord::Stop;
         }
     }
-    Said::Nothing
+    UnservedWord::Nothing
 }
 
 /// Answers the words that were said, one of each client.
-fn answer_words(alloc: Global, clients: &mut Clients<UnixStream, UnixStream>) -> Said {
+fn answer_words(alloc: Global, clients: &mut Clients<UnixStream, UnixStream>) -> UnservedWord {
     for _ in 0..MOST_CLIENTS {
         let Some((asker, heard)) = clients.hear() else {
-            return Said::Nothing;
+            return UnservedWord::Nothing;
         };
         let answer = answer_to(&heard);
         if let Ok(text) = answer_text(alloc, answer) {
             clients.answer(asker, text);
         }
         if let Answer::Done = answer {
-            return Said::Stop;
+            return UnservedWord::Stop;
         }
     }
-    Said::Nothing
+    UnservedWord::Nothing
 }
 
 /// How a line of a client is answered.
-fn answer_to(heard: &Heard) -> Answer<'static> {
+fn answer_to(heard: &HeardLine) -> Answer<'static> {
     match heard {
-        Heard::TooLong => Answer::Refused(Refusal::TooLong),
-        Heard::Line(octets) => match read_word(octets.as_slice()) {
+        HeardLine::TooLong => Answer::Refused(Refusal::TooLong),
+        HeardLine::Line(octets) => match read_word(octets.as_slice()) {
             Some(word) => answer_of(word),
             None => Answer::Refused(Refusal::NoWord),
         },

@@ -1,14 +1,14 @@
 //! The lines, as the desk sees them.
 ghost use Rattle.std.specs.Prelude.{◌≡◌, option_map, slice_get};
-ghost use Rattle.fax_gateway.specs.Sides.{job_asked};
+ghost use Rattle.fax_gateway.specs.BothLegs.{job_asked};
 ghost use Rattle.fax_repeat.specs.Peers.{peer_on, state_of};
 ghost use Rattle.fax_serve.specs.Views.{asked_seen, failed_if, first_if, first_on, job_seen, leg_seen, line_seen, tag_if};
 ghost use Rattle.fax_spool.specs.Calls.{refuses_now};
 
-use crate::keeper::SpoolKeeper;
+use crate::store::SpoolStore;
 use fax_desk::{AskedView, FirstJob, LegView, LineView, Tag, View};
-use fax_gateway::Side;
-use fax_hold::LineWire;
+use fax_gateway::Leg;
+use fax_holding_wire::LineWire;
 use fax_line::{Line, Lines};
 use sqlite_disk::Disk;
 
@@ -16,7 +16,7 @@ use sqlite_disk::Disk;
 #[derive(Drop)]
 pub(crate) struct Seen<'a, W: LineWire + Drop, D: Disk> {
     pub lines: &'a Lines<W>,
-    pub keeper: Option<&'a SpoolKeeper<D>>,
+    pub store: Option<&'a SpoolStore<D>>,
 }
 
 impl<'a, W: LineWire + Drop, D: Disk> View for Seen<'a, W, D> {
@@ -24,26 +24,26 @@ impl<'a, W: LineWire + Drop, D: Disk> View for Seen<'a, W, D> {
     ghost use Rattle.fax_spool.specs.Calls.{refuses_now};
     ghost use Rattle.fax_serve.specs.Views.{failed_if, first_if, first_on, line_at};
 
-    ghost line = { λ seen i. line_at seen.lines.now.lines (failed_if seen.keeper (λ keeper. refuses_now keeper.now.keeping.spool)) (λ i. first_if seen.keeper (λ keeper. first_on keeper.now.keeping.life (slice_get keeper.now.keeping.shelves.items i))) i };
+    ghost line = { λ seen i. line_at seen.lines.now.lines (failed_if seen.store (λ store. refuses_now store.now.storage.spool)) (λ i. first_if seen.store (λ store. first_on store.now.storage.life (slice_get store.now.storage.queues.items i))) i };
 
-    ghost failed = { λ seen. failed_if seen.keeper (λ keeper. refuses_now keeper.now.keeping.spool) };
+    ghost failed = { λ seen. failed_if seen.store (λ store. refuses_now store.now.storage.spool) };
 
     fn line(&self, i: usize) -> Option<LineView> {
         let line = self.lines.line(i)?;
-        Some(view_of(line, first_job(self.keeper, i), has_failed(self.keeper)))
+        Some(view_of(line, first_job(self.store, i), has_failed(self.store)))
     }
 
     fn has_failed(&self) -> bool {
-        has_failed(self.keeper)
+        has_failed(self.store)
     }
 }
 
-/// Whether the spool's disk has failed; none has where pages are kept in memory alone.
-pub(crate) fn has_failed<D: Disk>(keeper: Option<&SpoolKeeper<D>>) -> bool
-    ensures { result ≡ failed_if keeper.entry (λ keeper. refuses_now keeper.now.keeping.spool) }
+/// Whether the spool's disk has failed; none has where pages are stored in memory alone.
+pub(crate) fn has_failed<D: Disk>(store: Option<&SpoolStore<D>>) -> bool
+    ensures { result ≡ failed_if store.entry (λ store. refuses_now store.now.storage.spool) }
 {
-    match keeper {
-        Some(keeper) => keeper.keeping.refuses(),
+    match store {
+        Some(store) => store.storage.refuses(),
         None => false,
     }
 }
@@ -56,8 +56,8 @@ fn view_of<W: LineWire + Drop>(line: &Line<W>, first: FirstJob, has_failed: bool
         call: line.call(),
         sending: sending(line),
         asked: asked(line, has_failed),
-        calling: leg_view(line, Side::Calling),
-        called: leg_view(line, Side::Called),
+        calling: leg_view(line, Leg::Calling),
+        called: leg_view(line, Leg::Called),
         first,
     }
 }
@@ -89,10 +89,10 @@ fn asked<W: LineWire + Drop>(line: &Line<W>, has_failed: bool) -> Option<AskedVi
 }
 
 /// What a leg is.
-fn leg_view<W: LineWire + Drop>(line: &Line<W>, side: Side) -> LegView
-    ensures { result ≡ leg_seen (state_of (peer_on side line.now.peers)) }
+fn leg_view<W: LineWire + Drop>(line: &Line<W>, leg: Leg) -> LegView
+    ensures { result ≡ leg_seen (state_of (peer_on leg line.now.peers)) }
 {
-    let leg = line.leg_state(side);
+    let leg = line.leg_state(leg);
     LegView {
         has_peer: leg.has_peer,
         is_fixed: leg.is_fixed,
@@ -101,13 +101,13 @@ fn leg_view<W: LineWire + Drop>(line: &Line<W>, side: Side) -> LegView
 }
 
 /// The job of line i that is first in turn: whether it was confirmed in an earlier life, and the tag that it has then.
-pub(crate) fn first_job<D: Disk>(keeper: Option<&SpoolKeeper<D>>, i: usize) -> FirstJob
-    ensures { result ≡ first_if keeper.entry (λ keeper. first_on keeper.now.keeping.life (slice_get keeper.now.keeping.shelves.items i)) }
+pub(crate) fn first_job<D: Disk>(store: Option<&SpoolStore<D>>, i: usize) -> FirstJob
+    ensures { result ≡ first_if store.entry (λ store. first_on store.now.storage.life (slice_get store.now.storage.queues.items i)) }
 {
-    match keeper {
-        Some(keeper) if keeper.keeping.is_restored(i) => FirstJob {
+    match store {
+        Some(store) if store.storage.is_restored(i) => FirstJob {
             is_restored: true,
-            tag: tag_of(keeper.keeping.restored_tag(i)),
+            tag: tag_of(store.storage.restored_tag(i)),
         },
         Some(_) | None => FirstJob {
             is_restored: false,

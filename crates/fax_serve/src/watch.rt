@@ -1,6 +1,6 @@
 //! Which legs have datagrams, as the system tells it.
 use crate::sockets::SocketLegs;
-use fax_gateway::Side;
+use fax_gateway::Leg;
 use fax_legs::LegSocket;
 use fax_line::{Line, Lines};
 use mio::unix::SourceFd;
@@ -53,14 +53,14 @@ impl Watch {
         }
         for event in self.events.iter() {
             let Token(token) = event.token();
-            let side = if token % 2 == 0 {
-                Side::Calling
+            let leg = if token % 2 == 0 {
+                Leg::Calling
             } else {
-                Side::Called
+                Leg::Called
             };
             let i = token / 2;
             if let Some(line) = lines.line(i) {
-                line.wire().leg(side).wake();
+                line.wire().leg(leg).wake();
                 let _ = woken.push(i);
             }
         }
@@ -69,21 +69,21 @@ impl Watch {
 
 /// Both legs of a line are asked in its next turn, whatever the system told.
 pub(crate) fn wake_legs<W: SocketLegs + Drop>(line: &Line<W>) {
-    line.wire().leg(Side::Calling).wake();
-    line.wire().leg(Side::Called).wake();
+    line.wire().leg(Leg::Calling).wake();
+    line.wire().leg(Leg::Called).wake();
 }
 
 /// Whether one of the legs of a line may have something for it.
 pub(crate) fn asks<W: SocketLegs + Drop>(line: &Line<W>) -> bool {
-    line.wire().leg(Side::Calling).asks() || line.wire().leg(Side::Called).asks()
+    line.wire().leg(Leg::Calling).asks() || line.wire().leg(Leg::Called).asks()
 }
 
 /// The legs of all lines are watched from now on.
 fn watch_lines<W: SocketLegs + Drop>(poll: &Poll, lines: &Lines<W>) -> io::Result<()> {
     for i in 0..lines.len().min(MOST_LINES) {
         if let Some(line) = lines.line(i) {
-            watch_leg(poll, line.wire().leg(Side::Calling), Token(2 * i))?;
-            watch_leg(poll, line.wire().leg(Side::Called), Token(2 * i + 1))?;
+            watch_leg(poll, line.wire().leg(Leg::Calling), Token(2 * i))?;
+            watch_leg(poll, line.wire().leg(Leg::Called), Token(2 * i + 1))?;
         }
     }
     Ok(())
@@ -93,8 +93,8 @@ fn watch_lines<W: SocketLegs + Drop>(poll: &Poll, lines: &Lines<W>) -> io::Resul
 fn leave_lines<W: SocketLegs + Drop>(lines: &Lines<W>) {
     for i in 0..lines.len() {
         if let Some(line) = lines.line(i) {
-            line.wire().leg(Side::Calling).set_watched(false);
-            line.wire().leg(Side::Called).set_watched(false);
+            line.wire().leg(Leg::Calling).set_watched(false);
+            line.wire().leg(Leg::Called).set_watched(false);
         }
     }
 }

@@ -164,7 +164,7 @@ unfolding place_of parts_from
 parts_whole mark [] quoting e = refl
 parts_whole mark (x ∷ text) quoting e = one_step (stands (marks.Outside mark) quoting (x ∷ text)) mark x (after quoting x) text (place_of (marks.Outside mark) (after quoting x) text) (parts_whole mark text (after quoting x)) e
 
--- the first part, and what is behind it
+-- the first part, and what is after it
 pub first_part_cut : (mark : ℕ) (text front rest : List ℕ) → cut (marks.Outside mark) text ≡ Some (front, rest) → parts_of mark text ≡ front ∷ parts_of mark rest
 first_part_cut mark text front rest e =
     let (i, place, front_is, rest_is) = cut_some (marks.Outside mark) text front rest (place_of (marks.Outside mark) Outside text) e in

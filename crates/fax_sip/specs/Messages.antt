@@ -78,7 +78,7 @@ body_of (Some digits) body = bounded (number digits) body
 
 -- what header lines say: the first fault of these, in this order
 unfoldable pub fielded : StartText → List (List ℕ) → List ℕ → Result MessageText SipFault
-fielded start lines behind = do
+fielded start lines after = do
   via ← at_least_one name.Via lines
   from ← single name.From lines
   to ← single name.To lines
@@ -86,21 +86,21 @@ fielded start lines behind = do
   value ← single name.CSeq lines
   sequence ← sequence_for start value
   digits ← at_most_one name.ContentLength lines
-  body ← body_of digits behind
+  body ← body_of digits after
   Ok (record { start = start; lines = lines; from = from; to = to; call_id = call_id; sequence = sequence; body = body })
 
--- each line behind the first is a header line
+-- each line after the first is a header line
 abbrev pub checked : StartText → List (List ℕ) → List ℕ → Result MessageText SipFault
-checked start lines behind = if list_all is_field lines then fielded start lines behind else Err BadField
+checked start lines after = if list_all is_field lines then fielded start lines after else Err BadField
 
 abbrev pub started : List (List ℕ) → List ℕ → Option StartText → Result MessageText SipFault
-started lines behind None = Err BadStart
-started lines behind (Some start) = checked start lines behind
+started lines after None = Err BadStart
+started lines after (Some start) = checked start lines after
 
 -- the lines before the empty one: the first, and the header lines
 abbrev pub begun : List (List ℕ) → List ℕ → Result MessageText SipFault
-begun [] behind = Err BadStart
-begun (line ∷ lines) behind = started lines behind (start_of line)
+begun [] after = Err BadStart
+begun (line ∷ lines) after = started lines after (start_of line)
 
 abbrev pub headed : Option (List ℕ × List ℕ) → Result MessageText SipFault
 headed None = Err NoEnd

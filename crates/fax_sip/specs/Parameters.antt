@@ -16,19 +16,19 @@ front_of text (Some parts) = parts.0
 abbrev pub before : Mark → List ℕ → List ℕ
 before mark text = front_of text (cut mark text)
 
-abbrev pub value_behind : List ℕ → List ℕ → Option (List ℕ × List ℕ) → Option (List ℕ)
-value_behind name part None = if is_word (trimmed part) name then Some [] else None
-value_behind name part (Some parts) = if is_word (trimmed parts.0) name then Some (trimmed parts.1) else None
+abbrev pub value_after : List ℕ → List ℕ → Option (List ℕ × List ℕ) → Option (List ℕ)
+value_after name part None = if is_word (trimmed part) name then Some [] else None
+value_after name part (Some parts) = if is_word (trimmed parts.0) name then Some (trimmed parts.1) else None
 
--- the value of a part that is a parameter of this name: what stands behind `=`, or nothing
+-- the value of a part that is a parameter of this name: what stands after `=`, or nothing
 unfoldable pub parameter_value : List ℕ → List ℕ → Option (List ℕ)
-parameter_value name part = value_behind name part (cut (Octet 61) part)
+parameter_value name part = value_after name part (cut (Octet 61) part)
 
--- the first parameter of this name, each behind a semicolon outside of quoted strings and of angle brackets
+-- the first parameter of this name, each after a semicolon outside of quoted strings and of angle brackets
 abbrev pub parameter_of : List ℕ → List ℕ → Option (List ℕ)
 parameter_of name value = first_of (filter_map (parameter_value name) (drop 1 (parts_of 59 value)))
 
--- the same of a challenge: commas part its parameters, behind the scheme
+-- the same of a challenge: commas part its parameters, after the scheme
 abbrev pub credential_of : List ℕ → List ℕ → Option (List ℕ)
 credential_of name value = option_and_then (λ parts. first_of (filter_map (parameter_value name) (parts_of 44 parts.1))) (cut Blank value)
 
@@ -45,7 +45,7 @@ uri_in value (Some parts) = trimmed (before (Octet 62) parts.1)
 abbrev pub uri_of : List ℕ → List ℕ
 uri_of value = uri_in value (cut (Outside 60) value)
 
--- the user of a `sip` or `sips` address: behind the scheme, before `@`, a password and its own parameters (RFC 3261, 19.1.1)
+-- the user of a `sip` or `sips` address: after the scheme, before `@`, a password and its own parameters (RFC 3261, 19.1.1)
 abbrev pub user_of : List ℕ → Option (List ℕ)
 user_of uri =
     option_and_then (λ parts.

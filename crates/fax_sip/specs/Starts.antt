@@ -28,7 +28,7 @@ status_of digits =
 abbrev pub answer_of : List ℕ → Option StartText
 answer_of rest = option_and_then (λ parts. option_map Answer (status_of parts.0)) (cut (Octet 32) rest)
 
--- a request: its method is a token, and behind its Request-URI stands the version
+-- a request: its method is a token, and after its Request-URI stands the version
 abbrev pub request_of : List ℕ → List ℕ → Option StartText
 request_of word rest =
     option_and_then (λ parts. if is_token word && nat_lt 0 (length parts.0) && is_word parts.1 (codes "SIP/2.0") then Some (Request word parts.0) else None) (cut (Octet 32) rest)

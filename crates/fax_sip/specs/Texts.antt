@@ -60,11 +60,11 @@ unfoldable pub place_of : Mark → Quoting → List ℕ → Option ℕ
 place_of mark quoting [] = None
 place_of mark quoting (octet ∷ text) = if stands mark quoting (octet ∷ text) then Some 0 else option_map suc (place_of mark (after quoting octet) text)
 
--- what stands before a place, and what behind so many octets from there
+-- what stands before a place, and what after so many octets from there
 abbrev pub parted : ℕ → List ℕ → ℕ → List ℕ × List ℕ
 parted count text place = (take place text, drop count (drop place text))
 
--- what stands before the first such mark, and what behind it; none where there is no such mark
+-- what stands before the first such mark, and what after it; none where there is no such mark
 abbrev pub cut : Mark → List ℕ → Option (List ℕ × List ℕ)
 cut mark text = option_map (parted (width mark) text) (place_of mark Outside text)
 

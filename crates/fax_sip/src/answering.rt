@@ -92,9 +92,9 @@ fn put_copies(octets: &mut Vec<u8>, lines: &[u8], name: Name) -> Result<(), Allo
     ensures { OnOk result (octets.new.items ≡ octets.old.items ++ copied name (lines_of lines.now)) }
 {
     let mut rest = lines;
-    while let Some((value, behind)) = next_value(rest, name) {
+    while let Some((value, after)) = next_value(rest, name) {
         put_header(octets, name, value)?;
-        rest = behind;
+        rest = after;
     }
     Ok(())
 }

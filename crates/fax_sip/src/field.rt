@@ -49,11 +49,11 @@ pub(crate) fn are_fields(lines: &[u8]) -> bool
     ensures { result ≡ list_all is_header_line (lines_of lines.now) }
 {
     let mut rest = lines;
-    while let Some((line, behind)) = first_line(rest) {
+    while let Some((line, after)) = first_line(rest) {
         if !is_field(line) {
             return false;
         }
-        rest = behind;
+        rest = after;
     }
     true
 }
@@ -75,18 +75,18 @@ fn value_of(line: &[u8], name: Name) -> Option<&[u8]>
     }
 }
 
-/// The value of the first line of a name, and the lines behind it.
+/// The value of the first line of a name, and the lines after it.
 pub(crate) fn next_value(lines: &[u8], name: Name) -> Option<(&[u8], &[u8])>
     ensures none { IfNone result (values_of name (lines_of lines.now) ≡ []) }
     ensures some { IfSome result (λ found. values_of name (lines_of lines.now) ≡ found.0.now ∷ values_of name (lines_of found.1.now)) }
     ensures shorter { IfSome result (λ found. length found.1.now < length lines.now) }
 {
     let mut rest = lines;
-    while let Some((line, behind)) = first_line(rest) {
+    while let Some((line, after)) = first_line(rest) {
         if let Some(value) = value_of(line, name) {
-            return Some((value, behind));
+            return Some((value, after));
         }
-        rest = behind;
+        rest = after;
     }
     None
 }

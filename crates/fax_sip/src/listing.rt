@@ -119,7 +119,7 @@ fn with_line<'a>(left: Elements<'a>) -> Elements<'a>
     }
 }
 
-/// The next value, and what is left behind it.
+/// The next value, and what is left after it.
 fn next_element<'a>(left: Elements<'a>) -> Option<(&'a [u8], Elements<'a>)>
     ensures none { IfNone result (elements_left left.entry ≡ []) }
     ensures some { IfSome result (λ found. elements_left left.entry ≡ found.0.now ∷ elements_left found.1) }

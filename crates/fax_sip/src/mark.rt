@@ -25,7 +25,7 @@ pub(crate) enum Quoting {
     Outside,
     /// In a quoted string.
     Quoted,
-    /// In a quoted string, behind a backslash.
+    /// In a quoted string, after a backslash.
     Escaped,
     /// In angle brackets.
     Angled,

@@ -56,7 +56,7 @@ pub fn read_message(octets: &[u8]) -> Result<Message<'_>, SipFault>
     }
 }
 
-/// The message of what stands before the empty line, and behind it.
+/// The message of what stands before the empty line, and after it.
 fn read_head<'a>(head: &'a [u8], body: &'a [u8]) -> Result<Message<'a>, SipFault>
     ensures { Gives message_text result (begun (lines_of head.now) body.now) }
 {

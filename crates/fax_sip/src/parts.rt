@@ -17,7 +17,7 @@ pub struct Via<'a> {
     pub sent_by: &'a [u8],
 }
 
-/// The part of a text before the first such octet outside of quoted strings and of angle brackets, and the text behind it.
+/// The part of a text before the first such octet outside of quoted strings and of angle brackets, and the text after it.
 pub(crate) fn first_part(text: &[u8], separator: u8) -> (&[u8], Option<&[u8]>)
     ensures parts { parts_of separator text.now ≡ result.0.now ∷ parts_left separator (option_map (λ rest. rest.now) result.1) }
     ensures shorter { IfSome result.1 (λ rest. length rest.now < length text.now) }
@@ -68,21 +68,21 @@ fn find_parameter<'a>(parts: Option<&'a [u8]>, separator: u8, name: &[u8]) -> Op
 {
     let mut rest = parts;
     while let Some(text) = rest {
-        let (part, behind) = first_part(text, separator);
+        let (part, after) = first_part(text, separator);
         if let Some(value) = value_in(part, name) {
             return Some(value);
         }
-        rest = behind;
+        rest = after;
     }
     None
 }
 
-/// The value of a parameter behind a semicolon, as `tag` of `From`, `branch` of `Via`; it is empty where it has none, as `lr`.
+/// The value of a parameter after a semicolon, as `tag` of `From`, `branch` of `Via`; it is empty where it has none, as `lr`.
 pub fn parameter<'a>(value: &'a [u8], name: &str) -> Option<&'a [u8]>
     ensures { option_map (λ value. value.now) result ≡ parameter_of name.now value.now }
 {
-    let (_, behind) = first_part(value, b';');
-    find_parameter(behind, b';', name.as_bytes())
+    let (_, after) = first_part(value, b';');
+    find_parameter(after, b';', name.as_bytes())
 }
 
 /// The value of a parameter of a challenge or of credentials, as `realm` of `WWW-Authenticate`, with its quotation marks.

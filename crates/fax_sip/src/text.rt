@@ -24,7 +24,7 @@ fn place_of(text: &[u8], mark: Mark) -> Option<usize>
     None
 }
 
-/// What stands before the first such mark, and what behind it; none where there is no such mark.
+/// What stands before the first such mark, and what after it; none where there is no such mark.
 pub(crate) fn cut(text: &[u8], mark: Mark) -> Option<(&[u8], &[u8])>
     ensures parts { cut_of mark text.now ≡ option_map (λ parts. (parts.0.now, parts.1.now)) result }
     ensures shorter { IfSome result (λ parts. length parts.1.now < length text.now) }
@@ -34,7 +34,7 @@ pub(crate) fn cut(text: &[u8], mark: Mark) -> Option<(&[u8], &[u8])>
     Some((front, &rest[mark.width()..]))
 }
 
-/// The first line, and the text behind it; none of an empty text.
+/// The first line, and the text after it; none of an empty text.
 pub(crate) fn first_line(text: &[u8]) -> Option<(&[u8], &[u8])>
     ensures none { IfNone result (text.now ≡ []) }
     ensures lines { IfSome result (λ cut. lines_of text.now ≡ cut.0.now ∷ lines_of cut.1.now) }

@@ -17,7 +17,7 @@ length-sha256 octets = digest_length (final_hash initial_hash_256 octets) 8
 pub sealed_long : (octets kept : List ℕ) → octets ≡ sealed kept → 32 ≤ length octets
 sealed_long octets kept is = omega (arith, ap length is, length-append (sha256 kept) kept, length-sha256 kept)
 
--- the digest before the octets behind it
+-- the digest before the octets after it
 pub sealed_parts : (octets kept : List ℕ) → octets ≡ sealed kept → take 32 octets ≡ sha256 (drop 32 octets)
 sealed_parts octets kept is =
     ap (λ (l : List ℕ). take 32 l) is

@@ -86,9 +86,9 @@ open_front head rest long =
     ap says_open
     (same_vote _ _ _ (get_or head 0 0) (get_or head 1 0) (get_or head 2 0) (get_or_append_left head rest 0 0 (omega (arith, long))) (get_or_append_left head rest 0 1 (omega (arith, long))) (get_or_append_left head rest 0 2 (omega (arith, long))))
 
--- and the length of those behind them
-length_behind : (rest gate other : List ℕ) → length gate ≡ 3 → length other ≡ 3 → length_in (gate ++ rest) ≡ length_in (other ++ rest)
-length_behind rest gate other =
+-- and the length of those after them
+length_after : (rest gate other : List ℕ) → length gate ≡ 3 → length other ≡ 3 → length_in (gate ++ rest) ≡ length_in (other ++ rest)
+length_after rest gate other =
     three_octets (λ (g : List ℕ). length other ≡ 3 → length_in (g ++ rest) ≡ length_in (other ++ rest))
     (λ a b c. three_octets (λ (o : List ℕ). length_in ((a ∷ b ∷ c ∷ []) ++ rest) ≡ length_in (o ++ rest)) (λ x y z. refl) other) gate
 
@@ -98,7 +98,7 @@ written_length a b c r short =
     (same_of (get_or (length_octets r) 0 0)) (same_of (get_or (length_octets r) 1 0)) (same_of (get_or (length_octets r) 2 0)) (same_of (get_or (length_octets r) 3 0))
     ∙ ap Some (from_be_bytes-to_be_bytes_4 (length r) short)
 
--- a record as it is written, behind a gate that is read as open
+-- a record as it is written, after a gate that is read as open
 pub begins_written : (gate r rest : List ℕ) → length gate ≡ 3 → is_open gate ≡ true → IsShort r → BeginsWith (gate ++ (body r ++ rest)) r rest
 begins_written gate r rest three open_gate short =
     three_octets (λ (g : List ℕ). is_open g ≡ true → BeginsWith (g ++ (body r ++ rest)) r rest)
@@ -115,8 +115,8 @@ begins_written gate r rest three open_gate short =
 pub head_is : (octets r rest : List ℕ) (b : BeginsWith octets r rest) → take 15 octets ≡ b.head
 head_is octets r rest b = ap (λ (l : List ℕ). take 15 l) b.split ∙ take_at b.head (r ++ rest) 15 b.size
 
-pub behind_head : (octets r rest : List ℕ) (b : BeginsWith octets r rest) → drop 15 octets ≡ r ++ rest
-behind_head octets r rest b = ap (λ (l : List ℕ). drop 15 l) b.split ∙ drop_at b.head (r ++ rest) 15 b.size
+pub after_head : (octets r rest : List ℕ) (b : BeginsWith octets r rest) → drop 15 octets ≡ r ++ rest
+after_head octets r rest b = ap (λ (l : List ℕ). drop 15 l) b.split ∙ drop_at b.head (r ++ rest) 15 b.size
 
 pub long_enough : (octets r rest : List ℕ) → BeginsWith octets r rest → 15 + length r ≤ length octets
 long_enough octets r rest b = omega (arith, ap length b.split, length-append b.head (r ++ rest), length-append r rest, b.size)
@@ -135,29 +135,29 @@ begins_more octets r rest more b = record {
 }
 
 -- another open gate changes nothing
-pub begins_regated : (gate other behind r rest : List ℕ) → length gate ≡ 3 → length other ≡ 3 → is_open other ≡ true → BeginsWith (gate ++ behind) r rest → BeginsWith (other ++ behind) r rest
-begins_regated gate other behind r rest three threes open_gate b =
-    let back : behind ≡ drop 3 b.head ++ (r ++ rest) =
-    sym (drop_at gate behind 3 three) ∙ ap (λ (l : List ℕ). drop 3 l) b.split ∙ drop-append-le 3 b.head (r ++ rest) (omega (arith, b.size)) in
+pub begins_regated : (gate other after r rest : List ℕ) → length gate ≡ 3 → length other ≡ 3 → is_open other ≡ true → BeginsWith (gate ++ after) r rest → BeginsWith (other ++ after) r rest
+begins_regated gate other after r rest three threes open_gate b =
+    let back : after ≡ drop 3 b.head ++ (r ++ rest) =
+    sym (drop_at gate after 3 three) ∙ ap (λ (l : List ℕ). drop 3 l) b.split ∙ drop-append-le 3 b.head (r ++ rest) (omega (arith, b.size)) in
     record {
       head = other ++ drop 3 b.head;
       split = ap (λ (l : List ℕ). other ++ l) back ∙ sym (append_assoc other (drop 3 b.head) (r ++ rest));
       size = omega (arith, length-append other (drop 3 b.head), threes, length-drop 3 b.head, b.size);
       gate = open_front other (drop 3 b.head) (omega (arith, threes)) ∙ open_gate;
       says =
-          length_behind (drop 3 b.head) other (take 3 b.head) threes (length-take-le 3 b.head (omega (arith, b.size)))
+          length_after (drop 3 b.head) other (take 3 b.head) threes (length-take-le 3 b.head (omega (arith, b.size)))
           ∙ ap length_in (take-append-drop 3 b.head) ∙ b.says;
     }
 
-pub ends_shut : (gate behind : List ℕ) → length gate ≡ 3 → is_open gate ≡ false → Ends (gate ++ behind)
-ends_shut gate behind three closed = λ r rest b.
-    let nay : true ≡ false = sym (begins_open (gate ++ behind) r rest b) ∙ open_front gate behind (omega (arith, three)) ∙ closed in absurd (cc)
+pub ends_shut : (gate after : List ℕ) → length gate ≡ 3 → is_open gate ≡ false → Ends (gate ++ after)
+ends_shut gate after three closed = λ r rest b.
+    let nay : true ≡ false = sym (begins_open (gate ++ after) r rest b) ∙ open_front gate after (omega (arith, three)) ∙ closed in absurd (cc)
 
 -- too short for a header
 pub ends_short : (end : List ℕ) → length end < 15 → Ends end
 ends_short end lt = λ r rest b. absurd (omega (arith, lt, long_enough end r rest b))
 
--- ---- records one behind the other
+-- ---- records one after the other
 
 pub read_append : (a b : List ℕ) (rs qs : List (List ℕ)) → AreRead a rs → AreRead b qs → AreRead (a ++ b) (rs ++ qs)
 read_append a b [] qs is more = subst (λ (l : List ℕ). AreRead (l ++ b) qs) (sym is) more
@@ -167,15 +167,15 @@ pub read_written : (rs : List (List ℕ)) → All IsShort rs → AreRead (blocks
 read_written [] short = refl
 read_written (r ∷ rs) short = (blocks rs, begins_written (1 ∷ 1 ∷ 1 ∷ []) r (blocks rs) refl refl (All-head IsShort r rs short), read_written rs (All-tail IsShort r rs short))
 
-pub read_push : (front octets behind r rest : List ℕ) (rs : List (List ℕ)) → AreRead front rs → octets ≡ front ++ behind → BeginsWith behind r rest → (more : List ℕ) × (octets ≡ more ++ rest) × AreRead more (rs ++ r ∷ [])
-read_push front octets behind r rest rs read is b = (
+pub read_push : (front octets after r rest : List ℕ) (rs : List (List ℕ)) → AreRead front rs → octets ≡ front ++ after → BeginsWith after r rest → (more : List ℕ) × (octets ≡ more ++ rest) × AreRead more (rs ++ r ∷ [])
+read_push front octets after r rest rs read is b = (
   front ++ (b.head ++ r),
   is ∙ ap (λ (l : List ℕ). front ++ l) (b.split ∙ sym (append_assoc b.head r rest)) ∙ sym (append_assoc front (b.head ++ r) rest),
   read_append front (b.head ++ r) rs (r ∷ []) read ([], record { head = b.head; split = ap (λ (l : List ℕ). b.head ++ l) (sym (append-nil r)); size = b.size; gate = b.gate; says = b.says }, refl),
 )
 
-pub stands_shut : (front gate behind file : List ℕ) (rs : List (List ℕ)) → AreRead front rs → length gate ≡ 3 → is_open gate ≡ false → file ≡ front ++ (gate ++ behind) → Stands file rs
-stands_shut front gate behind file rs read three closed is = record { front = front; end = gate ++ behind; split = is; read = read; no_more = ends_shut gate behind three closed }
+pub stands_shut : (front gate after file : List ℕ) (rs : List (List ℕ)) → AreRead front rs → length gate ≡ 3 → is_open gate ≡ false → file ≡ front ++ (gate ++ after) → Stands file rs
+stands_shut front gate after file rs read three closed is = record { front = front; end = gate ++ after; split = is; read = read; no_more = ends_shut gate after three closed }
 
 -- ---- a file stands for one list of records
 
@@ -187,11 +187,11 @@ same_length octets r q x y a b = some_back (length r) (length q) (sym a.says ∙
 
 same_first : (octets r q x y : List ℕ) → BeginsWith octets r x → BeginsWith octets q y → r ≡ q
 same_first octets r q x y a b =
-    sym (take_at r x (length r) refl) ∙ ap (λ (l : List ℕ). take (length r) l) (sym (behind_head octets r x a) ∙ behind_head octets q y b) ∙ take_at q y (length r) (sym (same_length octets r q x y a b))
+    sym (take_at r x (length r) refl) ∙ ap (λ (l : List ℕ). take (length r) l) (sym (after_head octets r x a) ∙ after_head octets q y b) ∙ take_at q y (length r) (sym (same_length octets r q x y a b))
 
-same_behind : (octets r q x y : List ℕ) → BeginsWith octets r x → BeginsWith octets q y → x ≡ y
-same_behind octets r q x y a b =
-    sym (drop_at r x (length r) refl) ∙ ap (λ (l : List ℕ). drop (length r) l) (sym (behind_head octets r x a) ∙ behind_head octets q y b) ∙ drop_at q y (length r) (sym (same_length octets r q x y a b))
+same_after : (octets r q x y : List ℕ) → BeginsWith octets r x → BeginsWith octets q y → x ≡ y
+same_after octets r q x y a b =
+    sym (drop_at r x (length r) refl) ∙ ap (λ (l : List ℕ). drop (length r) l) (sym (after_head octets r x a) ∙ after_head octets q y b) ∙ drop_at q y (length r) (sym (same_length octets r q x y a b))
 
 begins_here : (file octets r rest more : List ℕ) → file ≡ octets ++ more → BeginsWith octets r rest → BeginsWith file r (rest ++ more)
 begins_here file octets r rest more is b = subst (λ (l : List ℕ). BeginsWith l r (rest ++ more)) (sym is) (begins_more octets r rest more b)
@@ -206,8 +206,8 @@ unique_parts (r ∷ rs) (q ∷ qs) file a b x y here there ra rb ex ey =
     let one = begins_here file a r ra.0 x here ra.1 in
     let other = begins_here file b q rb.0 y there rb.1 in
     let first : r ≡ q = same_first file r q (ra.0 ++ x) (rb.0 ++ y) one other in
-    let behind : ra.0 ++ x ≡ rb.0 ++ y = same_behind file r q (ra.0 ++ x) (rb.0 ++ y) one other in
-    let more : rs ≡ qs = unique_parts rs qs (ra.0 ++ x) ra.0 rb.0 x y refl behind ra.2 rb.2 ex ey in
+    let after : ra.0 ++ x ≡ rb.0 ++ y = same_after file r q (ra.0 ++ x) (rb.0 ++ y) one other in
+    let more : rs ≡ qs = unique_parts rs qs (ra.0 ++ x) ra.0 rb.0 x y refl after ra.2 rb.2 ex ey in
     ap (λ (l : List ℕ). l ∷ rs) first ∙ ap (λ (l : List (List ℕ)). q ∷ l) more
 
 pub unique : (file : List ℕ) (rs qs : List (List ℕ)) → Stands file rs → Stands file qs → rs ≡ qs

@@ -1,4 +1,4 @@
--- What a crash leaves while the gate behind the records is shut.
+-- What a crash leaves while the gate after the records is shut.
 use Rattle.std.proofs.Common.{◌≡◌, inl, inr, ℕ, ◌≤◌, Bool, true, false, IsTrue, List, [], ◌∷◌, ◌++◌, length, take, drop, refl, sym, ◌∙◌, ap, subst, arith, length-append, length-drop, take-append-drop}
 use Rattle.std.proofs.lemmas.List.{take_at, length-take-le}
 use Rattle.std.proofs.lemmas.Bool.{cases_lt}
@@ -6,7 +6,7 @@ use Rattle.sqlite_disk.specs.Disk.{Torn, Holds, Only, Follows}
 use Rattle.fax_spool.specs.Records.{AreRead, BeginsWith, Ends, Stands, is_open, shut}
 use Rattle.fax_spool.specs.Settled.{IsSettled}
 use Rattle.fax_spool.specs.Found.{IsFoundIn, IsFoundOf, items_of}
-use Rattle.fax_spool.specs.declared.file.Found.{Found}
+use Rattle.fax_spool.specs.declared.file.FileContents.{FileContents}
 use Rattle.fax_spool.proofs.Files.{torn_front, held}
 use Rattle.fax_spool.proofs.Headers.{begins_regated, ends_short, open_front, stands_shut, unique}
 use Rattle.fax_spool.proofs.Steps.{gate_left, turned}
@@ -75,7 +75,7 @@ module _ (rs : List (List ℕ)) (front end file : List ℕ) (is : file ≡ front
       ∙ ap (λ (l : List ℕ). front ++ l)
       (sym (take-append-drop 3 (drop (length front) c)) ∙ ap (λ (l : List ℕ). l ++ drop 3 (drop (length front) c)) (held c (length front) (0 ∷ 0 ∷ 0 ∷ []) holds))
 
-module _ (octets : List ℕ) (f : Found) (found : IsFoundIn octets f) where
+module _ (octets : List ℕ) (f : FileContents) (found : IsFoundIn octets f) where
   abbrev split : octets ≡ take f.end octets ++ drop f.end octets
   split = sym (take-append-drop f.end octets)
 
@@ -105,7 +105,7 @@ module _ (octets : List ℕ) (f : Found) (found : IsFoundIn octets f) where
     settled_found disk same closed only usable = record {
       front = take f.end octets;
       gate = take 3 (drop f.end octets);
-      behind = drop 3 (drop f.end octets);
+      after = drop 3 (drop f.end octets);
       file = sym same ∙ split ∙ ap (λ (l : List ℕ). take f.end octets ++ l) (sym (take-append-drop 3 (drop f.end octets)));
       read = found.read;
       place = sym front_length;
@@ -121,7 +121,7 @@ module _ (octets : List ℕ) (f : Found) (found : IsFoundIn octets f) where
     settled_shut file disk same torn holds only usable = record {
       front = take f.end octets;
       gate = shut;
-      behind = drop 3 (drop (length (take f.end octets)) (seen disk));
+      after = drop 3 (drop (length (take f.end octets)) (seen disk));
       file = shut_is (items_of f) (take f.end octets) (drop f.end octets) file (sym same ∙ split) found.read (seen disk)
           (subst (λ (p : ℕ). Torn p 3 file (seen disk)) (sym front_length) torn)
           (subst (λ (p : ℕ). Holds (seen disk) p (0 ∷ 0 ∷ 0 ∷ [])) (sym front_length) holds);

@@ -1,4 +1,4 @@
--- What an opening finds behind a crash.
+-- What an opening finds after a crash.
 use Rattle.std.proofs.Common.{◌≡◌, ◌⊎◌, inl, inr, ℕ, zero, suc, Bool, List, [], ◌++◌, refl, sym, ◌∙◌, ap, subst, append_assoc}
 use Rattle.fax_spool.specs.RecordOctets.{PageValue}
 use Rattle.fax_spool.specs.Waits.{waiting}
@@ -6,31 +6,31 @@ use Rattle.fax_spool.specs.Spools.{Tells, epoch_now, epoch_records}
 use Rattle.fax_spool.specs.Calls.{CrashesLeaveWhatWaits, NewSpoolsTellNone, TellWaits}
 use Rattle.fax_spool.specs.Stopped.{IsLeftByOpening, OpeningsLeaveTheirEpoch, StoppedOpeningsLeaveWhatWaits}
 use Rattle.fax_spool.specs.Opened.{AreBoth, OpeningsFindWhatCrashesLeave, closed, newer_of, older_of}
-use Rattle.fax_spool.specs.declared.kept_record.KeptRecord.{KeptRecord}
+use Rattle.fax_spool.specs.declared.spool_record.SpoolRecord.{SpoolRecord}
 use Rattle.fax_spool.proofs.Doing.{rests_told}
 use Rattle.fax_spool.proofs.Order.{AreFound, are_found, order_begins, order_found}
 use Rattle.fax_spool.proofs.SpoolSteps.{at_rest, waiting_epochs}
 use Rattle.fax_spool.proofs.Told.{tells_one_list}
 
-read_again : (file other : List ℕ) (records found : List KeptRecord) → other ≡ file → Tells file records → Tells other found → found ≡ records
+read_again : (file other : List ℕ) (records found : List SpoolRecord) → other ≡ file → Tells file records → Tells other found → found ≡ records
 read_again file other records found same told read = tells_one_list file found records (subst (λ (l : List ℕ). Tells l found) same read) told
 
 -- the records that are read are those that the files tell
-are_read : (older newer one other : List ℕ) (olds news ones others : List KeptRecord) → AreBoth older newer one other → Tells older olds → Tells newer news → Tells one ones → Tells other others
+are_read : (older newer one other : List ℕ) (olds news ones others : List SpoolRecord) → AreBoth older newer one other → Tells older olds → Tells newer news → Tells one ones → Tells other others
     → ((ones ≡ olds) × (others ≡ news)) ⊎ ((ones ≡ news) × (others ≡ olds))
 are_read older newer one other olds news ones others (inl are) first second read read_other =
     inl (read_again older one olds ones are.0 first read, read_again newer other news others are.1 second read_other)
 are_read older newer one other olds news ones others (inr are) first second read read_other =
     inr (read_again newer one news ones are.0 second read, read_again older other olds others are.1 first read_other)
 
--- behind the records of an epoch the same pages wait
-with_epoch : (olds news : List KeptRecord) (number : ℕ) → waiting (olds ++ (news ++ epoch_records number)) ≡ waiting (olds ++ news)
-with_epoch olds news number = ap (λ (l : List KeptRecord). waiting l) (sym (append_assoc olds news (epoch_records number))) ∙ waiting_epochs [] (olds ++ news) number
+-- after the records of an epoch the same pages wait
+with_epoch : (olds news : List SpoolRecord) (number : ℕ) → waiting (olds ++ (news ++ epoch_records number)) ≡ waiting (olds ++ news)
+with_epoch olds news number = ap (λ (l : List SpoolRecord). waiting l) (sym (append_assoc olds news (epoch_records number))) ∙ waiting_epochs [] (olds ++ news) number
 
 pub openings_find_what_crashes_leave : {D : Type 0} (seen : D → List ℕ) (may_leave : D → List ℕ → Type 0) (is_usable : D → Bool) → OpeningsFindWhatCrashesLeave seen may_leave is_usable
 openings_find_what_crashes_leave seen may_leave is_usable older newer one other pages opened tell both is =
-    let olds : List KeptRecord = older_of is.ones is.others in
-    let news : List KeptRecord = newer_of is.ones is.others in
+    let olds : List SpoolRecord = older_of is.ones is.others in
+    let news : List SpoolRecord = newer_of is.ones is.others in
     let found : AreFound tell.olds tell.news olds news = are_found tell.olds tell.news is.ones is.others
     (are_read older newer one other tell.olds tell.news is.ones is.others both tell.tell.0 tell.tell.1 is.one_tells is.other_tells) tell.in_order in
     let wait : waiting (olds ++ news) ≡ pages = found.wait ∙ tell.wait in (
@@ -55,8 +55,8 @@ new_spools_tell_none older newer first second = record { olds = []; news = []; t
 left_by_one : (older newer one other last_older last_newer : List ℕ) (pages : List PageValue) → TellWaits older newer pages → AreBoth older newer one other → IsLeftByOpening one other last_older last_newer
     → TellWaits last_older last_newer pages
 left_by_one older newer one other last_older last_newer pages tell both is =
-    let olds : List KeptRecord = older_of is.ones is.others in
-    let news : List KeptRecord = newer_of is.ones is.others in
+    let olds : List SpoolRecord = older_of is.ones is.others in
+    let news : List SpoolRecord = newer_of is.ones is.others in
     let found : AreFound tell.olds tell.news olds news = are_found tell.olds tell.news is.ones is.others
     (are_read older newer one other tell.olds tell.news is.ones is.others both tell.tell.0 tell.tell.1 is.one_tells is.other_tells) tell.in_order in
     elim is.left [
@@ -78,8 +78,8 @@ stopped_openings_leave_what_waits (suc times) older newer last_older last_newer 
 
 pub openings_leave_their_epoch : {D : Type 0} (seen : D → List ℕ) (may_leave : D → List ℕ → Type 0) (is_usable : D → Bool) → OpeningsLeaveTheirEpoch seen may_leave is_usable
 openings_leave_their_epoch seen may_leave is_usable one other older newer opened is left =
-    let olds : List KeptRecord = older_of is.ones is.others in
-    let news : List KeptRecord = newer_of is.ones is.others in
+    let olds : List SpoolRecord = older_of is.ones is.others in
+    let news : List SpoolRecord = newer_of is.ones is.others in
     record {
       ones = is.ones;
       others = is.others;

@@ -5,89 +5,89 @@ use Rattle.std.specs.List.{filter}
 use Rattle.fax_spool.specs.Records.{Stands}
 use Rattle.fax_spool.specs.Settled.{IsSettled}
 use Rattle.fax_spool.specs.RecordOctets.{PageValue, EndedValue}
-use Rattle.fax_spool.specs.KeptRecords.{IsReadAs, AreReadAs, kept_of}
-use Rattle.fax_spool.specs.Waits.{PageName, name_of, ends, without, left_of, after, left_behind, waiting_behind, waiting}
-use Rattle.fax_spool.specs.Spools.{epoch_of, epoch_records, greatest_behind, greatest_epoch, raised, Tells, MayLeaveBoth, Keeps, NoneIsLeft, TellBoth}
+use Rattle.fax_spool.specs.SpoolRecords.{IsReadAs, AreReadAs, kept_of}
+use Rattle.fax_spool.specs.Waits.{PageName, name_of, ends, without, left_of, after, left_after, waiting_after, waiting}
+use Rattle.fax_spool.specs.Spools.{epoch_of, epoch_records, greatest_after, greatest_epoch, raised, Tells, MayLeaveBoth, Stores, NoneIsLeft, TellBoth}
 use Rattle.fax_spool.specs.declared.file.RecordFile.{RecordFile}
 use Rattle.fax_spool.specs.declared.spool.Spool.{Spool}
-use Rattle.fax_spool.specs.declared.kept_record.KeptRecord.{KeptRecord}
-use Rattle.fax_spool.specs.declared.kept_record.KeptRecord.TheVariants.{Page, Ended, Epoch, Damaged}
+use Rattle.fax_spool.specs.declared.spool_record.SpoolRecord.{SpoolRecord}
+use Rattle.fax_spool.specs.declared.spool_record.SpoolRecord.TheVariants.{Page, Ended, Epoch, Damaged}
 use Rattle.fax_spool.proofs.Steps.{rests, none_open}
 
-pub read_push : (items : List (List ℕ)) (records : List KeptRecord) (item : List ℕ) (r : KeptRecord) → AreReadAs items records → IsReadAs item r → AreReadAs (items ++ item ∷ []) (records ++ r ∷ [])
+pub read_push : (items : List (List ℕ)) (records : List SpoolRecord) (item : List ℕ) (r : SpoolRecord) → AreReadAs items records → IsReadAs item r → AreReadAs (items ++ item ∷ []) (records ++ r ∷ [])
 read_push [] [] item r are is = (is, tt)
 read_push [] (q ∷ records) item r are is = absurd are
 read_push (i ∷ items) [] item r are is = absurd are
 read_push (i ∷ items) (q ∷ records) item r are is = (are.0, read_push items records item r are.1 is)
 
-read_append : (items more : List (List ℕ)) (records others : List KeptRecord) → AreReadAs items records → AreReadAs more others → AreReadAs (items ++ more) (records ++ others)
-read_append [] more [] others are behind = behind
-read_append [] more (q ∷ records) others are behind = absurd are
-read_append (i ∷ items) more [] others are behind = absurd are
-read_append (i ∷ items) more (q ∷ records) others are behind = (are.0, read_append items more records others are.1 behind)
+read_append : (items more : List (List ℕ)) (records others : List SpoolRecord) → AreReadAs items records → AreReadAs more others → AreReadAs (items ++ more) (records ++ others)
+read_append [] more [] others are after = after
+read_append [] more (q ∷ records) others are after = absurd are
+read_append (i ∷ items) more [] others are after = absurd are
+read_append (i ∷ items) more (q ∷ records) others are after = (are.0, read_append items more records others are.1 after)
 
 -- octets are read alike, wherever they stand
-pub read_through : (item octets : List ℕ) (r : KeptRecord) → item ≡ octets → IsReadAs octets r → IsReadAs item r
+pub read_through : (item octets : List ℕ) (r : SpoolRecord) → item ≡ octets → IsReadAs octets r → IsReadAs item r
 read_through item octets r same is = subst (λ (l : List ℕ). IsReadAs l r) (sym same) is
 
-pub read_all_through : (items octets : List (List ℕ)) (records : List KeptRecord) → items ≡ octets → AreReadAs octets records → AreReadAs items records
+pub read_all_through : (items octets : List (List ℕ)) (records : List SpoolRecord) → items ≡ octets → AreReadAs octets records → AreReadAs items records
 read_all_through items octets records same are = subst (λ (l : List (List ℕ)). AreReadAs l records) (sym same) are
 
 -- pages end none of those before them
-left_pages : (waits : List PageValue) (records : List KeptRecord) (pages : List PageValue) → left_behind waits (records ++ map kept_of pages) ≡ left_behind waits records
+left_pages : (waits : List PageValue) (records : List SpoolRecord) (pages : List PageValue) → left_after waits (records ++ map kept_of pages) ≡ left_after waits records
 left_pages waits [] [] = refl
 left_pages waits [] (p ∷ pages) = left_pages waits [] pages
 left_pages waits (q ∷ records) pages = left_pages (left_of waits q) records pages
 
 -- and each of them waits
-pub waiting_pages : (waits : List PageValue) (records : List KeptRecord) (pages : List PageValue) → waiting_behind waits (records ++ map kept_of pages) ≡ waiting_behind waits records ++ pages
+pub waiting_pages : (waits : List PageValue) (records : List SpoolRecord) (pages : List PageValue) → waiting_after waits (records ++ map kept_of pages) ≡ waiting_after waits records ++ pages
 waiting_pages waits [] [] = sym (append-nil waits)
 waiting_pages waits [] (p ∷ pages) = waiting_pages (waits ++ p ∷ []) [] pages ∙ append_assoc waits (p ∷ []) pages
 waiting_pages waits (q ∷ records) pages = waiting_pages (after waits q) records pages
 
-greatest_pages : (records : List KeptRecord) (pages : List PageValue) (most : ℕ) → greatest_behind most (records ++ map kept_of pages) ≡ greatest_behind most records
+greatest_pages : (records : List SpoolRecord) (pages : List PageValue) (most : ℕ) → greatest_after most (records ++ map kept_of pages) ≡ greatest_after most records
 greatest_pages [] [] most = refl
 greatest_pages [] (p ∷ pages) most = greatest_pages [] pages most
 greatest_pages (r ∷ records) pages most = greatest_pages records pages (raised most r)
 
-greatest_push : (records : List KeptRecord) (r : KeptRecord) (most : ℕ) → greatest_behind most (records ++ r ∷ []) ≡ raised (greatest_behind most records) r
+greatest_push : (records : List SpoolRecord) (r : SpoolRecord) (most : ℕ) → greatest_after most (records ++ r ∷ []) ≡ raised (greatest_after most records) r
 greatest_push [] r most = refl
 greatest_push (q ∷ records) r most = greatest_push records r (raised most q)
 
-greatest_epochs : (records : List KeptRecord) (number most : ℕ) → greatest_behind most (records ++ epoch_records number) ≡ max (max (greatest_behind most records) number) number
+greatest_epochs : (records : List SpoolRecord) (number most : ℕ) → greatest_after most (records ++ epoch_records number) ≡ max (max (greatest_after most records) number) number
 greatest_epochs [] number most = refl
 greatest_epochs (r ∷ records) number most = greatest_epochs records number (raised most r)
 
 -- the records of an epoch end no page, and no page waits by them
-left_epochs : (pages : List PageValue) (records : List KeptRecord) (number : ℕ) → left_behind pages (records ++ epoch_records number) ≡ left_behind pages records
+left_epochs : (pages : List PageValue) (records : List SpoolRecord) (number : ℕ) → left_after pages (records ++ epoch_records number) ≡ left_after pages records
 left_epochs pages [] number = refl
 left_epochs pages (r ∷ records) number = left_epochs (left_of pages r) records number
 
-pub waiting_epochs : (pages : List PageValue) (records : List KeptRecord) (number : ℕ) → waiting_behind pages (records ++ epoch_records number) ≡ waiting_behind pages records
+pub waiting_epochs : (pages : List PageValue) (records : List SpoolRecord) (number : ℕ) → waiting_after pages (records ++ epoch_records number) ≡ waiting_after pages records
 waiting_epochs pages [] number = refl
 waiting_epochs pages (r ∷ records) number = waiting_epochs (after pages r) records number
 
-pub read_none : (records : List KeptRecord) → AreReadAs [] records → records ≡ []
+pub read_none : (records : List SpoolRecord) → AreReadAs [] records → records ≡ []
 read_none [] are = refl
 read_none (r ∷ records) are = absurd are
 
-pub left_push : (pages : List PageValue) (records : List KeptRecord) (r : KeptRecord) → left_behind pages (records ++ r ∷ []) ≡ left_of (left_behind pages records) r
+pub left_push : (pages : List PageValue) (records : List SpoolRecord) (r : SpoolRecord) → left_after pages (records ++ r ∷ []) ≡ left_of (left_after pages records) r
 left_push pages [] r = refl
 left_push pages (q ∷ records) r = left_push (left_of pages q) records r
 
-pub waiting_push : (pages : List PageValue) (records : List KeptRecord) (r : KeptRecord) → waiting_behind pages (records ++ r ∷ []) ≡ after (waiting_behind pages records) r
+pub waiting_push : (pages : List PageValue) (records : List SpoolRecord) (r : SpoolRecord) → waiting_after pages (records ++ r ∷ []) ≡ after (waiting_after pages records) r
 waiting_push pages [] r = refl
 waiting_push pages (q ∷ records) r = waiting_push (after pages q) records r
 
-none_left_of : (r : KeptRecord) → left_of [] r ≡ []
+none_left_of : (r : SpoolRecord) → left_of [] r ≡ []
 none_left_of (Page page) = refl
 none_left_of (Ended ended) = refl
 none_left_of (Epoch number) = refl
 none_left_of Damaged = refl
 
-pub none_left : (records : List KeptRecord) → left_behind [] records ≡ []
+pub none_left : (records : List SpoolRecord) → left_after [] records ≡ []
 none_left [] = refl
-none_left (r ∷ records) = ap (λ (l : List PageValue). left_behind l records) (none_left_of r) ∙ none_left records
+none_left (r ∷ records) = ap (λ (l : List PageValue). left_after l records) (none_left_of r) ∙ none_left records
 
 names_without : (e : EndedValue) (pages : List PageValue) → map name_of (without e pages) ≡ filter (λ (n : PageName). not (ends e n)) (map name_of pages)
 names_without e [] = refl
@@ -105,35 +105,35 @@ pub no_names : (pages : List PageValue) → map name_of pages ≡ [] → pages �
 no_names [] none = refl
 no_names (p ∷ pages) none = cc none
 
-epoch_push : (records : List KeptRecord) (r : KeptRecord) (most : ℕ) → greatest_epoch records ≤ most → greatest_epoch (r ∷ []) ≤ most → greatest_epoch (records ++ r ∷ []) ≤ most
+epoch_push : (records : List SpoolRecord) (r : SpoolRecord) (most : ℕ) → greatest_epoch records ≤ most → greatest_epoch (r ∷ []) ≤ most → greatest_epoch (records ++ r ∷ []) ≤ most
 epoch_push records (Page page) most was is = omega (arith, greatest_push records (Page page) 0, was)
 epoch_push records (Ended ended) most was is = omega (arith, greatest_push records (Ended ended) 0, was)
 epoch_push records (Epoch number) most was is = omega (arith, greatest_push records (Epoch number) 0, was, is)
 epoch_push records Damaged most was is = omega (arith, greatest_push records Damaged 0, was)
 
-grows : (most : ℕ) (records : List KeptRecord) → most ≤ greatest_behind most records
+grows : (most : ℕ) (records : List SpoolRecord) → most ≤ greatest_after most records
 grows most [] = omega arith
 grows most (Page page ∷ records) = grows most records
 grows most (Ended ended ∷ records) = grows most records
 grows most (Epoch number ∷ records) = omega (arith, grows (max most number) records)
 grows most (Damaged ∷ records) = grows most records
 
-within_behind : (most : ℕ) (records : List KeptRecord) → epoch_of records ≤ greatest_behind most records
-within_behind most [] = omega arith
-within_behind most (Page page ∷ records) = within_behind most records
-within_behind most (Ended ended ∷ records) = within_behind most records
-within_behind most (Epoch number ∷ records) = omega (arith, grows (max most number) records)
-within_behind most (Damaged ∷ records) = within_behind most records
+within_after : (most : ℕ) (records : List SpoolRecord) → epoch_of records ≤ greatest_after most records
+within_after most [] = omega arith
+within_after most (Page page ∷ records) = within_after most records
+within_after most (Ended ended ∷ records) = within_after most records
+within_after most (Epoch number ∷ records) = omega (arith, grows (max most number) records)
+within_after most (Damaged ∷ records) = within_after most records
 
-pub first_within : (records : List KeptRecord) → epoch_of records ≤ greatest_epoch records
-first_within records = within_behind 0 records
+pub first_within : (records : List SpoolRecord) → epoch_of records ≤ greatest_epoch records
+first_within records = within_after 0 records
 
 -- two files that were recovered
-pub begun : {D : Type 0} (seen : D → List ℕ) (may_leave : D → List ℕ → Type 0) (is_usable : D → Bool) (spool : Spool D) (olds news : List KeptRecord) (older_items newer_items : List (List ℕ))
+pub begun : {D : Type 0} (seen : D → List ℕ) (may_leave : D → List ℕ → Type 0) (is_usable : D → Bool) (spool : Spool D) (olds news : List SpoolRecord) (older_items newer_items : List (List ℕ))
     → IsSettled seen may_leave is_usable spool.older.disk spool.older.end older_items → AreReadAs older_items olds
     → IsSettled seen may_leave is_usable spool.newer.disk spool.newer.end newer_items → AreReadAs newer_items news
-    → spool.older_pages.items ≡ map name_of (left_behind (waiting olds) news) → spool.newer_pages.items ≡ map name_of (waiting news)
-    → greatest_epoch news ≤ spool.epoch → Keeps seen may_leave is_usable spool olds news
+    → spool.older_pages.items ≡ map name_of (left_after (waiting olds) news) → spool.newer_pages.items ≡ map name_of (waiting news)
+    → greatest_epoch news ≤ spool.epoch → Stores seen may_leave is_usable spool olds news
 begun seen may_leave is_usable spool olds news older_items newer_items older olds_read newer news_read older_names newer_names most = record {
   older_items = older_items;
   newer_items = newer_items;
@@ -146,7 +146,7 @@ begun seen may_leave is_usable spool olds news older_items newer_items older old
   epoch = most;
 }
 
-module _ {D : Type 0} (seen : D → List ℕ) (may_leave : D → List ℕ → Type 0) (is_usable : D → Bool) (old new : Spool D) (olds news : List KeptRecord) (k : Keeps seen may_leave is_usable old olds news) where
+module _ {D : Type 0} (seen : D → List ℕ) (may_leave : D → List ℕ → Type 0) (is_usable : D → Bool) (old new : Spool D) (olds news : List SpoolRecord) (k : Stores seen may_leave is_usable old olds news) where
   older_tells : (c : List ℕ) → may_leave old.older.disk c → Tells c olds
   older_tells c left = record { items = k.older_items; stands = rests _ _ _ _ _ _ k.older c left; read = k.older_read }
 
@@ -158,11 +158,11 @@ module _ {D : Type 0} (seen : D → List ℕ) (may_leave : D → List ℕ → Ty
   at_rest older newer left = (older_tells older left.0, newer_tells newer left.1)
 
   -- one more record
-  pub keeps_more : (item : List ℕ) (r : KeptRecord) → IsReadAs item r → new.older ≡ old.older
+  pub keeps_more : (item : List ℕ) (r : SpoolRecord) → IsReadAs item r → new.older ≡ old.older
       → IsSettled seen may_leave is_usable new.newer.disk new.newer.end (k.newer_items ++ item ∷ [])
-      → new.older_pages.items ≡ map name_of (left_of (left_behind (waiting olds) news) r)
+      → new.older_pages.items ≡ map name_of (left_of (left_after (waiting olds) news) r)
       → new.newer_pages.items ≡ map name_of (after (waiting news) r)
-      → old.epoch ≤ new.epoch → greatest_epoch (r ∷ []) ≤ new.epoch → Keeps seen may_leave is_usable new olds (news ++ r ∷ [])
+      → old.epoch ≤ new.epoch → greatest_epoch (r ∷ []) ≤ new.epoch → Stores seen may_leave is_usable new olds (news ++ r ∷ [])
   keeps_more item r is same settled older newer grows epoch = record {
     older_items = k.older_items;
     newer_items = k.newer_items ++ item ∷ [];
@@ -175,7 +175,7 @@ module _ {D : Type 0} (seen : D → List ℕ) (may_leave : D → List ℕ → Ty
     epoch = epoch_push news r new.epoch (omega (arith, k.epoch, grows)) epoch;
   }
 
-  pub leaves_more : (item : List ℕ) (r : KeptRecord) → IsReadAs item r → new.older ≡ old.older
+  pub leaves_more : (item : List ℕ) (r : SpoolRecord) → IsReadAs item r → new.older ≡ old.older
       → ((rs : List (List ℕ)) → IsSettled seen may_leave is_usable old.newer.disk old.newer.end rs → (c : List ℕ) → may_leave new.newer.disk c → Stands c rs ⊎ Stands c (rs ++ item ∷ []))
       → (older newer : List ℕ) → MayLeaveBoth may_leave new older newer → TellBoth older newer olds news ⊎ TellBoth older newer olds (news ++ r ∷ [])
   leaves_more item r is same crash older newer left =
@@ -185,11 +185,11 @@ module _ {D : Type 0} (seen : D → List ℕ) (may_leave : D → List ℕ → Ty
         | inr stands ↦ inr (first, record { items = k.newer_items ++ item ∷ []; stands = stands; read = read_push k.newer_items news item r k.newer_read is })
       ]
 
-  -- the records of pages, one behind the other
+  -- the records of pages, one after the other
   pub keeps_pages : (items : List (List ℕ)) (pages : List PageValue) → AreReadAs items (map kept_of pages) → new.older ≡ old.older
       → IsSettled seen may_leave is_usable new.newer.disk new.newer.end (k.newer_items ++ items)
       → new.older_pages.items ≡ old.older_pages.items → new.newer_pages.items ≡ old.newer_pages.items ++ map name_of pages → new.epoch ≡ old.epoch
-      → Keeps seen may_leave is_usable new olds (news ++ map kept_of pages)
+      → Stores seen may_leave is_usable new olds (news ++ map kept_of pages)
   keeps_pages items pages are same settled older newer epoch = record {
     older_items = k.older_items;
     newer_items = k.newer_items ++ items;
@@ -216,7 +216,7 @@ module _ {D : Type 0} (seen : D → List ℕ) (may_leave : D → List ℕ → Ty
   pub keeps_epochs : (items : List (List ℕ)) (number : ℕ) → AreReadAs items (epoch_records number) → new.older ≡ old.older
       → IsSettled seen may_leave is_usable new.newer.disk new.newer.end (k.newer_items ++ items)
       → new.older_pages.items ≡ old.older_pages.items → new.newer_pages.items ≡ old.newer_pages.items → old.epoch ≤ new.epoch → number ≤ new.epoch
-      → Keeps seen may_leave is_usable new olds (news ++ epoch_records number)
+      → Stores seen may_leave is_usable new olds (news ++ epoch_records number)
   keeps_epochs items number are same settled older newer grow epoch = record {
     older_items = k.older_items;
     newer_items = k.newer_items ++ items;
@@ -231,10 +231,10 @@ module _ {D : Type 0} (seen : D → List ℕ) (may_leave : D → List ℕ → Ty
 
   -- no page of the older file waits
   pub none_waits : old.older_pages.items ≡ [] → NoneIsLeft olds news
-  none_waits none = no_names (left_behind (waiting olds) news) (sym k.older_waits ∙ none)
+  none_waits none = no_names (left_after (waiting olds) news) (sym k.older_waits ∙ none)
 
   pub keeps_cleared : IsSettled seen may_leave is_usable new.older.disk new.older.end [] → new.newer ≡ old.newer → new.older_pages.items ≡ [] → new.newer_pages.items ≡ old.newer_pages.items → new.epoch ≡ old.epoch
-      → Keeps seen may_leave is_usable new [] news
+      → Stores seen may_leave is_usable new [] news
   keeps_cleared settled same none names epoch = record {
     older_items = [];
     newer_items = k.newer_items;
@@ -268,7 +268,7 @@ module _ {D : Type 0} (seen : D → List ℕ) (may_leave : D → List ℕ → Ty
   pub keeps_changed : old.older.end ≡ 0 → (items : List (List ℕ)) (number : ℕ) → AreReadAs items (epoch_records number) → new.older ≡ old.newer
       → ((rs : List (List ℕ)) → IsSettled seen may_leave is_usable old.older.disk old.older.end rs → IsSettled seen may_leave is_usable new.newer.disk new.newer.end (rs ++ items))
       → new.older_pages.items ≡ old.newer_pages.items → new.newer_pages.items ≡ old.older_pages.items → number ≤ new.epoch
-      → Keeps seen may_leave is_usable new news (epoch_records number)
+      → Stores seen may_leave is_usable new news (epoch_records number)
   keeps_changed empty items number are same settled older newer epoch = record {
     older_items = k.newer_items;
     newer_items = items;
@@ -277,7 +277,7 @@ module _ {D : Type 0} (seen : D → List ℕ) (may_leave : D → List ℕ → Ty
     older_read = k.newer_read;
     newer_read = are;
     older_waits = older ∙ k.newer_waits;
-    newer_waits = newer ∙ k.older_waits ∙ ap (λ (l : List KeptRecord). map name_of (left_behind (waiting l) news)) (none_told empty) ∙ ap (λ (l : List PageValue). map name_of l) (none_left news);
+    newer_waits = newer ∙ k.older_waits ∙ ap (λ (l : List SpoolRecord). map name_of (left_after (waiting l) news)) (none_told empty) ∙ ap (λ (l : List PageValue). map name_of l) (none_left news);
     epoch = omega (arith, epoch);
   }
 

@@ -10,13 +10,13 @@ use Rattle.fax_jobs.specs.declared.outcome.Outcome.{Outcome}
 use Rattle.fax_jobs.specs.declared.outcome.Outcome.TheVariants.{Delivered, NotReceiver, WidthLacking, FineLacking, RatesSpent, NoAnswer, NoReply, PageRefused, HungUp, NotPlaced}
 use Rattle.fax_jobs.specs.Outcomes.{outcome_number}
 use Rattle.fax_spool.specs.RecordOctets.{PageValue, EndedValue, PageFits, EndFits, page_octets, ended_octets, epoch_octets, short_octets, width_octet, flag_octet}
-use Rattle.fax_spool.specs.KeptRecords.{IsReadAs, AreReadAs}
+use Rattle.fax_spool.specs.SpoolRecords.{IsReadAs, AreReadAs}
 use Rattle.fax_spool.specs.Spools.{TellsOneList}
-use Rattle.fax_spool.specs.declared.kept_record.KeptRecord.{KeptRecord}
-use Rattle.fax_spool.specs.declared.kept_record.KeptRecord.TheVariants.{Page, Ended, Epoch, Damaged}
+use Rattle.fax_spool.specs.declared.spool_record.SpoolRecord.{SpoolRecord}
+use Rattle.fax_spool.specs.declared.spool_record.SpoolRecord.TheVariants.{Page, Ended, Epoch, Damaged}
 use Rattle.fax_spool.proofs.Digests.{seals_are_one}
 use Rattle.fax_spool.proofs.Headers.{unique}
-use Rattle.fax_spool.proofs.Shorts.{behind_short}
+use Rattle.fax_spool.proofs.Shorts.{after_short}
 
 -- ---- one field
 
@@ -66,7 +66,7 @@ built_format w v a b ws bs = cc
 same_format : (f g : Format) → width_octet f.width ≡ width_octet g.width → flag_octet f.fine ≡ flag_octet g.fine → f ≡ g
 same_format f g width fine = built_format f.width g.width f.fine g.fine (same_width f.width g.width width) (same_flag f.fine g.fine fine)
 
--- a name behind its length
+-- a name after its length
 same_short : (a b x y : List ℕ) → short_octets a ++ x ≡ short_octets b ++ y → a ≡ b
 same_short a b x y same =
     sym (take_at a x (length a) refl)
@@ -97,15 +97,15 @@ same_page p q fp fq same =
     let part : (n m : ℕ) → take m (drop n (page_octets p)) ≡ take m (drop n (page_octets q)) = λ n m. ap (λ (l : List ℕ). take m (drop n l)) same in
     let octet : (n : ℕ) → get_or (page_octets p) n 0 ≡ get_or (page_octets q) n 0 = λ n. ap (λ (l : List ℕ). get_or l n 0) same in
     let texts : short_octets p.line ++ (short_octets p.tag ++ p.text) ≡ short_octets q.line ++ (short_octets q.tag ++ q.text) = ap (λ (l : List ℕ). drop 16 l) same in
-    let behind : short_octets p.tag ++ p.text ≡ short_octets q.tag ++ q.text = behind_short p.line q.line _ _ texts in
+    let after : short_octets p.tag ++ p.text ≡ short_octets q.tag ++ q.text = after_short p.line q.line _ _ texts in
     let life : p.life ≡ q.life = number_back p.life q.life fp.life fq.life (part 1 4) in
     let call : p.call ≡ q.call = number_back p.call q.call fp.call fq.call (part 5 4) in
     let number : p.number ≡ q.number = number_back p.number q.number fp.number fq.number (part 9 4) in
     let format : p.format ≡ q.format = same_format p.format q.format (octet 13) (octet 14) in
     let closes : p.closes ≡ q.closes = same_flag p.closes q.closes (octet 15) in
     let line : p.line ≡ q.line = same_short p.line q.line _ _ texts in
-    let tag : p.tag ≡ q.tag = same_short p.tag q.tag _ _ behind in
-    let text : p.text ≡ q.text = behind_short p.tag q.tag p.text q.text behind in
+    let tag : p.tag ≡ q.tag = same_short p.tag q.tag _ _ after in
+    let text : p.text ≡ q.text = after_short p.tag q.tag p.text q.text after in
     built_page p q life call number format closes line tag text
 
 same_end : (e f : EndedValue) → EndFits e → EndFits f → ended_octets e ≡ ended_octets f → e ≡ f
@@ -126,7 +126,7 @@ same_end e f fe ff same =
 kinds : (a b : List ℕ) → a ≡ b → get_or a 0 0 ≡ get_or b 0 0
 kinds a b same = ap (λ (l : List ℕ). get_or l 0 0) same
 
-one_reading : (octets : List ℕ) (a b : KeptRecord) → IsReadAs octets a → IsReadAs octets b → a ≡ b
+one_reading : (octets : List ℕ) (a b : SpoolRecord) → IsReadAs octets a → IsReadAs octets b → a ≡ b
 one_reading octets (Page p) (Page q) a b = ap Page (same_page p q a.1 b.1 (seals_are_one _ _ (sym a.0 ∙ b.0)))
 one_reading octets (Page p) (Ended e) a b = absurd (omega (arith, kinds _ _ (seals_are_one (page_octets p) (ended_octets e) (sym a.0 ∙ b.0))))
 one_reading octets (Page p) (Epoch n) a b = absurd (omega (arith, kinds _ _ (seals_are_one (page_octets p) (epoch_octets n) (sym a.0 ∙ b.0))))
@@ -147,14 +147,14 @@ one_reading octets Damaged Damaged a b = refl
 
 -- ---- all of them
 
-one_list : (items : List (List ℕ)) (records others : List KeptRecord) → AreReadAs items records → AreReadAs items others → records ≡ others
+one_list : (items : List (List ℕ)) (records others : List SpoolRecord) → AreReadAs items records → AreReadAs items others → records ≡ others
 one_list [] [] [] a b = refl
 one_list [] [] (s ∷ others) a b = absurd b
 one_list [] (r ∷ records) others a b = absurd a
 one_list (i ∷ items) [] others a b = absurd a
 one_list (i ∷ items) (r ∷ records) [] a b = absurd b
 one_list (i ∷ items) (r ∷ records) (s ∷ others) a b =
-    ap (λ (l : KeptRecord). l ∷ records) (one_reading i r s a.0 b.0) ∙ ap (λ (l : List KeptRecord). s ∷ l) (one_list items records others a.1 b.1)
+    ap (λ (l : SpoolRecord). l ∷ records) (one_reading i r s a.0 b.0) ∙ ap (λ (l : List SpoolRecord). s ∷ l) (one_list items records others a.1 b.1)
 
 pub tells_one_list : TellsOneList
 tells_one_list file records others a b =

@@ -21,10 +21,10 @@ stands_more file r rest rs b s = record {
   no_more = s.no_more;
 }
 
-written_stands : (rs : List (List ℕ)) (behind : List ℕ) → All IsShort rs → Stands (blocks rs ++ (shut ++ behind)) rs
-written_stands rs behind short = record { front = blocks rs; end = shut ++ behind; split = refl; read = read_written rs short; no_more = ends_shut shut behind refl refl }
+written_stands : (rs : List (List ℕ)) (after : List ℕ) → All IsShort rs → Stands (blocks rs ++ (shut ++ after)) rs
+written_stands rs after short = record { front = blocks rs; end = shut ++ after; split = refl; read = read_written rs short; no_more = ends_shut shut after refl refl }
 
--- ---- the header of the first record, and what stands behind it
+-- ---- the header of the first record, and what stands after it
 
 module _ (r tail whole file : List ℕ) (place : ℕ) (is : whole ≡ block r ++ tail) (short : IsShort r) (turned : IsTurned place whole file) where
   n : ℕ
@@ -77,17 +77,17 @@ module _ (r tail whole file : List ℕ) (place : ℕ) (is : whole ≡ block r ++
   tail_length : length (drop (15 + length r) file) ≡ length tail
   tail_length = omega (arith, long, length-drop (15 + length r) file)
 
-  behind_octet : (k : ℕ) → (15 + length r + k ≡ place → ⊥) → get_or (drop (15 + length r) file) k 0 ≡ get_or tail k 0
-  behind_octet k nay =
+  after_octet : (k : ℕ) → (15 + length r + k ≡ place → ⊥) → get_or (drop (15 + length r) file) k 0 ≡ get_or tail k 0
+  after_octet k nay =
       get_or-drop (15 + length r) file k 0 ∙ turned.others (15 + length r + k) nay ∙ sym (get_or-drop (15 + length r) whole k 0) ∙ ap (λ (l : List ℕ). get_or l k 0) dropped
 
   -- it was one of the first record
   pub tail_stays : place < 15 + length r → drop (15 + length r) file ≡ tail
-  tail_stays lt = same_number_lists (drop (15 + length r) file) tail tail_length (λ k inside. behind_octet k (λ e. omega (arith, lt, e)))
+  tail_stays lt = same_number_lists (drop (15 + length r) file) tail tail_length (λ k inside. after_octet k (λ e. omega (arith, lt, e)))
 
-  -- or one behind it
+  -- or one after it
   pub tail_turned : 15 + length r ≤ place → IsTurned (place - (15 + length r)) tail (drop (15 + length r) file)
-  tail_turned le = record { size = tail_length; others = λ i nay. behind_octet i (λ e. nay (omega (arith, le, e))) }
+  tail_turned le = record { size = tail_length; others = λ i nay. after_octet i (λ e. nay (omega (arith, le, e))) }
 
   record_octet : (k : ℕ) → k < length r → 15 + length r ≤ place → get_or (drop 15 file) k 0 ≡ get_or r k 0
   record_octet k lt le =
@@ -102,30 +102,30 @@ module _ (r tail whole file : List ℕ) (place : ℕ) (is : whole ≡ block r ++
 
 -- ---- all of them
 
-still_ends : (behind file : List ℕ) (place : ℕ) → IsTurned place (shut ++ behind) file → Ends file
-still_ends behind file place turned = λ r rest b.
+still_ends : (after file : List ℕ) (place : ℕ) → IsTurned place (shut ++ after) file → Ends file
+still_ends after file place turned = λ r rest b.
     let closed : is_open file ≡ false = ap says_open (vote_stays file place 0 1 2 0 (omega arith) (omega arith) (turned.others 0) (turned.others 1) (turned.others 2)) in
     let nay : true ≡ false = sym (begins_open file r rest b) ∙ closed in absurd (cc)
 
 pub one_turned_octet : OneTurnedOctet
-one_turned_octet [] behind file place short turned =
-    ([], record { front = []; end = file; split = refl; read = refl; no_more = still_ends behind file place turned }, tt)
-one_turned_octet (r ∷ rs) behind file place short turned =
-    let tail = blocks rs ++ (shut ++ behind) in
-    let whole = blocks (r ∷ rs) ++ (shut ++ behind) in
-    let is : whole ≡ block r ++ tail = append_assoc (block r) (blocks rs) (shut ++ behind) in
+one_turned_octet [] after file place short turned =
+    ([], record { front = []; end = file; split = refl; read = refl; no_more = still_ends after file place turned }, tt)
+one_turned_octet (r ∷ rs) after file place short turned =
+    let tail = blocks rs ++ (shut ++ after) in
+    let whole = blocks (r ∷ rs) ++ (shut ++ after) in
+    let is : whole ≡ block r ++ tail = append_assoc (block r) (blocks rs) (shut ++ after) in
     let first = All-head IsShort r rs short in
     let others = All-tail IsShort r rs short in
     elim (cases_lt place (15 + length r)) [
       | inl here ↦ (
         take (length r) (drop 15 file) ∷ rs,
         stands_more file (take (length r) (drop 15 file)) (drop (15 + length r) file) rs (still_begins r tail whole file place is first turned)
-            (subst (λ (l : List ℕ). Stands l rs) (sym (tail_stays r tail whole file place is first turned here)) (written_stands rs behind others)),
+            (subst (λ (l : List ℕ). Stands l rs) (sym (tail_stays r tail whole file place is first turned here)) (written_stands rs after others)),
         (same_size r tail whole file place is first turned, inr refl),
       )
       | inr there ↦
           let le : 15 + length r ≤ place = omega (arith, there) in
-          let more = one_turned_octet rs behind (drop (15 + length r) file) (place - (15 + length r)) others (tail_turned r tail whole file place is first turned le) in (
+          let more = one_turned_octet rs after (drop (15 + length r) file) (place - (15 + length r)) others (tail_turned r tail whole file place is first turned le) in (
             r ∷ more.0,
             stands_more file r (drop (15 + length r) file) more.0
                 (subst (λ (l : List ℕ). BeginsWith file l (drop (15 + length r) file)) (record_stays r tail whole file place is first turned le) (still_begins r tail whole file place is first turned)) more.1,

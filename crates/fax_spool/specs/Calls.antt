@@ -1,10 +1,10 @@
--- What the calls of a spool make of the pages that wait, by their answers, and what is there behind many of them. Lists of calls
+-- What the calls of a spool make of the pages that wait, by their answers, and what is there after many of them. Lists of calls
 -- have the newest first. (This project's profile.)
 use Rattle.std.specs.Prelude.{◌≡◌, ◌⊎◌, ℕ, Bool, true, false, List, [], ◌∷◌, ◌++◌, if◌then◌else◌}
 use Rattle.fax_spool.specs.RecordOctets.{PageValue, EndedValue}
 use Rattle.fax_spool.specs.Waits.{waiting, without}
-use Rattle.fax_spool.specs.Spools.{AreInOrder, IsOrderFound, Keeps, MayLeaveBoth, TellBoth, Tells, files_of}
-use Rattle.fax_spool.specs.declared.kept_record.KeptRecord.{KeptRecord}
+use Rattle.fax_spool.specs.Spools.{AreInOrder, IsOrderFound, MayLeaveBoth, Stores, TellBoth, Tells, files_of}
+use Rattle.fax_spool.specs.declared.spool_record.SpoolRecord.{SpoolRecord}
 use Rattle.fax_spool.specs.declared.spool.Spool.{Spool}
 
 -- whether a call of the disk has failed: then the spool refuses everything, until it is opened again
@@ -19,16 +19,16 @@ Accepts spool = refuses_now spool ≡ false
 
 -- these pages wait in a spool between two calls, whatever crash follows; and its files are in order
 pub record Rests {D : Type 0} (seen : D → List ℕ) (may_leave : D → List ℕ → Type 0) (is_usable : D → Bool) (spool : Spool D) (pages : List PageValue) : Type 0 where
-  pub olds : List KeptRecord
-  pub news : List KeptRecord
-  pub kept : Keeps seen may_leave is_usable spool olds news
+  pub olds : List SpoolRecord
+  pub news : List SpoolRecord
+  pub kept : Stores seen may_leave is_usable spool olds news
   pub in_order : AreInOrder olds news
   pub wait : waiting (olds ++ news) ≡ pages
 
 -- two files tell that these pages wait, and which of them is the older one
 pub record TellWaits (older newer : List ℕ) (pages : List PageValue) : Type 0 where
-  pub olds : List KeptRecord
-  pub news : List KeptRecord
+  pub olds : List SpoolRecord
+  pub news : List SpoolRecord
   pub tell : TellBoth older newer olds news
   pub in_order : IsOrderFound olds news
   pub wait : waiting (olds ++ news) ≡ pages
@@ -55,7 +55,7 @@ pub data Call : Type 0 where
   -- the older file is cleared, or taken into use
   Turns : Call
 
--- which pages wait behind a call, where these waited before it
+-- which pages wait after a call, where these waited before it
 abbrev pub done_by : Call → List PageValue → List PageValue
 done_by (Puts pages) waits = waits ++ pages
 done_by (Ends ended) waits = without ended waits
@@ -68,7 +68,7 @@ DoneOrNot call waits told = (told ≡ waits) ⊎ (told ≡ done_by call waits)
 -- nothing has changed: its files are as they were, and it keeps what it kept
 pub record IsAsBefore {D : Type 0} (seen : D → List ℕ) (may_leave : D → List ℕ → Type 0) (is_usable : D → Bool) (old new : Spool D) : Type 0 where
   pub files : files_of new ≡ files_of old
-  pub keeps : (olds news : List KeptRecord) → Keeps seen may_leave is_usable old olds news → Keeps seen may_leave is_usable new olds news
+  pub keeps : (olds news : List SpoolRecord) → Stores seen may_leave is_usable old olds news → Stores seen may_leave is_usable new olds news
   pub refuses : refuses_now new ≡ refuses_now old
 
 -- WHAT A CALL DOES: at an `Ok` it is done, whatever crash follows. At an `Err` each crash leaves it done or not, and the spool
@@ -81,33 +81,33 @@ pub record Does {D : Type 0} (seen : D → List ℕ) (may_leave : D → List ℕ
 
 -- ---- many calls
 
-pub record Answered : Type 0 where
+pub record AnsweredCall : Type 0 where
   pub call : Call
   pub is_ok : Bool
 
 -- these calls were made, one after another
-abbrev pub WereMade : {D : Type 0} → (D → List ℕ) → (D → List ℕ → Type 0) → (D → Bool) → List Answered → Spool D → Spool D → Type 0
+abbrev pub WereMade : {D : Type 0} → (D → List ℕ) → (D → List ℕ → Type 0) → (D → Bool) → List AnsweredCall → Spool D → Spool D → Type 0
 WereMade seen may_leave is_usable [] first last = last ≡ first
 WereMade {D} seen may_leave is_usable (made ∷ earlier) first last =
     (between : Spool D) × WereMade seen may_leave is_usable earlier first between × Does seen may_leave is_usable made.call made.is_ok between last
 
 -- which pages wait by those of them that answered `Ok`
-abbrev pub done_by_all : List Answered → List PageValue → List PageValue
+abbrev pub done_by_all : List AnsweredCall → List PageValue → List PageValue
 done_by_all [] waits = waits
 done_by_all (made ∷ earlier) waits = if made.is_ok then done_by made.call (done_by_all earlier waits) else done_by_all earlier waits
 
 -- one of them was this call, which answered an `Err`
-abbrev pub HasFailed : Call → List Answered → Type 0
+abbrev pub HasFailed : Call → List AnsweredCall → Type 0
 HasFailed call [] = ⊥
 HasFailed call (made ∷ earlier) = (made ≡ record { call = call; is_ok = false }) ⊎ HasFailed call earlier
 
 -- what the calls that answered `Ok` have done, and one of the others or none
-abbrev pub DoneButOne : List Answered → List PageValue → List PageValue → Type 0
+abbrev pub DoneButOne : List AnsweredCall → List PageValue → List PageValue → Type 0
 DoneButOne calls waits told = (told ≡ done_by_all calls waits) ⊎ ((call : Call) × HasFailed call calls × (told ≡ done_by call (done_by_all calls waits)))
 
 -- ONE CALL AT MOST IS DONE WITHOUT AN `Ok`: whatever calls a spool had, each crash leaves what those did that answered `Ok`, and
--- behind it, at most, what one did that answered an `Err`.
+-- after it, at most, what one did that answered an `Err`.
 abbrev pub OneWithoutAnOk : {D : Type 0} → (D → List ℕ) → (D → List ℕ → Type 0) → (D → Bool) → Type 0
 OneWithoutAnOk {D} seen may_leave is_usable =
-    (calls : List Answered) (first last : Spool D) (waits : List PageValue) → WereMade seen may_leave is_usable calls first last
+    (calls : List AnsweredCall) (first last : Spool D) (waits : List PageValue) → WereMade seen may_leave is_usable calls first last
     → Rests seen may_leave is_usable first waits → EachCrashTells may_leave last (DoneButOne calls waits)

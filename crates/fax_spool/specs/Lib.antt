@@ -4,7 +4,7 @@ pub mod Settled
 pub mod Found
 pub mod Seals
 pub mod RecordOctets
-pub mod KeptRecords
+pub mod SpoolRecords
 pub mod Listed
 pub mod Waits
 pub mod Torn

@@ -5,14 +5,14 @@ use Rattle.fax_spool.specs.Opened.{closed, comes_first, newer_of, older_of, torn
 use Rattle.fax_spool.specs.Spools.{Tells}
 use Rattle.fax_spool.specs.Torn.{damaged}
 use Rattle.fax_spool.specs.Waits.{waiting}
-use Rattle.fax_spool.specs.declared.kept_record.KeptRecord.{KeptRecord}
+use Rattle.fax_spool.specs.declared.spool_record.SpoolRecord.{SpoolRecord}
 use Rattle.fax_spool.specs.declared.listing.Listing.{Listing}
 
 -- THE FILES ARE LISTED AS A START WOULD FIND THEM: the pages that wait by the records of both, the older file's first; which calls are
 -- torn; and what is harmed of each file.
 pub record IsListed (one other : List ℕ) (listing : Listing) : Type 0 where
-  pub ones : List KeptRecord
-  pub others : List KeptRecord
+  pub ones : List SpoolRecord
+  pub others : List SpoolRecord
   pub one_tells : Tells one ones
   pub other_tells : Tells other others
   pub pages : listing.pages.items ≡ closed (waiting (older_of ones others ++ newer_of ones others))

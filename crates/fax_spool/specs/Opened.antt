@@ -7,18 +7,18 @@ use Rattle.fax_spool.specs.Calls.{Rests, TellWaits}
 use Rattle.fax_spool.specs.Found.{is_destroyed, passed_over}
 use Rattle.fax_spool.specs.Torn.{CallName, torn_calls, with_destroyed}
 use Rattle.fax_spool.specs.Waits.{waiting}
-use Rattle.fax_spool.specs.Spools.{Keeps, Tells, epoch_now, epoch_of, epoch_records, greatest_epoch}
-use Rattle.fax_spool.specs.declared.kept_record.KeptRecord.{KeptRecord}
-use Rattle.fax_spool.specs.declared.opening.Opened.{Opened}
+use Rattle.fax_spool.specs.Spools.{Stores, Tells, epoch_now, epoch_of, epoch_records, greatest_epoch}
+use Rattle.fax_spool.specs.declared.spool_record.SpoolRecord.{SpoolRecord}
+use Rattle.fax_spool.specs.declared.opening.OpenedSpool.{OpenedSpool}
 
 -- Of the records of two files those are the older ones of which the first epoch that can be read has the smaller number.
-abbrev pub comes_first : List KeptRecord → List KeptRecord → Bool
+abbrev pub comes_first : List SpoolRecord → List SpoolRecord → Bool
 comes_first one other = nat_le (epoch_of one) (epoch_of other)
 
-abbrev pub older_of : List KeptRecord → List KeptRecord → List KeptRecord
+abbrev pub older_of : List SpoolRecord → List SpoolRecord → List SpoolRecord
 older_of one other = if comes_first one other then one else other
 
-abbrev pub newer_of : List KeptRecord → List KeptRecord → List KeptRecord
+abbrev pub newer_of : List SpoolRecord → List SpoolRecord → List SpoolRecord
 newer_of one other = if comes_first one other then other else one
 
 abbrev pub closing : Bool → PageValue → PageValue
@@ -29,21 +29,21 @@ abbrev pub closed : List PageValue → List PageValue
 closed [] = []
 closed (page ∷ pages) = closing (page.closes || not (list_any (same_call page) pages)) page ∷ closed pages
 
--- The torn calls of two files, of each of which a header is destroyed or not: what stood behind it counts as a damaged record behind the
+-- The torn calls of two files, of each of which a header is destroyed or not: what stood after it counts as a damaged record after the
 -- others of its file. Where no epoch of the older one can be read it may be the newer one, and so what stood there counts as the last too.
-abbrev pub torn_found : (older_destroyed newer_destroyed : Bool) (olds news : List KeptRecord) → List CallName
+abbrev pub torn_found : (older_destroyed newer_destroyed : Bool) (olds news : List SpoolRecord) → List CallName
 torn_found older_destroyed newer_destroyed olds news =
     torn_calls (with_destroyed older_destroyed olds ++ with_destroyed (newer_destroyed || (older_destroyed && nat_eq (epoch_of olds) 0)) news)
 
 -- A SPOOL WAS OPENED OVER TWO FILES: it keeps what both of them tell, the older one first, and the epoch that begins, whose number
 -- is greater than each before it; the pages that wait by them are told in order; and so are which calls are torn, where a header that is
--- destroyed counts as a damaged record, how many records are damaged, and how many octets are passed over behind them.
-pub record IsOpened {D : Type 0} (seen : D → List ℕ) (may_leave : D → List ℕ → Type 0) (is_usable : D → Bool) (one other : List ℕ) (opened : Opened D) : Type 0 where
-  pub ones : List KeptRecord
-  pub others : List KeptRecord
+-- destroyed counts as a damaged record, how many records are damaged, and how many octets are passed over after them.
+pub record IsOpened {D : Type 0} (seen : D → List ℕ) (may_leave : D → List ℕ → Type 0) (is_usable : D → Bool) (one other : List ℕ) (opened : OpenedSpool D) : Type 0 where
+  pub ones : List SpoolRecord
+  pub others : List SpoolRecord
   pub one_tells : Tells one ones
   pub other_tells : Tells other others
-  pub keeps : Keeps seen may_leave is_usable opened.spool (older_of ones others) (newer_of ones others ++ epoch_records (epoch_now opened.spool))
+  pub keeps : Stores seen may_leave is_usable opened.spool (older_of ones others) (newer_of ones others ++ epoch_records (epoch_now opened.spool))
   pub older_epochs : greatest_epoch (older_of ones others) < epoch_now opened.spool
   pub newer_epochs : greatest_epoch (newer_of ones others) < epoch_now opened.spool
   pub pages : opened.pages.items ≡ closed (waiting (older_of ones others ++ newer_of ones others))
@@ -63,5 +63,5 @@ AreBoth older newer one other = ((one ≡ older) × (other ≡ newer)) ⊎ ((one
 -- was opened, and are told.
 abbrev pub OpeningsFindWhatCrashesLeave : {D : Type 0} → (D → List ℕ) → (D → List ℕ → Type 0) → (D → Bool) → Type 0
 OpeningsFindWhatCrashesLeave {D} seen may_leave is_usable =
-    (older newer one other : List ℕ) (pages : List PageValue) (opened : Opened D) → TellWaits older newer pages → AreBoth older newer one other
+    (older newer one other : List ℕ) (pages : List PageValue) (opened : OpenedSpool D) → TellWaits older newer pages → AreBoth older newer one other
     → IsOpened seen may_leave is_usable one other opened → Rests seen may_leave is_usable opened.spool pages × (opened.pages.items ≡ closed pages)

@@ -53,7 +53,7 @@ abbrev pub flag_octet : Bool → ℕ
 flag_octet false = 0
 flag_octet true = 1
 
--- a name or a tag stands behind its length, at most 255
+-- a name or a tag stands after its length, at most 255
 abbrev pub short_octets : List ℕ → List ℕ
 short_octets name = length name ∷ name
 

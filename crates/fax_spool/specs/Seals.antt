@@ -2,6 +2,6 @@
 use Rattle.std.specs.Prelude.{ℕ, List, ◌++◌}
 use Rattle.sha2.specs.Sha256.{sha256}
 
--- a record behind its digest
+-- a record after its digest
 abbrev pub sealed : List ℕ → List ℕ
 sealed octets = sha256 octets ++ octets

@@ -1,18 +1,18 @@
--- What openings leave in which the machine stops, or behind which no run begins. (This project's profile.)
+-- What openings leave in which the machine stops, or after which no run begins. (This project's profile.)
 use Rattle.std.specs.Prelude.{◌≡◌, ◌⊎◌, ◌<◌, ℕ, zero, suc, Bool, List, ◌++◌}
 use Rattle.fax_spool.specs.RecordOctets.{PageValue}
 use Rattle.fax_spool.specs.Calls.{TellWaits}
 use Rattle.fax_spool.specs.Opened.{AreBoth, IsOpened, newer_of, older_of}
 use Rattle.fax_spool.specs.Spools.{MayLeaveBoth, TellBoth, Tells, epoch_records, greatest_epoch}
-use Rattle.fax_spool.specs.declared.kept_record.KeptRecord.{KeptRecord}
-use Rattle.fax_spool.specs.declared.opening.Opened.{Opened}
+use Rattle.fax_spool.specs.declared.spool_record.SpoolRecord.{SpoolRecord}
+use Rattle.fax_spool.specs.declared.opening.OpenedSpool.{OpenedSpool}
 
 -- An opening over two files stopped, and left these: they tell what those told; and the newer one, or not, the records of an epoch
 -- besides, whose number is greater than each before it. (Of what an opening is made of, `recover` leaves what a file tells, and the put
 -- of the epoch leaves both of its records or none.)
 pub record IsLeftByOpening (one other older newer : List ℕ) : Type 0 where
-  pub ones : List KeptRecord
-  pub others : List KeptRecord
+  pub ones : List SpoolRecord
+  pub others : List SpoolRecord
   pub one_tells : Tells one ones
   pub other_tells : Tells other others
   pub number : ℕ
@@ -34,5 +34,5 @@ StoppedOpeningsLeaveWhatWaits =
 -- One that was through leaves both files so too, whatever crash comes before anything is done with its spool.
 abbrev pub OpeningsLeaveTheirEpoch : {D : Type 0} → (D → List ℕ) → (D → List ℕ → Type 0) → (D → Bool) → Type 0
 OpeningsLeaveTheirEpoch {D} seen may_leave is_usable =
-    (one other older newer : List ℕ) (opened : Opened D) → IsOpened seen may_leave is_usable one other opened → MayLeaveBoth may_leave opened.spool older newer
+    (one other older newer : List ℕ) (opened : OpenedSpool D) → IsOpened seen may_leave is_usable one other opened → MayLeaveBoth may_leave opened.spool older newer
     → IsLeftByOpening one other older newer

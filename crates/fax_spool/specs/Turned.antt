@@ -14,8 +14,8 @@ DifferInOne [] [] = Unit {0}
 DifferInOne (r ∷ records) (f ∷ found) = (length f ≡ length r) × (((f ≡ r) × DifferInOne records found) ⊎ (found ≡ records))
 DifferInOne records found = ⊥
 
--- ONE TURNED OCTET HARMS ONE RECORD AT MOST, wherever it stands in a file as it was written, and whatever stands behind its shut gate.
+-- ONE TURNED OCTET HARMS ONE RECORD AT MOST, wherever it stands in a file as it was written, and whatever stands after its shut gate.
 abbrev pub OneTurnedOctet : Type 0
 OneTurnedOctet =
-    (records : List (List ℕ)) (behind file : List ℕ) (place : ℕ) → All IsShort records → IsTurned place (blocks records ++ (shut ++ behind)) file
+    (records : List (List ℕ)) (after file : List ℕ) (place : ℕ) → All IsShort records → IsTurned place (blocks records ++ (shut ++ after)) file
     → (found : List (List ℕ)) × Stands file found × DifferInOne records found

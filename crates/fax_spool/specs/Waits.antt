@@ -2,8 +2,8 @@
 use Rattle.std.specs.Prelude.{◌≡◌, ℕ, List, [], ◌∷◌, ◌++◌, ◌+◌, Bool, not, ◌&&◌, nat_eq, nat_le, nat_lt, bytes_eq}
 use Rattle.std.specs.List.{filter}
 use Rattle.fax_spool.specs.RecordOctets.{PageValue, EndedValue}
-use Rattle.fax_spool.specs.declared.kept_record.KeptRecord.{KeptRecord}
-use Rattle.fax_spool.specs.declared.kept_record.KeptRecord.TheVariants.{Page, Ended, Epoch, Damaged}
+use Rattle.fax_spool.specs.declared.spool_record.SpoolRecord.{SpoolRecord}
+use Rattle.fax_spool.specs.declared.spool_record.SpoolRecord.TheVariants.{Page, Ended, Epoch, Damaged}
 
 -- which page of all: in which life and call of which line, and as which page of the call
 pub record PageName : Type 0 where
@@ -25,33 +25,33 @@ ends ended page =
 abbrev pub without : EndedValue → List PageValue → List PageValue
 without ended pages = filter (λ page. not (ends ended (name_of page))) pages
 
-abbrev pub left_of : List PageValue → KeptRecord → List PageValue
+abbrev pub left_of : List PageValue → SpoolRecord → List PageValue
 left_of pages (Page page) = pages
 left_of pages (Ended ended) = without ended pages
 left_of pages (Epoch number) = pages
 left_of pages Damaged = pages
 
--- a page that is put waits behind the others
-abbrev pub after : List PageValue → KeptRecord → List PageValue
+-- a page that is put waits after the others
+abbrev pub after : List PageValue → SpoolRecord → List PageValue
 after pages (Page page) = pages ++ page ∷ []
 after pages (Ended ended) = without ended pages
 after pages (Epoch number) = pages
 after pages Damaged = pages
 
--- of these pages, those that wait still behind these records
-abbrev pub left_behind : List PageValue → List KeptRecord → List PageValue
-left_behind pages [] = pages
-left_behind pages (r ∷ records) = left_behind (left_of pages r) records
+-- of these pages, those that wait still after these records
+abbrev pub left_after : List PageValue → List SpoolRecord → List PageValue
+left_after pages [] = pages
+left_after pages (r ∷ records) = left_after (left_of pages r) records
 
--- A page waits from its record on, up to the record of the end of its job. These wait behind these records, where some waited
+-- A page waits from its record on, up to the record of the end of its job. These wait after these records, where some waited
 -- before them.
-abbrev pub waiting_behind : List PageValue → List KeptRecord → List PageValue
-waiting_behind pages [] = pages
-waiting_behind pages (r ∷ records) = waiting_behind (after pages r) records
+abbrev pub waiting_after : List PageValue → List SpoolRecord → List PageValue
+waiting_after pages [] = pages
+waiting_after pages (r ∷ records) = waiting_after (after pages r) records
 
-abbrev pub waiting : List KeptRecord → List PageValue
-waiting records = waiting_behind [] records
+abbrev pub waiting : List SpoolRecord → List PageValue
+waiting records = waiting_after [] records
 
--- what waits by records, and by others behind them
+-- what waits by records, and by others after them
 abbrev pub SharesWhatWaits : Type 0
-SharesWhatWaits = (olds news : List KeptRecord) → waiting (olds ++ news) ≡ left_behind (waiting olds) news ++ waiting news
+SharesWhatWaits = (olds news : List SpoolRecord) → waiting (olds ++ news) ≡ left_after (waiting olds) news ++ waiting news

@@ -1,7 +1,7 @@
 //! A file of records: before each stands a header of 15 octets, a gate of one octet three times and its length in four octets three
 //! times. A record counts where its gate is open (1). Each octet of a header is read as the value that two of its copies have, so
-//! that one turned octet harms at most one record. A shut gate (0) stands behind the last one, three times too, and is on the disk
-//! before anything is written behind it.
+//! that one turned octet harms at most one record. A shut gate (0) stands after the last one, three times too, and is on the disk
+//! before anything is written after it.
 ghost use Rattle.std.specs.Prelude.{◌≡◌, ◌⊎◌, ◌+◌, ◌<◌, ◌≤◌, ◌^◌, ◌++◌, [], ◌∷◌, List, ℕ, drop, length, map, false, IfOk, OnOk, IsTrue, MatchOption, ◌↔◌};
 ghost use Rattle.std.specs.List.{All};
 ghost use Rattle.std.specs.Int.{w32, to_be_bytes};
@@ -25,14 +25,14 @@ const GATE: usize = 3;
 /// How many octets a header has.
 const HEADER: usize = 15;
 
-/// A file of records, with the place behind the last of them, in octets. What `recover` answers begins one.
+/// A file of records, with the place after the last of them, in octets. What `recover` answers begins one.
 #[derive(Drop)]
 pub struct RecordFile<D: Disk> {
     pub disk: D,
     pub end: usize,
 }
 
-/// The length of a record, three times, and the record go behind other octets. It refuses a record of 2 ^ 32 octets or more.
+/// The length of a record, three times, and the record go after other octets. It refuses a record of 2 ^ 32 octets or more.
 fn push_body(octets: &mut Vec<u8>, item: &[u8]) -> io::Result<()>
     ensures short { OnOk result (IsShort item.now) }
     ensures octets { OnOk result (octets.new.items ≡ octets.old.items ++ body item.now) }
@@ -48,7 +48,7 @@ fn push_body(octets: &mut Vec<u8>, item: &[u8]) -> io::Result<()>
     Ok(())
 }
 
-/// What is written behind the gate of the first of some records: its length three times, the record, the others with open gates,
+/// What is written after the gate of the first of some records: its length three times, the record, the others with open gates,
 /// and the gate of the next one, shut.
 fn bodies_of(alloc: Global, first: &[u8], others: &[Vec<u8>]) -> io::Result<Vec<u8>>
     ensures short { OnOk result (All IsShort (first.now ∷ map (λ v. v.items) others.now)) }
@@ -57,10 +57,10 @@ fn bodies_of(alloc: Global, first: &[u8], others: &[Vec<u8>]) -> io::Result<Vec<
     let mut octets = Vec::new(alloc);
     push_body(&mut octets, first)?;
     let mut rest = others;
-    while let Some((item, behind)) = rest.split_first() {
+    while let Some((item, after)) = rest.split_first() {
         octets.extend_from_slice(&[1, 1, 1])?;
         push_body(&mut octets, item.as_slice())?;
-        rest = behind;
+        rest = after;
     }
     octets.extend_from_slice(&[0, 0, 0])?;
     Ok(octets)
@@ -111,7 +111,7 @@ impl<D: Disk> RecordFile<D> {
         Ok(())
     }
 
-    /// Writes records behind the shut gate, and opens it once they are on the disk. The octets are what stands behind the gate of
+    /// Writes records after the shut gate, and opens it once they are on the disk. The octets are what stands after the gate of
     /// the first, and a shut gate.
     fn write(&mut self, octets: &[u8]) -> io::Result<()>
         requires usable { IsTrue (D.is_usable self.old.disk) }
@@ -164,12 +164,12 @@ impl<D: Disk> RecordFile<D> {
 
 /// What a file was found to hold.
 #[derive(Drop)]
-pub struct Found {
+pub struct FileContents {
     /// Its records, in the order in which they were put.
     pub items: Vec<Vec<u8>>,
-    /// The place behind the last, in octets.
+    /// The place after the last, in octets.
     pub end: usize,
-    /// How many octets are passed over behind them, where no shut gate stands there as it is written.
+    /// How many octets are passed over after them, where no shut gate stands there as it is written.
     pub passed_over: usize,
     /// Whether an open gate stands there, and no record can be read: a header is destroyed.
     pub is_destroyed: bool,
@@ -211,7 +211,7 @@ fn length_in(head: &[u8]) -> Option<u32>
     Some(u32::from_be_bytes([first, second, third, fourth]))
 }
 
-/// How many octets are passed over, where these stand behind the records.
+/// How many octets are passed over, where these stand after the records.
 fn passed_over(octets: &[u8]) -> usize
     ensures { result ≡ passed_over octets.now }
 {
@@ -229,35 +229,35 @@ fn is_destroyed(octets: &[u8]) -> bool
     octets.len() >= HEADER && is_open(octets)
 }
 
-/// The record that octets begin with, and what stands behind it.
+/// The record that octets begin with, and what stands after it.
 fn first_record(octets: &[u8]) -> Option<(&[u8], &[u8])>
     ensures { MatchOption result (Ends octets.now) (λ p. BeginsWith octets.now p.0.now p.1.now) }
 {
     if octets.len() < HEADER {
         return None;
     }
-    let (head, behind) = octets.split_at(HEADER);
+    let (head, after) = octets.split_at(HEADER);
     if !is_open(head) {
         return None;
     }
     let len = length_in(head)? as usize;
-    if len > behind.len() {
+    if len > after.len() {
         return None;
     }
-    Some(behind.split_at(len))
+    Some(after.split_at(len))
 }
 
 /// The records that octets begin with, and where they end.
-pub(crate) fn records_of(alloc: Global, octets: &[u8]) -> Result<Found, AllocError>
+pub(crate) fn records_of(alloc: Global, octets: &[u8]) -> Result<FileContents, AllocError>
     ensures { IfOk result (IsFoundIn octets.now) }
 {
     let mut items = Vec::new(alloc);
     let mut rest = octets;
-    while let Some((item, behind)) = first_record(rest) {
+    while let Some((item, after)) = first_record(rest) {
         items.push(item.to_vec(alloc)?)?;
-        rest = behind;
+        rest = after;
     }
-    Ok(Found {
+    Ok(FileContents {
         items,
         end: octets.len() - rest.len(),
         passed_over: passed_over(rest),
@@ -286,8 +286,8 @@ fn is_shut(octets: &[u8], at: usize) -> bool
     requires { at ≤ length octets.now }
     ensures { IsTrue result ↔ ((3 ≤ length (drop at octets.now)) × (is_open (drop at octets.now) ≡ false)) }
 {
-    let behind = &octets[at..];
-    behind.len() >= GATE && !is_open(behind)
+    let after = &octets[at..];
+    after.len() >= GATE && !is_open(after)
 }
 
 /// Writes a shut gate.
@@ -305,8 +305,8 @@ fn shut<D: Disk>(disk: &mut D, at: usize) -> io::Result<()>
     Ok(())
 }
 
-/// Reads the records of a file that a crash may have left, and shuts the gate behind them. It may crash too.
-pub fn recover<D: Disk>(alloc: Global, disk: &mut D) -> io::Result<Found>
+/// Reads the records of a file that a crash may have left, and shuts the gate after them. It may crash too.
+pub fn recover<D: Disk>(alloc: Global, disk: &mut D) -> io::Result<FileContents>
     requires usable { IsTrue (D.is_usable disk.old) }
     // After a restart, what is read is what is on the disk.
     requires durable { Only (D.seen disk.old) (D.may_leave disk.old) }

@@ -22,7 +22,7 @@ pub fn one_turned_octet()
     ensures { OneTurnedOctet }
 {}
 
-/// A file tells one list of records. So what is read of a file behind a crash is what the clauses `crash` of a spool's calls tell
+/// A file tells one list of records. So what is read of a file after a crash is what the clauses `crash` of a spool's calls tell
 /// of it, each number as it was put.
 pub fn records_are_read_back()
     ensures { TellsOneList }
@@ -34,7 +34,7 @@ pub fn one_call_at_most_is_done_without_an_ok<D: Disk>()
     ensures { OneWithoutAnOk D.seen D.may_leave D.is_usable }
 {}
 
-/// What waits by the records of both files is what is left of the older one's pages behind the newer one's records, and then what
+/// What waits by the records of both files is what is left of the older one's pages after the newer one's records, and then what
 /// waits by these. So where nothing is left of the older one's pages, its records say nothing that those of the newer one do not.
 pub fn files_share_what_waits()
     ensures { SharesWhatWaits }
@@ -61,7 +61,7 @@ pub fn stopped_openings_leave_what_waits()
     ensures { StoppedOpeningsLeaveWhatWaits }
 {}
 
-/// An opening behind which nothing was done leaves what it found, and the record of its epoch: so it counts as one that stopped.
+/// An opening after which nothing was done leaves what it found, and the record of its epoch: so it counts as one that stopped.
 pub fn openings_leave_their_epoch<D: Disk>()
     ensures { OpeningsLeaveTheirEpoch D.seen D.may_leave D.is_usable }
 {}

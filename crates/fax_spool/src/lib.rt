@@ -3,7 +3,6 @@
 #![tactic(auto)]
 
 mod file;
-mod kept_record;
 pub mod laws;
 mod listing;
 mod opening;
@@ -11,20 +10,21 @@ mod page_name;
 mod record;
 mod sealing;
 mod spool;
+mod spool_record;
 mod torn;
 mod waiting;
 mod waiting_page;
 
-pub use file::{Found, RecordFile, recover};
-pub use kept_record::{KeptRecord, read_kept_record};
+pub use file::{FileContents, RecordFile, recover};
 pub use listing::{Harm, Listing, list_spool};
-pub use opening::{Opened, open_spool};
+pub use opening::{OpenedSpool, open_spool};
 pub use record::{
     EndedRecord, PageRecord, read_ended_record, read_page_record, write_ended_record,
     write_page_record,
 };
 pub use sealing::{seal, unseal};
 pub use spool::Spool;
+pub use spool_record::{SpoolRecord, read_spool_record};
 pub use torn::{CallName, is_torn};
-pub use waiting::{first_epoch, read_kept_records, waiting_pages};
+pub use waiting::{first_epoch, read_spool_records, waiting_pages};
 pub use waiting_page::WaitingPage;

@@ -8,7 +8,7 @@ ghost use Rattle.fax_spool.specs.Torn.{damaged};
 
 use crate::file::records_of;
 use crate::opening::{damaged, pages_of, torn_with};
-use crate::{CallName, Found, KeptRecord, WaitingPage, first_epoch, read_kept_records};
+use crate::{CallName, FileContents, SpoolRecord, WaitingPage, first_epoch, read_spool_records};
 use std::alloc::{AllocError, Global};
 
 /// What is harmed of a file.
@@ -16,7 +16,7 @@ use std::alloc::{AllocError, Global};
 pub struct Harm {
     /// How many of its records are damaged.
     pub damaged: usize,
-    /// How many octets are passed over behind them.
+    /// How many octets are passed over after them.
     pub passed_over: usize,
 }
 
@@ -25,7 +25,7 @@ pub struct Harm {
 pub struct Listing {
     /// The pages that wait, in the order in which they were confirmed. The last one of each call closes its job.
     pub pages: Vec<WaitingPage>,
-    /// The calls that lack a page, as `Opened` tells them.
+    /// The calls that lack a page, as `OpenedSpool` tells them.
     pub torn: Vec<CallName>,
     /// What is harmed of the first file.
     pub one: Harm,
@@ -40,8 +40,8 @@ pub fn list_spool(alloc: Global, one: &[u8], other: &[u8]) -> Result<Listing, Al
 {
     let first = records_of(alloc, one)?;
     let second = records_of(alloc, other)?;
-    let ones = read_kept_records(alloc, first.items.as_slice())?;
-    let others = read_kept_records(alloc, second.items.as_slice())?;
+    let ones = read_spool_records(alloc, first.items.as_slice())?;
+    let others = read_spool_records(alloc, second.items.as_slice())?;
     let one = harm_of(&first, ones.as_slice());
     let other = harm_of(&second, others.as_slice());
     if first_epoch(ones.as_slice()) > first_epoch(others.as_slice()) {
@@ -53,7 +53,7 @@ pub fn list_spool(alloc: Global, one: &[u8], other: &[u8]) -> Result<Listing, Al
 }
 
 /// What is harmed of a file in which this was found, whose records these are.
-fn harm_of(found: &Found, records: &[KeptRecord<'_>]) -> Harm
+fn harm_of(found: &FileContents, records: &[SpoolRecord<'_>]) -> Harm
     ensures damaged { result.damaged ≡ damaged records.now }
     ensures passed_over { result.passed_over ≡ found.now.passed_over }
 {
@@ -66,8 +66,8 @@ fn harm_of(found: &Found, records: &[KeptRecord<'_>]) -> Harm
 /// What is told by the records of two files, of which the older one is known, and a header is destroyed or not.
 fn list(
     alloc: Global,
-    olds: Vec<KeptRecord<'_>>,
-    news: Vec<KeptRecord<'_>>,
+    olds: Vec<SpoolRecord<'_>>,
+    news: Vec<SpoolRecord<'_>>,
     destroyed: (bool, bool),
     one: Harm,
     other: Harm,

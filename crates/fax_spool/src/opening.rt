@@ -3,18 +3,18 @@ ghost use Rattle.std.specs.Prelude.{◌≡◌, ◌<◌, ◌++◌, ◌∷◌, ◌
 ghost use Rattle.std.specs.List.{list_any};
 ghost use Rattle.sqlite_disk.specs.Disk.{Only};
 ghost use Rattle.fax_spool.specs.Settled.{IsSettled};
-ghost use Rattle.fax_spool.specs.KeptRecords.{AreReadAs};
+ghost use Rattle.fax_spool.specs.SpoolRecords.{AreReadAs};
 ghost use Rattle.fax_spool.specs.Waits.{waiting};
 ghost use Rattle.fax_spool.specs.Calls.{Accepts};
-ghost use Rattle.fax_spool.specs.Spools.{AreClean, Keeps, epoch_now, epoch_records, files_of, greatest_epoch};
+ghost use Rattle.fax_spool.specs.Spools.{AreClean, Stores, epoch_now, epoch_records, files_of, greatest_epoch};
 ghost use Rattle.fax_spool.specs.Opened.{IsOpened, closed, torn_found};
 ghost use Rattle.fax_spool.specs.Torn.{damaged, same_call, with_destroyed};
 
 use crate::torn::{is_damaged, is_of_call, torn_calls};
 use crate::waiting::follow_all;
 use crate::{
-    CallName, KeptRecord, PageRecord, RecordFile, Spool, WaitingPage, first_epoch,
-    read_kept_records, recover, waiting_pages,
+    CallName, PageRecord, RecordFile, Spool, SpoolRecord, WaitingPage, first_epoch,
+    read_spool_records, recover, waiting_pages,
 };
 use sqlite_disk::Disk;
 use std::alloc::{AllocError, Global};
@@ -22,20 +22,20 @@ use std::io;
 
 /// A spool that was opened, and what its files were found to hold.
 #[derive(Drop)]
-pub struct Opened<D: Disk> {
+pub struct OpenedSpool<D: Disk> {
     /// The spool, ready for a new life, whose number is its epoch.
     pub spool: Spool<D>,
     /// The pages that wait, in the order in which they were confirmed. The last one of each call closes its job, since a call that
     /// was on ended with its process.
     pub pages: Vec<WaitingPage>,
-    /// The calls that lack a page, since its record may be one that is damaged, or behind a header that is destroyed: of such a call
+    /// The calls that lack a page, since its record may be one that is damaged, or after a header that is destroyed: of such a call
     /// a page in `pages` may be one of a job that is not whole. A call may be told more than once.
     pub torn: Vec<CallName>,
     /// How many records of the older file are damaged. What they said is lost.
     pub older_damaged: usize,
     /// How many of the newer one.
     pub newer_damaged: usize,
-    /// How many octets of the older file are passed over, since no record begins behind the last one, and no shut gate stands
+    /// How many octets of the older file are passed over, since no record begins after the last one, and no shut gate stands
     /// there.
     pub older_passed_over: usize,
     /// How many of the newer one.
@@ -45,7 +45,7 @@ pub struct Opened<D: Disk> {
 /// Opens a spool over its two files, whichever of them is the older one: reads what a crash may have left, and begins a life. At
 /// an `Err` (the disk's failure, no memory, or `InvalidData`: a file is no spool's, and stays as it is) the files stand for the same
 /// records, with both of the epoch's or without.
-pub fn open_spool<D: Disk + Drop>(alloc: Global, one: D, other: D) -> io::Result<Opened<D>>
+pub fn open_spool<D: Disk + Drop>(alloc: Global, one: D, other: D) -> io::Result<OpenedSpool<D>>
     requires one_usable { IsTrue (D.is_usable one) }
     requires other_usable { IsTrue (D.is_usable other) }
     // After a restart, what is read is what is on the disk.
@@ -58,8 +58,8 @@ pub fn open_spool<D: Disk + Drop>(alloc: Global, one: D, other: D) -> io::Result
     let mut other = other;
     let first = recover(alloc, &mut one)?;
     let second = recover(alloc, &mut other)?;
-    let ones = read_kept_records(alloc, first.items.as_slice())?;
-    let others = read_kept_records(alloc, second.items.as_slice())?;
+    let ones = read_spool_records(alloc, first.items.as_slice())?;
+    let others = read_spool_records(alloc, second.items.as_slice())?;
     let one = RecordFile {
         disk: one,
         end: first.end,
@@ -84,15 +84,15 @@ fn begin<D: Disk + Drop>(
     alloc: Global,
     older: RecordFile<D>,
     newer: RecordFile<D>,
-    olds: Vec<KeptRecord<'_>>,
-    news: Vec<KeptRecord<'_>>,
+    olds: Vec<SpoolRecord<'_>>,
+    news: Vec<SpoolRecord<'_>>,
     passed_over: (usize, usize),
     destroyed: (bool, bool),
-) -> io::Result<Opened<D>>
+) -> io::Result<OpenedSpool<D>>
     ensures begun { IfOk result (λ opened. (older_items newer_items : List (List ℕ))
         → IsSettled D.seen D.may_leave D.is_usable older.disk older.end older_items → AreReadAs older_items olds.entry.items
         → IsSettled D.seen D.may_leave D.is_usable newer.disk newer.end newer_items → AreReadAs newer_items news.entry.items
-        → Keeps D.seen D.may_leave D.is_usable opened.spool olds.entry.items (news.entry.items ++ epoch_records (epoch_now opened.spool))) }
+        → Stores D.seen D.may_leave D.is_usable opened.spool olds.entry.items (news.entry.items ++ epoch_records (epoch_now opened.spool))) }
     ensures clean { IfOk result (λ opened. AreClean D.is_clean (files_of opened.spool) → AreClean D.is_clean (older, newer)) }
     ensures older_epochs { IfOk result (λ opened. greatest_epoch olds.entry.items < epoch_now opened.spool) }
     ensures newer_epochs { IfOk result (λ opened. greatest_epoch news.entry.items < epoch_now opened.spool) }
@@ -106,7 +106,7 @@ fn begin<D: Disk + Drop>(
 {
     let pages = pages_of(alloc, olds.as_slice(), news.as_slice())?;
     let spool = Spool::begin(alloc, older, newer, olds.as_slice(), news.as_slice())?;
-    Ok(Opened {
+    Ok(OpenedSpool {
         spool,
         pages,
         older_damaged: damaged(olds.as_slice()),
@@ -120,8 +120,8 @@ fn begin<D: Disk + Drop>(
 /// The calls that lack a page by the records of two files, of each of which a header is destroyed or not.
 pub(crate) fn torn_with(
     alloc: Global,
-    olds: Vec<KeptRecord<'_>>,
-    news: Vec<KeptRecord<'_>>,
+    olds: Vec<SpoolRecord<'_>>,
+    news: Vec<SpoolRecord<'_>>,
     destroyed: (bool, bool),
 ) -> Result<Vec<CallName>, AllocError>
     ensures { IfOk result (λ torn. torn.items ≡ torn_found destroyed.0 destroyed.1 olds.entry.items news.entry.items) }
@@ -132,16 +132,16 @@ pub(crate) fn torn_with(
     torn_calls(alloc, olds.as_slice(), news.as_slice())
 }
 
-/// The records of a file, and a damaged one behind them where a header is destroyed there.
+/// The records of a file, and a damaged one after them where a header is destroyed there.
 fn with_destroyed(
-    records: Vec<KeptRecord<'_>>,
+    records: Vec<SpoolRecord<'_>>,
     is_destroyed: bool,
-) -> Result<Vec<KeptRecord<'_>>, AllocError>
+) -> Result<Vec<SpoolRecord<'_>>, AllocError>
     ensures { IfOk result (λ found. found.items ≡ with_destroyed is_destroyed records.entry.items) }
 {
     let mut found = records;
     if is_destroyed {
-        found.push(KeptRecord::Damaged)?;
+        found.push(SpoolRecord::Damaged)?;
     }
     Ok(found)
 }
@@ -149,8 +149,8 @@ fn with_destroyed(
 /// The pages that wait by the records of both files, in the order in which they were put.
 pub(crate) fn pages_of<'a>(
     alloc: Global,
-    olds: &[KeptRecord<'a>],
-    news: &[KeptRecord<'a>],
+    olds: &[SpoolRecord<'a>],
+    news: &[SpoolRecord<'a>],
 ) -> Result<Vec<WaitingPage>, AllocError>
     ensures { IfOk result (λ pages. pages.items ≡ closed (waiting (olds.now ++ news.now))) }
 {
@@ -171,14 +171,14 @@ fn closed(alloc: Global, pages: &[PageRecord<'_>]) -> Result<Vec<WaitingPage>, A
     Ok(waits)
 }
 
-/// Whether a page closes its job, where these pages wait behind it.
-fn closes_its_job(page: &PageRecord<'_>, behind: &[PageRecord<'_>]) -> bool
-    ensures { result ≡ (page.now.closes || not (list_any (same_call page.now) behind.now)) }
+/// Whether a page closes its job, where these pages wait after it.
+fn closes_its_job(page: &PageRecord<'_>, after: &[PageRecord<'_>]) -> bool
+    ensures { result ≡ (page.now.closes || not (list_any (same_call page.now) after.now)) }
 {
     if page.closes {
         return true;
     }
-    !has_call(behind, page)
+    !has_call(after, page)
 }
 
 /// Whether one of these pages came in the call of a page.
@@ -194,7 +194,7 @@ fn has_call(pages: &[PageRecord<'_>], page: &PageRecord<'_>) -> bool
 }
 
 /// How many records are damaged.
-pub(crate) fn damaged(records: &[KeptRecord<'_>]) -> usize
+pub(crate) fn damaged(records: &[SpoolRecord<'_>]) -> usize
     ensures { result ≡ damaged records.now }
 {
     records.iter().filter(|kept| is_damaged(kept)).count()

@@ -222,7 +222,7 @@ pub fn read_ended_record(octets: &[u8]) -> Option<EndedRecord<'_>>
     }
 }
 
-/// A name or a tag behind its length.
+/// A name or a tag after its length.
 fn push_short(octets: &mut Vec<u8>, name: &[u8]) -> Result<(), AllocError>
     requires { length name.now < 256 }
     ensures { OnOk result (octets.new.items ≡ octets.old.items ++ short_octets name.now) }
@@ -252,7 +252,7 @@ fn flag_octet(flag: bool) -> u8
     if flag { 1 } else { 0 }
 }
 
-/// A name or a tag that octets begin with behind its length, and what stands behind it.
+/// A name or a tag that octets begin with after its length, and what stands after it.
 fn read_short(octets: &[u8]) -> Option<(&[u8], &[u8])>
     ensures { MatchOption result ((name rest : List ℕ) → octets.now ≢ short_octets name ++ rest) (λ p. octets.now ≡ short_octets p.0.now ++ p.1.now) }
 {
@@ -264,7 +264,7 @@ fn read_short(octets: &[u8]) -> Option<(&[u8], &[u8])>
     Some(rest.split_at(length))
 }
 
-/// A name, a tag and what stands behind them.
+/// A name, a tag and what stands after them.
 fn read_texts(octets: &[u8]) -> Option<(&[u8], &[u8], &[u8])>
     ensures { MatchOption result ((line tag text : List ℕ) → octets.now ≢ short_octets line ++ (short_octets tag ++ text)) (λ t. octets.now ≡ short_octets t.0.now ++ (short_octets t.1.now ++ t.2.now)) }
 {
@@ -273,7 +273,7 @@ fn read_texts(octets: &[u8]) -> Option<(&[u8], &[u8], &[u8])>
     Some((line, tag, text))
 }
 
-/// A number and a name, with nothing behind them.
+/// A number and a name, with nothing after them.
 fn read_first_and_line(octets: &[u8]) -> Option<(u32, &[u8])>
     ensures { MatchOption result ((first : ℕ) (name : List ℕ) → octets.now ≢ to_be_bytes w32 first ++ short_octets name) (λ p. octets.now ≡ to_be_bytes w32 p.0 ++ short_octets p.1.now) }
 {
@@ -286,7 +286,7 @@ fn read_first_and_line(octets: &[u8]) -> Option<(u32, &[u8])>
     }
 }
 
-/// A name behind its length, with nothing behind it.
+/// A name after its length, with nothing after it.
 fn read_last_short(octets: &[u8]) -> Option<&[u8]>
     ensures { MatchOption result ((name : List ℕ) → octets.now ≢ short_octets name) (λ name. octets.now ≡ short_octets name.now) }
 {

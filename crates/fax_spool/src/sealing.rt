@@ -9,7 +9,7 @@ use std::alloc::{AllocError, Global};
 /// How many octets a digest has.
 const DIGEST_OCTETS: usize = 32;
 
-/// A record behind its digest of 32 octets.
+/// A record after its digest of 32 octets.
 pub fn seal(alloc: Global, kept: &[u8]) -> Result<Vec<u8>, AllocError>
     ensures sealed { IfOk result (λ octets. octets.items ≡ sealed kept.now) }
 {
@@ -20,7 +20,7 @@ pub fn seal(alloc: Global, kept: &[u8]) -> Result<Vec<u8>, AllocError>
     Ok(octets)
 }
 
-/// The record that octets seal; `None` where they are no record behind its digest.
+/// The record that octets seal; `None` where they are no record after its digest.
 #[tactic(auto, using(crate::proofs::Digests::sealed_long))]
 pub fn unseal(octets: &[u8]) -> Option<&[u8]>
     ensures { MatchOption result ((kept : List ℕ) → octets.now ≢ sealed kept) (λ kept. octets.now ≡ sealed kept.now) }

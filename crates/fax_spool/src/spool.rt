@@ -6,15 +6,15 @@ ghost use Rattle.std.specs.Result.{is_ok};
 ghost use Rattle.fax_spool.specs.Calls.{Accepts, Does, Puts, Ends, Refuses, Turns, refuses_now};
 ghost use Rattle.fax_spool.specs.Records.{Stands};
 ghost use Rattle.fax_spool.specs.Settled.{IsSettled};
-ghost use Rattle.fax_spool.specs.KeptRecords.{AreReadAs, kept_of};
+ghost use Rattle.fax_spool.specs.SpoolRecords.{AreReadAs, kept_of};
 ghost use Rattle.fax_spool.specs.Waits.{ends};
-ghost use Rattle.fax_spool.specs.Spools.{AreClean, Keeps, NoneIsLeft, MayLeaveBoth, TellBoth, epoch_now, epoch_records, files_of, greatest_epoch};
-ghost use Rattle.fax_spool.specs.declared.kept_record.KeptRecord.{KeptRecord as KeptShown};
+ghost use Rattle.fax_spool.specs.Spools.{AreClean, Stores, NoneIsLeft, MayLeaveBoth, TellBoth, epoch_now, epoch_records, files_of, greatest_epoch};
+ghost use Rattle.fax_spool.specs.declared.spool_record.SpoolRecord.{SpoolRecord as SpoolRecordShown};
 
-use crate::kept_record::{seal_ended, seal_epochs, seal_page, seal_pages};
 use crate::page_name::PageName;
+use crate::spool_record::{seal_ended, seal_epochs, seal_page, seal_pages};
 use crate::waiting::{drop_ended, names_of, newest_epoch};
-use crate::{EndedRecord, KeptRecord, PageRecord, RecordFile, waiting_pages};
+use crate::{EndedRecord, PageRecord, RecordFile, SpoolRecord, waiting_pages};
 use sqlite_disk::Disk;
 use std::alloc::Global;
 use std::{io, mem};
@@ -45,13 +45,13 @@ impl<D: Disk + Drop> Spool<D> {
         alloc: Global,
         older: RecordFile<D>,
         newer: RecordFile<D>,
-        olds: &[KeptRecord<'_>],
-        news: &[KeptRecord<'_>],
+        olds: &[SpoolRecord<'_>],
+        news: &[SpoolRecord<'_>],
     ) -> io::Result<Self>
         ensures begun { IfOk result (λ spool. (older_items newer_items : List (List ℕ))
             → IsSettled D.seen D.may_leave D.is_usable older.disk older.end older_items → AreReadAs older_items olds.now
             → IsSettled D.seen D.may_leave D.is_usable newer.disk newer.end newer_items → AreReadAs newer_items news.now
-            → Keeps D.seen D.may_leave D.is_usable spool olds.now (news.now ++ epoch_records (epoch_now spool))) }
+            → Stores D.seen D.may_leave D.is_usable spool olds.now (news.now ++ epoch_records (epoch_now spool))) }
         ensures clean { IfOk result (λ spool. AreClean D.is_clean (files_of spool) → AreClean D.is_clean (older, newer)) }
         ensures older_epochs { IfOk result (λ spool. greatest_epoch olds.now < epoch_now spool) }
         ensures newer_epochs { IfOk result (λ spool. greatest_epoch news.now < epoch_now spool) }
@@ -112,16 +112,16 @@ impl<D: Disk> Spool<D> {
         (older, newer)
     }
 
-    /// A page was confirmed. At `Ok` its record is on the disk, behind those before it, and each later crash leaves it.
+    /// A page was confirmed. At `Ok` its record is on the disk, after those before it, and each later crash leaves it.
     pub fn put(&mut self, alloc: Global, page: &PageRecord<'_>) -> io::Result<()>
         requires line { length page.now.line < 256 }
         requires tag { length page.now.tag < 256 }
-        ensures acknowledged { OnOk result ((olds news : List KeptShown) → Keeps D.seen D.may_leave D.is_usable self.old olds news
-            → Keeps D.seen D.may_leave D.is_usable self.new olds (news ++ KeptRecord.Page page.now ∷ [])) }
+        ensures acknowledged { OnOk result ((olds news : List SpoolRecordShown) → Stores D.seen D.may_leave D.is_usable self.old olds news
+            → Stores D.seen D.may_leave D.is_usable self.new olds (news ++ SpoolRecord.Page page.now ∷ [])) }
         // Whenever the machine stops, the files tell the records from before, with the new one or without.
-        ensures crash { (olds news : List KeptShown) → Keeps D.seen D.may_leave D.is_usable self.old olds news
+        ensures crash { (olds news : List SpoolRecordShown) → Stores D.seen D.may_leave D.is_usable self.old olds news
             → (older newer : List ℕ) → MayLeaveBoth D.may_leave self.new older newer
-            → TellBoth older newer olds news ⊎ TellBoth older newer olds (news ++ KeptRecord.Page page.now ∷ []) }
+            → TellBoth older newer olds news ⊎ TellBoth older newer olds (news ++ SpoolRecord.Page page.now ∷ []) }
         ensures does { Does D.seen D.may_leave D.is_usable (Puts (page.now ∷ [])) (is_ok result) self.old self.new }
     {
         if self.refuses {
@@ -135,14 +135,14 @@ impl<D: Disk> Spool<D> {
         Ok(())
     }
 
-    /// Pages were confirmed, as of several lines in one turn. At `Ok` the record of each is on the disk, behind those before it and
+    /// Pages were confirmed, as of several lines in one turn. At `Ok` the record of each is on the disk, after those before it and
     /// in this order, and each later crash leaves it. It costs two syncs, however many there are. A line or a tag of more than 255
     /// octets is `InvalidInput`, and nothing is put then.
     pub fn put_all(&mut self, alloc: Global, pages: &[PageRecord<'_>]) -> io::Result<()>
-        ensures acknowledged { OnOk result ((olds news : List KeptShown) → Keeps D.seen D.may_leave D.is_usable self.old olds news
-            → Keeps D.seen D.may_leave D.is_usable self.new olds (news ++ map kept_of pages.now)) }
+        ensures acknowledged { OnOk result ((olds news : List SpoolRecordShown) → Stores D.seen D.may_leave D.is_usable self.old olds news
+            → Stores D.seen D.may_leave D.is_usable self.new olds (news ++ map kept_of pages.now)) }
         // Whenever the machine stops, the files tell the records from before, with all of the new ones or with none.
-        ensures crash { (olds news : List KeptShown) → Keeps D.seen D.may_leave D.is_usable self.old olds news
+        ensures crash { (olds news : List SpoolRecordShown) → Stores D.seen D.may_leave D.is_usable self.old olds news
             → (older newer : List ℕ) → MayLeaveBoth D.may_leave self.new older newer
             → TellBoth older newer olds news ⊎ TellBoth older newer olds (news ++ map kept_of pages.now) }
         ensures does { Does D.seen D.may_leave D.is_usable (Puts pages.now) (is_ok result) self.old self.new }
@@ -160,12 +160,12 @@ impl<D: Disk> Spool<D> {
     /// A job ended. At `Ok` its record is on the disk, and its pages wait no more.
     pub fn end(&mut self, alloc: Global, ended: &EndedRecord<'_>) -> io::Result<()>
         requires line { length ended.now.line < 256 }
-        ensures acknowledged { OnOk result ((olds news : List KeptShown) → Keeps D.seen D.may_leave D.is_usable self.old olds news
-            → Keeps D.seen D.may_leave D.is_usable self.new olds (news ++ KeptRecord.Ended ended.now ∷ [])) }
+        ensures acknowledged { OnOk result ((olds news : List SpoolRecordShown) → Stores D.seen D.may_leave D.is_usable self.old olds news
+            → Stores D.seen D.may_leave D.is_usable self.new olds (news ++ SpoolRecord.Ended ended.now ∷ [])) }
         // Whenever the machine stops, the files tell the records from before, with the new one or without.
-        ensures crash { (olds news : List KeptShown) → Keeps D.seen D.may_leave D.is_usable self.old olds news
+        ensures crash { (olds news : List SpoolRecordShown) → Stores D.seen D.may_leave D.is_usable self.old olds news
             → (older newer : List ℕ) → MayLeaveBoth D.may_leave self.new older newer
-            → TellBoth older newer olds news ⊎ TellBoth older newer olds (news ++ KeptRecord.Ended ended.now ∷ []) }
+            → TellBoth older newer olds news ⊎ TellBoth older newer olds (news ++ SpoolRecord.Ended ended.now ∷ []) }
         ensures does { Does D.seen D.may_leave D.is_usable (Ends ended.now) (is_ok result) self.old self.new }
     {
         if self.refuses {
@@ -180,11 +180,11 @@ impl<D: Disk> Spool<D> {
 
     /// Drops the records of the older file where none of its pages waits, and answers whether it did: not where one waits.
     pub fn clear(&mut self) -> io::Result<bool>
-        ensures cleared { IfOk result (λ was. (olds news : List KeptShown) → Keeps D.seen D.may_leave D.is_usable self.old olds news
-            → MatchBool was (NoneIsLeft olds news × Keeps D.seen D.may_leave D.is_usable self.new [] news) ((¬ NoneIsLeft olds news) × Keeps D.seen D.may_leave D.is_usable self.new olds news)) }
-        ensures failed { OnErr result ((olds news : List KeptShown) → Keeps D.seen D.may_leave D.is_usable self.old olds news → Refuses self.new) }
+        ensures cleared { IfOk result (λ was. (olds news : List SpoolRecordShown) → Stores D.seen D.may_leave D.is_usable self.old olds news
+            → MatchBool was (NoneIsLeft olds news × Stores D.seen D.may_leave D.is_usable self.new [] news) ((¬ NoneIsLeft olds news) × Stores D.seen D.may_leave D.is_usable self.new olds news)) }
+        ensures failed { OnErr result ((olds news : List SpoolRecordShown) → Stores D.seen D.may_leave D.is_usable self.old olds news → Refuses self.new) }
         // Whenever the machine stops, the files tell all records, or those of the newer one where no other page waits.
-        ensures crash { (olds news : List KeptShown) → Keeps D.seen D.may_leave D.is_usable self.old olds news
+        ensures crash { (olds news : List SpoolRecordShown) → Stores D.seen D.may_leave D.is_usable self.old olds news
             → (older newer : List ℕ) → MayLeaveBoth D.may_leave self.new older newer
             → TellBoth older newer olds news ⊎ (NoneIsLeft olds news × TellBoth older newer [] news) }
         ensures does { Does D.seen D.may_leave D.is_usable Turns (is_ok result) self.old self.new }
@@ -206,10 +206,10 @@ impl<D: Disk> Spool<D> {
 
     /// Takes the other file into use where it is empty, and answers whether it did. A new epoch begins.
     pub fn change(&mut self, alloc: Global) -> io::Result<bool>
-        ensures changed { IfOk result (λ was. (olds news : List KeptShown) → Keeps D.seen D.may_leave D.is_usable self.old olds news
-            → MatchBool was ((olds ≡ []) × (greatest_epoch news < epoch_now self.new) × Keeps D.seen D.may_leave D.is_usable self.new news (epoch_records (epoch_now self.new))) (Keeps D.seen D.may_leave D.is_usable self.new olds news)) }
+        ensures changed { IfOk result (λ was. (olds news : List SpoolRecordShown) → Stores D.seen D.may_leave D.is_usable self.old olds news
+            → MatchBool was ((olds ≡ []) × (greatest_epoch news < epoch_now self.new) × Stores D.seen D.may_leave D.is_usable self.new news (epoch_records (epoch_now self.new))) (Stores D.seen D.may_leave D.is_usable self.new olds news)) }
         // Whenever the machine stops, the files tell the records from before, with both of the epoch's or without.
-        ensures crash { (olds news : List KeptShown) → Keeps D.seen D.may_leave D.is_usable self.old olds news
+        ensures crash { (olds news : List SpoolRecordShown) → Stores D.seen D.may_leave D.is_usable self.old olds news
             → (older newer : List ℕ) → MayLeaveBoth D.may_leave self.new older newer
             → TellBoth older newer olds news ⊎ TellBoth older newer news [] ⊎ TellBoth older newer news (epoch_records (epoch_now self.new)) }
         ensures does { Does D.seen D.may_leave D.is_usable Turns (is_ok result) self.old self.new }

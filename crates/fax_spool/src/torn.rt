@@ -1,9 +1,9 @@
 //! Calls that lack a page, by records of which some are damaged.
 ghost use Rattle.std.specs.Prelude.{◌≡◌, ◌++◌, [], IfOk, OnOk};
 ghost use Rattle.std.specs.List.{list_any};
-ghost use Rattle.fax_spool.specs.Torn.{call_of, has_damage, is_damaged, is_next, is_of, is_of_any, is_previous, lacks_before, lacks_behind, same_call, torn_among, torn_by, torn_calls};
+ghost use Rattle.fax_spool.specs.Torn.{call_of, has_damage, is_damaged, is_next, is_of, is_of_any, is_previous, lacks_after, lacks_before, same_call, torn_among, torn_by, torn_calls};
 
-use crate::{KeptRecord, PageRecord, WaitingPage};
+use crate::{PageRecord, SpoolRecord, WaitingPage};
 use std::alloc::{AllocError, Global};
 use std::marker::Model;
 
@@ -64,8 +64,8 @@ pub fn is_torn(calls: &[CallName], page: &WaitingPage) -> bool
 /// record is damaged there is none.
 pub(crate) fn torn_calls(
     alloc: Global,
-    olds: &[KeptRecord<'_>],
-    news: &[KeptRecord<'_>],
+    olds: &[SpoolRecord<'_>],
+    news: &[SpoolRecord<'_>],
 ) -> Result<Vec<CallName>, AllocError>
     ensures { IfOk result (λ calls. calls.items ≡ torn_calls (olds.now ++ news.now)) }
 {
@@ -78,15 +78,15 @@ pub(crate) fn torn_calls(
     Ok(calls)
 }
 
-/// The torn calls of records that stand before and behind others.
+/// The torn calls of records that stand before and after others.
 fn push_torn(
     calls: &mut Vec<CallName>,
     alloc: Global,
-    before: &[KeptRecord<'_>],
-    records: &[KeptRecord<'_>],
-    behind: &[KeptRecord<'_>],
+    before: &[SpoolRecord<'_>],
+    records: &[SpoolRecord<'_>],
+    after: &[SpoolRecord<'_>],
 ) -> Result<(), AllocError>
-    ensures { OnOk result (calls.new.items ≡ calls.old.items ++ torn_among before.now records.now behind.now) }
+    ensures { OnOk result (calls.new.items ≡ calls.old.items ++ torn_among before.now records.now after.now) }
 {
     for (i, kept) in records.iter().enumerate() {
         push_torn_by(
@@ -96,28 +96,28 @@ fn push_torn(
             before,
             &records[..i],
             &records[i + 1..],
-            behind,
+            after,
         )?;
     }
     Ok(())
 }
 
-/// The call of a record's page, where a page lacks beside it: by the records far before it and near, and those near behind it and far.
+/// The call of a record's page, where a page lacks beside it: by the records far before it and near, and those near after it and far.
 fn push_torn_by(
     calls: &mut Vec<CallName>,
     alloc: Global,
-    kept: &KeptRecord<'_>,
-    far_before: &[KeptRecord<'_>],
-    before: &[KeptRecord<'_>],
-    behind: &[KeptRecord<'_>],
-    far_behind: &[KeptRecord<'_>],
+    kept: &SpoolRecord<'_>,
+    far_before: &[SpoolRecord<'_>],
+    before: &[SpoolRecord<'_>],
+    after: &[SpoolRecord<'_>],
+    far_after: &[SpoolRecord<'_>],
 ) -> Result<(), AllocError>
-    ensures { OnOk result (calls.new.items ≡ calls.old.items ++ torn_by (far_before.now ++ before.now) kept.now (behind.now ++ far_behind.now)) }
+    ensures { OnOk result (calls.new.items ≡ calls.old.items ++ torn_by (far_before.now ++ before.now) kept.now (after.now ++ far_after.now)) }
 {
-    let KeptRecord::Page(page) = kept else {
+    let SpoolRecord::Page(page) = kept else {
         return Ok(());
     };
-    if lacks_before(far_before, before, page) || lacks_behind(page, behind, far_behind) {
+    if lacks_before(far_before, before, page) || lacks_after(page, after, far_after) {
         calls.push(CallName::of_page(alloc, page)?)?;
     }
     Ok(())
@@ -125,7 +125,7 @@ fn push_torn_by(
 
 /// Whether the page before this one in its call lacks, and a damaged record may be its own.
 #[tactic(auto, using(crate::proofs::TornCalls::before_parts))]
-fn lacks_before(far: &[KeptRecord<'_>], near: &[KeptRecord<'_>], page: &PageRecord<'_>) -> bool
+fn lacks_before(far: &[SpoolRecord<'_>], near: &[SpoolRecord<'_>], page: &PageRecord<'_>) -> bool
     ensures { result ≡ lacks_before (far.now ++ near.now) page.now }
 {
     page.number > 1
@@ -134,10 +134,10 @@ fn lacks_before(far: &[KeptRecord<'_>], near: &[KeptRecord<'_>], page: &PageReco
         && (has_damage(far) || has_damage(near))
 }
 
-/// Whether the page behind this one in its call lacks, and a damaged record may be its own.
-#[tactic(auto, using(crate::proofs::TornCalls::behind_parts))]
-fn lacks_behind(page: &PageRecord<'_>, near: &[KeptRecord<'_>], far: &[KeptRecord<'_>]) -> bool
-    ensures { result ≡ lacks_behind page.now (near.now ++ far.now) }
+/// Whether the page after this one in its call lacks, and a damaged record may be its own.
+#[tactic(auto, using(crate::proofs::TornCalls::after_parts))]
+fn lacks_after(page: &PageRecord<'_>, near: &[SpoolRecord<'_>], far: &[SpoolRecord<'_>]) -> bool
+    ensures { result ≡ lacks_after page.now (near.now ++ far.now) }
 {
     !page.closes
         && !has_next(near, page)
@@ -146,7 +146,7 @@ fn lacks_behind(page: &PageRecord<'_>, near: &[KeptRecord<'_>], far: &[KeptRecor
 }
 
 /// Whether one of these records is that of the page before this one in its call. The last ones are looked at first.
-fn has_previous(records: &[KeptRecord<'_>], page: &PageRecord<'_>) -> bool
+fn has_previous(records: &[SpoolRecord<'_>], page: &PageRecord<'_>) -> bool
     ensures { result ≡ list_any (is_previous page.now) records.now }
 {
     let mut end = records.len();
@@ -159,8 +159,8 @@ fn has_previous(records: &[KeptRecord<'_>], page: &PageRecord<'_>) -> bool
     false
 }
 
-/// Whether one of these records is that of the page behind this one in its call.
-fn has_next(records: &[KeptRecord<'_>], page: &PageRecord<'_>) -> bool
+/// Whether one of these records is that of the page after this one in its call.
+fn has_next(records: &[SpoolRecord<'_>], page: &PageRecord<'_>) -> bool
     ensures { result ≡ list_any (is_next page.now) records.now }
 {
     for kept in records {
@@ -172,7 +172,7 @@ fn has_next(records: &[KeptRecord<'_>], page: &PageRecord<'_>) -> bool
 }
 
 /// Whether one of these records is damaged.
-fn has_damage(records: &[KeptRecord<'_>]) -> bool
+fn has_damage(records: &[SpoolRecord<'_>]) -> bool
     ensures { result ≡ has_damage records.now }
 {
     for kept in records {
@@ -183,31 +183,31 @@ fn has_damage(records: &[KeptRecord<'_>]) -> bool
     false
 }
 
-/// Whether a record is that of the page behind this one in its call.
-fn is_next(page: &PageRecord<'_>, kept: &KeptRecord<'_>) -> bool
+/// Whether a record is that of the page after this one in its call.
+fn is_next(page: &PageRecord<'_>, kept: &SpoolRecord<'_>) -> bool
     ensures { result ≡ is_next page.now kept.now }
 {
     match kept {
-        KeptRecord::Page(other) => {
+        SpoolRecord::Page(other) => {
             is_of_call(page, other) && u64::from(other.number) == u64::from(page.number) + 1
         }
-        KeptRecord::Ended(_) => false,
-        KeptRecord::Epoch(_) => false,
-        KeptRecord::Damaged => false,
+        SpoolRecord::Ended(_) => false,
+        SpoolRecord::Epoch(_) => false,
+        SpoolRecord::Damaged => false,
     }
 }
 
 /// Whether a record is that of the page before this one in its call.
-fn is_previous(page: &PageRecord<'_>, kept: &KeptRecord<'_>) -> bool
+fn is_previous(page: &PageRecord<'_>, kept: &SpoolRecord<'_>) -> bool
     ensures { result ≡ is_previous page.now kept.now }
 {
     match kept {
-        KeptRecord::Page(other) => {
+        SpoolRecord::Page(other) => {
             is_of_call(page, other) && u64::from(page.number) == u64::from(other.number) + 1
         }
-        KeptRecord::Ended(_) => false,
-        KeptRecord::Epoch(_) => false,
-        KeptRecord::Damaged => false,
+        SpoolRecord::Ended(_) => false,
+        SpoolRecord::Epoch(_) => false,
+        SpoolRecord::Damaged => false,
     }
 }
 
@@ -219,13 +219,13 @@ pub(crate) fn is_of_call(page: &PageRecord<'_>, other: &PageRecord<'_>) -> bool
 }
 
 /// Whether a record is damaged.
-pub(crate) fn is_damaged(kept: &KeptRecord<'_>) -> bool
+pub(crate) fn is_damaged(kept: &SpoolRecord<'_>) -> bool
     ensures { result ≡ is_damaged kept.now }
 {
     match kept {
-        KeptRecord::Damaged => true,
-        KeptRecord::Page(_) => false,
-        KeptRecord::Ended(_) => false,
-        KeptRecord::Epoch(_) => false,
+        SpoolRecord::Damaged => true,
+        SpoolRecord::Page(_) => false,
+        SpoolRecord::Ended(_) => false,
+        SpoolRecord::Epoch(_) => false,
     }
 }

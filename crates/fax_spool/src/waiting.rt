@@ -1,33 +1,33 @@
 //! Which pages wait, by the records that were read.
 ghost use Rattle.std.specs.Prelude.{◌≡◌, ◌++◌, map, IfOk, OnOk};
-ghost use Rattle.fax_spool.specs.KeptRecords.{AreReadAs};
-ghost use Rattle.fax_spool.specs.Waits.{name_of, left_of, after, left_behind, waiting, waiting_behind, without};
+ghost use Rattle.fax_spool.specs.SpoolRecords.{AreReadAs};
+ghost use Rattle.fax_spool.specs.Waits.{name_of, left_of, after, left_after, waiting, waiting_after, without};
 ghost use Rattle.fax_spool.specs.Spools.{epoch_of, greatest_epoch, raised};
 
 use crate::page_name::{PageName, had};
-use crate::{EndedRecord, KeptRecord, PageRecord, read_kept_record};
+use crate::{EndedRecord, PageRecord, SpoolRecord, read_spool_record};
 use std::alloc::{AllocError, Global};
 
 /// What each of these octets says, in their order.
-pub fn read_kept_records(
+pub fn read_spool_records(
     alloc: Global,
     items: &[Vec<u8>],
-) -> Result<Vec<KeptRecord<'_>>, AllocError>
+) -> Result<Vec<SpoolRecord<'_>>, AllocError>
     ensures { IfOk result (λ records. AreReadAs (map (λ v. v.items) items.now) records.items) }
 {
     let mut records = Vec::with_capacity(alloc, items.len())?;
     let mut rest = items;
-    while let Some((octets, behind)) = rest.split_first() {
-        records.push(read_kept_record(octets.as_slice()))?;
-        rest = behind;
+    while let Some((octets, after)) = rest.split_first() {
+        records.push(read_spool_record(octets.as_slice()))?;
+        rest = after;
     }
     Ok(records)
 }
 
-/// The pages that wait behind these records, in the order in which they were put.
+/// The pages that wait after these records, in the order in which they were put.
 pub fn waiting_pages<'a>(
     alloc: Global,
-    records: &[KeptRecord<'a>],
+    records: &[SpoolRecord<'a>],
 ) -> Result<Vec<PageRecord<'a>>, AllocError>
     ensures { IfOk result (λ pages. pages.items ≡ waiting records.now) }
 {
@@ -36,12 +36,12 @@ pub fn waiting_pages<'a>(
     Ok(pages)
 }
 
-/// The pages that wait behind these records, where some waited before them.
+/// The pages that wait after these records, where some waited before them.
 pub(crate) fn follow_all<'a>(
     pages: &mut Vec<PageRecord<'a>>,
-    records: &[KeptRecord<'a>],
+    records: &[SpoolRecord<'a>],
 ) -> Result<(), AllocError>
-    ensures { OnOk result (pages.new.items ≡ waiting_behind pages.old.items records.now) }
+    ensures { OnOk result (pages.new.items ≡ waiting_after pages.old.items records.now) }
 {
     for kept in records {
         follow(pages, kept)?;
@@ -50,8 +50,8 @@ pub(crate) fn follow_all<'a>(
 }
 
 /// Drops the pages whose jobs ended by these records.
-pub(crate) fn drop_ended(pages: &mut Vec<PageRecord<'_>>, records: &[KeptRecord<'_>])
-    ensures { pages.new.items ≡ left_behind pages.old.items records.now }
+pub(crate) fn drop_ended(pages: &mut Vec<PageRecord<'_>>, records: &[SpoolRecord<'_>])
+    ensures { pages.new.items ≡ left_after pages.old.items records.now }
 {
     for kept in records {
         drop_ended_by(pages, kept);
@@ -71,11 +71,11 @@ pub(crate) fn names_of(alloc: Global, pages: &[PageRecord<'_>]) -> Result<Vec<Pa
 
 /// The number of the first epoch that can be read, 0 where there is none. Of the two files of a spool, that of the smaller number is
 /// the older one.
-pub fn first_epoch(records: &[KeptRecord<'_>]) -> u32
+pub fn first_epoch(records: &[SpoolRecord<'_>]) -> u32
     ensures { result ≡ epoch_of records.now }
 {
     for kept in records {
-        if let KeptRecord::Epoch(number) = kept {
+        if let SpoolRecord::Epoch(number) = kept {
             return *number;
         }
     }
@@ -83,7 +83,7 @@ pub fn first_epoch(records: &[KeptRecord<'_>]) -> u32
 }
 
 /// The greatest number of an epoch in these records, 0 where there is none.
-pub(crate) fn newest_epoch(records: &[KeptRecord<'_>]) -> u32
+pub(crate) fn newest_epoch(records: &[SpoolRecord<'_>]) -> u32
     ensures { result ≡ greatest_epoch records.now }
 {
     let mut greatest = 0;
@@ -94,41 +94,41 @@ pub(crate) fn newest_epoch(records: &[KeptRecord<'_>]) -> u32
 }
 
 /// The greater number of this one and of a record's epoch.
-fn raised(greatest: u32, kept: &KeptRecord<'_>) -> u32
+fn raised(greatest: u32, kept: &SpoolRecord<'_>) -> u32
     ensures { result ≡ raised greatest kept.now }
 {
     match kept {
-        KeptRecord::Epoch(number) => greatest.max(*number),
-        KeptRecord::Page(_) => greatest,
-        KeptRecord::Ended(_) => greatest,
-        KeptRecord::Damaged => greatest,
+        SpoolRecord::Epoch(number) => greatest.max(*number),
+        SpoolRecord::Page(_) => greatest,
+        SpoolRecord::Ended(_) => greatest,
+        SpoolRecord::Damaged => greatest,
     }
 }
 
 /// One more record: its page waits, or the pages of its job wait no more.
-fn follow<'a>(pages: &mut Vec<PageRecord<'a>>, kept: &KeptRecord<'a>) -> Result<(), AllocError>
+fn follow<'a>(pages: &mut Vec<PageRecord<'a>>, kept: &SpoolRecord<'a>) -> Result<(), AllocError>
     ensures { OnOk result (pages.new.items ≡ after pages.old.items kept.now) }
 {
     match kept {
-        KeptRecord::Page(page) => Ok(pages.push(page.copy())?),
-        KeptRecord::Ended(ended) => {
+        SpoolRecord::Page(page) => Ok(pages.push(page.copy())?),
+        SpoolRecord::Ended(ended) => {
             drop_job(pages, ended);
             Ok(())
         }
-        KeptRecord::Epoch(_) => Ok(()),
-        KeptRecord::Damaged => Ok(()),
+        SpoolRecord::Epoch(_) => Ok(()),
+        SpoolRecord::Damaged => Ok(()),
     }
 }
 
 /// Drops the pages whose job ended by this record.
-fn drop_ended_by(pages: &mut Vec<PageRecord<'_>>, kept: &KeptRecord<'_>)
+fn drop_ended_by(pages: &mut Vec<PageRecord<'_>>, kept: &SpoolRecord<'_>)
     ensures { pages.new.items ≡ left_of pages.old.items kept.now }
 {
     match kept {
-        KeptRecord::Ended(ended) => drop_job(pages, ended),
-        KeptRecord::Page(_) => {}
-        KeptRecord::Epoch(_) => {}
-        KeptRecord::Damaged => {}
+        SpoolRecord::Ended(ended) => drop_job(pages, ended),
+        SpoolRecord::Page(_) => {}
+        SpoolRecord::Epoch(_) => {}
+        SpoolRecord::Damaged => {}
     }
 }
 

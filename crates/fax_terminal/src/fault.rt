@@ -1,5 +1,5 @@
 //! Why a terminal goes no further.
-use crate::keeper::KeepFault;
+use crate::store::StoreFault;
 use fax_bits::NoMemory;
 use thiserror::Error;
 
@@ -27,13 +27,13 @@ impl From<NoMemory> for TerminalFault {
     }
 }
 
-impl From<KeepFault> for TerminalFault {
+impl From<StoreFault> for TerminalFault {
     ghost use Rattle.std.specs.Prelude.{◌≡◌};
     ghost use Rattle.fax_terminal.specs.declared.fault.TerminalFault.TheVariants as faults;
 
     ghost from_gives = { λ _ fault. fault ≡ faults.Keeping };
 
-    fn from(_: KeepFault) -> Self {
+    fn from(_: StoreFault) -> Self {
         TerminalFault::Keeping
     }
 }

@@ -5,15 +5,15 @@
 #![tactic(auto)]
 
 mod fault;
-mod keeper;
 mod link;
 mod pace;
 mod receiving;
 mod sending;
+mod store;
 
 pub use fault::TerminalFault;
-pub use keeper::{KeepFault, Keeper};
 pub use link::MOST_OCTETS;
 pub use pace::Pace;
 pub use receiving::{ReceivingTerminal, receive_call};
-pub use sending::{SendingTerminal, Sent, send_job};
+pub use sending::{SendingTerminal, SentJob, send_job};
+pub use store::{PageStore, StoreFault};

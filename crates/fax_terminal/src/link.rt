@@ -3,7 +3,7 @@ ghost use Rattle.std.specs.Prelude.{◌≤◌, length, IfSome};
 ghost use Rattle.fax_udptl.specs.Sending.{most_redundancy};
 
 use fax_bits::NoMemory;
-use fax_gateway::{Side, WireFault};
+use fax_gateway::{Leg, WireFault};
 use fax_repeat::TimedWire;
 use fax_udptl::{Decided, Receiver, Sender};
 use std::alloc::Global;
@@ -41,7 +41,7 @@ impl<W: TimedWire + Drop> Link<W> {
     pub fn receive(&mut self, buffer: &mut [u8]) -> Option<usize>
         ensures { IfSome result (λ count. count ≤ length buffer.new) }
     {
-        match self.wire.receive(Side::Calling, buffer) {
+        match self.wire.receive(Leg::Calling, buffer) {
             Ok(came) => came,
             Err(WireFault) => None,
         }
@@ -57,7 +57,7 @@ impl<W: TimedWire + Drop> Link<W> {
         requires { length packet.now ≤ 16383 }
     {
         let datagram = self.sender.send(packet)?;
-        let _ = self.wire.send(Side::Calling, datagram.as_slice());
+        let _ = self.wire.send(Leg::Calling, datagram.as_slice());
         Ok(())
     }
 

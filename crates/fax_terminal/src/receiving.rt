@@ -2,12 +2,12 @@
 ghost use Rattle.std.specs.Prelude.{◌≡◌, ◌≤◌, ◌↔◌, ℕ, true, false, List, [], length, IsTrue, IfOk, IfSome, OnOk};
 ghost use Rattle.fax_pagestore.specs.Pages.{PageValue};
 ghost use Rattle.fax_gateway.specs.Setups.{AreAllowed};
-ghost use Rattle.fax_terminal.specs.Calls.{AreGiven, HasTurned, IsReceiving, KeepsConfirmed, KeepsInCall, KeepsWholeCall, kept_all, pages_in};
+ghost use Rattle.fax_terminal.specs.Calls.{AreGiven, HasTurned, IsReceiving, StoresConfirmed, StoresInCall, StoresWholeCall, pages_in, stored_all};
 
 use crate::fault::TerminalFault;
-use crate::keeper::Keeper;
 use crate::link::{Link, MOST_DATAGRAMS, MOST_OCTETS};
 use crate::pace::Pace;
+use crate::store::PageStore;
 use fax_answer::{Answerer, Confirmed, State, Step};
 use fax_bits::NoMemory;
 use fax_gateway::Settings;
@@ -16,7 +16,7 @@ use fax_repeat::TimedWire;
 use std::alloc::Global;
 use std::marker::Model;
 
-/// A terminal that is called. Seen as its answering side.
+/// A terminal that is called. Seen as its answerer.
 #[derive(Drop)]
 pub struct ReceivingTerminal<S: RowStore, W: TimedWire + Drop> {
     answerer: Answerer<S>,
@@ -24,9 +24,9 @@ pub struct ReceivingTerminal<S: RowStore, W: TimedWire + Drop> {
 }
 
 impl<S: RowStore, W: TimedWire + Drop> Model for ReceivingTerminal<S, W> {
-    ghost use Rattle.fax_answer.specs.Reached.{Kept};
+    ghost use Rattle.fax_answer.specs.Reached.{Rep};
 
-    ghost Value = { Kept };
+    ghost Value = { Rep };
 
     ghost view = { λ terminal. terminal.answerer };
 }
@@ -34,17 +34,17 @@ impl<S: RowStore, W: TimedWire + Drop> Model for ReceivingTerminal<S, W> {
 /// Answers the call that this datagram begins, until it is over. Each page that is confirmed is kept before its MCF is sent;
 /// where it is not kept, its MCF is not sent, and the call goes no further. It answers the wire, which may have to send again
 /// what may have been lost.
-pub fn receive_call<S: RowStore, W: TimedWire + Drop, P: Pace, K: Keeper<S>>(
+pub fn receive_call<S: RowStore, W: TimedWire + Drop, P: Pace, K: PageStore<S>>(
     alloc: Global,
     pace: &mut P,
     wire: W,
     first: &[u8],
-    keeper: &mut K,
+    store: &mut K,
     settings: Settings,
 ) -> Result<W, TerminalFault>
     requires { AreAllowed settings }
-    ensures kept { KeepsConfirmed K.keeps settings.preamble_ms (kept_all result) keeper.old keeper.new }
-    ensures whole { OnOk result (KeepsWholeCall K.keeps settings.preamble_ms keeper.old keeper.new) }
+    ensures kept { StoresConfirmed K.keeps settings.preamble_ms (stored_all result) store.old store.new }
+    ensures whole { OnOk result (StoresWholeCall K.keeps settings.preamble_ms store.old store.new) }
 {
     let Some(start) = pace.wait() else {
         return Err(TerminalFault::Clock);
@@ -57,7 +57,7 @@ pub fn receive_call<S: RowStore, W: TimedWire + Drop, P: Pace, K: Keeper<S>>(
         let Some(now) = pace.wait() else {
             return Err(TerminalFault::Clock);
         };
-        terminal.turn(keeper, now)?;
+        terminal.turn(store, now)?;
         if terminal.is_over() {
             return Ok(terminal.into_wire());
         }
@@ -78,17 +78,17 @@ impl<S: RowStore, W: TimedWire + Drop> ReceivingTerminal<S, W> {
     }
 
     /// It hears what has come, time goes on, and it keeps the page that is confirmed, and then sends what it has to. Where the
-    /// page is not kept, nothing is sent.
-    pub fn turn<K: Keeper<S>>(&mut self, keeper: &mut K, now: u64) -> Result<(), TerminalFault>
-        ensures call { (pause : ℕ) (first : K) → KeepsInCall K.keeps pause true first self.old keeper.old
-            → KeepsInCall K.keeps pause (kept_all result) first self.new keeper.new }
-        ensures ticked { OnOk result ((pause : ℕ) (first : K) → KeepsInCall K.keeps pause true first self.old keeper.old
-            → HasTurned K.keeps pause first now self.new keeper.new) }
+    /// page is not stored, nothing is sent.
+    pub fn turn<K: PageStore<S>>(&mut self, store: &mut K, now: u64) -> Result<(), TerminalFault>
+        ensures call { (pause : ℕ) (first : K) → StoresInCall K.keeps pause true first self.old store.old
+            → StoresInCall K.keeps pause (stored_all result) first self.new store.new }
+        ensures ticked { OnOk result ((pause : ℕ) (first : K) → StoresInCall K.keeps pause true first self.old store.old
+            → HasTurned K.keeps pause first now self.new store.new) }
     {
         self.link.go_on(now);
         self.hear(now)?;
         let step = self.answerer.tick(now)?;
-        keep_and_send(keeper, &mut self.link, step)
+        store_and_send(store, &mut self.link, step)
     }
 
     /// It hears a datagram.
@@ -129,16 +129,16 @@ impl<S: RowStore, W: TimedWire + Drop> ReceivingTerminal<S, W> {
     }
 }
 
-/// Keeps the page that a step confirms, where it does, and then sends what the step gives. Where the page is not kept, nothing
+/// Keeps the page that a step confirms, where it does, and then sends what the step gives. Where the page is not stored, nothing
 /// is sent.
-fn keep_and_send<S: RowStore, W: TimedWire + Drop, K: Keeper<S>>(
-    keeper: &mut K,
+fn store_and_send<S: RowStore, W: TimedWire + Drop, K: PageStore<S>>(
+    store: &mut K,
     link: &mut Link<W>,
     step: Step<S>,
 ) -> Result<(), TerminalFault>
     requires { IfSome step.packet (λ packet. length packet ≤ 16383) }
-    ensures given { AreGiven K.keeps (kept_all result) (pages_in step.confirmed) keeper.old keeper.new }
-    ensures unsent { kept_all result ≡ false → link.new ≡ link.old }
+    ensures given { AreGiven K.keeps (stored_all result) (pages_in step.confirmed) store.old store.new }
+    ensures unsent { stored_all result ≡ false → link.new ≡ link.old }
 {
     let Step {
         packet,
@@ -146,7 +146,7 @@ fn keep_and_send<S: RowStore, W: TimedWire + Drop, K: Keeper<S>>(
         ..
     } = step;
     if let Some(Confirmed { page, .. }) = confirmed {
-        keeper.keep(&page)?;
+        store.keep(&page)?;
     }
     if let Some(packet) = packet {
         link.send(packet.as_slice())?;

@@ -19,14 +19,14 @@ use std::marker::Model;
 
 /// What is told of a call in which the pages of a job were sent.
 #[derive(Clone, Copy, PartialEq, Eq, Debug)]
-pub struct Sent {
+pub struct SentJob {
     /// How it ended.
     pub outcome: Outcome,
     /// How many pages the called machine confirmed.
     pub delivered: u32,
 }
 
-/// A terminal that calls. Seen as its calling side.
+/// A terminal that calls. Seen as its caller.
 #[derive(Drop)]
 pub struct SendingTerminal<W: TimedWire + Drop> {
     caller: Caller,
@@ -34,9 +34,9 @@ pub struct SendingTerminal<W: TimedWire + Drop> {
 }
 
 impl<W: TimedWire + Drop> Model for SendingTerminal<W> {
-    ghost use Rattle.fax_call.specs.Reached.{Kept};
+    ghost use Rattle.fax_call.specs.Reached.{Rep};
 
-    ghost Value = { Kept };
+    ghost Value = { Rep };
 
     ghost view = { λ terminal. terminal.caller };
 }
@@ -49,7 +49,7 @@ pub fn send_job<S: RowStore, W: TimedWire + Drop, P: Pace>(
     wire: W,
     job: &Job<S>,
     settings: Settings,
-) -> Result<Sent, TerminalFault>
+) -> Result<SentJob, TerminalFault>
     requires { AreAllowed settings }
     ensures { IfOk result (TellsCall settings.preamble_ms job.now) }
 {
@@ -118,14 +118,14 @@ impl<W: TimedWire + Drop> SendingTerminal<W> {
     }
 
     /// What is told of the call, where it is over and the wire has nothing to send again.
-    pub fn sent(&self) -> Option<Sent>
+    pub fn sent(&self) -> Option<SentJob>
         ensures { (pause : ℕ) (job : JobValue) → IsInCall pause job self.now → IfSome result (TellsCall pause job) }
     {
         if self.caller.state() != State::Idle || !self.link.is_quiet() {
             return None;
         }
         match self.caller.outcome() {
-            Some(outcome) => Some(Sent {
+            Some(outcome) => Some(SentJob {
                 outcome,
                 delivered: self.caller.delivered(),
             }),

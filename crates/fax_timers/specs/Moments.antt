@@ -19,7 +19,7 @@ abbrev pub is_due : Option ℕ → ℕ → Bool
 is_due None now = false
 is_due (Some moment) now = nat_le moment now
 
--- a moment as a clock of 64 bits comes to it: there is none behind the last one
+-- a moment as a clock of 64 bits comes to it: there is none after the last one
 abbrev pub on_clock : ℕ → Option ℕ
 on_clock moment = if nat_lt moment (2 ^ 64) then Some moment else None
 

@@ -17,6 +17,6 @@ t4 = 3000
 abbrev pub pace : ℕ
 pace = 40
 
--- the longest pause behind a preamble (this project's profile)
+-- the longest pause after a preamble (this project's profile)
 abbrev pub longest_pause : ℕ
 longest_pause = 2000

@@ -1,19 +1,19 @@
-//! The pace of a leg: packets are given at least [`PACE_MS`] apart, and behind the preamble of a frame a pause is set.
+//! The pace of a leg: packets are given at least [`PACE_MS`] apart, and after the preamble of a frame a pause is set.
 ghost use Rattle.std.specs.Prelude.{◌≡◌};
 ghost use Rattle.fax_timers.specs.Moments.{on_clock};
-ghost use Rattle.fax_timers.specs.Paces.{allowed_from, new_pace, pace_allows, pace_behind};
+ghost use Rattle.fax_timers.specs.Paces.{allowed_from, new_pace, pace_after, pace_allows};
 
 use crate::spans::{LONGEST_PAUSE_MS, PACE_MS};
 use std::marker::Model;
 
-/// A packet that was given: its moment, and how long the next one waits behind it, in milliseconds.
+/// A packet that was given: its moment, and how long the next one waits after it, in milliseconds.
 #[derive(Clone, Copy)]
 pub struct LastPacket {
     at: u64,
     span: u64,
 }
 
-/// The last packet that was given on a leg, and how long the next one waits behind a preamble, in milliseconds.
+/// The last packet that was given on a leg, and how long the next one waits after a preamble, in milliseconds.
 #[derive(Clone, Copy)]
 pub struct Pace {
     preamble_ms: u16,
@@ -31,7 +31,7 @@ impl Model for Pace {
 }
 
 impl Pace {
-    /// The pace of a leg on which no packet was given. The packet behind a preamble waits so many milliseconds there, at
+    /// The pace of a leg on which no packet was given. The packet after a preamble waits so many milliseconds there, at
     /// most [`LONGEST_PAUSE_MS`].
     pub fn new(preamble_ms: u16) -> Self
         ensures { result ≡ new_pace preamble_ms }
@@ -42,7 +42,7 @@ impl Pace {
         }
     }
 
-    /// Whether a packet may be given now: where none was, or where the last was given long enough ago. So none may behind
+    /// Whether a packet may be given now: where none was, or where the last was given long enough ago. So none may after
     /// one of the last moments of a `u64`.
     pub fn allows(&self, now: u64) -> bool
         ensures { result ≡ pace_allows self.now.last now }
@@ -56,7 +56,7 @@ impl Pace {
         }
     }
 
-    /// From which moment on a packet may be given: from 0 where none was. `None`: that lies behind each moment of a `u64`.
+    /// From which moment on a packet may be given: from 0 where none was. `None`: that lies after each moment of a `u64`.
     pub fn allowed_from(&self) -> Option<u64>
         ensures { result ≡ on_clock (allowed_from self.now.last) }
     {
@@ -68,7 +68,7 @@ impl Pace {
 
     /// Notes that a packet is given now, which is a preamble or not.
     pub fn given(&mut self, is_preamble: bool, now: u64)
-        ensures { self.new ≡ pace_behind is_preamble self.old now }
+        ensures { self.new ≡ pace_after is_preamble self.old now }
     {
         let span = if is_preamble {
             u64::from(self.preamble_ms).min(LONGEST_PAUSE_MS)

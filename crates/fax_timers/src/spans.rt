@@ -12,5 +12,5 @@ pub const T4_MS: u64 = 3_000;
 /// The least time between two packets given on a leg (this project's profile).
 pub const PACE_MS: u64 = 40;
 
-/// The longest pause behind the preamble of a frame (this project's profile).
+/// The longest pause after the preamble of a frame (this project's profile).
 pub const LONGEST_PAUSE_MS: u64 = 2_000;

@@ -5,13 +5,13 @@ use Rattle.fax_gateway.specs.declared.settings.Settings.{Settings}
 use Rattle.fax_command.specs.RowLines.{lines_of, text_of_lines}
 use Rattle.fax_trace.specs.declared.script_fault.ScriptFault.TheVariants.{NoMemory}
 use Rattle.fax_trace.specs.Playing.{nothing_played}
-use Rattle.fax_trace.specs.Answers.{Outcome, Answers, AnswersBehind, status_of, fault_lines}
-use Rattle.fax_trace.specs.Kept.{HasPlayed}
+use Rattle.fax_trace.specs.Answers.{Outcome, Answers, AnswersAfter, status_of, fault_lines}
+use Rattle.fax_trace.specs.Rep.{HasPlayed}
 use Rattle.fax_command.proofs.TellLemmas.{text_of_lines-append}
 
 -- what was played is answered, with the line of its fault
 pub answers_played : (settings : Settings) (script text told : List ℕ) (outcome : Outcome) (lines : ℕ) → HasPlayed settings script outcome lines text
-    → told ≡ text ++ text_of_lines (fault_lines outcome) → AnswersBehind settings script lines (status_of outcome) told
+    → told ≡ text ++ text_of_lines (fault_lines outcome) → AnswersAfter settings script lines (status_of outcome) told
 answers_played settings script text told outcome lines h is = record {
   answers = record {
     before = h.before;
@@ -42,7 +42,7 @@ played_to_memory settings script text outcome lines h =
     record { before = h.before; so_many = h.so_many; others = h.others; lines_are = h.lines_are; events = h.events; tell = h.tell; ends = tt; told = h.told }
 
 -- and before anything was played
-pub Answers-memory : (settings : Settings) (input : List ℕ) → AnswersBehind settings input 0 3 (codes "fault memory\n")
+pub Answers-memory : (settings : Settings) (input : List ℕ) → AnswersAfter settings input 0 3 (codes "fault memory\n")
 Answers-memory settings input = record {
   answers = record {
     before = [];
@@ -59,17 +59,17 @@ Answers-memory settings input = record {
 }
 
 -- an answer, said of equal things
-pub Answers-same : (settings : Settings) (a b : List ℕ) (k l m n : ℕ) (s t : List ℕ) → AnswersBehind settings a k m s → a ≡ b → l ≡ k → n ≡ m → t ≡ s
-    → AnswersBehind settings b l n t
+pub Answers-same : (settings : Settings) (a b : List ℕ) (k l m n : ℕ) (s t : List ℕ) → AnswersAfter settings a k m s → a ≡ b → l ≡ k → n ≡ m → t ≡ s
+    → AnswersAfter settings b l n t
 Answers-same settings a b k l m n s t r input lines status text =
-    subst (λ (x : List ℕ). AnswersBehind settings x l n t) input
-    (subst (λ (i : ℕ). AnswersBehind settings a i n t) (sym lines)
-    (subst (λ (i : ℕ). AnswersBehind settings a k i t) (sym status) (subst (λ (u : List ℕ). AnswersBehind settings a k m u) (sym text) r)))
+    subst (λ (x : List ℕ). AnswersAfter settings x l n t) input
+    (subst (λ (i : ℕ). AnswersAfter settings a i n t) (sym lines)
+    (subst (λ (i : ℕ). AnswersAfter settings a k i t) (sym status) (subst (λ (u : List ℕ). AnswersAfter settings a k m u) (sym text) r)))
 
 -- an answer to what was read is one to the input, where that is known
 pub Answers-read : (settings : Settings) (told : Option (List ℕ)) (read : List ℕ) (k l m n : ℕ) (s t : List ℕ) (old new : Option (List ℕ))
-    → IfSome told (λ input. read ≡ input) → AnswersBehind settings read k m s → l ≡ k → n ≡ m → t ≡ s → Appends old new t
-    → IfSome told (λ input. (text : List ℕ) × AnswersBehind settings input l n text × Appends old new text)
+    → IfSome told (λ input. read ≡ input) → AnswersAfter settings read k m s → l ≡ k → n ≡ m → t ≡ s → Appends old new t
+    → IfSome told (λ input. (text : List ℕ) × AnswersAfter settings input l n text × Appends old new text)
 Answers-read settings None read k l m n s t old new whole r lines status text written = tt
 Answers-read settings (Some input) read k l m n s t old new whole r lines status text written =
     (t, Answers-same settings read input k l m n s t r whole lines status text, written)
@@ -77,20 +77,20 @@ Answers-read settings (Some input) read k l m n s t old new whole r lines status
 -- want of memory, before the input was read
 pub Answers-unread : (settings : Settings) (told : Option (List ℕ)) (l n : ℕ) (t : List ℕ) (old new : Option (List ℕ))
     → l ≡ 0 → n ≡ 3 → t ≡ codes "fault memory\n" → Appends old new t
-    → IfSome told (λ input. (text : List ℕ) × AnswersBehind settings input l n text × Appends old new text)
+    → IfSome told (λ input. (text : List ℕ) × AnswersAfter settings input l n text × Appends old new text)
 Answers-unread settings None l n t old new lines status text written = tt
 Answers-unread settings (Some input) l n t old new lines status text written =
     (t, Answers-same settings input input 0 l 3 n _ t (Answers-memory settings input) refl lines status text, written)
 
 -- whatever was played, it is an answer
 pub Answers-played : (settings : Settings) (told : Option (List ℕ)) (played m n : ℕ) (old new : Option (List ℕ))
-    → IfSome told (λ input. (text : List ℕ) × AnswersBehind settings input played m text × Appends old new text) → n ≡ m
+    → IfSome told (λ input. (text : List ℕ) × AnswersAfter settings input played m text × Appends old new text) → n ≡ m
     → IfSome told (λ input. (text : List ℕ) × Answers settings input n text × Appends old new text)
-Answers-played settings None played m n old new behind is = tt
-Answers-played settings (Some input) played m n old new (text, behind, written) is =
-    (text, subst (λ (i : ℕ). Answers settings input i text) (sym is) behind.answers, written)
+Answers-played settings None played m n old new after is = tt
+Answers-played settings (Some input) played m n old new (text, after, written) is =
+    (text, subst (λ (i : ℕ). Answers settings input i text) (sym is) after.answers, written)
 
--- one write behind another
+-- one write after another
 pub Appends-twice : (a b c : Option (List ℕ)) (x y : List ℕ) → Appends a b x → Appends b c y → Appends a c (x ++ y)
 Appends-twice None b c x y first second = tt
 Appends-twice (Some old) None c x y first second = absurd first

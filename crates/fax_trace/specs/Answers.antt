@@ -9,7 +9,7 @@ use Rattle.fax_trace.specs.declared.event.ScriptEvent.{ScriptEvent}
 use Rattle.fax_trace.specs.declared.script_fault.ScriptFault.{ScriptFault}
 use Rattle.fax_trace.specs.declared.script_fault.ScriptFault.TheVariants.{Line, NoMemory}
 use Rattle.fax_trace.specs.Scripts.{TellsEvent, TellEvents}
-use Rattle.fax_trace.specs.Playing.{Played, PlaysAll, nothing_played}
+use Rattle.fax_trace.specs.Playing.{PlayedScript, PlaysAll, nothing_played}
 
 -- how playing ends: all of a script was played, or there is a fault
 abbrev pub Outcome : Type 0
@@ -20,24 +20,24 @@ status_of (Ok done) = 0
 status_of (Err (Line number)) = 1
 status_of (Err NoMemory) = 3
 
--- the line that a fault has behind the others
+-- the line that a fault has after the others
 abbrev pub fault_lines : Outcome → List (List ℕ)
 fault_lines (Ok done) = []
 fault_lines (Err (Line number)) = (codes "fault line " ++ decimal number) ∷ []
 fault_lines (Err NoMemory) = codes "fault memory" ∷ []
 
--- It ends behind so many lines, before the others: where there are none; at the first that tells no event, numbered from 1;
+-- It ends after so many lines, before the others: where there are none; at the first that tells no event, numbered from 1;
 -- or where memory is wanted and refused, for the first of them or, where there are none, at the end.
-abbrev pub Ends : (behind : ℕ) → (others : List (List ℕ)) → Outcome → Type 0
-Ends behind others (Ok done) = others ≡ []
-Ends behind others (Err (Line number)) =
-    (number ≡ behind + 1) × (line : List ℕ) × (more : List (List ℕ)) × (others ≡ line ∷ more) × ((event : ScriptEvent) → TellsEvent line event → ⊥)
-Ends behind others (Err NoMemory) = Unit {0}
+abbrev pub Ends : (after : ℕ) → (others : List (List ℕ)) → Outcome → Type 0
+Ends after others (Ok done) = others ≡ []
+Ends after others (Err (Line number)) =
+    (number ≡ after + 1) × (line : List ℕ) × (more : List (List ℕ)) × (others ≡ line ∷ more) × ((event : ScriptEvent) → TellsEvent line event → ⊥)
+Ends after others (Err NoMemory) = Unit {0}
 
 -- A new gateway answers the events by a trace, where this function gives the texts of pages, and the text has the lines that
--- are told of them, and these last ones behind.
+-- are told of them, and these last ones after.
 pub record AreTold (setup : Setup) (writes : Writing) (events : List ScriptEvent) (last : List (List ℕ)) (text : List ℕ) : Type 0 where
-  pub played : Played
+  pub played : PlayedScript
   pub is_played : PlaysAll setup writes nothing_played events played
   pub is_trace : IsTrace setup writes played.trace
   pub text_is : text ≡ text_of_lines (played.lines ++ last)
@@ -57,6 +57,6 @@ pub record Answers (settings : Settings) (input : List ℕ) (status : ℕ) (text
 
 -- The same, where just so many lines of the input were played. So what stands before the line of a fault, or of want of
 -- memory, is what is told of these, and each of them is told whole.
-pub record AnswersBehind (settings : Settings) (input : List ℕ) (played status : ℕ) (text : List ℕ) : Type 0 where
+pub record AnswersAfter (settings : Settings) (input : List ℕ) (played status : ℕ) (text : List ℕ) : Type 0 where
   pub answers : Answers settings input status text
   pub so_many : length answers.before ≡ played

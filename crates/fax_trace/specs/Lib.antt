@@ -1,5 +1,5 @@
 pub mod Answers
-pub mod Kept
+pub mod Rep
 pub mod Playing
 pub mod Scripts
 pub mod Told

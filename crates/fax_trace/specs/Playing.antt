@@ -1,7 +1,7 @@
 -- PLAYING a script on a new gateway: its events one by one, the oldest first, with what is told of each. (This project's profile.)
 use Rattle.std.specs.Prelude.{◌≡◌, ℕ, ◌≤◌, ◌⊎◌, true, false, List, [], ◌∷◌, ◌++◌, Option, None, codes}
 use Rattle.fax_call.specs.Writings.{Writing}
-use Rattle.fax_gateway.specs.Asking.{asked_behind}
+use Rattle.fax_gateway.specs.Asking.{asked_after}
 use Rattle.fax_gateway.specs.Events.{Event, Ring, FromCalling, FromCalled, Tick, Placed, moment_of, rings}
 use Rattle.fax_gateway.specs.CallingLegs.{calling_leg, idle_after}
 use Rattle.fax_gateway.specs.Setups.{Setup}
@@ -12,12 +12,12 @@ use Rattle.fax_trace.specs.Told.{asked_lines, lines_told}
 
 -- What was played: the events that the gateway accepted, with its answers, the newest first; the last moment that the script
 -- told, 0 before the first; and the lines that were told, the oldest first.
-pub record Played : Type 0 where
+pub record PlayedScript : Type 0 where
   pub trace : List Event
   pub moment : ℕ
   pub lines : List (List ℕ)
 
-abbrev pub nothing_played : Played
+abbrev pub nothing_played : PlayedScript
 nothing_played = record { trace = []; moment = 0; lines = [] }
 
 -- the event of a script that an accepted event was
@@ -36,16 +36,16 @@ moment_at (script.Connected moment) last = moment
 moment_at (script.NotConnected moment) last = moment
 moment_at event last = last
 
--- the call that is asked for behind a trace, and the one that is asked for behind an event and was not before it
-abbrev pub call_behind : Setup → Writing → List Event → Option ℕ
-call_behind setup writes trace = call_asked (asked_behind setup writes trace)
+-- the call that is asked for after a trace, and the one that is asked for after an event and was not before it
+abbrev pub call_after : Setup → Writing → List Event → Option ℕ
+call_after setup writes trace = call_asked (asked_after setup writes trace)
 
 abbrev pub newly_asked : Setup → Writing → List Event → Event → Option ℕ
-newly_asked setup writes earlier event = call_if_new (call_behind setup writes earlier) (call_behind setup writes (event ∷ earlier))
+newly_asked setup writes earlier event = call_if_new (call_after setup writes earlier) (call_after setup writes (event ∷ earlier))
 
 -- The gateway accepts an event: the trace goes on with it and its answer, and its lines are told, and the call that it asks for from
 -- then on.
-pub record Accepts (setup : Setup) (writes : Writing) (old : Played) (event : ScriptEvent) (new : Played) : Type 0 where
+pub record Accepts (setup : Setup) (writes : Writing) (old : PlayedScript) (event : ScriptEvent) (new : PlayedScript) : Type 0 where
   pub accepted : Event
   pub event_is : scripted accepted ≡ event
   pub at : moment_of accepted ≡ moment_at event old.moment
@@ -64,21 +64,21 @@ IsRingRefusal setup trace line =
 -- why an event is refused, as its line says: no call is asked for that could be placed or not
 abbrev pub IsRefusal : Setup → Writing → List Event → ScriptEvent → List ℕ → Type 0
 IsRefusal setup writes trace script.Ring line = IsRingRefusal setup trace line
-IsRefusal setup writes trace (script.Connected moment) line = (asked_behind setup writes trace ≡ None) × (line ≡ codes "connect refused 1 NotAsked")
-IsRefusal setup writes trace (script.NotConnected moment) line = (asked_behind setup writes trace ≡ None) × (line ≡ codes "not-connected refused 1 NotAsked")
+IsRefusal setup writes trace (script.Connected moment) line = (asked_after setup writes trace ≡ None) × (line ≡ codes "connect refused 1 NotAsked")
+IsRefusal setup writes trace (script.NotConnected moment) line = (asked_after setup writes trace ≡ None) × (line ≡ codes "not-connected refused 1 NotAsked")
 IsRefusal setup writes trace event line = ⊥
 
 -- It refuses an event: nothing changes on it, and the cause is told.
-pub record Refuses (setup : Setup) (writes : Writing) (old : Played) (event : ScriptEvent) (new : Played) : Type 0 where
+pub record Refuses (setup : Setup) (writes : Writing) (old : PlayedScript) (event : ScriptEvent) (new : PlayedScript) : Type 0 where
   pub line : List ℕ
   pub cause : IsRefusal setup writes old.trace event line
   pub new_is : new ≡ record { trace = old.trace; moment = moment_at event old.moment; lines = old.lines ++ line ∷ [] }
 
 -- one event
-abbrev pub Plays : Setup → Writing → Played → ScriptEvent → Played → Type 0
+abbrev pub Plays : Setup → Writing → PlayedScript → ScriptEvent → PlayedScript → Type 0
 Plays setup writes old event new = Accepts setup writes old event new ⊎ Refuses setup writes old event new
 
 -- all of them
-abbrev pub PlaysAll : Setup → Writing → Played → List ScriptEvent → Played → Type 0
+abbrev pub PlaysAll : Setup → Writing → PlayedScript → List ScriptEvent → PlayedScript → Type 0
 PlaysAll setup writes old [] new = new ≡ old
-PlaysAll setup writes old (event ∷ events) new = (next : Played) × Plays setup writes old event next × PlaysAll setup writes next events new
+PlaysAll setup writes old (event ∷ events) new = (next : PlayedScript) × Plays setup writes old event next × PlaysAll setup writes next events new

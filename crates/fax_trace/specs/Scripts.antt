@@ -10,8 +10,8 @@ abbrev pub TellsMoment : List ℕ → ℕ → Type 0
 TellsMoment digits moment = IsNumeral 10 digits × (digits_value 10 digits ≡ moment) × (moment < 2 ^ 64)
 
 -- a letter, a space, and a moment
-abbrev pub TellsMomentBehind : List ℕ → List ℕ → ℕ → Type 0
-TellsMomentBehind letter line moment = (digits : List ℕ) × (line ≡ letter ++ digits) × TellsMoment digits moment
+abbrev pub TellsMomentAfter : List ℕ → List ℕ → ℕ → Type 0
+TellsMomentAfter letter line moment = (digits : List ℕ) × (line ≡ letter ++ digits) × TellsMoment digits moment
 
 -- a letter, a space, and hex text of these octets, in either case
 abbrev pub TellsDatagram : List ℕ → List ℕ → List ℕ → Type 0
@@ -23,9 +23,9 @@ abbrev pub TellsEvent : List ℕ → ScriptEvent → Type 0
 TellsEvent line Ring = line ≡ codes "R"
 TellsEvent line (FromCalling octets) = TellsDatagram (codes "A ") line octets
 TellsEvent line (FromCalled octets) = TellsDatagram (codes "B ") line octets
-TellsEvent line (Tick moment) = TellsMomentBehind (codes "T ") line moment
-TellsEvent line (Connected moment) = TellsMomentBehind (codes "C ") line moment
-TellsEvent line (NotConnected moment) = TellsMomentBehind (codes "N ") line moment
+TellsEvent line (Tick moment) = TellsMomentAfter (codes "T ") line moment
+TellsEvent line (Connected moment) = TellsMomentAfter (codes "C ") line moment
+TellsEvent line (NotConnected moment) = TellsMomentAfter (codes "N ") line moment
 
 -- lines tell these events, one by one
 abbrev pub TellEvents : List (List ℕ) → List ScriptEvent → Type 0

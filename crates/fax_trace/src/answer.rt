@@ -6,8 +6,8 @@ ghost use Rattle.fax_gateway.specs.Setups.{AreAllowed};
 ghost use Rattle.fax_command.specs.Statuses.{status_code};
 ghost use Rattle.fax_command.specs.Streams.{failed_after_write};
 ghost use Rattle.fax_command.specs.RowLines.{text_of_lines};
-ghost use Rattle.fax_trace.specs.Answers.{AnswersBehind, fault_lines};
-ghost use Rattle.fax_trace.specs.Kept.{HasPlayed, IsNew, status_of_answer, text_of_answer};
+ghost use Rattle.fax_trace.specs.Answers.{AnswersAfter, fault_lines};
+ghost use Rattle.fax_trace.specs.Rep.{HasPlayed, IsNew, status_of_answer, text_of_answer};
 
 use crate::event::event_of_line;
 use crate::player::Player;
@@ -67,7 +67,7 @@ pub(crate) struct PlayedScript {
 /// Plays a script.
 pub(crate) fn play(alloc: Global, script: &[u8], settings: Settings) -> PlayedScript
     requires { AreAllowed settings }
-    ensures { AnswersBehind settings script.now result.lines (status_of_answer result.answer) (text_of_answer result.answer) }
+    ensures { AnswersAfter settings script.now result.lines (status_of_answer result.answer) (text_of_answer result.answer) }
 {
     let mut lines = 0;
     let Ok(mut player) = Player::new(alloc, settings) else {
@@ -79,10 +79,10 @@ pub(crate) fn play(alloc: Global, script: &[u8], settings: Settings) -> PlayedSc
     PlayedScript { answer, lines }
 }
 
-/// The answer where playing ended so, behind this text.
+/// The answer where playing ended so, after this text.
 fn answer_of(alloc: Global, outcome: Result<(), ScriptFault>, mut text: Vec<u8>) -> Answer
     ensures { (set : GatewaySettings) (script : List ℕ) (lines : ℕ) → HasPlayed set script outcome lines text.items
-        → AnswersBehind set script lines (status_of_answer result) (text_of_answer result) }
+        → AnswersAfter set script lines (status_of_answer result) (text_of_answer result) }
 {
     match outcome {
         Ok(()) => Answer::Done(text),
@@ -106,13 +106,13 @@ fn play_lines(
     ensures { HasPlayed player.old.gateway.settings script.now result lines.new player.new.text.items }
 {
     let mut rest = script;
-    while let Some((line, behind)) = first_line(rest) {
+    while let Some((line, after)) = first_line(rest) {
         let Some(event) = event_of_line(alloc, line)? else {
             return Err(ScriptFault::Line(*lines + 1));
         };
         player.play(event)?;
         *lines += 1;
-        rest = behind;
+        rest = after;
     }
     Ok(())
 }

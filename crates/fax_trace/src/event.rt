@@ -32,26 +32,26 @@ pub fn event_of_line(alloc: Global, line: &[u8]) -> Result<Option<ScriptEvent>, 
     if line == b"R".as_slice() {
         return Ok(Some(ScriptEvent::Ring));
     }
-    if let Some(text) = behind(line, b'A') {
+    if let Some(text) = after(line, b'A') {
         return Ok(octets_of_hex(alloc, text)?.map(ScriptEvent::FromCalling));
     }
-    if let Some(text) = behind(line, b'B') {
+    if let Some(text) = after(line, b'B') {
         return Ok(octets_of_hex(alloc, text)?.map(ScriptEvent::FromCalled));
     }
-    if let Some(digits) = behind(line, b'T') {
+    if let Some(digits) = after(line, b'T') {
         return Ok(moment_of(digits).map(ScriptEvent::Tick));
     }
-    if let Some(digits) = behind(line, b'C') {
+    if let Some(digits) = after(line, b'C') {
         return Ok(moment_of(digits).map(ScriptEvent::Connected));
     }
-    match behind(line, b'N') {
+    match after(line, b'N') {
         Some(digits) => Ok(moment_of(digits).map(ScriptEvent::NotConnected)),
         None => Ok(None),
     }
 }
 
-/// What stands behind a letter and a space, with which a line begins.
-fn behind(line: &[u8], letter: u8) -> Option<&[u8]>
+/// What stands after a letter and a space, with which a line begins.
+fn after(line: &[u8], letter: u8) -> Option<&[u8]>
     ensures some { IfSome result (λ text. line.now ≡ letter ∷ 32 ∷ text.now) }
     ensures none { IfNone result ((text : List ℕ) → line.now ≢ letter ∷ 32 ∷ text) }
 {

@@ -3,8 +3,8 @@ ghost use Rattle.std.specs.Prelude.{ℕ, ◌≡◌, List, [], IfOk, OnOk, OnErr}
 ghost use Rattle.fax_call.specs.Writings.{IsWriting, Writing};
 ghost use Rattle.fax_gateway.specs.Setups.{AreAllowed, Setup};
 ghost use Rattle.fax_trace.specs.declared.event.ScriptEvent.TheVariants as script;
-ghost use Rattle.fax_trace.specs.Playing.{Played};
-ghost use Rattle.fax_trace.specs.Kept.{HasAnswered, IsNew, IsPlaying, PlaysOn};
+ghost use Rattle.fax_trace.specs.Playing.{PlayedScript};
+ghost use Rattle.fax_trace.specs.Rep.{HasAnswered, IsNew, IsPlaying, PlaysOn};
 
 use crate::event::ScriptEvent;
 use crate::told::{lines_of_given, numbered_line, push_asked};
@@ -42,7 +42,7 @@ impl Player {
     /// Plays an event, and tells what the gateway answers, and the call that it asks for from then on. An `Err` leaves the text as
     /// it was.
     pub fn play(&mut self, event: ScriptEvent) -> Result<(), NoMemory>
-        ensures played { OnOk result ((setup : Setup) (writes : Writing) (old : Played) → IsWriting writes → IsPlaying setup writes old self.old
+        ensures played { OnOk result ((setup : Setup) (writes : Writing) (old : PlayedScript) → IsWriting writes → IsPlaying setup writes old self.old
             → PlaysOn setup writes old event self.new) }
         ensures err { OnErr result (self.new.text.items ≡ self.old.text.items) }
     {
@@ -60,7 +60,7 @@ impl Player {
         self.text
     }
 
-    /// The script told a moment: what comes behind it comes then.
+    /// The script told a moment: what comes after it comes then.
     fn go_on_to(&mut self, moment: u64)
         ensures { self.new ≡ record self.old { moment = moment } }
     {
@@ -69,7 +69,7 @@ impl Player {
 
     /// Hands an event to the gateway: the lines of what it answers.
     fn answer(&mut self, event: ScriptEvent) -> Result<Vec<u8>, NoMemory>
-        ensures answered { IfOk result (λ lines. (setup : Setup) (writes : Writing) (old : Played) → IsWriting writes → IsPlaying setup writes old self.old
+        ensures answered { IfOk result (λ lines. (setup : Setup) (writes : Writing) (old : PlayedScript) → IsWriting writes → IsPlaying setup writes old self.old
             → HasAnswered setup writes old event lines.items self.new) }
         ensures text { self.new.text ≡ self.old.text }
     {
@@ -85,7 +85,7 @@ impl Player {
 
     /// It rings at the last moment.
     fn ring(&mut self) -> Result<Vec<u8>, NoMemory>
-        ensures answered { IfOk result (λ lines. (setup : Setup) (writes : Writing) (old : Played) → IsPlaying setup writes old self.old
+        ensures answered { IfOk result (λ lines. (setup : Setup) (writes : Writing) (old : PlayedScript) → IsPlaying setup writes old self.old
             → HasAnswered setup writes old script.Ring lines.items self.new) }
         ensures text { self.new.text ≡ self.old.text }
     {
@@ -100,7 +100,7 @@ impl Player {
 
     /// The octets of a datagram come on the calling leg, at the last moment.
     fn hear_calling(&mut self, octets: &[u8]) -> Result<Vec<u8>, NoMemory>
-        ensures answered { IfOk result (λ lines. (setup : Setup) (writes : Writing) (old : Played) → IsPlaying setup writes old self.old
+        ensures answered { IfOk result (λ lines. (setup : Setup) (writes : Writing) (old : PlayedScript) → IsPlaying setup writes old self.old
             → HasAnswered setup writes old (script.FromCalling octets.now) lines.items self.new) }
         ensures text { self.new.text ≡ self.old.text }
     {
@@ -110,7 +110,7 @@ impl Player {
 
     /// The same on the called leg.
     fn hear_called(&mut self, octets: &[u8]) -> Result<Vec<u8>, NoMemory>
-        ensures answered { IfOk result (λ lines. (setup : Setup) (writes : Writing) (old : Played) → IsPlaying setup writes old self.old
+        ensures answered { IfOk result (λ lines. (setup : Setup) (writes : Writing) (old : PlayedScript) → IsPlaying setup writes old self.old
             → HasAnswered setup writes old (script.FromCalled octets.now) lines.items self.new) }
         ensures text { self.new.text ≡ self.old.text }
     {
@@ -120,7 +120,7 @@ impl Player {
 
     /// Time goes on to a moment.
     fn tick(&mut self, moment: u64) -> Result<Vec<u8>, NoMemory>
-        ensures answered { IfOk result (λ lines. (setup : Setup) (writes : Writing) (old : Played) → IsWriting writes → IsPlaying setup writes old self.old
+        ensures answered { IfOk result (λ lines. (setup : Setup) (writes : Writing) (old : PlayedScript) → IsWriting writes → IsPlaying setup writes old self.old
             → HasAnswered setup writes old (script.Tick moment) lines.items self.new) }
         ensures text { self.new.text ≡ self.old.text }
     {
@@ -131,7 +131,7 @@ impl Player {
 
     /// The call of the job that is asked for is placed at a moment.
     fn connect(&mut self, moment: u64) -> Result<Vec<u8>, NoMemory>
-        ensures answered { IfOk result (λ lines. (setup : Setup) (writes : Writing) (old : Played) → IsPlaying setup writes old self.old
+        ensures answered { IfOk result (λ lines. (setup : Setup) (writes : Writing) (old : PlayedScript) → IsPlaying setup writes old self.old
             → HasAnswered setup writes old (script.Connected moment) lines.items self.new) }
         ensures text { self.new.text ≡ self.old.text }
     {
@@ -149,7 +149,7 @@ impl Player {
 
     /// It could not be placed, at a moment.
     fn not_connected(&mut self, moment: u64) -> Result<Vec<u8>, NoMemory>
-        ensures answered { IfOk result (λ lines. (setup : Setup) (writes : Writing) (old : Played) → IsPlaying setup writes old self.old
+        ensures answered { IfOk result (λ lines. (setup : Setup) (writes : Writing) (old : PlayedScript) → IsPlaying setup writes old self.old
             → HasAnswered setup writes old (script.NotConnected moment) lines.items self.new) }
         ensures text { self.new.text ≡ self.old.text }
     {

@@ -4,7 +4,7 @@ ghost use Rattle.std.specs.Io.KnownBytes.{Appends};
 ghost use Rattle.fax_gateway.specs.Setups.{AreAllowed};
 ghost use Rattle.fax_command.specs.Runs.{IsRun};
 ghost use Rattle.fax_command.specs.Statuses.{status_code};
-ghost use Rattle.fax_trace.specs.Answers.{Answers, AnswersBehind};
+ghost use Rattle.fax_trace.specs.Answers.{Answers, AnswersAfter};
 
 use crate::answer::{Answer, PlayedScript, play};
 use crate::ending::Ending;
@@ -44,7 +44,7 @@ pub fn play_script<I: Source, O: Sink>(
     // Where the input is known, what is written is the answer to it, unless a read or a write failed or the input went past
     // its bound.
     ensures answers { status_code result.status ≢ 4 → IfSome (I.remaining source.old) (λ input. (text : List ℕ)
-        × AnswersBehind settings input result.played (status_code result.status) text × Appends (O.contents sink.old) (O.contents sink.new) text) }
+        × AnswersAfter settings input result.played (status_code result.status) text × Appends (O.contents sink.old) (O.contents sink.new) text) }
     ensures run { IsRun record { remaining = I.remaining; reads = I.reads; given = I.given; failed = I.failed }
         record { contents = O.contents; failed = O.failed; held_back = O.held_back } source.old source.new sink.old sink.new (status_code result.status) }
 {

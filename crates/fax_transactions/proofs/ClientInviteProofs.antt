@@ -14,7 +14,7 @@ use Rattle.fax_transactions.proofs.RunProofs.{above, chosen, count_more, le_fals
 
 -- ---- it ends
 
--- it ends by a bound, or Timer D behind it
+-- it ends by a bound, or Timer D after it
 abbrev pub IsWithin : ℕ → ClientInvite → Type 0
 IsWithin bound (Calling again pause until limit) = (until ≤ bound) × (limit ≤ bound)
 IsWithin bound (Proceeding until) = until ≤ bound
@@ -127,7 +127,7 @@ invite_tells_once sent limit happened = run_tells (begun sent limit) happened
 
 -- ---- it is sent again at its moments
 
--- where it is calling, Timer A is due a pause behind the last time
+-- where it is calling, Timer A is due a pause after the last time
 abbrev pub Sends : ℕ → ℕ → ClientInvite → Type 0
 Sends last pause (Calling again wait until limit) = (again ≡ min (last + wait) (2 ^ 64 - 1)) × (wait ≡ min pause (2 ^ 64 - 1)) × (until ≤ 2 ^ 64 - 1)
 Sends last pause (Proceeding until) = Unit {0}

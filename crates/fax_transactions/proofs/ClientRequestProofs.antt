@@ -15,7 +15,7 @@ use Rattle.fax_transactions.proofs.RunProofs.{above, chosen, count_more, le_fals
 
 -- ---- it ends
 
--- it ends by a bound, or Timer K behind it
+-- it ends by a bound, or Timer K after it
 abbrev pub IsWithin : ℕ → ClientRequest → Type 0
 IsWithin bound (Trying again pause until) = until ≤ bound
 IsWithin bound (Proceeding again until) = until ≤ bound
@@ -111,7 +111,7 @@ request_tells_once sent happened = run_tells (begun sent) happened
 
 -- ---- it is sent again at its moments
 
--- where it waits, Timer E is due a pause behind the last time at least
+-- where it waits, Timer E is due a pause after the last time at least
 abbrev pub Sends : ℕ → ℕ → ClientRequest → Type 0
 Sends last pause (Trying again wait until) = (again ≡ min (last + pause) (2 ^ 64 - 1)) × (wait ≡ pause) × (pause ≤ t2) × (until ≤ 2 ^ 64 - 1)
 Sends last pause (Proceeding again until) = (min (last + pause) (2 ^ 64 - 1) ≤ again) × (pause ≤ t2) × (until ≤ 2 ^ 64 - 1)

@@ -14,7 +14,7 @@ use Rattle.fax_transactions.proofs.RunProofs.{chosen, le_false, le_off, le_true,
 
 -- ---- it ends
 
--- it ends by a bound, or Timers H and I behind it
+-- it ends by a bound, or Timers H and I after it
 abbrev pub IsWithin : ℕ → ServerInvite → Type 0
 IsWithin bound (Proceeding until) = until ≤ bound
 IsWithin bound (Completed again pause until) = until ≤ bound + 32000

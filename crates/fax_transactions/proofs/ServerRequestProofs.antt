@@ -14,7 +14,7 @@ use Rattle.fax_transactions.proofs.RunProofs.{chosen, le_false, le_off, le_true,
 
 -- ---- it ends
 
--- it ends by a bound, or Timer J behind it
+-- it ends by a bound, or Timer J after it
 abbrev pub IsWithin : ℕ → ServerRequest → Type 0
 IsWithin bound (Trying until) = until ≤ bound
 IsWithin bound (Proceeding until) = until ≤ bound

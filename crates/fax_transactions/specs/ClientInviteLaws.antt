@@ -44,8 +44,8 @@ IsOn (Proceeding until) now = now < until
 IsOn (Completed until) now = now < until
 IsOn Terminated now = ⊥
 
--- It ends: whatever happened, behind Timer B or the limit, and Timer D, nothing leaves it on.
--- Ruled out: Timer B that begins anew at each sending; Timer D that begins anew at each repeat; a provisional answer behind which nothing is due.
+-- It ends: whatever happened, after Timer B or the limit, and Timer D, nothing leaves it on.
+-- Ruled out: Timer B that begins anew at each sending; Timer D that begins anew at each repeat; a provisional answer after which nothing is due.
 abbrev pub InviteEnds : Type 0
 InviteEnds =
     (sent limit now : ℕ) (happened : List (ℕ × ClientEvent)) (event : ClientEvent)
@@ -58,14 +58,14 @@ InviteTellsOnce =
     (sent limit : ℕ) (happened : List (ℕ × ClientEvent))
     → count_of tells_outcome (actions_of row (begun sent limit) happened) + one_if (is_waiting (state_after row (begun sent limit) happened)) ≡ 1
 
--- It is sent again at least T1, 2 T1, 4 T1 and so on behind the time before.
+-- It is sent again at least T1, 2 T1, 4 T1 and so on after the time before.
 -- Ruled out: a pause that stays T1; a sending at each moment that passes; a next time that is reckoned from the first.
 abbrev pub InviteIsSentApart : Type 0
 InviteIsSentApart =
     (sent limit : ℕ) (happened : List (ℕ × ClientEvent)) → ApartDoubling sent 500 (moments_of is_sent_again (actions_of row (begun sent limit) happened))
 
 -- Each refusal that comes while it is on gets an ACK, and nothing else does.
--- Ruled out: an ACK for the first refusal alone; none behind a provisional answer; one for a 2xx, which is its dialog's.
+-- Ruled out: an ACK for the first refusal alone; none after a provisional answer; one for a 2xx, which is its dialog's.
 abbrev pub RefusalsAreAcknowledged : Type 0
 RefusalsAreAcknowledged = (state : ClientInvite) (now status : ℕ) → 300 ≤ status → IsOn state now → acknowledges (row state now (Answered status)).1 ≡ true
 
@@ -73,6 +73,6 @@ abbrev pub NothingElseIsAcknowledged : Type 0
 NothingElseIsAcknowledged = (state : ClientInvite) (now : ℕ) (event : ClientEvent) → acknowledges (row state now event).1 ≡ true → (status : ℕ) × (event ≡ Answered status) × (300 ≤ status)
 
 -- Before what is due next, time changes nothing.
--- Ruled out: a sending a millisecond early; an end behind a refusal before Timer D; a pause that grows while nothing is sent.
+-- Ruled out: a sending a millisecond early; an end after a refusal before Timer D; a pause that grows while nothing is sent.
 abbrev pub InviteRests : Type 0
 InviteRests = (state : ClientInvite) (now due : ℕ) → next_due state ≡ Some due → now < due → row state now TimePassed ≡ (state, Nothing)

@@ -12,7 +12,7 @@ use Rattle.fax_transactions.specs.Spans.{t1, timeout, later, doubled}
 abbrev pub begun : ℕ → ℕ → ClientInvite
 begun now limit = Calling (later now t1) t1 (later now timeout) limit
 
--- An answer, where none or a provisional one came. The user is told of it. Behind a provisional one the INVITE is not sent again, and a final one is waited for until
+-- An answer, where none or a provisional one came. The user is told of it. After a provisional one the INVITE is not sent again, and a final one is waited for until
 -- the limit; a 2xx ends the transaction; a refusal gets its ACK, and Timer D begins, with 32 s.
 abbrev pub answered_row : ℕ → ℕ → ℕ → ClientInvite × ClientAction
 answered_row limit now status =
@@ -27,7 +27,7 @@ calling_row again pause until limit now (Answered status) = answered_row limit n
 calling_row again pause until limit now NotSent = (Terminated, Failed)
 calling_row again pause until limit now Cancelled = (Calling again pause until limit, Nothing)
 
--- Proceeding. Behind a CANCEL a final answer is waited for 64 T1 more at most (9.1).
+-- Proceeding. After a CANCEL a final answer is waited for 64 T1 more at most (9.1).
 abbrev pub proceeding_row : ℕ → ℕ → ClientEvent → ClientInvite × ClientAction
 proceeding_row until now (Answered status) = answered_row until now status
 proceeding_row until now Cancelled = (Proceeding (min (later now timeout) until), Nothing)

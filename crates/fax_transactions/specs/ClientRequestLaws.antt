@@ -16,8 +16,8 @@ is_waiting (Proceeding again until) = true
 is_waiting (Completed until) = false
 is_waiting Terminated = false
 
--- It ends: whatever happened, behind Timer F and Timer K nothing leaves it on.
--- Ruled out: Timer F that begins anew at a provisional answer; Timer K that begins anew at each repeat; no Timer F behind a provisional answer.
+-- It ends: whatever happened, after Timer F and Timer K nothing leaves it on.
+-- Ruled out: Timer F that begins anew at a provisional answer; Timer K that begins anew at each repeat; no Timer F after a provisional answer.
 abbrev pub RequestEnds : Type 0
 RequestEnds =
     (sent now : ℕ) (happened : List (ℕ × ClientEvent)) (event : ClientEvent)
@@ -30,13 +30,13 @@ RequestTellsOnce =
     (sent : ℕ) (happened : List (ℕ × ClientEvent))
     → count_of tells_outcome (actions_of row (begun sent) happened) + one_if (is_waiting (state_after row (begun sent) happened)) ≡ 1
 
--- It is sent again at least T1, 2 T1, 4 T1 and so on behind the time before, up to T2.
--- Ruled out: a pause that stays T1; a sending at each provisional answer; a pause that begins anew with T1 behind one.
+-- It is sent again at least T1, 2 T1, 4 T1 and so on after the time before, up to T2.
+-- Ruled out: a pause that stays T1; a sending at each provisional answer; a pause that begins anew with T1 after one.
 abbrev pub RequestIsSentApart : Type 0
 RequestIsSentApart =
     (sent : ℕ) (happened : List (ℕ × ClientEvent)) → ApartGrowing sent 500 (moments_of is_sent_again (actions_of row (begun sent) happened))
 
 -- Before what is due next, time changes nothing.
--- Ruled out: a sending a millisecond early; an end behind a final answer before Timer K; a pause that grows while nothing is sent.
+-- Ruled out: a sending a millisecond early; an end after a final answer before Timer K; a pause that grows while nothing is sent.
 abbrev pub RequestRests : Type 0
 RequestRests = (state : ClientRequest) (now due : ℕ) → next_due state ≡ Some due → now < due → row state now TimePassed ≡ (state, Nothing)

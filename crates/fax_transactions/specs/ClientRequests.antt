@@ -12,7 +12,7 @@ use Rattle.fax_transactions.specs.Spans.{t1, t2, t4, timeout, later, longer}
 abbrev pub begun : ℕ → ClientRequest
 begun now = Trying (later now t1) t1 (later now timeout)
 
--- An answer, where none or a provisional one came. The user is told of it. Behind a final one Timer K begins, with T4.
+-- An answer, where none or a provisional one came. The user is told of it. After a final one Timer K begins, with T4.
 abbrev pub answered_row : ℕ → ℕ → ℕ → ℕ → ClientRequest × ClientAction
 answered_row again until now status = if nat_lt status 200 then (Proceeding again until, Tell status) else (Completed (later now t4), Tell status)
 

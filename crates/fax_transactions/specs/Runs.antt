@@ -2,7 +2,7 @@
 use Rattle.std.specs.Prelude.{ℕ, ◌+◌, ◌≤◌, min, Bool, true, false, if◌then◌else◌, List, [], ◌∷◌}
 use Rattle.fax_transactions.specs.Spans.{t2}
 
--- the state behind what happened
+-- the state after what happened
 abbrev pub state_after : {S E A : Type 0} → (S → ℕ → E → S × A) → S → List (ℕ × E) → S
 state_after row state [] = state
 state_after row state (happening ∷ happened) = state_after row (row state happening.0 happening.1).0 happened
@@ -27,7 +27,7 @@ abbrev pub moments_of : {A : Type 0} → (A → Bool) → List (ℕ × A) → Li
 moments_of test [] = []
 moments_of test (entry ∷ done) = if test entry.1 then entry.0 ∷ moments_of test done else moments_of test done
 
--- each moment is at least a pause behind the one before, and the pauses double
+-- each moment is at least a pause after the one before, and the pauses double
 abbrev pub ApartDoubling : ℕ → ℕ → List ℕ → Type 0
 ApartDoubling last pause [] = Unit {0}
 ApartDoubling last pause (moment ∷ moments) = (last + pause ≤ moment) × ApartDoubling moment (pause + pause) moments

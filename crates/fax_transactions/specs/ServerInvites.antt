@@ -12,7 +12,7 @@ use Rattle.fax_transactions.specs.Spans.{t1, t4, timeout, later, longer}
 abbrev pub begun : ℕ → ServerInvite
 begun limit = Proceeding limit
 
--- The user answers, and that is sent. A 2xx ends the transaction; behind a refusal Timer G begins, with T1, and Timer H, with 64 T1.
+-- The user answers, and that is sent. A 2xx ends the transaction; after a refusal Timer G begins, with T1, and Timer H, with 64 T1.
 abbrev pub answered_row : ℕ → ℕ → ℕ → ServerInvite × ServerAction
 answered_row until now status =
     if nat_lt status 200 then (Proceeding until, Send) else
@@ -26,7 +26,7 @@ proceeding_row until now NotSent = (Terminated, Failed)
 proceeding_row until now TimePassed = (Proceeding until, Nothing)
 proceeding_row until now Acknowledged = (Proceeding until, Nothing)
 
--- Completed. Timer G: the refusal is sent again, and the pause doubles up to T2. A repeat of the INVITE gets the refusal again. Behind the ACK Timer I begins, with T4.
+-- Completed. Timer G: the refusal is sent again, and the pause doubles up to T2. A repeat of the INVITE gets the refusal again. After the ACK Timer I begins, with T4.
 -- What else the user answers is passed over.
 abbrev pub completed_row : ℕ → ℕ → ℕ → ℕ → ServerEvent → ServerInvite × ServerAction
 completed_row again pause until now TimePassed =

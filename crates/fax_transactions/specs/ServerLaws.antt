@@ -30,7 +30,7 @@ RequestHasAnswer (request.Proceeding until) now = now < until
 RequestHasAnswer (request.Completed until) now = now < until
 RequestHasAnswer request.Terminated now = ⊥
 
--- It ends: whatever happened, behind the limit and Timers H and I, or J, nothing leaves it on.
+-- It ends: whatever happened, after the limit and Timers H and I, or J, nothing leaves it on.
 -- Ruled out: Timer H or J that begins anew at each repeat of the request; a user who never answers; Timer I that begins anew at each ACK.
 abbrev pub InviteEnds : Type 0
 InviteEnds =
@@ -42,8 +42,8 @@ RequestEnds =
     (limit now : ℕ) (happened : List (ℕ × ServerEvent)) (event : ServerEvent)
     → limit + 32000 ≤ now → (requests.row (state_after requests.row (requests.begun limit) happened) now event).0 ≡ request.Terminated
 
--- It is answered once: behind a final answer that was sent the user's answers are passed over, whatever happens.
--- Ruled out: a 2xx behind a refusal; a provisional answer behind a final one; a second refusal in place of the first.
+-- It is answered once: after a final answer that was sent the user's answers are passed over, whatever happens.
+-- Ruled out: a 2xx after a refusal; a provisional answer after a final one; a second refusal in place of the first.
 abbrev pub InviteIsAnsweredOnce : Type 0
 InviteIsAnsweredOnce =
     (state : ServerInvite) (now status : ℕ) (happened : List (ℕ × ServerEvent)) → 200 ≤ status → (invites.row state now (Answered status)).1 ≡ Send
@@ -55,7 +55,7 @@ RequestIsAnsweredOnce =
     → count_of is_new (actions_of requests.row (requests.row state now (Answered status)).0 happened) ≡ 0
 
 -- A repeat of the request gets the last answer again.
--- Ruled out: a machine that passes repeats over behind a final answer; one that does before it; one that tells the user of them anew.
+-- Ruled out: a machine that passes repeats over after a final answer; one that does before it; one that tells the user of them anew.
 abbrev pub InviteRepeatsAreAnswered : Type 0
 InviteRepeatsAreAnswered = (state : ServerInvite) (now : ℕ) → InviteHasAnswer state now → (invites.row state now Repeated).1 ≡ SendAgain
 

@@ -12,7 +12,7 @@ use Rattle.fax_transactions.specs.Spans.{timeout, later}
 abbrev pub begun : ℕ → ServerRequest
 begun limit = Trying limit
 
--- The user answers, and that is sent. Behind a final answer Timer J begins, with 64 T1.
+-- The user answers, and that is sent. After a final answer Timer J begins, with 64 T1.
 abbrev pub answered_row : ℕ → ℕ → ℕ → ServerRequest × ServerAction
 answered_row until now status = if nat_lt status 200 then (Proceeding until, Send) else (Completed (later now timeout), Send)
 

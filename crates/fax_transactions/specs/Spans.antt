@@ -17,7 +17,7 @@ t4 = 5000
 abbrev pub timeout : ℕ
 timeout = 32000
 
--- the moment so long after another; the last one of 64 bits stands for all behind it
+-- the moment so long after another; the last one of 64 bits stands for all after it
 abbrev pub later : ℕ → ℕ → ℕ
 later now span = min (now + span) (2 ^ 64 - 1)
 

@@ -138,7 +138,7 @@ fn calling(
     }
 }
 
-/// Something happens behind a provisional answer.
+/// Something happens after a provisional answer.
 fn proceeding(until: u64, now: u64, event: ClientEvent) -> (ClientInvite, ClientAction)
     ensures { result ≡ proceeding_row until now event }
 {
@@ -177,7 +177,7 @@ fn answered(limit: u64, now: u64, status: u16) -> (ClientInvite, ClientAction)
     }
 }
 
-/// Something happens behind a refusal.
+/// Something happens after a refusal.
 fn completed(until: u64, event: ClientEvent) -> (ClientInvite, ClientAction)
     ensures { result ≡ completed_row until event }
 {

@@ -124,7 +124,7 @@ fn trying(
     }
 }
 
-/// Something happens behind a provisional answer.
+/// Something happens after a provisional answer.
 fn proceeding(again: u64, until: u64, now: u64, event: ClientEvent) -> (ClientRequest, ClientAction)
     ensures { result ≡ proceeding_row again until now event }
 {

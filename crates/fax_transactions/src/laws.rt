@@ -4,7 +4,7 @@ ghost use Rattle.fax_transactions.specs.ClientInviteLaws.{InviteEnds, InviteIsSe
 ghost use Rattle.fax_transactions.specs.ClientRequestLaws.{RequestEnds, RequestIsSentApart, RequestRests, RequestTellsOnce};
 ghost use Rattle.fax_transactions.specs.ServerLaws.{InviteEnds as ServedInviteEnds, InviteIsAnsweredOnce, InviteRepeatsAreAnswered, InviteRests as ServedInviteRests, RequestEnds as ServedRequestEnds, RequestIsAnsweredOnce, RequestRepeatsAreAnswered, RequestRests as ServedRequestRests};
 
-/// The client transaction of an INVITE ends: behind 64 T1 or the limit, whichever is later, and Timer D.
+/// The client transaction of an INVITE ends: after 64 T1 or the limit, whichever is later, and Timer D.
 pub fn an_invite_ends()
     ensures { InviteEnds }
 {}
@@ -14,7 +14,7 @@ pub fn an_invite_tells_once()
     ensures { InviteTellsOnce }
 {}
 
-/// An INVITE is sent again at least T1 behind the first time, and each time at least twice the pause before.
+/// An INVITE is sent again at least T1 after the first time, and each time at least twice the pause before.
 pub fn an_invite_is_sent_apart()
     ensures { InviteIsSentApart }
 {}
@@ -30,7 +30,7 @@ pub fn an_invite_rests()
     ensures { InviteRests }
 {}
 
-/// The client transaction of another request ends: behind 64 T1, and Timer K.
+/// The client transaction of another request ends: after 64 T1, and Timer K.
 pub fn a_request_ends()
     ensures { RequestEnds }
 {}
@@ -40,7 +40,7 @@ pub fn a_request_tells_once()
     ensures { RequestTellsOnce }
 {}
 
-/// A request is sent again at least T1 behind the first time, and each time at least twice the pause before, or T2.
+/// A request is sent again at least T1 after the first time, and each time at least twice the pause before, or T2.
 pub fn a_request_is_sent_apart()
     ensures { RequestIsSentApart }
 {}
@@ -50,17 +50,17 @@ pub fn a_request_rests()
     ensures { RequestRests }
 {}
 
-/// The server transaction of an INVITE ends: behind the limit, 64 T1, and Timer I.
+/// The server transaction of an INVITE ends: after the limit, 64 T1, and Timer I.
 pub fn a_served_invite_ends()
     ensures { ServedInviteEnds }
 {}
 
-/// The server transaction of another request ends: behind the limit, and Timer J.
+/// The server transaction of another request ends: after the limit, and Timer J.
 pub fn a_served_request_ends()
     ensures { ServedRequestEnds }
 {}
 
-/// Behind a final answer nothing else that the user answers is sent.
+/// After a final answer nothing else that the user answers is sent.
 pub fn requests_are_answered_once()
     ensures invite { InviteIsAnsweredOnce }
     ensures request { RequestIsAnsweredOnce }

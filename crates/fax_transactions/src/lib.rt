@@ -2,7 +2,7 @@
 //! what is to be done comes out. Moments and spans are milliseconds.
 //!
 //! What is this project's profile: RFC 3261 bounds no transaction in which a provisional answer came, or whose user does not answer. Here each has a
-//! limit, which its user tells as it begins, so that each ends by itself. Behind a 2xx an INVITE's transaction is over (17.1.1.2,
+//! limit, which its user tells as it begins, so that each ends by itself. After a 2xx an INVITE's transaction is over (17.1.1.2,
 //! 17.2.1), as before RFC 6026: who has the dialog sees to the repeats of a 2xx and of its ACK (13.2.2.4, 13.3.1.4).
 #![tactic(auto)]
 

@@ -115,7 +115,7 @@ fn answered(until: u64, now: u64, status: u16) -> (ServerInvite, ServerAction)
     }
 }
 
-/// Something happens behind a refusal.
+/// Something happens after a refusal.
 fn completed(
     again: u64,
     pause: u64,

@@ -92,7 +92,7 @@ fn trying(until: u64, now: u64, event: ServerEvent) -> (ServerRequest, ServerAct
     }
 }
 
-/// Something happens behind a provisional answer.
+/// Something happens after a provisional answer.
 fn proceeding(until: u64, now: u64, event: ServerEvent) -> (ServerRequest, ServerAction)
     ensures { result ≡ proceeding_row until now event }
 {
@@ -121,7 +121,7 @@ fn answered(until: u64, now: u64, status: u16) -> (ServerRequest, ServerAction)
     }
 }
 
-/// Something happens behind a final answer.
+/// Something happens after a final answer.
 fn completed(until: u64, event: ServerEvent) -> (ServerRequest, ServerAction)
     ensures { result ≡ completed_row until event }
 {

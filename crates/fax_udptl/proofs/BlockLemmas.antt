@@ -19,7 +19,7 @@ pub none_there : (xs : List (List ℕ)) → length xs ≡ 0 → xs ≡ []
 none_there [] h = refl
 none_there (x ∷ xs) h = cc
 
--- one block more behind the others
+-- one block more after the others
 pub one_block_more : (blocks : List (List (List ℕ))) (block : List (List ℕ)) → packets_of (blocks ++ block ∷ []) ≡ packets_of blocks ++ block
 one_block_more blocks block = flat_map-append (λ (b : List (List ℕ)). b) blocks (block ∷ []) ∙ ap (λ (ps : List (List ℕ)). packets_of blocks ++ ps) (append-nil block)
 

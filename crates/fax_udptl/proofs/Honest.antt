@@ -152,7 +152,7 @@ undecided : (o : Option (Option (List ℕ))) → o ≡ None → is_some o ≡ tr
 undecided None e h = cc
 undecided (Some s) e h = cc
 
--- m slots from k on, behind those of the places before that of k
+-- m slots from k on, after those of the places before that of k
 walk : (packets : List (List ℕ)) (ds : List DatagramValue) (q : ℕ) → AreSent packets q ds → (m k place : ℕ) (before : List (Option (List ℕ))) → k + 65536 * q ≡ place + 65536
     → ((j : ℕ) → j < k + m → is_some (decision ds j) ≡ true) → AreSlotsBefore packets place before
     → AreSlotsBefore packets (place + m) (reverse_aux (filter_map (decision ds) (integers_from k m)) before)
@@ -213,13 +213,13 @@ reverse_both : (xs ys zs : List (List ℕ)) → reverse_aux (xs ++ ys) zs ≡ re
 reverse_both [] ys zs = refl
 reverse_both (x ∷ xs) ys zs = reverse_both xs ys (x ∷ zs)
 
-behind : (xs ys : List (List ℕ)) (j : ℕ) → slice_get (reverse_aux xs ys) (length xs + j) ≡ slice_get ys j
-behind [] ys j = ap (slice_get ys) (let z : zero + j ≡ j = omega arith in z)
-behind (x ∷ xs) ys j = ap (slice_get (reverse_aux xs (x ∷ ys))) (let z : suc (length xs) + j ≡ length xs + suc j = omega arith in z) ∙ behind xs (x ∷ ys) (suc j)
+after : (xs ys : List (List ℕ)) (j : ℕ) → slice_get (reverse_aux xs ys) (length xs + j) ≡ slice_get ys j
+after [] ys j = ap (slice_get ys) (let z : zero + j ≡ j = omega arith in z)
+after (x ∷ xs) ys j = ap (slice_get (reverse_aux xs (x ∷ ys))) (let z : suc (length xs) + j ≡ length xs + suc j = omega arith in z) ∙ after xs (x ∷ ys) (suc j)
 
 from_the_end : (xs ys : List (List ℕ)) (i : ℕ) → i < length xs → slice_get (reverse_aux xs ys) (length xs - 1 - i) ≡ slice_get xs i
 from_the_end [] ys i l = absurd (omega (arith, l))
-from_the_end (x ∷ xs) ys zero l = ap (slice_get (reverse_aux xs (x ∷ ys))) (let z : suc (length xs) - 1 - zero ≡ length xs + 0 = omega arith in z) ∙ behind xs (x ∷ ys) 0
+from_the_end (x ∷ xs) ys zero l = ap (slice_get (reverse_aux xs (x ∷ ys))) (let z : suc (length xs) - 1 - zero ≡ length xs + 0 = omega arith in z) ∙ after xs (x ∷ ys) 0
 from_the_end (x ∷ xs) ys (suc i) l =
     ap (slice_get (reverse_aux xs (x ∷ ys))) (let z : suc (length xs) - 1 - suc i ≡ length xs - 1 - i = omega arith in z) ∙ from_the_end xs (x ∷ ys) i (omega arith)
 
@@ -247,7 +247,7 @@ senders_send_their_list redundancy later packet given most =
     subst (λ (ps : List (List ℕ)). IsSentAt ps (length given) (datagram_for redundancy given packet)) is
     (record {
       number = refl;
-      primary = ap (slice_get packets) (let z : length given ≡ length given + 0 = omega arith in z) ∙ behind given (packet ∷ reverse_aux later []) 0;
+      primary = ap (slice_get packets) (let z : length given ≡ length given + 0 = omega arith in z) ∙ after given (packet ∷ reverse_aux later []) 0;
       few = a;
       countable = omega arith;
       secondaries = λ i l. within_take redundancy given i l ∙ sym (from_the_end given (packet ∷ reverse_aux later []) i (omega arith));

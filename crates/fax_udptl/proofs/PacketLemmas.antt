@@ -1,4 +1,4 @@
--- Packets one behind the other.
+-- Packets one after the other.
 use Rattle.std.proofs.Common.{◌≡◌, ℕ, zero, suc, ◌-◌, ◌<◌, ◌≤◌, List, [], ◌∷◌, length, take, Option, Some, None, Result, Ok, Err, refl, sym, ◌∙◌, ap, subst, arith, min}
 use Rattle.fax_udptl.specs.declared.fault.UdptlFault.{UdptlFault}
 use Rattle.fax_udptl.specs.Datagrams.{◌>>=◌, packet_at, packets_at}
@@ -10,9 +10,9 @@ Packets = Result (List (List ℕ)) UdptlFault
 abbrev with_first : List ℕ → Result (List (List ℕ)) UdptlFault → Result (List (List ℕ)) UdptlFault
 with_first packet others = others >>= λ o. Ok (packet ∷ o)
 
-at_suc : (n : ℕ) (octets packet behind : List ℕ) → packet_at octets ≡ Ok (packet, behind) → packets_at (suc n) octets ≡ with_first packet (packets_at n behind)
+at_suc : (n : ℕ) (octets packet after : List ℕ) → packet_at octets ≡ Ok (packet, after) → packets_at (suc n) octets ≡ with_first packet (packets_at n after)
 unfolding packets_at
-at_suc n octets packet behind h =
+at_suc n octets packet after h =
     ap (λ (r : Result (List ℕ × List ℕ) UdptlFault). r >>= λ first. packets_at n first.1 >>= λ others. Ok (first.0 ∷ others)) h
 
 at_suc_err : (n : ℕ) (octets : List ℕ) (e : UdptlFault) → packet_at octets ≡ Err e → packets_at (suc n) octets ≡ Err e
@@ -31,14 +31,14 @@ first_is_first packet (Err e) h = cc
 one_less : (left : ℕ) → 0 < left → left ≡ suc (left - 1)
 one_less left l = omega arith
 
--- the fault of packets is that of the packets behind the first
-fault_of_suc : (n : ℕ) (octets packet behind : List ℕ) → packet_at octets ≡ Ok (packet, behind) → fault_in (packets_at (suc n) octets) ≡ fault_in (packets_at n behind)
-fault_of_suc n octets packet behind h = ap fault_in (at_suc n octets packet behind h) ∙ first_keeps_fault packet (packets_at n behind)
+-- the fault of packets is that of the packets after the first
+fault_of_suc : (n : ℕ) (octets packet after : List ℕ) → packet_at octets ≡ Ok (packet, after) → fault_in (packets_at (suc n) octets) ≡ fault_in (packets_at n after)
+fault_of_suc n octets packet after h = ap fault_in (at_suc n octets packet after h) ∙ first_keeps_fault packet (packets_at n after)
 
-pub fault_behind : (left : ℕ) (octets packet behind : List ℕ) → 0 < left → packet_at octets ≡ Ok (packet, behind)
-    → fault_in (packets_at left octets) ≡ fault_in (packets_at (left - 1) behind)
-fault_behind left octets packet behind l h =
-    ap (λ (m : ℕ). fault_in (packets_at m octets)) (one_less left l) ∙ fault_of_suc (left - 1) octets packet behind h
+pub fault_after : (left : ℕ) (octets packet after : List ℕ) → 0 < left → packet_at octets ≡ Ok (packet, after)
+    → fault_in (packets_at left octets) ≡ fault_in (packets_at (left - 1) after)
+fault_after left octets packet after l h =
+    ap (λ (m : ℕ). fault_in (packets_at m octets)) (one_less left l) ∙ fault_of_suc (left - 1) octets packet after h
 
 pub fault_first : (left : ℕ) (octets : List ℕ) (e : UdptlFault) → 0 < left → packet_at octets ≡ Err e → fault_in (packets_at left octets) ≡ Some e
 fault_first left octets e l h =
@@ -74,43 +74,43 @@ pub none_stand : (octets : List ℕ) → HasPackets 0 octets
 unfolding HasPackets packets_at
 none_stand octets = refl
 
--- the first of so many packets, and those behind it
-has_of_suc : (n : ℕ) (octets packet behind : List ℕ) → HasPackets (suc n) octets → packet_at octets ≡ Ok (packet, behind) → HasPackets n behind
+-- the first of so many packets, and those after it
+has_of_suc : (n : ℕ) (octets packet after : List ℕ) → HasPackets (suc n) octets → packet_at octets ≡ Ok (packet, after) → HasPackets n after
 unfolding HasPackets
-has_of_suc n octets packet behind has h = sym (fault_of_suc n octets packet behind h) ∙ has
+has_of_suc n octets packet after has h = sym (fault_of_suc n octets packet after h) ∙ has
 
-first_of_suc : (n : ℕ) (octets packet behind : List ℕ) → HasPackets (suc n) octets → packet_at octets ≡ Ok (packet, behind)
-    → packets_in (suc n) octets ≡ packet ∷ packets_in n behind
+first_of_suc : (n : ℕ) (octets packet after : List ℕ) → HasPackets (suc n) octets → packet_at octets ≡ Ok (packet, after)
+    → packets_in (suc n) octets ≡ packet ∷ packets_in n after
 unfolding packets_in HasPackets
-first_of_suc n octets packet behind has h =
-    ap packets_read (at_suc n octets packet behind h)
-    ∙ first_is_first packet (packets_at n behind) (sym (fault_of_suc n octets packet behind h) ∙ has)
+first_of_suc n octets packet after has h =
+    ap packets_read (at_suc n octets packet after h)
+    ∙ first_is_first packet (packets_at n after) (sym (fault_of_suc n octets packet after h) ∙ has)
 
-pub has_behind : (left : ℕ) (octets packet behind : List ℕ) → 0 < left → HasPackets left octets → packet_at octets ≡ Ok (packet, behind) → HasPackets (left - 1) behind
+pub has_after : (left : ℕ) (octets packet after : List ℕ) → 0 < left → HasPackets left octets → packet_at octets ≡ Ok (packet, after) → HasPackets (left - 1) after
 unfolding HasPackets
-has_behind left octets packet behind l has h = sym (fault_behind left octets packet behind l h) ∙ has
+has_after left octets packet after l has h = sym (fault_after left octets packet after l h) ∙ has
 
-pub first_of_packets : (left : ℕ) (octets packet behind : List ℕ) → 0 < left → HasPackets left octets → packet_at octets ≡ Ok (packet, behind)
-    → packets_in left octets ≡ packet ∷ packets_in (left - 1) behind
-first_of_packets left octets packet behind l has h =
+pub first_of_packets : (left : ℕ) (octets packet after : List ℕ) → 0 < left → HasPackets left octets → packet_at octets ≡ Ok (packet, after)
+    → packets_in left octets ≡ packet ∷ packets_in (left - 1) after
+first_of_packets left octets packet after l has h =
     let P : ℕ → Type 0 = λ m. HasPackets m octets in
-    ap (λ (m : ℕ). packets_in m octets) (one_less left l) ∙ first_of_suc (left - 1) octets packet behind (subst P (one_less left l) has) h
+    ap (λ (m : ℕ). packets_in m octets) (one_less left l) ∙ first_of_suc (left - 1) octets packet after (subst P (one_less left l) has) h
 
 pub has_a_first : (left : ℕ) (octets : List ℕ) (e : UdptlFault) → 0 < left → HasPackets left octets → packet_at octets ≡ Err e → ⊥
 unfolding HasPackets
 has_a_first left octets e l has h = let f : fault_in (packets_at left octets) ≡ Some e = fault_first left octets e l h in cc
 
--- the first packet, and the octets behind it
+-- the first packet, and the octets after it
 record Split (octets : List ℕ) : Type 0 where
   packet : List ℕ
-  behind : List ℕ
-  here : packet_at octets ≡ Ok (packet, behind)
+  after : List ℕ
+  here : packet_at octets ≡ Ok (packet, after)
 
 split : (n : ℕ) (octets : List ℕ) → HasPackets (suc n) octets → Split octets
 split n octets has = by (packet_at octets) refl
   where
     by : (r : Result (List ℕ × List ℕ) UdptlFault) → packet_at octets ≡ r → Split octets
-    by (Ok p) h = record { packet = p.0; behind = p.1; here = h }
+    by (Ok p) h = record { packet = p.0; after = p.1; here = h }
     by (Err e) h = absurd (has_a_first (suc n) octets e (omega arith) has h)
 
 -- where so many packets stand, there are so many, and fewer stand there too: the first of them
@@ -118,8 +118,8 @@ pub count_of_packets : (n : ℕ) (octets : List ℕ) → HasPackets n octets →
 count_of_packets zero octets has = ap length (none_left octets)
 count_of_packets (suc n) octets has =
     let s : Split octets = split n octets has in
-    ap length (first_of_suc n octets s.packet s.behind has s.here)
-    ∙ ap (λ (m : ℕ). suc m) (count_of_packets n s.behind (has_of_suc n octets s.packet s.behind has s.here))
+    ap length (first_of_suc n octets s.packet s.after has s.here)
+    ∙ ap (λ (m : ℕ). suc m) (count_of_packets n s.after (has_of_suc n octets s.packet s.after has s.here))
 
 pub fewer_stand : (n k : ℕ) (octets : List ℕ) → k ≤ n → HasPackets n octets → HasPackets k octets
 unfolding HasPackets packets_at
@@ -128,7 +128,7 @@ fewer_stand zero (suc k) octets l has = absurd (omega arith)
 fewer_stand (suc n) (suc k) octets l has =
     let s : Split octets = split n octets has in
     let less : k ≤ n = omega arith in
-    fault_of_suc k octets s.packet s.behind s.here ∙ fewer_stand n k s.behind less (has_of_suc n octets s.packet s.behind has s.here)
+    fault_of_suc k octets s.packet s.after s.here ∙ fewer_stand n k s.after less (has_of_suc n octets s.packet s.after has s.here)
 
 pub fewer_packets : (n k : ℕ) (octets : List ℕ) → k ≤ n → HasPackets n octets → packets_in k octets ≡ take k (packets_in n octets)
 fewer_packets n zero octets l has = none_left octets
@@ -136,9 +136,9 @@ fewer_packets zero (suc k) octets l has = absurd (omega arith)
 fewer_packets (suc n) (suc k) octets l has =
     let s : Split octets = split n octets has in
     let less : k ≤ n = omega arith in
-    first_of_suc k octets s.packet s.behind (fewer_stand (suc n) (suc k) octets l has) s.here
-    ∙ ap (λ (ps : List (List ℕ)). s.packet ∷ ps) (fewer_packets n k s.behind less (has_of_suc n octets s.packet s.behind has s.here))
-    ∙ sym (ap (λ (ps : List (List ℕ)). take (suc k) ps) (first_of_suc n octets s.packet s.behind has s.here))
+    first_of_suc k octets s.packet s.after (fewer_stand (suc n) (suc k) octets l has) s.here
+    ∙ ap (λ (ps : List (List ℕ)). s.packet ∷ ps) (fewer_packets n k s.after less (has_of_suc n octets s.packet s.after has s.here))
+    ∙ sym (ap (λ (ps : List (List ℕ)). take (suc k) ps) (first_of_suc n octets s.packet s.after has s.here))
 
 take_within : (k n : ℕ) (xs : List (List ℕ)) → length xs ≡ n → take (min n k) xs ≡ take k xs
 take_within zero n [] h = ap (λ (m : ℕ). take {A = List ℕ} m []) (let z : min n zero ≡ 0 = omega arith in z)

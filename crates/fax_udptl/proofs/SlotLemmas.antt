@@ -31,7 +31,7 @@ decided_below d (e ∷ earlier) k =
     ∙ ap (λ (b : Bool). if b then true else nat_le k (integer_after (e ∷ earlier) d)) (decided_below e earlier k)
     ∙ or_max k (greatest (e ∷ earlier)) (integer_after (e ∷ earlier) d)
 
--- One more datagram adds slots behind those that were decided.
+-- One more datagram adds slots after those that were decided.
 integers_both : (a m n : ℕ) → integers_from a (m + n) ≡ integers_from a m ++ integers_from (a + m) n
 integers_both a zero n =
     ap (λ (k : ℕ). integers_from a k) (let e : zero + n ≡ n = omega arith in e) ∙ ap (λ (k : ℕ). integers_from k n) (let e : a ≡ a + zero = omega arith in e)
@@ -97,14 +97,14 @@ pub newest_go_on : (d : DatagramValue) (arrived : List DatagramValue) (decided :
 unfolding newest_slots
 newest_go_on d arrived decided h = ap (λ (s : List (Option (List ℕ))). reverse s) h.slots ∙ reverse-append (slots arrived) (slots_in decided)
 
-one_behind : (n : ℕ) (x : Option (List ℕ)) → replicate n x ++ x ∷ [] ≡ x ∷ replicate n x
-one_behind zero x = refl
-one_behind (suc n) x = ap (λ (s : List (Option (List ℕ))). x ∷ s) (one_behind n x)
+one_after : (n : ℕ) (x : Option (List ℕ)) → replicate n x ++ x ∷ [] ≡ x ∷ replicate n x
+one_after zero x = refl
+one_after (suc n) x = ap (λ (s : List (Option (List ℕ))). x ∷ s) (one_after n x)
 
 same_reversed : (n : ℕ) (x : Option (List ℕ)) → reverse (replicate n x) ≡ replicate n x
 same_reversed zero x = refl
 same_reversed (suc n) x =
-    reverse-append (x ∷ []) (replicate n x) ∙ ap (λ (s : List (Option (List ℕ))). s ++ x ∷ []) (same_reversed n x) ∙ one_behind n x
+    reverse-append (x ∷ []) (replicate n x) ∙ ap (λ (s : List (Option (List ℕ))). s ++ x ∷ []) (same_reversed n x) ∙ one_after n x
 
 pub newest_of_decided : (decided : DecidedValue) → reverse (slots_in decided) ≡ reverse (map Some decided.packets) ++ replicate decided.lost None
 newest_of_decided decided =

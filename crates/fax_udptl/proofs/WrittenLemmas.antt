@@ -103,7 +103,7 @@ length_octets n written l h e =
     ∙ ap (λ (o : ℕ). (128 + n / 256) ∷ o ∷ []) low
     ∙ two_octets n l
 
--- the parts of a datagram, one behind the other
+-- the parts of a datagram, one after the other
 pub datagram_parts : (d : DatagramValue) (none number primary choice count all : List ℕ) (octets : List ℕ) → none ≡ [] → octets ≡ to_be_bytes w16 d.number → d.number < 65536
     → number ≡ none ++ octets → primary ≡ number ++ written_packet d.primary → choice ≡ primary ++ 0 ∷ []
     → count ≡ choice ++ written_length (length d.secondaries) → all ≡ count ++ flat_map written_packet d.secondaries → all ≡ written_datagram d
@@ -137,7 +137,7 @@ pub packet_size_is : (p : List ℕ) → length (written_packet p) ≡ length (wr
 unfolding written_packet
 packet_size_is p = length-append (written_length (length p)) p
 
--- the octets of packets, one behind the other
+-- the octets of packets, one after the other
 abbrev pub packets_size : List (List ℕ) → ℕ
 packets_size ps = length (flat_map written_packet ps)
 
@@ -173,8 +173,8 @@ pub no_octets : (octets : List ℕ) → length octets ≡ 0 → octets ≡ []
 no_octets [] h = refl
 no_octets (o ∷ octets) h = cc
 
-pub short_behind : (ps rest : List (List ℕ)) (p : List ℕ) → ps ≡ p ∷ rest → AllByRecursion (λ q. length q ≤ 16383) ps → AllByRecursion (λ q. length q ≤ 16383) rest
-short_behind ps rest p e short = let P : List (List ℕ) → Type 0 = AllByRecursion (λ q. length q ≤ 16383) in let all : P (p ∷ rest) = subst P e short in all.1
+pub short_after : (ps rest : List (List ℕ)) (p : List ℕ) → ps ≡ p ∷ rest → AllByRecursion (λ q. length q ≤ 16383) ps → AllByRecursion (λ q. length q ≤ 16383) rest
+short_after ps rest p e short = let P : List (List ℕ) → Type 0 = AllByRecursion (λ q. length q ≤ 16383) in let all : P (p ∷ rest) = subst P e short in all.1
 
 pub no_packets_size : (ps : List (List ℕ)) → ps ≡ [] → packets_size ps ≡ 0
 no_packets_size ps e = ap (λ (qs : List (List ℕ)). length (flat_map written_packet qs)) e

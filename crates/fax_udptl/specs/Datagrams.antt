@@ -10,7 +10,7 @@ pub record DatagramValue : Type 0 where
   pub primary : List ℕ
   pub secondaries : List (List ℕ)
 
--- Reading answers a value and the octets behind it, or the first fault. The next field is read where the
+-- Reading answers a value and the octets after it, or the first fault. The next field is read where the
 -- one before it was.
 infixl 10 ◌>>=◌
 abbrev pub ◌>>=◌ : {A B : Type 0} → Result A UdptlFault → (A → Result B UdptlFault) → Result B UdptlFault
@@ -28,13 +28,13 @@ length_at [] = Err Short
 length_at (first ∷ rest) =
     if nat_lt first 128 then Ok (first, rest) else if nat_lt first 192 then low_octet_at (first - 128) rest else Err BadLength
 
--- a packet stands behind its length
+-- a packet stands after its length
 unfoldable pub packet_at : List ℕ → Result (List ℕ × List ℕ) UdptlFault
 packet_at octets = do
   n ← length_at octets
   if nat_lt (length n.1) n.0 then Err Short else Ok (take n.0 n.1, drop n.0 n.1)
 
--- so many packets, one behind the other. Octets behind the last are not read (this project's profile).
+-- so many packets, one after the other. Octets after the last are not read (this project's profile).
 unfoldable pub packets_at : ℕ → List ℕ → Result (List (List ℕ)) UdptlFault
 packets_at zero octets = Ok []
 packets_at (suc n) octets = do
@@ -42,7 +42,7 @@ packets_at (suc n) octets = do
   others ← packets_at n first.1
   Ok (first.0 ∷ others)
 
--- Behind the primary stands an octet. Where its top bit is 0 a count and the secondaries follow; where it
+-- After the primary stands an octet. Where its top bit is 0 a count and the secondaries follow; where it
 -- is 1 what follows is for forward error correction, which is not read (this project's profile).
 unfoldable pub secondaries_at : List ℕ → Result (List (List ℕ)) UdptlFault
 secondaries_at [] = Err Short

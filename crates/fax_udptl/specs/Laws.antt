@@ -10,7 +10,7 @@ abbrev pub OneIntegerIsNearest : Type 0
 OneIntegerIsNearest = (expected number integer : ℕ) → 65536 ≤ expected → number < 65536
     → (IsNearest expected number (nearest expected number)) × (IsNearest expected number integer → integer ≡ nearest expected number)
 
--- one more datagram adds slots behind those that were decided, and changes none of these
+-- one more datagram adds slots after those that were decided, and changes none of these
 abbrev pub SlotsGoOn : Type 0
 SlotsGoOn = (d : DatagramValue) (arrived : List DatagramValue) → (more : List (Option (List ℕ))) × (slots (d ∷ arrived) ≡ slots arrived ++ more)
 

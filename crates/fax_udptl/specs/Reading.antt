@@ -40,6 +40,6 @@ text_list (Some packet) = packet.now ∷ []
 abbrev pub AreBlocks : List (List (List ℕ)) → Type 0
 AreBlocks blocks = AllByRecursion (λ block. (0 < length block) × (length block ≤ 64)) blocks
 
--- the packets of blocks, one block behind the other
+-- the packets of blocks, one block after the other
 abbrev pub packets_of : List (List (List ℕ)) → List (List ℕ)
 packets_of blocks = flat_map (λ block. block) blocks

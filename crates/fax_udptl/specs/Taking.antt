@@ -3,12 +3,12 @@ use Rattle.std.specs.Prelude.{◌≡◌, ℕ, ◌+◌, ◌%◌, List, [], ◌∷
 use Rattle.fax_udptl.specs.Datagrams.{DatagramValue, datagram_of}
 use Rattle.fax_udptl.specs.Slots.{greatest, first_slot, slots}
 
--- a receiver to which these datagrams came, the newest first: it expects the number behind the greatest
+-- a receiver to which these datagrams came, the newest first: it expects the number after the greatest
 abbrev pub IsAfter : List DatagramValue → Option ℕ → Type 0
 IsAfter [] expected = expected ≡ None
 IsAfter (d ∷ earlier) expected = expected ≡ Some ((greatest (d ∷ earlier) + 1) % 65536)
 
--- slots in a row: the first one's number, how many are missing, and the packets behind these
+-- slots in a row: the first one's number, how many are missing, and the packets after these
 pub record DecidedValue : Type 0 where
   pub from : ℕ
   pub lost : ℕ

@@ -48,7 +48,7 @@ impl<'a> Datagram<'a> {
 
 /// Reads octets as a datagram (ITU-T T.38, UDPTL). `Short` says that they end inside it, and `BadLength` that a
 /// length or the count begins with the bits 11, whichever comes first. Forward error correction, and octets
-/// behind the last secondary, are not read. It takes no memory, and its time is linear in the octets.
+/// after the last secondary, are not read. It takes no memory, and its time is linear in the octets.
 #[tactic(auto, unfolding(crate::specs::Datagrams::datagram_of))]
 pub fn read<'a>(octets: &'a [u8]) -> Result<Datagram<'a>, UdptlFault>
     ensures { MatchResult result (λ d. datagram_of octets.now ≡ Ok d) (λ e. datagram_of octets.now ≡ Err e) }

@@ -5,7 +5,7 @@ ghost use Rattle.fax_udptl.specs.Reading.{Gives, packets_in, HasPackets};
 
 use crate::fault::UdptlFault;
 
-/// A length or a count, and the octets behind it.
+/// A length or a count, and the octets after it.
 #[inline]
 #[tactic(auto, unfolding(crate::specs::Datagrams::length_at))]
 pub(crate) fn read_length(octets: &[u8]) -> Result<(u16, &[u8]), UdptlFault>
@@ -22,7 +22,7 @@ pub(crate) fn read_length(octets: &[u8]) -> Result<(u16, &[u8]), UdptlFault>
     Ok((256 * u16::from(*first - 128) + u16::from(*low), rest))
 }
 
-/// A packet, and the octets behind it.
+/// A packet, and the octets after it.
 #[inline]
 #[tactic(auto, unfolding(crate::specs::Datagrams::packet_at))]
 pub(crate) fn read_packet(octets: &[u8]) -> Result<(&[u8], &[u8]), UdptlFault>
@@ -43,20 +43,20 @@ pub(crate) fn check_packets(count: u16, octets: &[u8]) -> Result<(), UdptlFault>
 {
     let mut rest = octets;
     for _ in 0..count {
-        let (_, behind) = read_packet(rest)?;
-        rest = behind;
+        let (_, after) = read_packet(rest)?;
+        rest = after;
     }
     Ok(())
 }
 
-/// The first of so many packets that stand in octets, and the octets behind it.
+/// The first of so many packets that stand in octets, and the octets after it.
 #[inline]
 pub(crate) fn first_packet(left: u16, octets: &[u8]) -> Option<(&[u8], &[u8])>
     requires { HasPackets left octets.now }
     ensures none { IfNone result (packets_in left octets.now ≡ []) }
     ensures first { IfSome result (λ p.
         packets_in left octets.now ≡ p.0.now ∷ packets_in (left - 1) p.1.now) }
-    ensures behind { IfSome result (λ p. HasPackets (left - 1) p.1.now) }
+    ensures after { IfSome result (λ p. HasPackets (left - 1) p.1.now) }
     ensures left { OnSome result (0 < left) }
 {
     if left == 0 {

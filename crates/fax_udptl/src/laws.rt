@@ -15,7 +15,7 @@ pub fn slots_are_decided()
     ensures { SlotsAreDecided }
 {}
 
-/// One more datagram adds slots behind those that were decided.
+/// One more datagram adds slots after those that were decided.
 pub fn slots_go_on()
     ensures { SlotsGoOn }
 {}
@@ -38,7 +38,7 @@ pub fn written_is_read()
 {}
 
 /// Over every honest schedule each slot that is decided is missing or is the sender's packet of its place, where all places
-/// are shifted by one multiple of 65,536; and the slots are a part of the sender's list, one place behind the other, from
+/// are shifted by one multiple of 65,536; and the slots are a part of the sender's list, one place after the other, from
 /// its first packet on where the first datagram reaches back to that.
 pub fn slots_are_sent()
     ensures each { SlotsAreSent }

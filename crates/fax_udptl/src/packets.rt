@@ -20,9 +20,9 @@ const SOUGHT: u16 = 4096;
 pub struct Packets<'a> {
     /// The secondaries that stand in no block yet, the nearest first.
     secondaries: Secondaries<'a>,
-    /// The blocks behind these.
+    /// The blocks after these.
     blocks: ArrayVec<Secondaries<'a>, 64>,
-    /// The packets behind these, which were fetched.
+    /// The packets after these, which were fetched.
     fetched: ArrayVec<&'a [u8], 64>,
     /// What comes last.
     primary: Option<&'a [u8]>,

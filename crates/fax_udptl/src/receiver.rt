@@ -10,7 +10,7 @@ use crate::packets::Packets;
 use crate::secondaries::Secondaries;
 use std::marker::Model;
 
-/// The slots that a datagram decides: missing ones, and packets behind them.
+/// The slots that a datagram decides: missing ones, and packets after them.
 #[derive(Drop)]
 pub struct Decided<'a> {
     from: u16,
@@ -112,7 +112,7 @@ impl<'a> Decided<'a> {
         self.lost
     }
 
-    /// The packets in the slots behind these, in order.
+    /// The packets in the slots after these, in order.
     pub fn packets(&self) -> Packets<'a>
         ensures { result ≡ self.now.packets }
     {

@@ -1,4 +1,4 @@
-//! The packets that stand behind a datagram's primary.
+//! The packets that stand after a datagram's primary.
 ghost use Rattle.std.specs.Prelude.{◌≡◌, take, drop, length, Ok};
 ghost use Rattle.fax_udptl.specs.Datagrams.{secondaries_at};
 ghost use Rattle.fax_udptl.specs.Reading.{Gives};
@@ -8,7 +8,7 @@ use crate::grammar::{check_packets, first_packet, read_length};
 use std::marker::Model;
 use std::mem;
 
-/// The packets of a datagram that stand behind its primary, the nearest first: an iterator that walks the
+/// The packets of a datagram that stand after its primary, the nearest first: an iterator that walks the
 /// octets anew.
 #[derive(Drop)]
 pub struct Secondaries<'a> {
@@ -94,14 +94,14 @@ impl<'a> Iterator for Secondaries<'a> {
     ghost remaining = { item_count (λ s. s) };
 
     fn next(&mut self) -> Option<&'a [u8]> {
-        let (packet, behind) = first_packet(self.left, self.octets)?;
-        self.octets = behind;
+        let (packet, after) = first_packet(self.left, self.octets)?;
+        self.octets = after;
         self.left -= 1;
         Some(packet)
     }
 }
 
-/// The secondaries of a datagram, from the octets behind its primary.
+/// The secondaries of a datagram, from the octets after its primary.
 #[tactic(auto, using(crate::proofs::PacketLemmas::none_left, crate::proofs::PacketLemmas::none_stand), unfolding(crate::specs::Datagrams::secondaries_at))]
 pub(crate) fn read_secondaries(octets: &[u8]) -> Result<Secondaries<'_>, UdptlFault>
     ensures { Gives (λ s. s) result (secondaries_at octets.now) }

@@ -190,7 +190,7 @@ fn put_datagram(octets: &mut Vec<u8>, number: u16, packet: &[u8], last: &HeapCir
     put_packets(octets, last);
 }
 
-/// Adds packets, each behind its length, for which there is room.
+/// Adds packets, each after its length, for which there is room.
 fn put_packets(octets: &mut Vec<u8>, packets: &HeapCircularBuffer<Octets>)
     requires short { AreShort packets.now.items }
     requires room { vec_len octets.old + length (flat_map written_packet packets.now.items) ≤ vec_capacity octets.old }
@@ -201,7 +201,7 @@ fn put_packets(octets: &mut Vec<u8>, packets: &HeapCircularBuffer<Octets>)
     }
 }
 
-/// Adds a packet behind its length, for which there is room.
+/// Adds a packet after its length, for which there is room.
 fn put_packet(octets: &mut Vec<u8>, packet: &[u8])
     requires short { length packet.now ≤ 16383 }
     requires room { vec_len octets.old + length (written_packet packet.now) ≤ vec_capacity octets.old }

@@ -4,14 +4,14 @@
 //! of a configuration, and `faxgate say` says a word to such a server; `faxgate send` and `faxgate receive` send and receive pages as a machine does.
 #![tactic(auto)]
 
-use fax_program::{Ran, run_words};
+use fax_program::{RunOutcome, run_words};
 use sqlite_disk::Unknown;
 use std::process::ExitCode;
 
 fn main(rt: HostRuntime) -> ExitCode {
     let mut service = match run_words(&rt, &rt) {
-        Ran::Ends(status) => return ExitCode::from(status),
-        Ran::Serves(service) => service,
+        RunOutcome::Ends(status) => return ExitCode::from(status),
+        RunOutcome::Serves(service) => service,
     };
     for _ in 0..u64::MAX {
         // Each run opens its spool with a value of its own.

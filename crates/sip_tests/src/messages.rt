@@ -6,7 +6,7 @@ use fax_sip::{
 use std::test::Fail;
 
 /// An INVITE with compact and long names in any case, lines that go on in the next, hops in one line and in several, escapes and
-/// brackets in a quoted string, white space round colons and slashes, and octets behind its body.
+/// brackets in a quoted string, white space round colons and slashes, and octets after its body.
 const TORTUOUS: &[u8] = b"INVITE sip:+4930123@gw.example;user=phone SIP/2.0\r\n\
 v: SIP / 2.0 / UDP 192.0.2.2 ;branch=z9hG4bK390, SIP/2.0/UDP 192.0.2.3:5070;branch=z9hG4bK391\r\n\
 TO :\r\n sip:+4930123@gw.example ;  tag = 19\r\n\

@@ -4,7 +4,7 @@ use fax_transactions::{
     ServerInvite, ServerRequest,
 };
 
-/// When an INVITE that nobody answers is sent again: behind 0.5, 1.5, 3.5, 7.5, 15.5 and 31.5 s.
+/// When an INVITE that nobody answers is sent again: after 0.5, 1.5, 3.5, 7.5, 15.5 and 31.5 s.
 const INVITE_AGAIN: &[u64] = &[500, 1_500, 3_500, 7_500, 15_500, 31_500];
 
 /// When another request that nobody answers is: the pause is 4 s at most.

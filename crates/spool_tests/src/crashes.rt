@@ -2,9 +2,9 @@
 //! pages of four calls into two files, and one that tells what of them can be read. They do nothing but where the environment names a
 //! folder.
 use fax_jobs::Outcome;
-use fax_keep::{KeptFile, open_folder};
 use fax_runcodes::{Format, Width};
 use fax_spool::{EndedRecord, PageRecord, Spool, WaitingPage};
+use fax_spool_folder::{SpoolFolderFile, open_folder};
 use sqlite_disk::Unknown;
 use std::alloc::{AllocError, Global};
 use std::test::Fail;
@@ -46,7 +46,7 @@ fn is_right(alloc: Global, page: &WaitingPage) -> Result<bool, AllocError> {
 
 /// The page of a number is put.
 fn put(
-    spool: &mut Spool<KeptFile<Unknown>>,
+    spool: &mut Spool<SpoolFolderFile<Unknown>>,
     alloc: Global,
     life: u32,
     number: u32,
@@ -67,7 +67,7 @@ fn put(
 
 /// The job of the page of a number ended; the files take turns.
 fn end(
-    spool: &mut Spool<KeptFile<Unknown>>,
+    spool: &mut Spool<SpoolFolderFile<Unknown>>,
     alloc: Global,
     life: u32,
     number: u32,
@@ -89,7 +89,7 @@ fn end(
     Ok(())
 }
 
-/// Ends the jobs of the pages that wait, and puts page behind page, and tells each with the nanoseconds that it took. `SPOOL_PAGES`: how many; `SPOOL_OCTETS`: of which length;
+/// Ends the jobs of the pages that wait, and puts page after page, and tells each with the nanoseconds that it took. `SPOOL_PAGES`: how many; `SPOOL_OCTETS`: of which length;
 /// `SPOOL_ENDS`: whether the jobs of pages end as more come.
 #[test]
 fn puts_pages(rt: HostRuntime) -> Result<(), Fail> {
@@ -156,7 +156,7 @@ struct CallPage {
     closes: bool,
 }
 
-/// Those that are put into the one file, and into the other one behind it. Of call 2 the first two pages are a job, which ends; call 3 is
+/// Those that are put into the one file, and into the other one after it. Of call 2 the first two pages are a job, which ends; call 3 is
 /// on.
 const FIRST: [CallPage; 3] = [
     CallPage {
@@ -231,7 +231,7 @@ fn seed_of(call: u32, number: u32) -> u32 {
 
 /// These pages are put.
 fn put_calls(
-    spool: &mut Spool<KeptFile<Unknown>>,
+    spool: &mut Spool<SpoolFolderFile<Unknown>>,
     alloc: Global,
     life: u32,
     pages: &[CallPage],

@@ -1,13 +1,13 @@
 //! Jobs that end: what is noted of them is not found again.
 use fax_bits::{NoMemory, Octets};
 use fax_gateway::Kept;
-use fax_hold::Keeper;
+use fax_holding_wire::PageStore;
 use fax_jobs::{Outcome, Report};
-use fax_line::PageToKeep;
+use fax_line::PageToStore;
+use fax_queue::{Queue, Storage};
 use fax_restarts::open_over;
 use fax_runcodes::{Format, Width};
-use fax_shelf::{Keeping, Shelf};
-use fax_spool::Opened;
+use fax_spool::OpenedSpool;
 use sqlite_disk::Memory;
 use std::alloc::{AllocError, Global};
 use std::rt::HostRuntime;
@@ -28,16 +28,16 @@ const REPORT: Report = Report {
 };
 
 /// What is known of the only line as its first life begins.
-fn shelves_of(alloc: Global) -> Result<Vec<Shelf>, NoMemory> {
-    let mut shelves = Vec::new(alloc);
-    shelves.push(Shelf::new(alloc, "a1")?)?;
-    Ok(shelves)
+fn queues_of(alloc: Global) -> Result<Vec<Queue>, NoMemory> {
+    let mut queues = Vec::new(alloc);
+    queues.push(Queue::new(alloc, "a1")?)?;
+    Ok(queues)
 }
 
 /// The only page of this call.
-fn page_of(alloc: Global, call: u32) -> Result<PageToKeep, AllocError> {
+fn page_of(alloc: Global, call: u32) -> Result<PageToStore, AllocError> {
     let text = b"text".to_vec(alloc)?;
-    Ok(PageToKeep {
+    Ok(PageToStore {
         line: 0,
         kept: Kept {
             call,
@@ -50,27 +50,27 @@ fn page_of(alloc: Global, call: u32) -> Result<PageToKeep, AllocError> {
 }
 
 /// Whether the page of this call alone is told, under this tag.
-fn tells_page(opened: &Opened<Memory>, call: u32, tag: &str) -> bool {
+fn tells_page(opened: &OpenedSpool<Memory>, call: u32, tag: &str) -> bool {
     match opened.pages.as_slice() {
         [page] => page.call == call && page.number == 1 && page.tag.as_slice() == tag.as_bytes(),
         _ => false,
     }
 }
 
-/// What `Keeping::end` promises of an `Ok` is not empty: with memory to spare it answers one. The page of the job that ended is not
+/// What `Storage::end` promises of an `Ok` is not empty: with memory to spare it answers one. The page of the job that ended is not
 /// found again, and the next one is, under the tag of its own call.
 #[test]
 fn ended_job_is_not_found_again(rt: HostRuntime) -> Result<(), Fail> {
     let alloc = rt.alloc();
     let opened = open_over(alloc, &[], &[])?;
-    let mut keeping = Keeping::new(alloc, opened.spool, shelves_of(alloc)?);
-    keeping.set_tag(0, "first");
-    keeping.keep_all(&[page_of(alloc, 0)?])?;
-    keeping.begin_slot();
-    keeping.set_tag(0, "second");
-    keeping.keep_all(&[page_of(alloc, 1)?])?;
-    keeping.end(0, REPORT)?;
-    let (older, newer) = keeping.into_spool().into_files();
+    let mut storage = Storage::new(alloc, opened.spool, queues_of(alloc)?);
+    storage.set_tag(0, "first");
+    storage.store_all(&[page_of(alloc, 0)?])?;
+    storage.begin_slot();
+    storage.set_tag(0, "second");
+    storage.store_all(&[page_of(alloc, 1)?])?;
+    storage.end(0, REPORT)?;
+    let (older, newer) = storage.into_spool().into_files();
     let found = open_over(alloc, older.disk.bytes(), newer.disk.bytes())?;
     assert!(rt; tells_page(&found, 1, "second"));
     Ok(())

@@ -1,7 +1,7 @@
 //! A spool over files of memory that a process left, and what they tell while nobody opens them.
 use fax_restarts::open_again;
 use fax_runcodes::{Format, Width};
-use fax_spool::{Listing, Opened, PageRecord, list_spool};
+use fax_spool::{Listing, OpenedSpool, PageRecord, list_spool};
 use sqlite_disk::Memory;
 use std::rt::HostRuntime;
 use std::test::Fail;
@@ -22,7 +22,7 @@ const PAGE: PageRecord<'_> = PageRecord {
 };
 
 /// Whether this page alone is told, and closes its job, as its process is gone.
-fn tells_page(opened: &Opened<Memory>) -> bool {
+fn tells_page(opened: &OpenedSpool<Memory>) -> bool {
     match opened.pages.as_slice() {
         [page] => page.life == 1 && page.number == 1 && page.closes,
         _ => false,

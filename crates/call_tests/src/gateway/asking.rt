@@ -2,7 +2,7 @@
 use super::call::{COMES, DELIVERED, FIRST_CALLED, LAST_TURN, moment, octets_of};
 use super::list_wire::ShortOctets;
 use super::restored::{FORMAT, calls};
-use fax_gateway::{Gateway, PlaceFault, Settings, Side};
+use fax_gateway::{Gateway, Leg, PlaceFault, Settings};
 use fax_jobs::{Outcome, Report};
 use fax_pagestore::PlainRows;
 use std::alloc::Global;
@@ -17,7 +17,7 @@ const ASKS: Settings = Settings {
 /// For how long the job of the whole call is asked for, in milliseconds.
 const ASKED_MS: u64 = 60_000;
 
-/// When its call is placed: so long behind the turn in which its page is confirmed, and in which a call that is not asked for begins.
+/// When its call is placed: so long after the turn in which its page is confirmed, and in which a call that is not asked for begins.
 const CONNECTED: u64 = 60_240;
 
 /// What the called leg gives in a tick: the first octet of the packet. The tone of a calling terminal, a preamble, and data of V.21.
@@ -72,7 +72,7 @@ impl Asking {
     /// One on whose calling leg the page of the whole call was confirmed.
     fn with_page(alloc: Global) -> Option<Self> {
         let mut asking = Asking::rung(alloc)?;
-        asking.play(Side::Calling, 0, FIRST_CALLED, 0)?;
+        asking.play(Leg::Calling, 0, FIRST_CALLED, 0)?;
         Some(asking)
     }
 
@@ -107,10 +107,10 @@ impl Asking {
         (self.gateway.asked(), self.gateway.next_due())
     }
 
-    fn hear(&mut self, side: Side, octets: &ShortOctets, now: u64) -> Option<bool> {
-        match side {
-            Side::Calling => self.gateway.from_calling(octets.as_slice(), now).ok(),
-            Side::Called => self.gateway.from_called(octets.as_slice(), now).ok(),
+    fn hear(&mut self, leg: Leg, octets: &ShortOctets, now: u64) -> Option<bool> {
+        match leg {
+            Leg::Calling => self.gateway.from_calling(octets.as_slice(), now).ok(),
+            Leg::Called => self.gateway.from_called(octets.as_slice(), now).ok(),
         }
     }
 
@@ -125,17 +125,11 @@ impl Asking {
 
     /// Turns of the whole call, so much later: what comes on a leg comes, and time goes on. It answers the turn of the last report,
     /// and the report.
-    fn play(
-        &mut self,
-        side: Side,
-        from: u32,
-        to: u32,
-        later: u64,
-    ) -> Option<Option<(u32, Report)>> {
+    fn play(&mut self, leg: Leg, from: u32, to: u32, later: u64) -> Option<Option<(u32, Report)>> {
         let mut told = None;
         for turn in from..=to {
             let now = later.saturating_add(moment(turn));
-            self.come(side, turn, now)?;
+            self.come(leg, turn, now)?;
             if let (_, Some(report)) = self.tick(now)? {
                 told = Some((turn, report));
             }
@@ -144,10 +138,10 @@ impl Asking {
     }
 
     /// What comes on a leg in a turn of the whole call.
-    fn come(&mut self, side: Side, turn: u32, now: u64) -> Option<()> {
+    fn come(&mut self, leg: Leg, turn: u32, now: u64) -> Option<()> {
         for (at, on, head, zeros, tail) in COMES {
-            if *at == turn && *on == side {
-                self.hear(side, &octets_of(*head, *zeros, *tail), now)?;
+            if *at == turn && *on == leg {
+                self.hear(leg, &octets_of(*head, *zeros, *tail), now)?;
             }
         }
         Some(())
@@ -166,7 +160,7 @@ impl Asking {
 
 #[test]
 fn a_job_waits_while_it_is_asked_for(rt: HostRuntime) {
-    // T2 of the calling leg, 6 s behind the MCF, is due and nothing else; behind it the call there is over
+    // T2 of the calling leg, 6 s after the MCF, is due and nothing else; after it the call there is over
     let wanted = (
         Err(PlaceFault::NotAsked),
         (Some(0), Some(6240)),
@@ -176,12 +170,12 @@ fn a_job_waits_while_it_is_asked_for(rt: HostRuntime) {
     assert!(rt; while_asked(rt.alloc()) == Some(wanted));
 }
 
-/// What a connect answers before the page is confirmed, how the gateway stands behind that, whether it rests for ten minutes, and
+/// What a connect answers before the page is confirmed, how the gateway stands after that, whether it rests for ten minutes, and
 /// how it stands then.
 fn while_asked(alloc: Global) -> Option<(Answer, Stands, bool, Stands)> {
     let mut asking = Asking::rung(alloc)?;
     let early = asking.place(true, 0);
-    asking.play(Side::Calling, 0, FIRST_CALLED, 0)?;
+    asking.play(Leg::Calling, 0, FIRST_CALLED, 0)?;
     let confirmed = asking.stands();
     let rests = asking.rests(moment(FIRST_CALLED), 600)?;
     Some((early, confirmed, rests, asking.stands()))
@@ -210,12 +204,12 @@ fn a_call_that_was_asked_for_a_minute_is_answered(rt: HostRuntime) {
 /// The turn and the report, where the called machine answers as in the whole call.
 fn when_answered(alloc: Global) -> Option<Option<(u32, Report)>> {
     let mut asking = Asking::connected(alloc)?;
-    asking.play(Side::Called, FIRST_CALLED, LAST_TURN, ASKED_MS)
+    asking.play(Leg::Called, FIRST_CALLED, LAST_TURN, ASKED_MS)
 }
 
 #[test]
 fn t1_runs_from_where_the_call_is_placed(rt: HostRuntime) {
-    // 35 s (ITU-T T.30, 5.4.3.1: T1), and then DCN behind its preamble
+    // 35 s (ITU-T T.30, 5.4.3.1: T1), and then DCN after its preamble
     let wanted = [
         (Some(TONE), None),
         (None, None),
@@ -246,7 +240,7 @@ fn a_job_that_could_not_be_placed(rt: HostRuntime) {
     assert!(rt; when_not_placed(rt.alloc()) == Some(wanted));
 }
 
-/// What is answered where the call of the first job could not be placed, how the gateway stands before and behind that and behind
+/// What is answered where the call of the first job could not be placed, how the gateway stands before and after that and after
 /// the next tick, and what that tells.
 fn when_not_placed(alloc: Global) -> Option<(Answer, [Stands; 3], Told)> {
     let mut asking = Asking::restored(alloc, true)?;

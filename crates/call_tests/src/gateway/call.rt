@@ -3,7 +3,7 @@ use super::list_wire::{OnWire, ShortOctets};
 use crate::hex::value_of;
 use fax_answer::Refusal;
 use fax_bits::{NoMemory, Octets};
-use fax_gateway::{Gateway, Given, Kept, Refused, RingFault, Side};
+use fax_gateway::{Gateway, Given, Kept, Leg, RefusedPage, RingFault};
 use fax_jobs::{Outcome, Report};
 use fax_pagestore::{Format, PlainRows};
 use fax_runcodes::Width;
@@ -24,32 +24,26 @@ pub(super) const SENDS: u32 = 7 + 49;
 
 /// What comes: the turn before whose tick it does, the leg, and the octets of two hex texts with so many zeros between them.
 /// Each decides a slot. A page of one white row comes on the calling leg; on the called leg it is taken and confirmed.
-pub(super) const COMES: &[(u32, Side, &str, u16, &str)] = &[
-    (
-        3,
-        Side::Calling,
-        "00000cc002800005ffc8c1004000400000",
-        0,
-        "",
-    ),
-    (3, Side::Calling, "000101080000", 0, ""),
-    (3, Side::Calling, "00028131c201f0012b", 300, "0000"),
-    (5, Side::Calling, "000301080000", 0, ""),
+pub(super) const COMES: &[(u32, Leg, &str, u16, &str)] = &[
+    (3, Leg::Calling, "00000cc002800005ffc8c1004000400000", 0, ""),
+    (3, Leg::Calling, "000101080000", 0, ""),
+    (3, Leg::Calling, "00028131c201f0012b", 300, "0000"),
+    (5, Leg::Calling, "000301080000", 0, ""),
     (
         5,
-        Side::Calling,
+        Leg::Calling,
         "000412c201f0000c0014d9a80080080080080080080000",
         0,
         "",
     ),
-    (5, Side::Calling, "000501060000", 0, ""),
-    (5, Side::Calling, "000609c002800002ffc8f4400000", 0, ""),
-    (7, Side::Called, "00000cc002800005ffc801004000400000", 0, ""),
-    (48, Side::Called, "000109c002800002ffc821400000", 0, ""),
-    (53, Side::Called, "000209c002800002ffc831400000", 0, ""),
+    (5, Leg::Calling, "000501060000", 0, ""),
+    (5, Leg::Calling, "000609c002800002ffc8f4400000", 0, ""),
+    (7, Leg::Called, "00000cc002800005ffc801004000400000", 0, ""),
+    (48, Leg::Called, "000109c002800002ffc821400000", 0, ""),
+    (53, Leg::Called, "000209c002800002ffc831400000", 0, ""),
 ];
 
-/// What is given on the calling leg, from turn 0 on: the whole datagram behind its number.
+/// What is given on the calling leg, from turn 0 on: the whole datagram after its number.
 const CALLING: &[&str] = &[
     "01040000",
     "010600010104",
@@ -60,7 +54,7 @@ const CALLING: &[&str] = &[
     "09c002800002ffc831400003010609c002800002ffc821400106",
 ];
 
-/// What is given on the called leg before the training: whole datagrams behind their numbers.
+/// What is given on the called leg before the training: whole datagrams after their numbers.
 const CALLED: &[&str] = &[
     "01020000",
     "010600010102",
@@ -136,7 +130,7 @@ pub(super) struct Played {
     /// The page that was confirmed, and the turn.
     kept: Option<(u32, Kept)>,
     /// The page that was refused, and the turn.
-    refused: Option<(u32, Refused)>,
+    refused: Option<(u32, RefusedPage)>,
     pub report: Option<Report>,
     /// Whether the gateway tells that report alone, the call is still on, and no job is sent or waits.
     is_reported: bool,
@@ -159,7 +153,7 @@ impl Played {
 
     /// Whether the page was refused for this reason, in the turn in which the whole call confirms it, and no page went out.
     pub fn has_refused(&self, why: Refusal) -> bool {
-        self.refused == Some((CONFIRMED, Refused { call: 0, why }))
+        self.refused == Some((CONFIRMED, RefusedPage { call: 0, why }))
             && self.kept.is_none()
             && self.report.is_none()
     }
@@ -230,14 +224,14 @@ impl Playing {
     fn play_nothing(&mut self, rt: &impl Abort) {
         let datagram = octets_of("000001060000", 0, "");
         let short = octets_of("000001", 0, "");
-        let while_idle = self.hear(rt, Side::Calling, &datagram, 0);
+        let while_idle = self.hear(rt, Leg::Calling, &datagram, 0);
         let rung = self.ring();
         let decided = [
             while_idle,
-            self.hear(rt, Side::Called, &datagram, 0),
-            self.hear(rt, Side::Calling, &short, 0),
-            self.hear(rt, Side::Calling, &datagram, 0),
-            self.hear(rt, Side::Calling, &datagram, 0),
+            self.hear(rt, Leg::Called, &datagram, 0),
+            self.hear(rt, Leg::Calling, &short, 0),
+            self.hear(rt, Leg::Calling, &datagram, 0),
+            self.hear(rt, Leg::Calling, &datagram, 0),
         ];
         assert!(rt; rung == Ok(0) && decided == [false, false, false, true, false]);
     }
@@ -254,10 +248,10 @@ impl Playing {
 
     /// What comes in a turn.
     fn come(&mut self, rt: &impl Abort, turn: u32, change: Change<'_>) {
-        for (place, (at, side, head, zeros, tail)) in COMES.iter().enumerate() {
+        for (place, (at, leg, head, zeros, tail)) in COMES.iter().enumerate() {
             if *at == turn {
                 let datagram = octets_of(*head, *zeros, *tail);
-                self.comes(rt, place, *side, &datagram, turn, change);
+                self.comes(rt, place, *leg, &datagram, turn, change);
             }
         }
     }
@@ -267,7 +261,7 @@ impl Playing {
         &mut self,
         rt: &impl Abort,
         place: usize,
-        side: Side,
+        leg: Leg,
         datagram: &ShortOctets,
         turn: u32,
         change: Change<'_>,
@@ -275,41 +269,41 @@ impl Playing {
         let comes = match change {
             Change::WithoutDatagram(left_out) => left_out != place,
             Change::Instead(of, octets) if of == place => {
-                self.told.is_taken = self.hear(rt, side, octets, turn);
-                !self.told.is_taken && self.is_late_before(rt, place, side, turn)
+                self.told.is_taken = self.hear(rt, leg, octets, turn);
+                !self.told.is_taken && self.is_late_before(rt, place, leg, turn)
             }
             _ => true,
         };
-        if comes && self.hear(rt, side, datagram, turn) {
+        if comes && self.hear(rt, leg, datagram, turn) {
             self.told.decided = self.told.decided.saturating_add(1);
         }
     }
 
     /// Whether the datagram before one of a leg is late when it comes again, where there is one.
-    fn is_late_before(&mut self, rt: &impl Abort, place: usize, side: Side, turn: u32) -> bool {
+    fn is_late_before(&mut self, rt: &impl Abort, place: usize, leg: Leg, turn: u32) -> bool {
         match COMES.get(place.wrapping_sub(1)) {
-            Some((_, on, head, zeros, tail)) if *on == side => {
-                !self.hear(rt, side, &octets_of(*head, *zeros, *tail), turn)
+            Some((_, on, head, zeros, tail)) if *on == leg => {
+                !self.hear(rt, leg, &octets_of(*head, *zeros, *tail), turn)
             }
             _ => true,
         }
     }
 
     /// Octets come on a leg. It answers whether they decide a slot.
-    fn hear(&mut self, rt: &impl Abort, side: Side, octets: &ShortOctets, turn: u32) -> bool {
-        match self.hear_once(side, octets, turn) {
+    fn hear(&mut self, rt: &impl Abort, leg: Leg, octets: &ShortOctets, turn: u32) -> bool {
+        match self.hear_once(leg, octets, turn) {
             Ok(decides) => decides,
             Err(NoMemory) => {
                 self.told.refused_calls = self.told.refused_calls.saturating_add(1);
-                self.hear_once(side, octets, turn).expect(rt, "a datagram")
+                self.hear_once(leg, octets, turn).expect(rt, "a datagram")
             }
         }
     }
 
-    fn hear_once(&mut self, side: Side, octets: &ShortOctets, turn: u32) -> Result<bool, NoMemory> {
-        match side {
-            Side::Calling => self.gateway.from_calling(octets.as_slice(), moment(turn)),
-            Side::Called => self.gateway.from_called(octets.as_slice(), moment(turn)),
+    fn hear_once(&mut self, leg: Leg, octets: &ShortOctets, turn: u32) -> Result<bool, NoMemory> {
+        match leg {
+            Leg::Calling => self.gateway.from_calling(octets.as_slice(), moment(turn)),
+            Leg::Called => self.gateway.from_called(octets.as_slice(), moment(turn)),
         }
     }
 
@@ -320,8 +314,8 @@ impl Playing {
             }
         }
         let given = self.given_in(rt, turn);
-        self.note(rt, turn, Side::Calling, &given.calling);
-        self.note(rt, turn, Side::Called, &given.called);
+        self.note(rt, turn, Leg::Calling, &given.calling);
+        self.note(rt, turn, Leg::Called, &given.called);
         if let Some(kept) = given.kept {
             self.told.kept = Some((turn, kept));
         }
@@ -349,10 +343,10 @@ impl Playing {
     }
 
     /// A datagram is given on a leg, where one is.
-    fn note(&mut self, rt: &impl Abort, turn: u32, side: Side, given: &Option<Octets>) {
+    fn note(&mut self, rt: &impl Abort, turn: u32, leg: Leg, given: &Option<Octets>) {
         if let Some(octets) = given {
             let octets = ShortOctets::of(octets.as_slice()).expect(rt, "at most 320 octets");
-            let noted = self.told.given.push(OnWire { turn, side, octets }).is_ok();
+            let noted = self.told.given.push(OnWire { turn, leg, octets }).is_ok();
             assert!(rt; noted);
         }
     }
@@ -412,55 +406,55 @@ pub(super) fn moment(turn: u32) -> u64 {
 pub(super) fn is_whole_call(given: &[OnWire]) -> bool {
     let mut rest = given;
     for turn in 0..TURNS {
-        for side in [Side::Calling, Side::Called] {
-            if let Some(text) = text_of(turn, side) {
-                let Some((first, behind)) = rest.split_first() else {
+        for leg in [Leg::Calling, Leg::Called] {
+            if let Some(text) = text_of(turn, leg) {
+                let Some((first, after)) = rest.split_first() else {
                     return false;
                 };
-                if !is_given(first, turn, side, text) {
+                if !is_given(first, turn, leg, text) {
                     return false;
                 }
-                rest = behind;
+                rest = after;
             }
         }
     }
     rest.is_empty()
 }
 
-/// What a datagram begins with that is given in a turn on a leg, behind its number.
-fn text_of(turn: u32, side: Side) -> Option<&'static str> {
-    match side {
-        Side::Calling => CALLING.get(turn as usize).copied(),
-        Side::Called => called_text(turn.checked_sub(FIRST_CALLED)? as usize),
+/// What a datagram begins with that is given in a turn on a leg, after its number.
+fn text_of(turn: u32, leg: Leg) -> Option<&'static str> {
+    match leg {
+        Leg::Calling => CALLING.get(turn as usize).copied(),
+        Leg::Called => called_text(turn.checked_sub(FIRST_CALLED)? as usize),
     }
 }
 
-/// What the datagram of this number begins with on the called leg, behind its number.
+/// What the datagram of this number begins with on the called leg, after its number.
 fn called_text(number: usize) -> Option<&'static str> {
-    let Some(behind) = number.checked_sub(CALLED.len()) else {
+    let Some(after) = number.checked_sub(CALLED.len()) else {
         return CALLED.get(number).copied();
     };
-    match behind.checked_sub(TRAININGS) {
+    match after.checked_sub(TRAININGS) {
         None => Some(TRAINING),
         Some(later) => CALLED_LATER.get(later).copied(),
     }
 }
 
-/// Whether a datagram is that of a turn and a leg, with its number and what it begins with behind that.
-fn is_given(one: &OnWire, turn: u32, side: Side, text: &str) -> bool {
+/// Whether a datagram is that of a turn and a leg, with its number and what it begins with after that.
+fn is_given(one: &OnWire, turn: u32, leg: Leg, text: &str) -> bool {
     let octets = one.octets.as_slice();
-    let number = match side {
-        Side::Calling => turn,
-        Side::Called => turn.saturating_sub(FIRST_CALLED),
+    let number = match leg {
+        Leg::Calling => turn,
+        Leg::Called => turn.saturating_sub(FIRST_CALLED),
     };
     one.turn == turn
-        && one.side == side
+        && one.leg == leg
         && octets.get(0).copied() == Some(0)
         && octets.get(1).map(|low| u32::from(*low)) == Some(number)
         && begins(octets, text)
 }
 
-/// Whether octets have those of a hex text behind the first two.
+/// Whether octets have those of a hex text after the first two.
 fn begins(octets: &[u8], text: &str) -> bool {
     for i in 0..text.len() / 2 {
         if octets.get(i.saturating_add(2)).copied() != octet_at(text, i) {
@@ -481,7 +475,7 @@ pub(super) fn octets_of(head: &str, zeros: u16, tail: &str) -> ShortOctets {
     octets
 }
 
-/// Puts the octets that a hex text shows behind others.
+/// Puts the octets that a hex text shows after others.
 fn put_hex(octets: &mut ShortOctets, text: &str) {
     for i in 0..text.len() / 2 {
         octets.push(octet_at(text, i).unwrap_or(0));

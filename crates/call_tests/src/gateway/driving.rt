@@ -72,11 +72,11 @@ fn runs_over_a_broken_wire(rt: HostRuntime) {
     deaf.driven.stopped = true;
     comes_to(&rt, rt.alloc(), deaf, 1000);
     // all sends fail, and nobody answers: three datagrams, then two every 3,040 ms, and two where T1 is due
-    let mut mute = STILL;
-    mute.failing_sends = Fails::ALL;
-    mute.rings = &[0];
-    mute.driven.sends_failed = 3 + 2 * 11 + 2;
-    comes_to(&rt, rt.alloc(), mute, 1000);
+    let mut silent = STILL;
+    silent.failing_sends = Fails::ALL;
+    silent.rings = &[0];
+    silent.driven.sends_failed = 3 + 2 * 11 + 2;
+    comes_to(&rt, rt.alloc(), silent, 1000);
 }
 
 #[test]
@@ -247,10 +247,10 @@ fn wire_once(alloc: Global, run: Run) -> Result<ListWire, NoMemory> {
 
 /// What comes in a whole call comes on a wire.
 fn put_all(wire: &mut ListWire) -> Result<(), NoMemory> {
-    for (turn, side, head, zeros, tail) in COMES {
+    for (turn, leg, head, zeros, tail) in COMES {
         wire.put(OnWire {
             turn: *turn,
-            side: *side,
+            leg: *leg,
             octets: octets_of(*head, *zeros, *tail),
         })?;
     }

@@ -3,7 +3,7 @@ ghost use Rattle.std.specs.Prelude.{◌≡◌, ◌+◌, ◌<◌, ◌≤◌, ℕ,
 ghost use Rattle.fax_gateway.specs.Wires.{Grows, failures_after, greatest_count, receipt_of};
 
 use fax_bits::NoMemory;
-use fax_gateway::{Side, Wire, WireFault};
+use fax_gateway::{Leg, Wire, WireFault};
 use std::alloc::Global;
 use std::marker::Model;
 
@@ -50,7 +50,7 @@ impl ShortOctets {
         })
     }
 
-    /// Puts an octet behind these, where there is room.
+    /// Puts an octet after these, where there is room.
     pub fn push(&mut self, octet: u8) {
         if self.count < MOST_OCTETS {
             self.octets[self.count] = octet;
@@ -69,30 +69,30 @@ impl ShortOctets {
 #[derive(Drop)]
 pub(crate) struct OnWire {
     pub turn: u32,
-    pub side: Side,
+    pub leg: Leg,
     pub octets: ShortOctets,
 }
 
 impl Model for OnWire {
-    ghost use Rattle.fax_gateway.specs.Wires.{Handed};
+    ghost use Rattle.fax_gateway.specs.Wires.{HandedDatagram};
 
-    ghost Value = { Handed };
+    ghost Value = { HandedDatagram };
 
-    ghost view = { λ on. record { side = on.side; octets = on.octets } };
+    ghost view = { λ on. record { leg = on.leg; octets = on.octets } };
 }
 
 impl OnWire {
     /// A datagram of a turn, where it can be held.
-    pub fn of(turn: u32, side: Side, octets: &[u8]) -> Option<Self>
-        ensures { IfSome result (λ on. on ≡ record { side = side; octets = octets.now }) }
+    pub fn of(turn: u32, leg: Leg, octets: &[u8]) -> Option<Self>
+        ensures { IfSome result (λ on. on ≡ record { leg = leg; octets = octets.now }) }
     {
         let octets = ShortOctets::of(octets)?;
-        Some(OnWire { turn, side, octets })
+        Some(OnWire { turn, leg, octets })
     }
 
     pub fn is_like(&self, other: &OnWire) -> bool {
         self.turn == other.turn
-            && self.side == other.side
+            && self.leg == other.leg
             && self.octets.as_slice() == other.octets.as_slice()
     }
 }
@@ -100,7 +100,7 @@ impl OnWire {
 /// What a receive answered, into a buffer of so many octets.
 #[derive(Drop)]
 struct Received {
-    side: Side,
+    leg: Leg,
     room: usize,
     came: Option<ShortOctets>,
     failed: bool,
@@ -112,33 +112,33 @@ impl Model for Received {
 
     ghost Value = { Receipt };
 
-    ghost view = { λ r. cond r.failed (Failed r.side r.room) (unwrap_or (option_map (Came r.side r.room) r.came) (Nothing r.side r.room)) };
+    ghost view = { λ r. cond r.failed (Failed r.leg r.room) (unwrap_or (option_map (Came r.leg r.room) r.came) (Nothing r.leg r.room)) };
 }
 
 impl Received {
     /// What a receive on a leg answered, where a datagram that came can be held.
-    fn of(side: Side, buffer: &[u8], answer: &Result<Option<usize>, WireFault>) -> Option<Self>
+    fn of(leg: Leg, buffer: &[u8], answer: &Result<Option<usize>, WireFault>) -> Option<Self>
         requires { IfOk answer.now (λ came. IfSome came (λ count. count ≤ length buffer.now)) }
-        ensures { IfSome result (λ received. received ≡ receipt_of side buffer.now answer.now) }
+        ensures { IfSome result (λ received. received ≡ receipt_of leg buffer.now answer.now) }
     {
         match *answer {
             Ok(Some(count)) => {
                 let came = ShortOctets::of(&buffer[..count])?;
                 Some(Received {
-                    side,
+                    leg,
                     room: buffer.len(),
                     came: Some(came),
                     failed: false,
                 })
             }
             Ok(None) => Some(Received {
-                side,
+                leg,
                 room: buffer.len(),
                 came: None,
                 failed: false,
             }),
             Err(WireFault) => Some(Received {
-                side,
+                leg,
                 room: buffer.len(),
                 came: None,
                 failed: true,
@@ -281,11 +281,11 @@ impl ListWire {
         })
     }
 
-    /// A datagram comes, behind those that come before.
+    /// A datagram comes, after those that come before.
     pub fn put(&mut self, datagram: OnWire) -> Result<(), NoMemory> {
-        let line = match datagram.side {
-            Side::Calling => &mut self.calling,
-            Side::Called => &mut self.called,
+        let line = match datagram.leg {
+            Leg::Calling => &mut self.calling,
+            Leg::Called => &mut self.called,
         };
         line.coming.push(datagram)?;
         Ok(())
@@ -307,7 +307,7 @@ impl ListWire {
     }
 
     /// What is received next on a leg.
-    fn next(&mut self, side: Side, buffer: &mut [u8]) -> Result<Option<usize>, WireFault>
+    fn next(&mut self, leg: Leg, buffer: &mut [u8]) -> Result<Option<usize>, WireFault>
         ensures fits { IfOk result (λ came. IfSome came (λ count. count ≤ length buffer.new)) }
         ensures failures { self.new.failures ≡ failures_after self.old.failures result }
         ensures received { self.new.received ≡ self.old.received }
@@ -315,14 +315,14 @@ impl ListWire {
     {
         let fails = self.failing_receives.has(self.receives);
         self.receives = self.receives.saturating_add(1);
-        match (side, fails) {
-            (Side::Calling, false) => Ok(self.calling.receive(buffer)),
-            (Side::Called, false) => Ok(self.called.receive(buffer)),
-            (Side::Calling, true) => {
+        match (leg, fails) {
+            (Leg::Calling, false) => Ok(self.calling.receive(buffer)),
+            (Leg::Called, false) => Ok(self.called.receive(buffer)),
+            (Leg::Calling, true) => {
                 self.calling.end_turn();
                 Err(self.fail())
             }
-            (Side::Called, true) => {
+            (Leg::Called, true) => {
                 self.called.end_turn();
                 Err(self.fail())
             }
@@ -343,16 +343,16 @@ impl ListWire {
 impl Wire for ListWire {
     ghost known = { λ wire. record { failures = wire.failures; received = wire.received; sent = wire.sent } };
 
-    fn receive(&mut self, side: Side, buffer: &mut [u8]) -> Result<Option<usize>, WireFault> {
+    fn receive(&mut self, leg: Leg, buffer: &mut [u8]) -> Result<Option<usize>, WireFault> {
         self.room = buffer.len();
-        let answer = self.next(side, buffer);
-        self.received.note(Received::of(side, buffer, &answer));
+        let answer = self.next(leg, buffer);
+        self.received.note(Received::of(leg, buffer, &answer));
         answer
     }
 
-    fn send(&mut self, side: Side, octets: &[u8]) -> Result<(), WireFault> {
+    fn send(&mut self, leg: Leg, octets: &[u8]) -> Result<(), WireFault> {
         let turn = self.called.turn.saturating_sub(1);
-        self.sent.note(OnWire::of(turn, side, octets));
+        self.sent.note(OnWire::of(turn, leg, octets));
         let fails = self.failing_sends.has(self.sends);
         self.sends = self.sends.saturating_add(1);
         if fails { Err(self.fail()) } else { Ok(()) }

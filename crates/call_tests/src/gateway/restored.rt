@@ -1,4 +1,4 @@
-//! A gateway that is restored behind a crash.
+//! A gateway that is restored after a crash.
 use fax_answer::Confirmed;
 use fax_gateway::{Gateway, RestoredCall, Settings};
 use fax_pagestore::{Coding, Format, PlainRows, read_page};

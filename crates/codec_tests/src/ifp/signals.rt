@@ -112,7 +112,7 @@ fn is_told(piece: &Piece<'_>, told: &Told<'_>) -> bool {
     }
 }
 
-/// Fails unless the pieces are those told from the place on; answers the place behind them.
+/// Fails unless the pieces are those told from the place on; answers the place after them.
 fn expect_pieces(rt: &impl Abort, pieces: &Pieces<'_>, told: &[Told<'_>], from: usize) -> usize {
     let mut place = from;
     for piece in pieces.as_slice() {
@@ -123,8 +123,8 @@ fn expect_pieces(rt: &impl Abort, pieces: &Pieces<'_>, told: &[Told<'_>], from: 
     place
 }
 
-/// Fails unless a slot gives the pieces that are told from the place on; answers the place behind them.
-fn place_behind(
+/// Fails unless a slot gives the pieces that are told from the place on; answers the place after them.
+fn place_after(
     rt: &impl Abort,
     signals: &mut Signals,
     slot: Slot<'_>,
@@ -145,7 +145,7 @@ fn expect(
     let mut signals = Signals::new(alloc);
     let mut place = 0;
     for slot in slots {
-        place = place_behind(rt, &mut signals, *slot, told, place)?;
+        place = place_after(rt, &mut signals, *slot, told, place)?;
     }
     assert!(rt; place == told.len());
     Ok(())
@@ -194,7 +194,7 @@ const CUT_IMAGES: &[Case] = &[
         &[Told::Start(1), Told::Start(2)],
     ),
     (&[TRAINING, BARE_END, PREAMBLE], &[Told::Start(1)]),
-    // octets with no training, and behind the end
+    // octets with no training, and after the end
     (
         &[MORE, TRAINING, LAST_PART, MORE, PREAMBLE],
         &[Told::Start(1), Told::Octets(&[0xdd]), Told::End(true)],
@@ -413,7 +413,7 @@ fn expect_next(
     slot: Slot<'_>,
     told: &[Told<'_>],
 ) -> Result<(), NoMemory> {
-    let place = place_behind(rt, signals, slot, told, 0)?;
+    let place = place_after(rt, signals, slot, told, 0)?;
     assert!(rt; place == told.len());
     Ok(())
 }

@@ -136,16 +136,13 @@ fn reads_rows_of_their_own(rt: HostRuntime) -> Result<(), Fail> {
     let second = expect_line(&rt, rt.alloc(), &mut reader, &first, 10, &[2, 4])?;
     let third = expect_line(&rt, rt.alloc(), &mut reader, &second, 13, &[2, 4])?;
     assert!(rt; second.width() == 1728 && third.width() == 1728);
-    let fault = fault_behind_white(rt.alloc(), &mut reader)?;
+    let fault = fault_after_white(rt.alloc(), &mut reader)?;
     assert!(rt; fault == Some(LineFault::BadPlace) && reader.place() == 13);
     Ok(())
 }
 
-/// Why no line is read behind a white row of 2432 elements.
-fn fault_behind_white(
-    alloc: Global,
-    reader: &mut BitReader,
-) -> Result<Option<LineFault>, RowFault> {
+/// Why no line is read after a white row of 2432 elements.
+fn fault_after_white(alloc: Global, reader: &mut BitReader) -> Result<Option<LineFault>, RowFault> {
     let white = Row::from_runs(alloc, &[2432])?;
     Ok(read_line_2d(alloc, reader, &white).err())
 }

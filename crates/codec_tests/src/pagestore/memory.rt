@@ -68,7 +68,7 @@ fn feed_and_take_back(
     Ok(())
 }
 
-/// Reads the page in pieces. Behind each of them all of it comes once more, and is taken back. What is refused
+/// Reads the page in pieces. After each of them all of it comes once more, and is taken back. What is refused
 /// memory is made again, and counted.
 fn read_again(
     rt: &impl Abort,

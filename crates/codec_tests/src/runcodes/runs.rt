@@ -37,7 +37,7 @@ const READ: &[(Colour, &str, Result<u16, RunFault>)] = &[
     // 64, and then no word
     (White, "1101100000000", Err(RunFault::NoWord)),
     (White, "", Err(RunFault::End)),
-    // inside 1728, and inside 64 behind 64
+    // inside 1728, and inside 64 after 64
     (White, "01001101", Err(RunFault::End)),
     (Black, "0000001111000000", Err(RunFault::End)),
 ];

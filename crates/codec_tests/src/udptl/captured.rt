@@ -1,7 +1,7 @@
-//! Datagrams that spandsp 0.0.6 sent between two T.38 terminals, each side's in the order sent. Indicators
+//! Datagrams that spandsp 0.0.6 sent between two T.38 terminals, each end's in the order sent. Indicators
 //! and signal ends were sent three times.
 
-/// The first of the answering side.
+/// The first of the answerer.
 pub(crate) const ANSWERING: &[&str] = &[
     "000001000000",
     "000001000000",
@@ -37,7 +37,7 @@ pub(crate) const ANSWERING: &[&str] = &[
     "001706c00180000004000306c0018000000406c0018000000406c00180000004",
 ];
 
-/// The first of the calling side, up to the training check.
+/// The first of the caller, up to the training check.
 pub(crate) const CALLING: &[&str] = &[
     "000001000000",
     "000001000000",

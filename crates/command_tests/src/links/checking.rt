@@ -1,13 +1,13 @@
 //! Whether lines are linked, by what they told.
 ghost use Rattle.std.specs.Prelude.{◌≡◌, ◌∷◌, [], true, All, Contains};
-ghost use Rattle.fax_gateway.specs.declared.side.Side.TheVariants as side;
+ghost use Rattle.fax_gateway.specs.declared.leg.Leg.TheVariants as legs;
 ghost use Rattle.fax_loop.specs.Exchanges.{Lines as LinesShown};
 ghost use Rattle.fax_loop.specs.Links.{AreLinked, AreLinkedBack, came_called, came_calling, handed_called};
 ghost use Rattle.command_tests.specs.Unused.{IsUnused};
 
 use crate::links::telling::{Received, Sent, TellingEnd, TellingWire};
 use fax_bits::Octets;
-use fax_gateway::Side;
+use fax_gateway::Leg;
 
 /// A place is near to every other while fewer datagrams were handed over.
 const MOST_NEAR: usize = 32_768;
@@ -57,7 +57,7 @@ fn came_on_calling(receipts: &[Received], sent: &[Octets]) -> bool
     ensures { result ≡ true → All (Contains sent.now) (came_calling receipts.now) }
 {
     for receipt in receipts {
-        if !is_from(Side::Calling, receipt, sent) {
+        if !is_from(Leg::Calling, receipt, sent) {
             return false;
         }
     }
@@ -69,7 +69,7 @@ fn came_on_called(receipts: &[Received], sent: &[Octets]) -> bool
     ensures { result ≡ true → All (Contains sent.now) (came_called receipts.now) }
 {
     for receipt in receipts {
-        if !is_from(Side::Called, receipt, sent) {
+        if !is_from(Leg::Called, receipt, sent) {
             return false;
         }
     }
@@ -77,9 +77,9 @@ fn came_on_called(receipts: &[Received], sent: &[Octets]) -> bool
 }
 
 /// Whether a receipt brought no datagram on this leg, or one of these.
-fn is_from(at: Side, receipt: &Received, sent: &[Octets]) -> bool
-    ensures calling { result ≡ true → at ≡ side.Calling → All (Contains sent.now) (came_calling (receipt.now ∷ [])) }
-    ensures called { result ≡ true → at ≡ side.Called → All (Contains sent.now) (came_called (receipt.now ∷ [])) }
+fn is_from(at: Leg, receipt: &Received, sent: &[Octets]) -> bool
+    ensures calling { result ≡ true → at ≡ legs.Calling → All (Contains sent.now) (came_calling (receipt.now ∷ [])) }
+    ensures called { result ≡ true → at ≡ legs.Called → All (Contains sent.now) (came_called (receipt.now ∷ [])) }
 {
     match receipt.came_on(at) {
         None => true,
@@ -116,7 +116,7 @@ fn was_handed(octets: &[u8], handed: &[Sent]) -> bool
     ensures { result ≡ true → Contains (handed_called handed.now) octets.now }
 {
     for sent in handed {
-        if sent.side == Side::Called && sent.octets.as_slice() == octets {
+        if sent.leg == Leg::Called && sent.octets.as_slice() == octets {
             return true;
         }
     }

@@ -1,12 +1,12 @@
 //! Ends and a wire over sockets, which tell what goes over them.
 ghost use Rattle.std.specs.Prelude.{◌≡◌, ◌+◌, ◌≤◌, ℕ, List, [], ◌∷◌, None, Some, IfOk, IfSome, length, min, option_copied};
-ghost use Rattle.fax_gateway.specs.declared.side.Side.TheVariants as side;
+ghost use Rattle.fax_gateway.specs.declared.leg.Leg.TheVariants as legs;
 ghost use Rattle.fax_loop.specs.Links.{came_called, came_calling};
 ghost use Rattle.fax_gateway.specs.Wires.{failures_after, greatest_count, receipt_of};
 
 use crate::links::told::{Told, held};
 use fax_bits::Octets;
-use fax_gateway::{Side, Wire, WireFault};
+use fax_gateway::{Leg, Wire, WireFault};
 use fax_loop::End;
 use std::alloc::Global;
 use std::io::ErrorKind;
@@ -46,7 +46,7 @@ impl End for TellingEnd {
 /// What a receive answered, into a buffer of so many octets.
 #[derive(Drop)]
 pub(crate) struct Received {
-    pub side: Side,
+    pub leg: Leg,
     room: usize,
     pub came: Option<Octets>,
     failed: bool,
@@ -58,38 +58,38 @@ impl Model for Received {
 
     ghost Value = { Receipt };
 
-    ghost view = { λ r. cond r.failed (Failed r.side r.room) (unwrap_or (option_map (Came r.side r.room) r.came) (Nothing r.side r.room)) };
+    ghost view = { λ r. cond r.failed (Failed r.leg r.room) (unwrap_or (option_map (Came r.leg r.room) r.came) (Nothing r.leg r.room)) };
 }
 
 impl Received {
     /// What a receive on a leg answered, where a datagram that came can be held.
     fn of(
         alloc: Global,
-        side: Side,
+        leg: Leg,
         buffer: &[u8],
         answer: &Result<Option<usize>, WireFault>,
     ) -> Option<Self>
         requires { IfOk answer.now (λ came. IfSome came (λ count. count ≤ length buffer.now)) }
-        ensures { IfSome result (λ received. received ≡ receipt_of side buffer.now answer.now) }
+        ensures { IfSome result (λ received. received ≡ receipt_of leg buffer.now answer.now) }
     {
         match *answer {
             Ok(Some(count)) => {
                 let came = held(alloc, &buffer[..count])?;
                 Some(Received {
-                    side,
+                    leg,
                     room: buffer.len(),
                     came: Some(came),
                     failed: false,
                 })
             }
             Ok(None) => Some(Received {
-                side,
+                leg,
                 room: buffer.len(),
                 came: None,
                 failed: false,
             }),
             Err(WireFault) => Some(Received {
-                side,
+                leg,
                 room: buffer.len(),
                 came: None,
                 failed: true,
@@ -98,13 +98,13 @@ impl Received {
     }
 
     /// The datagram that it brought, where it is one of this leg.
-    pub fn came_on(&self, at: Side) -> Option<&Octets>
-        ensures calling { (octets : List ℕ) → option_copied result ≡ Some octets → at ≡ side.Calling → came_calling (self.now ∷ []) ≡ octets ∷ [] }
-        ensures called { (octets : List ℕ) → option_copied result ≡ Some octets → at ≡ side.Called → came_called (self.now ∷ []) ≡ octets ∷ [] }
-        ensures not_calling { option_copied result ≡ None → at ≡ side.Calling → came_calling (self.now ∷ []) ≡ [] }
-        ensures not_called { option_copied result ≡ None → at ≡ side.Called → came_called (self.now ∷ []) ≡ [] }
+    pub fn came_on(&self, at: Leg) -> Option<&Octets>
+        ensures calling { (octets : List ℕ) → option_copied result ≡ Some octets → at ≡ legs.Calling → came_calling (self.now ∷ []) ≡ octets ∷ [] }
+        ensures called { (octets : List ℕ) → option_copied result ≡ Some octets → at ≡ legs.Called → came_called (self.now ∷ []) ≡ octets ∷ [] }
+        ensures not_calling { option_copied result ≡ None → at ≡ legs.Calling → came_calling (self.now ∷ []) ≡ [] }
+        ensures not_called { option_copied result ≡ None → at ≡ legs.Called → came_called (self.now ∷ []) ≡ [] }
     {
-        if self.failed || self.side != at {
+        if self.failed || self.leg != at {
             return None;
         }
         self.came.as_ref()
@@ -114,25 +114,25 @@ impl Received {
 /// A datagram that was handed over.
 #[derive(Drop)]
 pub(crate) struct Sent {
-    pub side: Side,
+    pub leg: Leg,
     pub octets: Octets,
 }
 
 impl Model for Sent {
-    ghost use Rattle.fax_gateway.specs.Wires.{Handed};
+    ghost use Rattle.fax_gateway.specs.Wires.{HandedDatagram};
 
-    ghost Value = { Handed };
+    ghost Value = { HandedDatagram };
 
-    ghost view = { λ sent. record { side = sent.side; octets = sent.octets } };
+    ghost view = { λ sent. record { leg = sent.leg; octets = sent.octets } };
 }
 
 impl Sent {
     /// A datagram that is handed over, where it can be held.
-    fn of(alloc: Global, side: Side, octets: &[u8]) -> Option<Self>
-        ensures { IfSome result (λ sent. sent ≡ record { side = side; octets = octets.now }) }
+    fn of(alloc: Global, leg: Leg, octets: &[u8]) -> Option<Self>
+        ensures { IfSome result (λ sent. sent ≡ record { leg = leg; octets = octets.now }) }
     {
         let octets = held(alloc, octets)?;
-        Some(Sent { side, octets })
+        Some(Sent { leg, octets })
     }
 }
 
@@ -149,10 +149,10 @@ pub(crate) struct TellingWire {
 
 impl TellingWire {
     /// The socket of a leg.
-    fn socket(&self, side: Side) -> &UdpSocket {
-        match side {
-            Side::Calling => &self.calling,
-            Side::Called => &self.called,
+    fn socket(&self, leg: Leg) -> &UdpSocket {
+        match leg {
+            Leg::Calling => &self.calling,
+            Leg::Called => &self.called,
         }
     }
 
@@ -167,13 +167,13 @@ impl TellingWire {
     }
 
     /// What is received on a leg.
-    fn next(&mut self, side: Side, buffer: &mut [u8]) -> Result<Option<usize>, WireFault>
+    fn next(&mut self, leg: Leg, buffer: &mut [u8]) -> Result<Option<usize>, WireFault>
         ensures fits { IfOk result (λ came. IfSome came (λ count. count ≤ length buffer.new)) }
         ensures failures { self.new.failures ≡ failures_after self.old.failures result }
         ensures received { self.new.received ≡ self.old.received }
         ensures sent { self.new.sent ≡ self.old.sent }
     {
-        match self.socket(side).recv(buffer) {
+        match self.socket(leg).recv(buffer) {
             Ok(count) => Ok(Some(count)),
             Err(error) if error.kind() == ErrorKind::WouldBlock => Ok(None),
             Err(_) => Err(self.fail()),
@@ -184,16 +184,16 @@ impl TellingWire {
 impl Wire for TellingWire {
     ghost known = { λ wire. record { failures = wire.failures; received = wire.received; sent = wire.sent } };
 
-    fn receive(&mut self, side: Side, buffer: &mut [u8]) -> Result<Option<usize>, WireFault> {
-        let answer = self.next(side, buffer);
+    fn receive(&mut self, leg: Leg, buffer: &mut [u8]) -> Result<Option<usize>, WireFault> {
+        let answer = self.next(leg, buffer);
         self.received
-            .note(Received::of(self.alloc, side, buffer, &answer));
+            .note(Received::of(self.alloc, leg, buffer, &answer));
         answer
     }
 
-    fn send(&mut self, side: Side, octets: &[u8]) -> Result<(), WireFault> {
-        self.sent.note(Sent::of(self.alloc, side, octets));
-        match self.socket(side).send(octets) {
+    fn send(&mut self, leg: Leg, octets: &[u8]) -> Result<(), WireFault> {
+        self.sent.note(Sent::of(self.alloc, leg, octets));
+        match self.socket(leg).send(octets) {
             Ok(_) => Ok(()),
             Err(_) => Err(self.fail()),
         }

@@ -67,8 +67,8 @@ fn play(alloc: Global, script: &[u8]) -> (Ending, Sheet) {
 fn first_lines(script: &[u8], count: usize) -> &[u8] {
     let mut rest = script;
     for _ in 0..count {
-        if let Some((_, behind)) = first_line(rest) {
-            rest = behind;
+        if let Some((_, after)) = first_line(rest) {
+            rest = after;
         }
     }
     let end = script.len().saturating_sub(rest.len());

@@ -2,16 +2,16 @@
 use Rattle.std.specs.Prelude.{◌≡◌, ℕ, false, List, ◌++◌, reverse, Option, Some, None}
 use Rattle.fax_ifp.specs.Elements.{Element}
 use Rattle.fax_ifp.specs.Pieces.{Piece, Image, pieces_of}
-use Rattle.fax_ifp.specs.Tracked.{Tracked, IsLeftBy}
+use Rattle.fax_ifp.specs.Tracked.{TrackState, IsLeftBy}
 
 -- these elements leave this, and their pieces are earlier ones and then those given
-pub record HasGiven (heard : List Element) (tracked : Tracked) (earlier given : List Piece) : Type 0 where
+pub record HasGiven (heard : List Element) (tracked : TrackState) (earlier given : List Piece) : Type 0 where
   pub left : IsLeftBy heard tracked
   pub pieces : pieces_of heard ≡ earlier ++ given
 
 -- what is kept, and the pieces given so far
 abbrev pub Stand : Type 0
-Stand = Tracked × List Piece
+Stand = TrackState × List Piece
 
 -- these elements, in the order of time, lead from the old stand to the new, whatever came before
 abbrev pub Hears : List Element → Stand → Stand → Type 0

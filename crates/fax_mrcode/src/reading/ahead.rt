@@ -4,7 +4,7 @@ ghost use Rattle.fax_bits.specs.Bits.{word_bits};
 ghost use Rattle.fax_runcodes.specs.Rows.{other};
 ghost use Rattle.fax_runcodes.specs.Spelling.{SpellsRun};
 ghost use Rattle.fax_runcodes.specs.declared.Colour.TheVariants.{White, Black};
-ghost use Rattle.fax_mrcode.specs.Windows.{ShowsBehind, FirstAre};
+ghost use Rattle.fax_mrcode.specs.Windows.{ShowsAfter, FirstAre};
 
 use fax_runcodes::{Colour, pair_at, word_at};
 
@@ -15,14 +15,14 @@ pub(super) struct Ahead {
     pub(super) left: u32,
 }
 
-/// A run of fewer than 64 elements, and the bits behind its word.
+/// A run of fewer than 64 elements, and the bits after its word.
 #[derive(Clone, Copy)]
 struct ShortRun {
     run: u16,
     ahead: Ahead,
 }
 
-/// Two runs of fewer than 64 elements each, and the bits behind their words.
+/// Two runs of fewer than 64 elements each, and the bits after their words.
 #[derive(Clone, Copy)]
 pub(super) struct ShortRuns {
     pub(super) first: u16,
@@ -35,7 +35,7 @@ pub(super) struct ShortRuns {
 pub(super) fn short_runs(ahead: Ahead, colour: Colour) -> Option<ShortRuns>
     requires known { ahead.left ≤ 56 }
     ensures few { IfSome result (λ runs. (runs.first < 64) × (runs.second < 64)) }
-    ensures behind { IfSome result (λ runs. ShowsBehind ahead.window ahead.left runs.ahead.window runs.ahead.left) }
+    ensures after { IfSome result (λ runs. ShowsAfter ahead.window ahead.left runs.ahead.window runs.ahead.left) }
     ensures spelt { IfSome result (λ runs. (s t : List Bool) × SpellsRun colour s runs.first × SpellsRun (other colour) t runs.second × FirstAre ahead.window ahead.left runs.ahead.left (s ++ t)) }
 {
     match colour {
@@ -52,7 +52,7 @@ pub(super) fn short_runs(ahead: Ahead, colour: Colour) -> Option<ShortRuns>
 fn white_and_black(ahead: Ahead) -> Option<ShortRuns>
     requires known { ahead.left ≤ 56 }
     ensures few { IfSome result (λ runs. (runs.first < 64) × (runs.second < 64)) }
-    ensures behind { IfSome result (λ runs. ShowsBehind ahead.window ahead.left runs.ahead.window runs.ahead.left) }
+    ensures after { IfSome result (λ runs. ShowsAfter ahead.window ahead.left runs.ahead.window runs.ahead.left) }
     ensures spelt { IfSome result (λ runs. (s t : List Bool) × SpellsRun White s runs.first × SpellsRun Black t runs.second × FirstAre ahead.window ahead.left runs.ahead.left (s ++ t)) }
 {
     let Some(pair) = pair_at(ahead.window >> 8) else {
@@ -74,7 +74,7 @@ fn white_and_black(ahead: Ahead) -> Option<ShortRuns>
 fn one_by_one(ahead: Ahead, colour: Colour) -> Option<ShortRuns>
     requires known { ahead.left ≤ 56 }
     ensures few { IfSome result (λ runs. (runs.first < 64) × (runs.second < 64)) }
-    ensures behind { IfSome result (λ runs. ShowsBehind ahead.window ahead.left runs.ahead.window runs.ahead.left) }
+    ensures after { IfSome result (λ runs. ShowsAfter ahead.window ahead.left runs.ahead.window runs.ahead.left) }
     ensures spelt { IfSome result (λ runs. (s t : List Bool) × SpellsRun colour s runs.first × SpellsRun (other colour) t runs.second × FirstAre ahead.window ahead.left runs.ahead.left (s ++ t)) }
 {
     let Some(first) = short_run(ahead, colour) else {
@@ -95,7 +95,7 @@ fn one_by_one(ahead: Ahead, colour: Colour) -> Option<ShortRuns>
 fn short_run(ahead: Ahead, colour: Colour) -> Option<ShortRun>
     requires known { ahead.left ≤ 56 }
     ensures few { IfSome result (λ short. short.run < 64) }
-    ensures behind { IfSome result (λ short. ShowsBehind ahead.window ahead.left short.ahead.window short.ahead.left) }
+    ensures after { IfSome result (λ short. ShowsAfter ahead.window ahead.left short.ahead.window short.ahead.left) }
     ensures spelt { IfSome result (λ short. (text : List Bool) × SpellsRun colour text short.run × FirstAre ahead.window ahead.left short.ahead.left text) }
 {
     let word = word_at(colour, ahead.window >> 8);
@@ -119,13 +119,13 @@ pub(super) fn ones(ahead: Ahead) -> u32
     zeros_for_ones.leading_zeros().min(ahead.left)
 }
 
-/// The bits behind the first n.
+/// The bits after the first n.
 #[inline]
 pub(super) fn past(ahead: Ahead, n: u32) -> Ahead
     requires known { ahead.left ≤ 56 }
     requires within { n ≤ ahead.left }
     ensures left { result.left ≡ ahead.left - n }
-    ensures behind { ShowsBehind ahead.window ahead.left result.window result.left }
+    ensures after { ShowsAfter ahead.window ahead.left result.window result.left }
 {
     Ahead {
         window: ahead.window << n,

@@ -124,7 +124,7 @@ fn near_step(line: &mut RowBuilder, changes: &[u16], width: u16, near: Near) -> 
 }
 
 /// Takes the steps with a1 at b1 that the bits begin with, whose words are a 1 each: the first, and
-/// those behind it as far as the reference has changing places for them.
+/// those after it as far as the reference has changing places for them.
 #[inline]
 fn near_zeros(line: &mut RowBuilder, changes: &[u16], width: u16, near: Near) -> Near
     requires start { IsStartIn changes.now width line.old (start_of near) }
@@ -181,7 +181,7 @@ fn near_vertical(
         return None;
     }
     let b1 = next_change(changes, width, near);
-    // two past the last changing place none stands behind: such a step is taken the slow way
+    // two past the last changing place none stands after: such a step is taken the slow way
     if b1.index > changes.len() {
         return None;
     }
@@ -193,15 +193,15 @@ fn near_vertical(
     turn_below(line, width, a1);
     Some(Near {
         from: a1 + 1,
-        index: index_behind(b1.index, word.back),
+        index: index_after(b1.index, word.back),
         ahead: past(near.ahead, bits),
     })
 }
 
-/// From where on the next b1 is looked for: behind this one, or so many changing places further back, as
+/// From where on the next b1 is looked for: after this one, or so many changing places further back, as
 /// the changing place before b1 may be right of a1. Before the first none is.
 #[inline]
-fn index_behind(b1: usize, back: u16) -> usize
+fn index_after(b1: usize, back: u16) -> usize
     requires { b1 + 1 < 2 ^ 64 }
     ensures { (result + back ≡ b1 + 1) ⊎ ((b1 + 1 < back) × (result ≡ 1)) }
 {
@@ -251,8 +251,8 @@ fn near_horizontal(line: &mut RowBuilder, changes: &[u16], width: u16, near: Nea
     if near.ahead.left < SHORT_STEP_BITS {
         return None;
     }
-    let behind = past(near.ahead, HORIZONTAL_BITS);
-    let Some(runs) = short_runs(behind, Colour::after_changes(near.index)) else {
+    let after = past(near.ahead, HORIZONTAL_BITS);
+    let Some(runs) = short_runs(after, Colour::after_changes(near.index)) else {
         return None;
     };
     turn_at_runs(line, changes, width, near, runs)

@@ -14,7 +14,7 @@ use fax_mhcode::LineFault;
 use fax_runcodes::RowRef;
 
 /// Passes a two-dimensional line against the row before it, without the row that it spells. It takes
-/// no memory. After an `Err` the reader stands at the step that cannot be taken, behind those before it.
+/// no memory. After an `Err` the reader stands at the step that cannot be taken, after those before it.
 pub fn pass_line_2d(reader: &mut BitReader, reference: &RowRef<'_>) -> Result<(), LineFault>
     ensures ok { OnOk result ((row : Elements) × (text : List Bool) × SpellsLine reference.now text row × Passes reader.old reader.new text) }
     ensures fault { IfErr result (λ fault. (fails : FailsLine reference.now reader.old.left fault) × Passes reader.old reader.new fails.text) }

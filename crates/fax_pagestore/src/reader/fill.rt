@@ -8,7 +8,7 @@ use fax_bits::NoMemory;
 /// The most octets of zeros that are kept side by side: they are more zeros than an EOL with its tag and a code word have bits.
 const MOST_ZEROS: u32 = 4;
 
-/// Adds a piece to octets, less its octets of zeros behind four others, where so many stood before it. It answers how many
+/// Adds a piece to octets, less its octets of zeros after four others, where so many stood before it. It answers how many
 /// stand at the end then, of which four are counted. An `Err` changes nothing.
 pub(super) fn append(octets: &mut Vec<u8>, zeros: u32, piece: &[u8]) -> Result<u32, NoMemory>
     ensures ok { OnOk result (octets.new.items ≡ octets.old.items ++ less_fill zeros piece.now) }

@@ -52,7 +52,7 @@ pub(super) fn judge<S: RowStore>(
     Some(judge_line(rows, &mut reader, width, coding, tag))
 }
 
-/// Why the line behind this tag, of which the separator is not whole, is none.
+/// Why the line after this tag, of which the separator is not whole, is none.
 fn judge_line<S: RowStore>(
     rows: &S,
     reader: &mut BitReader,
@@ -80,7 +80,7 @@ fn judge_line<S: RowStore>(
 /// The bits of the longest mode word (ITU-T T.4, table 4/T.4).
 const LONGEST_MODE: u32 = 7;
 
-/// Passes the line behind this tag and these rows, if it can be read. Else the reader stands anywhere.
+/// Passes the line after this tag and these rows, if it can be read. Else the reader stands anywhere.
 pub(super) fn pass_line<S: RowStore>(
     rows: &S,
     reader: &mut BitReader,

@@ -24,7 +24,7 @@ use std::mem;
 /// T.4, 4.1.2 and 4.2.2).
 const BEFORE_EOL: usize = 2;
 
-/// How far octets were read, behind a piece: how many of their bits, or all where it is settled what they are; the tag of
+/// How far octets were read, after a piece: how many of their bits, or all where it is settled what they are; the tag of
 /// the last separator; and what they are, where that is settled.
 #[derive(Clone, Copy)]
 pub(super) struct Reached {
@@ -125,7 +125,7 @@ fn begin(reader: &mut BitReader, coding: Coding, tag: Option<bool>) -> Option<bo
     }
 }
 
-/// Why no row is read behind a separator.
+/// Why no row is read after a separator.
 #[derive(Clone, Copy)]
 pub(super) enum Stop {
     /// No EOL stands ahead.
@@ -136,14 +136,14 @@ pub(super) enum Stop {
     Fault(PageFault),
 }
 
-/// Where no further row of a piece is read: behind this tag, and why.
+/// Where no further row of a piece is read: after this tag, and why.
 #[derive(Clone, Copy)]
 pub(super) struct Halt {
     pub(super) tag: bool,
     pub(super) stop: Stop,
 }
 
-/// Reads the rows behind this tag of which the lines and the separators are whole, up to this place.
+/// Reads the rows after this tag of which the lines and the separators are whole, up to this place.
 fn read_rows_on<S: RowStore>(
     alloc: Global,
     rows: &mut S,
@@ -180,7 +180,7 @@ fn read_rows_on<S: RowStore>(
     }
 }
 
-/// Reads the next row behind this tag, and the separator behind it, where an EOL stands before this place, and answers the
+/// Reads the next row after this tag, and the separator after it, where an EOL stands before this place, and answers the
 /// separator's tag. The last row is kept where that is 0. Where none is read the reader stays.
 fn read_next<S: RowStore>(
     alloc: Global,
@@ -230,8 +230,8 @@ fn read_next<S: RowStore>(
     }
 }
 
-/// Reads the line behind n rows and this tag in place of the last of the rows, which is kept where the tag is 0, passes the
-/// separator behind the line, and answers its tag. A two-dimensional line is read beside the row before it, whose builder is
+/// Reads the line after n rows and this tag in place of the last of the rows, which is kept where the tag is 0, passes the
+/// separator after the line, and answers its tag. A two-dimensional line is read beside the row before it, whose builder is
 /// spare then. An `Err` leaves the reader.
 fn read_over(
     alloc: Global,

@@ -63,7 +63,7 @@ pub(super) fn settle<S: RowStore>(
     }
 }
 
-/// Whether a fault that is met behind this tag stays, whatever follows.
+/// Whether a fault that is met after this tag stays, whatever follows.
 fn stays<S: RowStore>(
     rows: &S,
     reader: &mut BitReader,
@@ -84,7 +84,7 @@ fn stays<S: RowStore>(
     }
 }
 
-/// Whether the line behind this tag, or what comes behind it before 11 zeros, is bad whatever follows.
+/// Whether the line after this tag, or what comes after it before 11 zeros, is bad whatever follows.
 fn stays_bad<S: RowStore>(
     rows: &S,
     reader: &mut BitReader,
@@ -107,7 +107,7 @@ fn stays_bad<S: RowStore>(
     }
 }
 
-/// Passes the end of a page behind this tag and so many rows, and tells what the octets are; `None` where an EOL
+/// Passes the end of a page after this tag and so many rows, and tells what the octets are; `None` where an EOL
 /// is not whole.
 pub(super) fn pass_end(
     reader: &mut BitReader,

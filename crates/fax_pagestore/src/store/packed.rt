@@ -11,7 +11,7 @@ use std::marker::Model;
 /// grow by doubling.
 #[derive(Drop)]
 pub struct PackedRows {
-    /// The changing places of all rows, row behind row.
+    /// The changing places of all rows, row after row.
     places: Vec<u16>,
     extents: Vec<Extent>,
 }

@@ -97,8 +97,8 @@ impl Waiting {
         *self = Waiting::of(writer);
     }
 
-    /// The first n octets of these bits and others behind them, where there are as many bits here or none
-    /// behind them.
+    /// The first n octets of these bits and others after them, where there are as many bits here or none
+    /// after them.
     pub fn front(&self, n: usize) -> Result<Octets, NoMemory>
         ensures front { IfOk result (λ front. (octets : List ℕ) (more : List Bool) → AreOctets octets → IsPadded octets (self.now ++ more)
             → (8 * n ≤ length self.now) ⊎ (more ≡ []) → front ≡ take n octets) }

@@ -1,4 +1,4 @@
-//! Rows made of run lengths, one behind the other.
+//! Rows made of run lengths, one after the other.
 ghost use Rattle.std.specs.Prelude.{◌≡◌, ◌≤◌, ◌<◌, ◌++◌, List, [], ℕ, length, take, drop, sum, All, IfSome, IfNone, IsNone, vec_capacity};
 ghost use Rattle.fax_runcodes.specs.Rows.{Elements, IsWidth, AreRuns, AreRunsOfRow};
 ghost use Rattle.fax_runcodes.specs.Widths.{elements_of};

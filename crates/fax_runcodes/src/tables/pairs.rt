@@ -1,4 +1,4 @@
-//! Short white words with the short black ones behind them.
+//! Short white words with the short black ones after them.
 //! The table at the end is made by `tools/code-tables`.
 ghost use Rattle.std.specs.Prelude.{slice_index_or, ◌<◌, ◌≡◌};
 

@@ -2,16 +2,16 @@
 ghost use Rattle.std.specs.Prelude.{◌≡◌};
 
 use super::{BETWEEN_LATE_MS, RealPace};
-use crate::keeper::SpoolKeeper;
 use crate::sockets::SocketLegs;
+use crate::store::SpoolStore;
 use crate::telling::Teller;
 use crate::view::first_job;
 use crate::watch::{asks, wake_legs};
 use fax_desk::{Damage, Desk, Turn, tell_turn};
 use fax_events::{PageAside, What, WhyAside};
-use fax_gateway::Side;
+use fax_gateway::Leg;
 use fax_line::{Line, Lines, SLOTS};
-use fax_shelf::{Aside, Shelf};
+use fax_queue::{Aside, Queue};
 use fax_spool::{CallName, WaitingPage, is_torn};
 use sqlite_disk::Disk;
 use std::io::{Read, Write};
@@ -25,20 +25,20 @@ impl<'a, C: Clock, I: Read + Drop, O: Write + Drop> RealPace<'a, C, I, O> {
         damage: Damage,
         pages: &[WaitingPage],
         torn: &[CallName],
-        shelves: &[Shelf],
+        queues: &[Queue],
     )
         ensures { self.new ≡ self.old }
     {
         self.desk.set_damage(damage);
         self.teller.tell_damage(damage);
-        tell_pages_aside(&mut self.teller, &self.desk, pages, torn, shelves);
+        tell_pages_aside(&mut self.teller, &self.desk, pages, torn, queues);
     }
 
     /// Tells what the turn that was ordered came to, of each line that was not left at rest in it.
     pub(super) fn tell_turned<W: SocketLegs + Drop, D: Disk>(
         &mut self,
         lines: &Lines<W>,
-        keeper: Option<&SpoolKeeper<D>>,
+        store: Option<&SpoolStore<D>>,
     )
         ensures { self.new ≡ self.old }
     {
@@ -50,7 +50,7 @@ impl<'a, C: Clock, I: Read + Drop, O: Write + Drop> RealPace<'a, C, I, O> {
         for round in 0..rounds {
             let i = round.saturating_mul(SLOTS).saturating_add(slot);
             if let Some(line) = lines.line(i) {
-                self.tell_line(i, line, lines.has_turned(i), looks, keeper);
+                self.tell_line(i, line, lines.has_turned(i), looks, store);
             }
         }
     }
@@ -63,12 +63,12 @@ impl<'a, C: Clock, I: Read + Drop, O: Write + Drop> RealPace<'a, C, I, O> {
         line: &Line<W>,
         has_turned: bool,
         looks: bool,
-        keeper: Option<&SpoolKeeper<D>>,
+        store: Option<&SpoolStore<D>>,
     )
         ensures { self.new ≡ self.old }
     {
         if has_turned {
-            self.tell_turn(i, line, keeper);
+            self.tell_turn(i, line, store);
         }
         if looks {
             wake_legs(line);
@@ -87,16 +87,16 @@ impl<'a, C: Clock, I: Read + Drop, O: Write + Drop> RealPace<'a, C, I, O> {
         &mut self,
         i: usize,
         line: &Line<W>,
-        keeper: Option<&SpoolKeeper<D>>,
+        store: Option<&SpoolStore<D>>,
     )
         ensures { self.new ≡ self.old }
     {
         let turn = Turn {
             turned: line.turned(),
-            is_kept: !self.not_kept.contains(&i),
-            is_mute: line.wire().is_mute(),
-            is_hung_up: line.leg_state(Side::Calling).is_gone,
-            first: first_job(keeper, i),
+            is_stored: !self.not_stored.contains(&i),
+            is_silenced: line.wire().is_silenced(),
+            is_hung_up: line.leg_state(Leg::Calling).is_gone,
+            first: first_job(store, i),
         };
         tell_turn(&mut self.desk, i, turn, self.now, &mut self.teller);
         if let Some(name) = self.desk.name(i) {
@@ -128,10 +128,10 @@ fn tell_pages_aside<I: Read + Drop, O: Write + Drop>(
     desk: &Desk,
     pages: &[WaitingPage],
     torn: &[CallName],
-    shelves: &[Shelf],
+    queues: &[Queue],
 ) {
     for page in pages {
-        if let Some(why) = why_aside(desk, page, torn, shelves) {
+        if let Some(why) = why_aside(desk, page, torn, queues) {
             tell_page_aside(teller, page, why);
         }
     }
@@ -142,7 +142,7 @@ fn why_aside(
     desk: &Desk,
     page: &WaitingPage,
     torn: &[CallName],
-    shelves: &[Shelf],
+    queues: &[Queue],
 ) -> Option<WhyAside> {
     let line = std::str::from_utf8(page.line.as_slice()).ok()?;
     let Some(i) = desk.find(line) else {
@@ -156,8 +156,8 @@ fn why_aside(
         call: page.call,
         number: page.number,
     };
-    let shelf = shelves.get(i)?;
-    shelf.aside().contains(&aside).then_some(WhyAside::NoPage)
+    let queue = queues.get(i)?;
+    queue.aside().contains(&aside).then_some(WhyAside::NoPage)
 }
 
 /// Tells a page that is not sent.

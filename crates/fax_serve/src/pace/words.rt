@@ -4,16 +4,16 @@ ghost use Rattle.fax_serve.specs.Desking.{GivesOrder, Hears, asked_by, given_by}
 
 use super::RealPace;
 use crate::answers::{answer_text, counters_of, report_text, state_text, status_text};
-use crate::keeper::SpoolKeeper;
 use crate::sockets::SocketLegs;
+use crate::store::SpoolStore;
 use crate::view::Seen;
 use fax_bits::NoMemory;
 use fax_clients::Asker;
-use fax_control::{Answer, Heard, Refusal, Word, read_word};
-use fax_desk::{Desk, Done, LineView, Looked, Next, Order as DeskOrder, View, tell_at};
+use fax_control::{Answer, HeardLine, Refusal, Word, read_word};
+use fax_desk::{Desk, LineView, LookOutcome, Next, Order as DeskOrder, OrderEnd, View, tell_at};
 use fax_events::write_metrics;
-use fax_hold::LineWire;
-use fax_line::{Answered, Lines, Order};
+use fax_holding_wire::LineWire;
+use fax_line::{LineAnswer, Lines, Order};
 use sqlite_disk::Disk;
 use std::alloc::AllocError;
 use std::io::{Read, Write};
@@ -25,7 +25,7 @@ impl<'a, C: Clock, I: Read + Drop, O: Write + Drop> RealPace<'a, C, I, O> {
         &mut self,
         most: u64,
         lines: &Lines<W>,
-        keeper: Option<&SpoolKeeper<D>>,
+        store: Option<&SpoolStore<D>>,
     ) -> Option<Order>
         requires { self.old.waits ≡ None }
         ensures { GivesOrder result self.old self.new }
@@ -34,12 +34,12 @@ impl<'a, C: Clock, I: Read + Drop, O: Write + Drop> RealPace<'a, C, I, O> {
         self.read_clock();
         let (asker, heard) = self.teller.clients.hear()?;
         match heard {
-            Heard::TooLong => {
+            HeardLine::TooLong => {
                 self.answer(asker, Answer::Refused(Refusal::TooLong));
                 None
             }
-            Heard::Line(octets) => match read_word(octets.as_slice()) {
-                Some(word) => self.obey(asker, word, lines, keeper),
+            HeardLine::Line(octets) => match read_word(octets.as_slice()) {
+                Some(word) => self.obey(asker, word, lines, store),
                 None => {
                     self.answer(asker, Answer::Refused(Refusal::NoWord));
                     None
@@ -54,12 +54,12 @@ impl<'a, C: Clock, I: Read + Drop, O: Write + Drop> RealPace<'a, C, I, O> {
         asker: Asker,
         word: Word<'_>,
         lines: &Lines<W>,
-        keeper: Option<&SpoolKeeper<D>>,
+        store: Option<&SpoolStore<D>>,
     ) -> Option<Order>
         requires { self.old.waits ≡ None }
         ensures { GivesOrder result self.old self.new }
     {
-        let seen = Seen { lines, keeper };
+        let seen = Seen { lines, store };
         let next = self.desk.step(asker, word, &seen, self.now);
         match next {
             Next::Orders(order) => return Some(ask(order, self.now)),
@@ -72,7 +72,7 @@ impl<'a, C: Clock, I: Read + Drop, O: Write + Drop> RealPace<'a, C, I, O> {
                 let text = status_text(self.alloc, &self.desk, &self.teller.counters, &seen);
                 self.put(asker, text);
             }
-            Next::Metrics => self.tell_metrics(asker, lines, keeper),
+            Next::Metrics => self.tell_metrics(asker, lines, store),
             Next::Events => self.want_events(asker, &seen),
         }
         None
@@ -95,13 +95,13 @@ impl<'a, C: Clock, I: Read + Drop, O: Write + Drop> RealPace<'a, C, I, O> {
         &mut self,
         asker: Asker,
         lines: &Lines<W>,
-        keeper: Option<&SpoolKeeper<D>>,
+        store: Option<&SpoolStore<D>>,
     )
         ensures { self.new ≡ self.old }
     {
         let mut counters = counters_of(self.teller.counters(), lines);
-        if let Some(keeper) = keeper {
-            counters.pages_kept = keeper.keeping.kept();
+        if let Some(store) = store {
+            counters.pages_kept = store.storage.kept();
         }
         let text = match write_metrics(self.alloc, &counters) {
             Ok(text) => Ok(text.into_bytes()),
@@ -110,7 +110,7 @@ impl<'a, C: Clock, I: Read + Drop, O: Write + Drop> RealPace<'a, C, I, O> {
         self.put(asker, text);
     }
 
-    /// From now on a client is told events, behind how the lines are. The calls that lines ask for are asked of it.
+    /// From now on a client is told events, after how the lines are. The calls that lines ask for are asked of it.
     fn want_events<W: LineWire + Drop, D: Disk>(&mut self, asker: Asker, seen: &Seen<'_, W, D>)
         ensures { self.new ≡ self.old }
     {
@@ -129,12 +129,12 @@ impl<'a, C: Clock, I: Read + Drop, O: Write + Drop> RealPace<'a, C, I, O> {
     pub(super) fn look_at_questions<W: LineWire + Drop, D: Disk>(
         &mut self,
         lines: &Lines<W>,
-        keeper: Option<&SpoolKeeper<D>>,
+        store: Option<&SpoolStore<D>>,
     ) -> Option<Order>
         requires { self.old.waits ≡ None }
         ensures { GivesOrder result self.old self.new }
     {
-        let seen = Seen { lines, keeper };
+        let seen = Seen { lines, store };
         for _ in 0..self.to_ask.len() {
             let i = self.to_ask.pop()?;
             if let Some(line) = seen.line(i)
@@ -152,17 +152,17 @@ impl<'a, C: Clock, I: Read + Drop, O: Write + Drop> RealPace<'a, C, I, O> {
         ensures { GivesOrder result self.old self.new }
     {
         match self.desk.look(i, line) {
-            Looked::Nothing => None,
-            Looked::Asks(asks) => {
+            LookOutcome::Nothing => None,
+            LookOutcome::Asks(asks) => {
                 tell_at(&self.desk, i, asks, self.now, &mut self.teller);
                 None
             }
-            Looked::Orders(order) => Some(ask(order, self.now)),
+            LookOutcome::Orders(order) => Some(ask(order, self.now)),
         }
     }
 
     /// What a line answered to what was asked of it by an order answers who gave that.
-    pub(super) fn tell_done(&mut self, answered: Option<Answered>)
+    pub(super) fn tell_done(&mut self, answered: Option<LineAnswer>)
         ensures { Hears answered self.old self.new }
     {
         if let Some(done) = self.desk.done(answered) {
@@ -171,7 +171,7 @@ impl<'a, C: Clock, I: Read + Drop, O: Write + Drop> RealPace<'a, C, I, O> {
     }
 
     /// An order has ended so: who gave it is answered, and what happened is told.
-    fn tell_end(&mut self, done: Done)
+    fn tell_end(&mut self, done: OrderEnd)
         ensures { self.new ≡ self.old }
     {
         if let Some(asker) = done.asker {

@@ -19,7 +19,7 @@ use Rattle.fax_c.proofs.RunsLemmas.{take_more_at, pixels_of-push, pixels_length,
 use Rattle.fax_c.proofs.reading.fill_pixels.Goals as goal
 
 pub loop-i-init : goal.loop-i-init
-loop-i-init g c = record { bits = bits_of-nil; filled = grind arith; order = omega arith; same = refl; behind = refl }
+loop-i-init g c = record { bits = bits_of-nil; filled = grind arith; order = omega arith; same = refl; after = refl }
 
 pub returns-then-wanted-pixels-clause-puts : goal.returns-then-wanted-pixels-clause-puts
 returns-then-wanted-pixels-clause-puts g c =
@@ -78,7 +78,7 @@ more_white pixels white filled octets rows i row order wide is next so_far =
     ∙ ap₂ (λ (a b : List Bool). a ++ b) so_far (no_pixels octets (length row) wide ∙ ap (map pixel) (sym is))
     ∙ sym (pixels_of-push (take i rows) row) ∙ ap pixels_of (sym next)
 
--- nothing is left to put behind a row
+-- nothing is left to put after a row
 no_more : (pixels : List ℕ) (n : ℕ) → bits_of (take n pixels ++ replicate (n - n) 0) ≡ bits_of (take n pixels)
 no_more pixels n =
     let none : n - n ≡ 0 = omega arith in
@@ -107,14 +107,14 @@ loop-i-preserved g c =
     let part : length (take k (drop filled cleared)) ≡ octets = part_length cleared filled octets fit in
     let size : length new ≡ octets = c.put_pixels.ensures.same_room ∙ part in
     let order : white + (filled - white) ≡ filled = omega (arith, so_far.order) in
-    let behind : drop filled pixels ≡ drop filled c.args.pixels.now = rw order at (drop_further pixels c.args.pixels.now white (filled - white) so_far.behind) in
+    let after : drop filled pixels ≡ drop filled c.args.pixels.now = rw order at (drop_further pixels c.args.pixels.now white (filled - white) so_far.after) in
     record {
       bits = no_more (put_mid filled k cleared new) (filled + octets)
           ∙ more_bits cleared new filled k octets rows i c.lend-row.result (omega (arith, fit)) size next (ap bits_of c.clear.ensures.zeros ∙ so_far.bits) c.put_pixels.ensures.bits;
       filled = ap (λ (n : ℕ). n + octets) so_far.filled ∙ sym (mul-suc octets i) ∙ ap (λ (n : ℕ). octets * n) (sym (add-one i));
       order = omega arith;
       same = same_len_mid filled k cleared new c.put_pixels.ensures.same_room ∙ c.clear.ensures.same_room ∙ so_far.same;
-      behind = drop-put_mid filled k cleared new (filled + octets) (omega arith) (omega (arith, fit)) (omega (arith, size)) ∙ drop_further cleared c.args.pixels.now filled octets (c.clear.ensures.behind ∙ behind);
+      after = drop-put_mid filled k cleared new (filled + octets) (omega arith) (omega (arith, fit)) (omega (arith, size)) ∙ drop_further cleared c.args.pixels.now filled octets (c.clear.ensures.after ∙ after);
     }
 
 pub loop-i-preserved-then-is_empty : goal.loop-i-preserved-then-is_empty
@@ -133,11 +133,11 @@ loop-i-preserved-then-is_empty g c =
       filled = ap (λ (n : ℕ). n + octets) so_far.filled ∙ sym (mul-suc octets i) ∙ ap (λ (n : ℕ). octets * n) (sym (add-one i));
       order = omega (arith, so_far.order);
       same = so_far.same;
-      behind = so_far.behind;
+      after = so_far.after;
     }
 
--- from the last white rows on nothing is changed, so behind them too
-pub returns-clause-behind : goal.returns-clause-behind
-returns-clause-behind g c =
+-- from the last white rows on nothing is changed, so after them too
+pub returns-clause-after : goal.returns-clause-after
+returns-clause-after g c =
     let order : c.loop-i.white + (c.loop-i.filled - c.loop-i.white) ≡ c.loop-i.filled = omega (arith, c.loop-i.invariant.order) in
-    c.clear-2.ensures.behind ∙ rw order at (drop_further c.loop-i.pixels c.args.pixels.now c.loop-i.white (c.loop-i.filled - c.loop-i.white) c.loop-i.invariant.behind)
+    c.clear-2.ensures.after ∙ rw order at (drop_further c.loop-i.pixels c.args.pixels.now c.loop-i.white (c.loop-i.filled - c.loop-i.white) c.loop-i.invariant.after)

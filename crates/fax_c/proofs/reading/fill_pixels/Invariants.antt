@@ -11,5 +11,5 @@ invariant-loop-i g l = record {
   filled : l.filled ≡ l.octets * l.i;
   order : l.white ≤ l.filled;
   same : length l.pixels ≡ length l.initial.pixels;
-  behind : drop l.white l.pixels ≡ drop l.white l.initial.pixels;
+  after : drop l.white l.pixels ≡ drop l.white l.initial.pixels;
 }

@@ -29,5 +29,5 @@ loop-i-preserved g c =
       runs = rw (taken, next) (AreRunsOf-push (take c.loop-i.filled c.loop-i.runs) (take i rows) mine row so_far.runs are);
       filled = c.put_row-filled.ensures.within;
       same = c.put_row-filled.ensures.same_room ∙ so_far.same;
-      behind = c.put_row-filled.ensures.behind ∙ rw c.put_row-filled.ensures.end (drop_further c.loop-i.runs c.args.runs.now c.loop-i.filled c.count_runs.result so_far.behind);
+      after = c.put_row-filled.ensures.after ∙ rw c.put_row-filled.ensures.end (drop_further c.loop-i.runs c.args.runs.now c.loop-i.filled c.count_runs.result so_far.after);
     }

@@ -16,8 +16,8 @@ returns-clause-runs c =
       take-put_mid from (from + c.args.count - from) runs new (from + c.args.count) (omega (arith, c.put_runs.ensures.same_room, long)) (omega (arith, c.requires.room)),
     )
 
-pub returns-clause-behind : goal.returns-clause-behind
-returns-clause-behind c =
+pub returns-clause-after : goal.returns-clause-after
+returns-clause-after c =
     let from = c.args.from in
     let runs = c.args.runs.now in
     let long : length (take (from + c.args.count - from) (drop from runs)) ≡ c.args.count = part_length runs from c.args.count c.requires.room in

@@ -1,6 +1,6 @@
 use Rattle.std.proofs.Common.{◌≡◌, ℕ, List, vec_len}
 use Rattle.std.specs.Io.KnownBytes.{Consumes}
-use Rattle.fax_capture.specs.Kept.{HasRead}
+use Rattle.fax_capture.specs.Rep.{HasRead}
 use Rattle.fax_capture.proofs.reading.script_of.Given as goal
 
 -- what was read so far, in as many reads as the loop has made turns, and what was told of it

@@ -1,6 +1,6 @@
 use Rattle.std.proofs.Common.{[], refl}
 use Rattle.std.proofs.lemmas.Result.{err_from_is_err_and}
-use Rattle.fax_capture.proofs.ReadingLemmas.{Breaks-untold, Took-found}
+use Rattle.fax_capture.proofs.ReadingLemmas.{Breaks-untold, TakesRecords-found}
 use Rattle.fax_capture.proofs.reading.take_records.Goals as goal
 
 pub loop-read-preserved : goal.loop-read-preserved
@@ -12,7 +12,7 @@ loop-read-preserved c =
       took = λ told holds.
           let took = so_far.took told holds in
           let one = c.in_ok-tell.ensures.ok took.next took.holds in
-          Took-found _ _ _ _ told _ _ _ _ _ _ _ took reads one.0 one.1 one.2;
+          TakesRecords-found _ _ _ _ told _ _ _ _ _ _ _ took reads one.0 one.1 one.2;
     }
 
 pub returns-in_err-tell-clause-err : goal.returns-in_err-tell-clause-err

@@ -9,14 +9,14 @@ loop-rest-preserved g c =
     let so_far = c.loop-rest.invariant in
     let rest = c.loop-rest.rest.now in
     let front = c.split_at.result.0.now in
-    let behind = c.split_at.result.1.now in
-    let parts : rest ≡ front ++ behind =
+    let after = c.split_at.result.1.now in
+    let parts : rest ≡ front ++ after =
     sym (take-append-drop c.min.result rest) ∙ ap₂ (λ (a b : List ℕ). a ++ b) (sym c.split_at.ensures.front) (sym c.split_at.ensures.back) in
     record {
       front = so_far.front ++ encode_lower front;
       all = so_far.all ∙ ap (λ (octets : List ℕ). so_far.front ++ encode_lower octets) parts
-          ∙ ap (λ (text : List ℕ). so_far.front ++ text) (encode_lower-append front behind)
-          ∙ sym (append_assoc so_far.front (encode_lower front) (encode_lower behind));
+          ∙ ap (λ (text : List ℕ). so_far.front ++ text) (encode_lower-append front after)
+          ∙ sym (append_assoc so_far.front (encode_lower front) (encode_lower after));
       put = Puts-then _ _ _ _ _ _ _ _ so_far.put c.in_ok-put_hex.ensures.text;
       failed = c.in_ok-put_hex.ensures.failed ∙ so_far.failed;
     }

@@ -5,7 +5,7 @@ use Rattle.fax_command.specs.Pictures.{AreRowsOctets, picture_head}
 use Rattle.fax_command.proofs.PutLemmas.{Puts-then, Puts-same, OnOk-then}
 use Rattle.fax_command.proofs.putting.put_picture.Goals as goal
 
--- the head and what is behind it, part by part
+-- the head and what is after it, part by part
 parts_of : (name width rows octets : List ℕ)
     → (name ++ (width ++ (32 ∷ (rows ++ 10 ∷ [])))) ++ octets ≡ ((name ++ (width ++ 32 ∷ [])) ++ (rows ++ 10 ∷ [])) ++ octets
 parts_of name width rows octets =

@@ -27,12 +27,12 @@ returns-in_err-line-clause-fault c =
     let within : c.loop-item.item-index < length c.args.items.now.items = search rules in
     let is : c.item-item.result ≡ get_or c.args.items.now.items c.loop-item.item-index c.item-item.result =
     c.item-item.is ∙ ap (λ (values : List Value). get_or values c.loop-item.item-index c.item-item.result) c.deref-item-items.ensures.value in
-    let behind : c.len.result ≡ c.loop-item.item-index = first_of (search rules, omega arith) in
+    let after : c.len.result ≡ c.loop-item.item-index = first_of (search rules, omega arith) in
     let inner = seen_some _ c.as_table.result _ c.in-Some.table c.in-Some.is c.as_table.ensures in
     let here = sym (get_item_within c.args.items.now.items c.loop-item.item-index c.item-item.result within) ∙ ap (λ v. Some (view v)) (sym is) ∙ ap (λ d. Some d) (is_table _ _ inner) in
     let fault = λ (members : Members) (at : get_member (codes "lines") members ≡ Some (array (array_view c.args.items.now))).
     misfit_of_line members (array_view c.args.items.now) c.loop-item.item-index (table_view c.in-Some.table.now) c.in_err-line.field-0.0 here
-    (subst (λ (n : ℕ). HasMisfit n (table_view c.in-Some.table.now) c.in_err-line.field-0.0) behind c.in_err-line.ensures.fault) at in
+    (subst (λ (n : ℕ). HasMisfit n (table_view c.in-Some.table.now) c.in_err-line.field-0.0) after c.in_err-line.ensures.fault) at in
     search rules
 
 pub loop-item-preserved : goal.loop-item-preserved

@@ -1,5 +1,6 @@
 use Rattle.std.proofs.Common.{◌≡◌, Some, sym, ◌∙◌, subst}
-use Rattle.fax_control.specs.Words.{HasNoSpace, leg_text}
+use Rattle.fax_control.specs.Words.{HasNoSpace}
+use Rattle.fax_gateway.specs.LegNames.{leg_text}
 use Rattle.fax_control.proofs.SpaceLemmas.{has_space, cut_once}
 use Rattle.fax_control.proofs.WordLemmas.{hangup_spelled}
 use Rattle.fax_control.proofs.reading.hang_up_of.Goals as goal

@@ -3,7 +3,7 @@ use Rattle.fax_trace.specs.declared.script_fault.ScriptFault.TheVariants.{NoMemo
 use Rattle.fax_explain.proofs.ExplainLemmas.{explains_told, told_to_memory}
 use Rattle.fax_explain.proofs.answer.answer_of.Goals as goal
 
--- behind a text, the line for want of memory
+-- after a text, the line for want of memory
 abbrev with_memory : List ℕ → List ℕ
 with_memory text = text ++ codes "fault memory\n"
 

@@ -3,7 +3,7 @@ use Rattle.fax_command.specs.RowLines.{lines_of}
 use Rattle.fax_trace.specs.Playing.{nothing_played}
 use Rattle.fax_trace.proofs.ScriptLemmas.{TellEvents-push}
 use Rattle.fax_trace.proofs.TextLemmas.{text_of_more}
-use Rattle.fax_telling.specs.Tales.{line_text}
+use Rattle.fax_descriptions.specs.Tales.{line_text}
 use Rattle.fax_explain.proofs.LadderLemmas.{paragraph_lines}
 use Rattle.fax_explain.proofs.Told.{IsTold-push, explained}
 use Rattle.fax_explain.proofs.answer.explain_lines.Goals as goal
@@ -30,7 +30,7 @@ loop-line-preserved c =
     let own = c.in_ok-own.ensures in
     record {
       before = so_far.before ++ line ∷ [];
-      lines_are = so_far.lines_are ∙ ap (λ rest. so_far.before ++ rest) c.in-Some.ensures.lines ∙ sym (append_assoc so_far.before (line ∷ []) (lines_of c.in-Some.behind.now));
+      lines_are = so_far.lines_are ∙ ap (λ rest. so_far.before ++ rest) c.in-Some.ensures.lines ∙ sym (append_assoc so_far.before (line ∷ []) (lines_of c.in-Some.after.now));
       so_many = omega (arith, length-append so_far.before (line ∷ []), so_far.so_many);
       short = omega (arith, so_far.short, c.in-Some.ensures.shorter);
       events = so_far.events ++ event ∷ [];
@@ -53,7 +53,7 @@ loop-line-preserved-in_ok-add c =
     let own = c.in_ok-own.ensures in
     record {
       before = so_far.before ++ line ∷ [];
-      lines_are = so_far.lines_are ∙ ap (λ rest. so_far.before ++ rest) c.in-Some.ensures.lines ∙ sym (append_assoc so_far.before (line ∷ []) (lines_of c.in-Some.behind.now));
+      lines_are = so_far.lines_are ∙ ap (λ rest. so_far.before ++ rest) c.in-Some.ensures.lines ∙ sym (append_assoc so_far.before (line ∷ []) (lines_of c.in-Some.after.now));
       so_many = omega (arith, length-append so_far.before (line ∷ []), so_far.so_many);
       short = omega (arith, so_far.short, c.in-Some.ensures.shorter);
       events = so_far.events ++ event ∷ [];
@@ -76,7 +76,7 @@ loop-line-preserved-in_ok-add-2 c =
     let own = c.in_ok-own.ensures in
     record {
       before = so_far.before ++ line ∷ [];
-      lines_are = so_far.lines_are ∙ ap (λ rest. so_far.before ++ rest) c.in-Some.ensures.lines ∙ sym (append_assoc so_far.before (line ∷ []) (lines_of c.in-Some.behind.now));
+      lines_are = so_far.lines_are ∙ ap (λ rest. so_far.before ++ rest) c.in-Some.ensures.lines ∙ sym (append_assoc so_far.before (line ∷ []) (lines_of c.in-Some.after.now));
       so_many = omega (arith, length-append so_far.before (line ∷ []), so_far.so_many);
       short = omega (arith, so_far.short, c.in-Some.ensures.shorter);
       events = so_far.events ++ event ∷ [];
@@ -130,7 +130,7 @@ returns-in_default-2 c =
       lines_are = so_far.lines_are;
       events = so_far.events;
       tell = so_far.tell;
-      ends = (ap (λ (n : ℕ). n + 1) so_far.so_many, c.in-Some.line.now, lines_of c.in-Some.behind.now, c.in-Some.ensures.lines, rw c.in_default-2.is at c.in_ok-event.ensures.none);
+      ends = (ap (λ (n : ℕ). n + 1) so_far.so_many, c.in-Some.line.now, lines_of c.in-Some.after.now, c.in-Some.ensures.lines, rw c.in_default-2.is at c.in_ok-event.ensures.none);
       lines = so_far.lines;
       told = λ setup writes set written. explained setup writes so_far.events so_far.lines _ _ (so_far.told setup writes set written);
       text_is = so_far.text_is;

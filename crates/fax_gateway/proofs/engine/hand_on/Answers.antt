@@ -1,6 +1,6 @@
 use Rattle.std.proofs.Common.{Bool, sym, subst}
-use Rattle.fax_gateway.specs.declared.side.Side.{Side}
-use Rattle.fax_gateway.specs.declared.side.Side.TheVariants as side
+use Rattle.fax_gateway.specs.declared.leg.Leg.{Leg}
+use Rattle.fax_gateway.specs.declared.leg.Leg.TheVariants as legs
 use Rattle.fax_gateway.specs.Reached.{GatewayValue}
 use Rattle.fax_gateway.proofs.DrivingLemmas.{hands_on_called, hands_on_calling, HandsOn}
 use Rattle.fax_gateway.proofs.engine.hand_on.Goals as goal
@@ -9,12 +9,12 @@ pub returns-in-Calling : goal.returns-in-Calling
 returns-in-Calling g c setup writes trace reached =
     let new : GatewayValue = c.from_calling.new.self in
     let h = hands_on_calling setup writes trace c.args.octets.now c.args.now c.args.gateway.now new c.from_calling.result c.from_calling.ensures.heard c.from_calling.ensures.memory c.from_calling.ensures.err reached in
-    subst (λ (s : Side). HandsOn setup writes trace s c.args.octets.now c.args.now c.is_ok.result new) (sym c.in-Calling.is)
-    (subst (λ (b : Bool). HandsOn setup writes trace side.Calling c.args.octets.now c.args.now b new) (sym c.is_ok.ensures.value) h)
+    subst (λ (s : Leg). HandsOn setup writes trace s c.args.octets.now c.args.now c.is_ok.result new) (sym c.in-Calling.is)
+    (subst (λ (b : Bool). HandsOn setup writes trace legs.Calling c.args.octets.now c.args.now b new) (sym c.is_ok.ensures.value) h)
 
 pub returns-in-Called : goal.returns-in-Called
 returns-in-Called g c setup writes trace reached =
     let new : GatewayValue = c.from_called.new.self in
     let h = hands_on_called setup writes trace c.args.octets.now c.args.now c.args.gateway.now new c.from_called.result c.from_called.ensures.heard c.from_called.ensures.memory c.from_called.ensures.err reached in
-    subst (λ (s : Side). HandsOn setup writes trace s c.args.octets.now c.args.now c.is_ok-in-Called.result new) (sym c.in-Called.is)
-    (subst (λ (b : Bool). HandsOn setup writes trace side.Called c.args.octets.now c.args.now b new) (sym c.is_ok-in-Called.ensures.value) h)
+    subst (λ (s : Leg). HandsOn setup writes trace s c.args.octets.now c.args.now c.is_ok-in-Called.result new) (sym c.in-Called.is)
+    (subst (λ (b : Bool). HandsOn setup writes trace legs.Called c.args.octets.now c.args.now b new) (sym c.is_ok-in-Called.ensures.value) h)

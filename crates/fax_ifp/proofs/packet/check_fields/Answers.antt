@@ -7,19 +7,19 @@ use Rattle.fax_ifp.proofs.packet.check_fields.Goals as goal
 pub loop-init : goal.loop-init
 loop-init c = ([], read_none c.args.count c.args.octets.now)
 
-pub returns-in_err-behind-clause-fault : goal.returns-in_err-behind-clause-fault
-returns-in_err-behind-clause-fault c =
+pub returns-in_err-after-clause-fault : goal.returns-in_err-after-clause-fault
+returns-in_err-after-clause-fault c =
     let p = err_from_is_err_and c.from_residual.result c.from_residual.ensures.1 in
     rw (p.1, p.2)
-    (read_fault c.args.count c.loop.counter c.args.octets.now c.loop.invariant.0 c.loop.place.half c.loop.place.octets.now c.in_err-behind.field-0.0 (omega arith)
-    c.in_err-behind.ensures c.loop.invariant.1)
+    (read_fault c.args.count c.loop.counter c.args.octets.now c.loop.invariant.0 c.loop.place.half c.loop.place.octets.now c.in_err-after.field-0.0 (omega arith)
+    c.in_err-after.ensures c.loop.invariant.1)
 
 pub loop-preserved : goal.loop-preserved
 loop-preserved c = (
-  c.loop.invariant.0 ++ text_of c.in_ok-behind.field-0-0 ∷ [],
+  c.loop.invariant.0 ++ text_of c.in_ok-after.field-0-0 ∷ [],
   read_one c.args.count c.loop.counter c.args.octets.now c.loop.invariant.0 c.loop.place.half c.loop.place.octets.now
-      (record { text = text_of c.in_ok-behind.field-0-0; half = c.in_ok-behind.behind.half; octets = c.in_ok-behind.behind.octets.now }) (omega arith)
-      c.in_ok-behind.ensures c.loop.invariant.1,
+      (record { text = text_of c.in_ok-after.field-0-0; half = c.in_ok-after.after.half; octets = c.in_ok-after.after.octets.now }) (omega arith)
+      c.in_ok-after.ensures c.loop.invariant.1,
 )
 
 pub returns-clause-good : goal.returns-clause-good

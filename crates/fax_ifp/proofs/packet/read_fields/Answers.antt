@@ -32,7 +32,7 @@ loop-preserved c = record {
   read =
       rw (c.push_reserved.ensures.items, texts_of-push c.loop.fields.items c.in_ok-field.field)
       (read_one c.args.count c.loop.counter c.args.octets.now (texts_of c.loop.fields.items) c.loop.place.half c.loop.place.octets.now
-      (record { text = text_of c.in_ok-field.field; half = c.in_ok-field.behind.half; octets = c.in_ok-field.behind.octets.now }) (omega arith) c.in_ok-field.ensures c.loop.invariant.read);
+      (record { text = text_of c.in_ok-field.field; half = c.in_ok-field.after.half; octets = c.in_ok-field.after.octets.now }) (omega arith) c.in_ok-field.ensures c.loop.invariant.read);
 }
 
 pub returns-clause-read : goal.returns-clause-read

@@ -2,7 +2,7 @@ use Rattle.std.proofs.Common.{◌≡◌, ◌+◌, ◌-◌, ◌++◌, ℕ, List, 
 use Rattle.std.specs.Prelude.{flat_map}
 use Rattle.fax_udptl.specs.Datagrams.{written_packet}
 use Rattle.fax_udptl.proofs.WrittenLemmas.{packets_size, packets_size_more}
-use Rattle.fax_legs.proofs.Bounds.{short_behind_first, take_first_of}
+use Rattle.fax_legs.proofs.Bounds.{short_after_first, take_first_of}
 use Rattle.fax_legs.proofs.bounding.put_packets.Goals as goal
 
 pub loop-more-preserved : goal.loop-more-preserved
@@ -18,5 +18,5 @@ loop-more-preserved c =
           ∙ c.loop-more.invariant.front;
       end = omega (arith, size, c.put_packet-end.ensures.end, c.loop-more.invariant.end);
       same_room = c.put_packet-end.ensures.same_room ∙ c.loop-more.invariant.same_room;
-      short = short_behind_first c.loop-more.left c.next.new.self c.in-Some.packet.now c.in-Some.ensures.steps c.loop-more.invariant.short;
+      short = short_after_first c.loop-more.left c.next.new.self c.in-Some.packet.now c.in-Some.ensures.steps c.loop-more.invariant.short;
     }

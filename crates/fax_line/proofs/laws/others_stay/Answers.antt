@@ -1,5 +1,5 @@
 use Rattle.std.proofs.Common.{Bool, nat_eq, slice_index_or, subst}
-use Rattle.fax_line.specs.Deeds.{IsFreed}
+use Rattle.fax_line.specs.Operations.{IsFreed}
 use Rattle.fax_line.proofs.laws.others_stay.Goals as goal
 
 pub returns : goal.returns

@@ -1,14 +1,14 @@
 use Rattle.std.proofs.Common.{◌≡◌, ◌≢◌, ℕ, Bool, true, false, ◌∷◌, [], Option, Some, None, nat_eq, refl, slice_index_or, sym, subst}
 use Rattle.std.proofs.lemmas.Bool.{eq-eqb, ne_eqb}
 use Rattle.std.proofs.lemmas.List.{get_or_default}
-use Rattle.fax_hold.proofs.Held.{stays_same}
-use Rattle.fax_line.specs.declared.asked.Answered.{Answered}
-use Rattle.fax_line.specs.declared.asked.Asked.{Asked}
+use Rattle.fax_holding_wire.proofs.Held.{stays_same}
+use Rattle.fax_line.specs.declared.asked.LineAnswer.{LineAnswer}
+use Rattle.fax_line.specs.declared.asked.LineRequest.{LineRequest}
 use Rattle.fax_line.specs.Actions.{Asks}
-use Rattle.fax_line.specs.Deeds.{IsFreed}
+use Rattle.fax_line.specs.Operations.{IsFreed}
 use Rattle.fax_line.specs.Places.{GoesInPlace, PlaceValue}
 use Rattle.fax_line.proofs.Stepping.{none_goes, one_goes}
-use Rattle.fax_line.proofs.Heard.{behind_none}
+use Rattle.fax_line.proofs.Heard.{after_none}
 use Rattle.fax_line.proofs.Turning.{all_come, one_comes}
 use Rattle.fax_line.proofs.lines.ask_one.Goals as goal
 
@@ -21,11 +21,11 @@ returns-clause-went g c =
     (λ d. subst (λ (l : PlaceValue). GoesInPlace (Asks c.args.now c.args.what (Some c.ask.result) ∷ []) l c.ask.new.self) (get_or_default c.args.places.now c.args.i c.index-places-i.result d c.if-i-places.false) c.ask.ensures.goes)
 
 -- no line is freed where there is none of which to ask it, and no other one where there is
-none_freed : (b : Bool) (what : Asked) (place : PlaceValue) → IsFreed b what None place place
-none_freed true what place = (stays_same place.line.holding, sym (behind_none what place.line.peers))
+none_freed : (b : Bool) (what : LineRequest) (place : PlaceValue) → IsFreed b what None place place
+none_freed true what place = (stays_same place.line.holding, sym (after_none what place.line.peers))
 none_freed false what place = refl
 
-other_freed : (b : Bool) (what : Asked) (answer : Option Answered) (place : PlaceValue) → b ≡ false → IsFreed b what answer place place
+other_freed : (b : Bool) (what : LineRequest) (answer : Option LineAnswer) (place : PlaceValue) → b ≡ false → IsFreed b what answer place place
 other_freed true what answer place is = absurd (cc)
 other_freed false what answer place is = refl
 

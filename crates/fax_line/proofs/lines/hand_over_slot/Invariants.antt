@@ -1,5 +1,5 @@
 use Rattle.std.proofs.Common.{[]}
-use Rattle.fax_line.specs.Deeds.{EachGoes}
+use Rattle.fax_line.specs.Operations.{EachGoes}
 use Rattle.fax_line.proofs.Slots.{HandedOver}
 use Rattle.fax_line.proofs.lines.hand_over_slot.Given as goal
 

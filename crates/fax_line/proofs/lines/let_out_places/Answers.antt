@@ -1,6 +1,6 @@
 use Rattle.std.proofs.Common.{◌≡◌, ◌+◌, ◌*◌, ◌∙◌, [], List, refl, slice_index_or, sym, ap, subst, arith}
 use Rattle.std.proofs.lemmas.List.{get_or_default}
-use Rattle.fax_line.specs.Deeds.{EachGoes}
+use Rattle.fax_line.specs.Operations.{EachGoes}
 use Rattle.fax_line.specs.Places.{GoesInPlace, PlaceValue}
 use Rattle.fax_line.proofs.Slots.{Rounds, all_rounds, no_rounds, off_round, out_if, out_off, out_on, out_passes}
 use Rattle.fax_line.proofs.Stepping.{each_none, told_on}

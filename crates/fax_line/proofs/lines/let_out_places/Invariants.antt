@@ -1,5 +1,5 @@
 use Rattle.std.proofs.Common.{[]}
-use Rattle.fax_line.specs.Deeds.{EachGoes}
+use Rattle.fax_line.specs.Operations.{EachGoes}
 use Rattle.fax_line.proofs.Slots.{Rounds, out_if}
 use Rattle.fax_line.proofs.lines.let_out_places.Given as goal
 

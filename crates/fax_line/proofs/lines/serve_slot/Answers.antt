@@ -1,5 +1,5 @@
 use Rattle.std.proofs.Common.{[], ◌∷◌, nat_eq, if◌then◌else◌}
-use Rattle.fax_line.specs.Deeds.{rests_at, slot_of}
+use Rattle.fax_line.specs.Operations.{rests_at, slot_of}
 use Rattle.fax_line.specs.Places.{visit_of}
 use Rattle.fax_line.proofs.Stepping.{each_more}
 use Rattle.fax_line.proofs.Turning.{tells_still}

@@ -1,7 +1,7 @@
 use Rattle.std.proofs.Common.{◌≡◌, ◌+◌, ◌*◌, Bool, Option, Some, None, arith, refl, slice_get, sym, subst}
 use Rattle.std.proofs.lemmas.Grind.{common_steps}
 use Rattle.std.proofs.lemmas.Option.{gets}
-use Rattle.fax_line.specs.KeptRuns.{TellsFirst, TellsPlace, TellsWhere}
+use Rattle.fax_line.specs.StoredRuns.{TellsFirst, TellsPlace, TellsWhere}
 use Rattle.fax_line.specs.Places.{PlaceValue}
 use Rattle.fax_line.proofs.Telling.{tells_place, tells_round}
 use Rattle.fax_line.proofs.lines.tell_places.Goals as goal
@@ -17,21 +17,21 @@ loop-round-preserved g c =
     let lines = c.args.places.now in
     let round = c.loop-round.round in
     let at = round * 40 + slot in
-    let notes = g.K.RunKeeper.notes in
-    let ends = g.K.RunKeeper.ends in
-    let first = c.args.keeper.now in
-    let before = c.loop-round.keeper in
+    let notes = g.K.RunStore.notes in
+    let ends = g.K.RunStore.ends in
+    let first = c.args.store.now in
+    let before = c.loop-round.store in
     elim c.match-get.branch [
       | in-Some w ↦
           let there : slice_get lines at ≡ Some w.in-Some.place.now = grind (arith, common_steps, gets, c.get.ensures.lookup, w.in-Some.is) in
-          let told = subst (λ (b : Bool). TellsWhere notes ends at w.in-Some.place.now.turned w.in-Some.place.now.line.turned b before w.tell_place.new.keeper) w.has_page.ensures w.tell_place.ensures in
-          subst (λ k. TellsFirst notes ends slot pages lines ((round + 1) * 40) first k) (sym w.keeper-is)
-          (tells_round g.row.K.Denot notes ends slot pages lines round first before w.tell_place.new.keeper c.requires
-          (subst (λ (o : Option PlaceValue). TellsPlace notes ends slot pages at o before w.tell_place.new.keeper) (sym there)
-          (tells_place g.row.K.Denot notes ends slot pages round w.in-Some.place.now before w.tell_place.new.keeper c.requires told)) c.loop-round.invariant)
+          let told = subst (λ (b : Bool). TellsWhere notes ends at w.in-Some.place.now.turned w.in-Some.place.now.line.turned b before w.tell_place.new.store) w.has_page.ensures w.tell_place.ensures in
+          subst (λ k. TellsFirst notes ends slot pages lines ((round + 1) * 40) first k) (sym w.store-is)
+          (tells_round g.row.K.Denot notes ends slot pages lines round first before w.tell_place.new.store c.requires
+          (subst (λ (o : Option PlaceValue). TellsPlace notes ends slot pages at o before w.tell_place.new.store) (sym there)
+          (tells_place g.row.K.Denot notes ends slot pages round w.in-Some.place.now before w.tell_place.new.store c.requires told)) c.loop-round.invariant)
       | in_default w ↦
           let none : slice_get lines at ≡ None = grind (arith, common_steps, gets, c.get.ensures.lookup, w.in_default.not-Some) in
-          subst (λ k. TellsFirst notes ends slot pages lines ((round + 1) * 40) first k) (sym w.keeper-is)
+          subst (λ k. TellsFirst notes ends slot pages lines ((round + 1) * 40) first k) (sym w.store-is)
           (tells_round g.row.K.Denot notes ends slot pages lines round first before before c.requires
           (subst (λ (o : Option PlaceValue). TellsPlace notes ends slot pages at o before before) (sym none) refl) c.loop-round.invariant)
     ]

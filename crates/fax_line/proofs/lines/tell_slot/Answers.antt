@@ -1,6 +1,6 @@
 use Rattle.std.proofs.Common.{◌+◌, ◌*◌, [], List, slice_index_or, refl, sym, subst, arith}
 use Rattle.std.proofs.lemmas.List.{get_or_default}
-use Rattle.fax_line.specs.Deeds.{EachGoes}
+use Rattle.fax_line.specs.Operations.{EachGoes}
 use Rattle.fax_line.specs.Places.{GoesInPlace, PlaceValue}
 use Rattle.fax_line.proofs.Slots.{Rounds, all_rounds, no_rounds, off_round}
 use Rattle.fax_line.proofs.Stepping.{each_none, told_on}

@@ -1,5 +1,5 @@
 use Rattle.std.proofs.Common.{[]}
-use Rattle.fax_line.specs.Deeds.{EachGoes}
+use Rattle.fax_line.specs.Operations.{EachGoes}
 use Rattle.fax_line.proofs.Slots.{Rounds}
 use Rattle.fax_line.proofs.Turning.{stays_if}
 use Rattle.fax_line.proofs.lines.tell_slot.Given as goal

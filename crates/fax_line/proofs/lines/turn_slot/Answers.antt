@@ -1,7 +1,7 @@
 use Rattle.std.proofs.Common.{ℕ, Bool, ◌≡◌, ◌+◌, ◌*◌, ◌<◌, length, slice_index_or, [], ◌∷◌, List, refl, sym, subst, arith}
 use Rattle.std.proofs.lemmas.List.{get_or_default}
 use Rattle.fax_line.specs.Actions.{Action}
-use Rattle.fax_line.specs.Deeds.{EachGoes, rests_at}
+use Rattle.fax_line.specs.Operations.{EachGoes, rests_at}
 use Rattle.fax_line.specs.Places.{GoesInPlace, PlaceValue, TellsOrRests, visit_of}
 use Rattle.fax_line.proofs.Slots.{Rounds, all_rounds, no_rounds, off_round}
 use Rattle.fax_line.proofs.Stepping.{all_done, done_of, none_done, rests_same, round_off, round_on}

@@ -1,5 +1,5 @@
 use Rattle.std.proofs.Common.{[], ◌∷◌}
-use Rattle.fax_line.specs.Deeds.{EachGoes, rests_at}
+use Rattle.fax_line.specs.Operations.{EachGoes, rests_at}
 use Rattle.fax_line.specs.Places.{visit_of}
 use Rattle.fax_line.proofs.Slots.{Rounds}
 use Rattle.fax_line.proofs.Stepping.{done_of}

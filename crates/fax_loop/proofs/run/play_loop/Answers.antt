@@ -1,5 +1,5 @@
 use Rattle.std.proofs.Common.{rules, ◌≡◌, ◌∙◌, ap}
-use Rattle.fax_loop.specs.Kept.{IsAnswerText, ending_of_answer}
+use Rattle.fax_loop.specs.Rep.{IsAnswerText, ending_of_answer}
 use Rattle.fax_loop.proofs.AnswerLemmas.{EndsSo-read, EndsSo-unread}
 use Rattle.fax_loop.proofs.run.play_loop.Goals as goal
 use Rattle.fax_loop.proofs.run.play_loop.Goals.{in-Ok+in-Ok-answer_to, in-Err-NoMemory}

@@ -7,7 +7,7 @@ use Rattle.fax_runcodes.specs.declared.Colour.TheVariants.{White, Black}
 use Rattle.fax_runcodes.proofs.WordLaws.{terminating_run}
 use Rattle.fax_mhcode.specs.Pairs.{SpellsPair}
 use Rattle.fax_mhcode.proofs.LineLemmas.{length-paint}
-use Rattle.fax_mhcode.proofs.PairLemmas.{GoesOn-pair, GoesOn-then, at_top, at_top_bits, behind_first, behind_more, first_passes, nothing_passed, pair_spelt, rest_passes, shifted_top, top_of}
+use Rattle.fax_mhcode.proofs.PairLemmas.{GoesOn-pair, GoesOn-then, after_first, after_more, at_top, at_top_bits, first_passes, nothing_passed, pair_spelt, rest_passes, shifted_top, top_of}
 use Rattle.fax_mhcode.proofs.pairs.paint_pairs.Goals as goal
 
 pub loop-init : goal.loop-init
@@ -48,12 +48,12 @@ loop-preserved c =
           let spelt : SpellsPair (drop c.loop.bits here.left) c.from-white.result c.in-Some.pair.black c.from-used.result =
           rw (c.from-white.ensures, c.from-used.ensures)
           (pair_spelt here.left window (word_bits 56 (c.loop.rest / 2 ^ 8)) c.loop.bits c.in-Some.pair front wide (top_of c.loop.rest window c.loop.bits wide (omega (arith, used)) so_far.rest_is) used at) in
-          GoesOn-then here (behind_first c.loop.bits here) there c.args.line.now c.loop.line c.paint_pair.new.self c.args.left c.loop.left (c.loop.left - (c.from-white.result + c.in-Some.pair.black)) (sym room)
-          (so_far.goes_on here (behind_first c.loop.bits here) front (first_passes here c.loop.bits (omega (arith, enough, used))))
-          (GoesOn-pair (behind_first c.loop.bits here) there c.loop.line c.paint_pair.new.self c.from-white.result c.in-Some.pair.black c.from-used.result c.loop.left (c.loop.left - (c.from-white.result + c.in-Some.pair.black)) c.paint_pair.ensures
+          GoesOn-then here (after_first c.loop.bits here) there c.args.line.now c.loop.line c.paint_pair.new.self c.args.left c.loop.left (c.loop.left - (c.from-white.result + c.in-Some.pair.black)) (sym room)
+          (so_far.goes_on here (after_first c.loop.bits here) front (first_passes here c.loop.bits (omega (arith, enough, used))))
+          (GoesOn-pair (after_first c.loop.bits here) there c.loop.line c.paint_pair.new.self c.from-white.result c.in-Some.pair.black c.from-used.result c.loop.left (c.loop.left - (c.from-white.result + c.in-Some.pair.black)) c.paint_pair.ensures
           spelt (rest_passes here there c.loop.bits c.from-used.result (omega (arith, enough, used, few)) passed) black_some (omega (arith, fits)))
           );
-      rest_is = behind_more 64 (at_top window) (word_bits 64 c.loop.rest) (word_bits 64 (c.loop.rest * 2 ^ c.from-used.result % 18446744073709551616)) c.loop.bits c.from-used.result top (omega (arith, used, few)) so_far.rest_is (shifted_top c.loop.rest c.from-used.result (omega (arith, few)));
+      rest_is = after_more 64 (at_top window) (word_bits 64 c.loop.rest) (word_bits 64 (c.loop.rest * 2 ^ c.from-used.result % 18446744073709551616)) c.loop.bits c.from-used.result top (omega (arith, used, few)) so_far.rest_is (shifted_top c.loop.rest c.from-used.result (omega (arith, few)));
       left = omega (arith, room, fits, longer, longest);
       bits = omega (arith, so_far.bits, few);
       fewer = omega (arith, so_far.fewer, white_some, fits);

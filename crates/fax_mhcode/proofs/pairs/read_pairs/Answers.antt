@@ -5,7 +5,7 @@ use Rattle.fax_mhcode.proofs.PairLemmas.{GoesOn-then}
 use Rattle.fax_mhcode.proofs.pairs.read_pairs.Goals as goal
 use Rattle.fax_mhcode.proofs.pairs.read_pairs.Goals.{After-skip}
 
--- what is passed, painted or left behind one more window
+-- what is passed, painted or left after one more window
 on : (c : After-skip) → GoesOn c.args.reader.now c.args.line.now c.args.left c.skip.new.self c.paint_pairs-painted.new.line c.paint_pairs-painted.result.left
 on c =
     let enough : 56 ≤ length c.loop-line.reader.left = omega arith in

@@ -41,14 +41,14 @@ loop-rest-preserved c =
     let more = two (goal.at.loop-rest-preserved c).In-len2-up in
     let black : ℕ = get_or c.loop-rest.rest.now 0 0 in
     let white : ℕ = get_or c.loop-rest.rest.now 1 0 in
-    let behind : List ℕ = take (length c.loop-rest.rest.now - 2) (drop 2 c.loop-rest.rest.now) in
+    let after : List ℕ = take (length c.loop-rest.rest.now - 2) (drop 2 c.loop-rest.rest.now) in
     let row : Elements = painted White 0 c.args.changes.now c.args.width in
-    let before : RunsWritten row c.args.writer.now.bits c.loop-rest.writer.bits White ((black - c.loop-rest.from) ∷ (white - black) ∷ runs_between white behind c.args.width) =
+    let before : RunsWritten row c.args.writer.now.bits c.loop-rest.writer.bits White ((black - c.loop-rest.from) ∷ (white - black) ∷ runs_between white after c.args.width) =
     subst (λ (runs : List ℕ). RunsWritten row c.args.writer.now.bits c.loop-rest.writer.bits White runs) more.runs c.loop-rest.invariant.written in
     record {
       rising = more.rising;
       written = RunsWritten-two row c.args.writer.now.bits c.loop-rest.writer.bits c.put_two_runs.new.writer.bits (black - c.loop-rest.from) (white - black)
-          (runs_between white behind c.args.width) before c.put_two_runs.ensures.bits;
+          (runs_between white after c.args.width) before c.put_two_runs.ensures.bits;
       room = omega (arith, c.loop-rest.invariant.room, c.put_two_runs.ensures.room, more.count);
     }
 

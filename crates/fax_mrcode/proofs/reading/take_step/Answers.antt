@@ -13,7 +13,7 @@ use Rattle.fax_mrcode.specs.Starts.{IsTaken, Completes}
 use Rattle.fax_mrcode.proofs.StepLemmas.{IsTaken-at}
 use Rattle.fax_mrcode.proofs.reading.take_step.Goals as goal
 
--- a step with no bits behind the word of its mode
+-- a step with no bits after the word of its mode
 passed : (old new : Place) (read mode : Mode) → read ≡ mode → Passes old new (mode_word read) → Passes old new (mode_word mode ++ [])
 passed old new read mode same p = subst (λ text. Passes old new text) (sym (append-nil (mode_word mode))) (subst (λ (m : Mode). Passes old new (mode_word m)) same p)
 

@@ -60,7 +60,7 @@ pub loop-from-preserved-else-zeros-gt0 : goal.loop-from-preserved-else-zeros-gt0
 loop-from-preserved-else-zeros-gt0 c =
     let at = ahead (goal.at.loop-from-preserved-else-zeros-gt0 c).After-place_at-a1 c.place_at-b2.result c.place_at-b2.ensures in
     record {
-      so_far = StepsSoFar-turned (StepsSoFar-vertical at c.in-Some.offset c.if-b2-a1.false c.in-Some.ensures.some (rw c.width-width.ensures.len at c.index_behind-index_above.ensures) c.put_mode-else-zeros-gt0.ensures.bits);
+      so_far = StepsSoFar-turned (StepsSoFar-vertical at c.in-Some.offset c.if-b2-a1.false c.in-Some.ensures.some (rw c.width-width.ensures.len at c.index_after-index_above.ensures) c.put_mode-else-zeros-gt0.ensures.bits);
       room = omega (arith, c.loop-from.invariant.room, c.put_mode-else-zeros-gt0.ensures.room, at.a1_low, at.a1_high, c.width-width.ensures.len);
     }
 

@@ -5,7 +5,7 @@ use Rattle.fax_pagestore.proofs.FrontLemmas.{Passes-zeros_one, FrontSoFar-none, 
 use Rattle.fax_pagestore.proofs.reading.pass_front.Goals as goal
 use Rattle.fax_pagestore.proofs.reading.pass_front.Goals.{After-skip}
 
--- the zeros and the 1 behind them
+-- the zeros and the 1 after them
 passed : (c : After-skip) → Passes c.loop-coding.reader c.skip.new.self (replicate c.skip_zeros-zeros.result false ++ true ∷ [])
 passed c =
     Passes-zeros_one c.loop-coding.reader c.skip_zeros-zeros.new.self c.skip.new.self c.skip_zeros-zeros.result c.skip_zeros-zeros.ensures.passes c.skip_zeros-zeros.ensures.stops

@@ -16,26 +16,26 @@ use Rattle.fax_pagestore.proofs.reading.read_page.Goals as goal
 use Rattle.fax_pagestore.proofs.reading.read_page.Goals.{After-skip, In_default, After-read_rows}
 use Rattle.fax_pagestore.proofs.reading.read_page.Given.{Over}
 
--- the bits behind those before which no EOL begins
+-- the bits after those before which no EOL begins
 left : (g : Over) (c : After-skip g) → c.skip.new.self.left ≡ drop c.bits_before_eol.result (bits_of c.args.octets.now)
 left g c = skipped c.new-reader.result c.skip.new.self c.bits_before_eol.result c.skip.ensures ∙ ap (λ (place : Place). drop c.bits_before_eol.result place.left) c.new-reader.ensures
 
 whole : (g : Over) (c : After-skip g) → bits_of c.args.octets.now ≡ take c.bits_before_eol.result (bits_of c.args.octets.now) ++ c.skip.new.self.left
 whole g c = sym (take-append-drop c.bits_before_eol.result (bits_of c.args.octets.now)) ∙ ap (λ b. take c.bits_before_eol.result (bits_of c.args.octets.now) ++ b) (sym (left g c))
 
-behind : (g : Over) (c : After-skip g) → BeginNoEol (take c.bits_before_eol.result (bits_of c.args.octets.now)) c.skip.new.self.left
-behind g c = subst (BeginNoEol (take c.bits_before_eol.result (bits_of c.args.octets.now))) (sym (left g c)) c.bits_before_eol.ensures.none
+after : (g : Over) (c : After-skip g) → BeginNoEol (take c.bits_before_eol.result (bits_of c.args.octets.now)) c.skip.new.self.left
+after g c = subst (BeginNoEol (take c.bits_before_eol.result (bits_of c.args.octets.now))) (sym (left g c)) c.bits_before_eol.ensures.none
 
--- behind the front nothing more is read yet
+-- after the front nothing more is read yet
 begun : (g : Over) (c : After-read_rows g) → ReadSoFar c.args.coding (elements_of c.args.format.width) c.args.octets.now [] 0 c.in-Some.tag c.pass_front.new.reader.left
 begun g c =
     front_read c.args.coding (elements_of c.args.format.width) c.args.octets.now [] c.in-Some.tag c.skip.new.self c.pass_front.new.reader
-    (refl, take c.bits_before_eol.result (bits_of c.args.octets.now), whole g (goal.at.After-read_rows g c).After-skip, behind g (goal.at.After-read_rows g c).After-skip) c.in-Some.ensures.found
+    (refl, take c.bits_before_eol.result (bits_of c.args.octets.now), whole g (goal.at.After-read_rows g c).After-skip, after g (goal.at.After-read_rows g c).After-skip) c.in-Some.ensures.found
 
 -- the octets have no EOL
 no_eol : (g : Over) (c : In_default g) → HasNoEol c.args.coding c.args.octets.now
 no_eol g c = λ tag front rest is e.
-    nowhere_eol c.args.coding c.args.octets.now (take c.bits_before_eol.result (bits_of c.args.octets.now)) c.skip.new.self.left (whole g (goal.at.In_default g c).After-skip) (behind g (goal.at.In_default g c).After-skip) (c.in_default.ensures.none refl) tag front rest is e
+    nowhere_eol c.args.coding c.args.octets.now (take c.bits_before_eol.result (bits_of c.args.octets.now)) c.skip.new.self.left (whole g (goal.at.In_default g c).After-skip) (after g (goal.at.In_default g c).After-skip) (c.in_default.ensures.none refl) tag front rest is e
 
 -- the octets have one
 has_eol : (g : Over) (c : After-read_rows g) → HasNoEol c.args.coding c.args.octets.now → ⊥

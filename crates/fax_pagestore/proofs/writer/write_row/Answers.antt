@@ -5,9 +5,9 @@ use Rattle.fax_runcodes.specs.Widths.{elements_of}
 use Rattle.fax_mhcode.proofs.LineLaws.{IsWidth-elements}
 use Rattle.fax_pagestore.specs.WrittenPages.{is_one_dimensional, next_tag, WritesRow}
 use Rattle.fax_pagestore.specs.Writers.{row_ahead}
-use Rattle.fax_pagestore.proofs.RowsWritten.{IsReference, tag_behind_last, tag_behind_inner, width_of_row}
+use Rattle.fax_pagestore.proofs.RowsWritten.{IsReference, tag_after_last, tag_after_inner, width_of_row}
 use Rattle.fax_pagestore.proofs.TextLemmas.{width_some}
-use Rattle.fax_pagestore.proofs.WriterLemmas.{row_written, row_longer, reference_alone, reference_behind}
+use Rattle.fax_pagestore.proofs.WriterLemmas.{row_written, row_longer, reference_alone, reference_after}
 use Rattle.fax_pagestore.proofs.writer.write_row.Goals as goal
 use Rattle.fax_pagestore.proofs.writer.write_row.Goals.{then-not-alone, else-not-alone, then-next-count, else-next-count}
 
@@ -38,16 +38,16 @@ returns-clause-on g c =
     c.is_one_dimensional-alone.ensures ∙ ap (λ f. is_one_dimensional c.args.coding f.fine c.args.n) c.format.ensures in
     let reference : IsReference (is_one_dimensional c.args.coding c.args.page.now.format.fine c.args.n) (row_ahead c.args.page.now.rows c.args.n) c.if-not-alone.reference =
     elim c.if-not-alone.branch [
-      | then-not-alone w ↦ reference_behind c.args.coding c.args.page.now.format.fine c.args.page.now.rows c.args.n w.lend.result c.if-not-alone.reference
+      | then-not-alone w ↦ reference_after c.args.coding c.args.page.now.format.fine c.args.page.now.rows c.args.n w.lend.result c.if-not-alone.reference
           (sym alone ∙ w.if-not-alone.true) (ap (λ r. slice_get r (c.args.n - 1)) (sym same) ∙ w.lend.ensures) w.reference-is
       | else-not-alone w ↦ reference_alone (is_one_dimensional c.args.coding c.args.page.now.format.fine c.args.n) (row_ahead c.args.page.now.rows c.args.n) c.if-not-alone.reference
           (sym alone ∙ w.if-not-alone.false) w.reference-is
     ] in
     let tag : c.if-next-count.tag ≡ next_tag c.args.coding c.args.page.now.format.fine c.args.n (drop (c.args.n + 1) c.args.page.now.rows) =
     elim c.if-next-count.branch [
-      | then-next-count w ↦ tag_behind_last c.args.coding c.args.page.now.format.fine c.args.n c.args.page.now.rows c.if-next-count.tag (omega arith)
+      | then-next-count w ↦ tag_after_last c.args.coding c.args.page.now.format.fine c.args.n c.args.page.now.rows c.if-next-count.tag (omega arith)
           (w.tag-is ∙ eq-eqb (c.args.n + 1) c.len-count.result (omega arith))
-      | else-next-count w ↦ tag_behind_inner c.args.coding c.args.page.now.format.fine c.args.n c.args.page.now.rows c.if-next-count.tag (omega arith)
+      | else-next-count w ↦ tag_after_inner c.args.coding c.args.page.now.format.fine c.args.n c.args.page.now.rows c.if-next-count.tag (omega arith)
           (w.tag-is ∙ w.is_one_dimensional-tag.ensures ∙ ap (λ f. is_one_dimensional c.args.coding f.fine (c.args.n + 1)) c.format.ensures)
     ] in
     let line = c.in_ok-write_filled_line.ensures.ok in

@@ -2,7 +2,7 @@ use Rattle.std.proofs.Common.{◌≡◌, ◌<◌, ◌+◌, List, ◌++◌, lengt
 use Rattle.std.proofs.lemmas.Bool.{eq-eqb}
 use Rattle.fax_runcodes.specs.Widths.{elements_of}
 use Rattle.fax_pagestore.specs.WrittenPages.{next_tag, WritesRow, WritesRows}
-use Rattle.fax_pagestore.proofs.RowsWritten.{RowsSoFar-none, RowsSoFar-more, RowsSoFar-all, tag_behind_last, tag_behind_inner, width_of_row}
+use Rattle.fax_pagestore.proofs.RowsWritten.{RowsSoFar-none, RowsSoFar-more, RowsSoFar-all, tag_after_last, tag_after_inner, width_of_row}
 use Rattle.fax_pagestore.proofs.writing.write_rows.Goals as goal
 use Rattle.fax_pagestore.proofs.writing.write_rows.Goals.{then-next-count, else-next-count}
 
@@ -30,8 +30,8 @@ loop-index-preserved g c =
     width_of_row (elements_of c.args.page.now.format.width) c.args.page.now.rows c.loop-index.index c.lend-row.result inside row_is c.rows-rows.ensures.are_rows.each in
     let tag : c.if-next-count.tag ≡ next_tag c.args.coding c.format.result.fine c.loop-index.index (drop (c.loop-index.index + 1) c.args.page.now.rows) =
     elim c.if-next-count.branch [
-      | then-next-count w ↦ tag_behind_last c.args.coding c.format.result.fine c.loop-index.index c.args.page.now.rows c.if-next-count.tag (omega arith) (w.tag-is ∙ eq-eqb (c.loop-index.index + 1) c.len-count.result (omega arith))
-      | else-next-count w ↦ tag_behind_inner c.args.coding c.format.result.fine c.loop-index.index c.args.page.now.rows c.if-next-count.tag (omega arith) (w.tag-is ∙ w.is_one_dimensional-tag.ensures)
+      | then-next-count w ↦ tag_after_last c.args.coding c.format.result.fine c.loop-index.index c.args.page.now.rows c.if-next-count.tag (omega arith) (w.tag-is ∙ eq-eqb (c.loop-index.index + 1) c.len-count.result (omega arith))
+      | else-next-count w ↦ tag_after_inner c.args.coding c.format.result.fine c.loop-index.index c.args.page.now.rows c.if-next-count.tag (omega arith) (w.tag-is ∙ w.is_one_dimensional-tag.ensures)
     ] in
     let line = c.in_ok-write_filled_line.ensures.ok in
     let writes : WritesRow (is_none c.loop-index.reference) c.loop-index.reference c.lend-row.result line.0 =

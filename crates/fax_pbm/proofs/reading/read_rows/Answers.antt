@@ -3,7 +3,7 @@ use Rattle.fax_bits.specs.Bits.{bits_of}
 use Rattle.fax_runcodes.specs.Rows.{Elements, IsWidth}
 use Rattle.fax_runcodes.specs.Widths.{elements_of}
 use Rattle.fax_pbm.specs.Pictures.{element, rows_of}
-use Rattle.fax_pbm.proofs.RowLemmas.{left_behind, length-elements, row_size, rows_of-next, rows_of-none, width_is}
+use Rattle.fax_pbm.proofs.RowLemmas.{left_after, length-elements, row_size, rows_of-next, rows_of-none, width_is}
 use Rattle.fax_pbm.proofs.reading.read_rows.Goals as goal
 
 pub lend-requires : goal.lend-requires
@@ -31,7 +31,7 @@ loop-preserved c =
           ∙ rows_of-next c.loop.rows size m rest
           ∙ ap (λ (n : ℕ). c.loop.rows ++ rows_of size n rest) (sym more)
           ∙ c.loop.invariant.rows;
-      left = left_behind size m (length rest) (length back) (c.loop.invariant.left ∙ ap (λ (n : ℕ). n * size) more) c.split_at.ensures.back_len;
+      left = left_after size m (length rest) (length back) (c.loop.invariant.left ∙ ap (λ (n : ℕ). n * size) more) c.split_at.ensures.back_len;
     }
 
 pub returns : goal.returns

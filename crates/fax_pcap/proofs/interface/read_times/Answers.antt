@@ -30,7 +30,7 @@ returns-in_err-times c =
 pub loop-preserved : goal.loop-preserved
 loop-preserved c =
     let less : length c.args.options.now - (c.loop.counter + 1) ≡ length c.args.options.now - c.loop.counter - 1 = omega arith in
-    ap (λ (n : ℕ). times_in n c.args.order c.in_ok-option.option.behind.now c.in_ok-times.times) less
+    ap (λ (n : ℕ). times_in n c.args.order c.in_ok-option.option.after.now c.in_ok-times.times) less
     ∙ sym (other_option (length c.args.options.now - c.loop.counter) c.args.order c.loop.rest.now c.loop.times c.in_ok-times.times _ (omega (arith, c.loop-test.true)) (omega (arith, c.if-rest-lt4.false)) c.in_ok-option.ensures c.if-option-eq-END_OF_OPTIONS.false c.in_ok-times.ensures)
     ∙ c.loop.invariant
 

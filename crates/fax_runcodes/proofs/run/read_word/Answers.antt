@@ -6,7 +6,7 @@ use Rattle.fax_runcodes.proofs.ReadLemmas.{found_of, none_of, EndsInside-zeros, 
 use Rattle.fax_runcodes.proofs.run.read_word.Goals as goal
 use Rattle.fax_runcodes.proofs.run.read_word.Goals.{After-look_up-word}
 
--- the window is what is known of the bits that are left, with zeros behind it
+-- the window is what is known of the bits that are left, with zeros after it
 window_is : (c : After-look_up-word) → word_bits 56 c.window.result ≡ take c.known-known.result c.args.reader.now.left ++ replicate (56 - c.known-known.result) false
 window_is c = c.window.ensures.bits ∙ padded-known 56 c.known-known.result c.args.reader.now.left c.known-known.ensures
 

@@ -3,7 +3,7 @@ use Rattle.std.specs.Io.KnownBytes.{Appends, Consumes}
 use Rattle.fax_say.specs.Hearings.{HasHeard}
 use Rattle.fax_say.proofs.run.hear.Given as goal
 
--- what came so far was printed, and belongs to the answer or stands behind it
+-- what came so far was printed, and belongs to the answer or stands after it
 abbrev pub invariant-loop : goal.invariant-loop
 invariant-loop g l =
     let source = g.I.Source in

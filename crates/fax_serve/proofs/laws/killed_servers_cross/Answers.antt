@@ -2,4 +2,4 @@ use Rattle.fax_serve.proofs.Crossings.{killed_servers_cross}
 use Rattle.fax_serve.proofs.laws.killed_servers_cross.Goals as goal
 
 pub returns : goal.returns
-returns g c = killed_servers_cross _ _ _ _ (λ k. k.keeping.shelves.items) (λ k. k.keeping.spool) c.whole_lines_are_restored.ensures c.killed_runs_cross.ensures.crosses
+returns g c = killed_servers_cross _ _ _ _ (λ k. k.storage.queues.items) (λ k. k.storage.spool) c.whole_lines_are_restored.ensures c.killed_runs_cross.ensures.crosses

@@ -19,7 +19,7 @@ loop-item-preserved c =
     let rs = map (λ (w : Vec ℕ Global). w.items) c.loop-item.items.items in
     let is = items_push c.loop-item.items.items c.push.new.self.items c.in_ok-to_vec.field-0 c.in-Some.item.now c.in_ok-push.ensures.items copied in
     let was = c.loop-item.invariant in
-    let more = read_push was.0 c.args.octets.now c.loop-item.rest.now c.in-Some.item.now c.in-Some.behind.now rs was.2 was.1 c.in-Some.ensures in
+    let more = read_push was.0 c.args.octets.now c.loop-item.rest.now c.in-Some.item.now c.in-Some.after.now rs was.2 was.1 c.in-Some.ensures in
     (more.0, more.1, subst (λ (l : List (List ℕ)). AreRead more.0 l) is more.2)
   where
     copied : c.in_ok-to_vec.field-0.items ≡ c.in-Some.item.now

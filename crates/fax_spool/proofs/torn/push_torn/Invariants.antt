@@ -4,4 +4,4 @@ use Rattle.fax_spool.proofs.torn.push_torn.Given as goal
 
 -- the calls so far, and those of the records still to come
 abbrev pub invariant-loop-i : goal.invariant-loop-i
-invariant-loop-i l = l.calls.items ++ torn_among (l.before ++ take l.i l.records) (drop l.i l.records) l.behind ≡ l.initial.calls.items ++ torn_among l.before l.records l.behind
+invariant-loop-i l = l.calls.items ++ torn_among (l.before ++ take l.i l.records) (drop l.i l.records) l.after ≡ l.initial.calls.items ++ torn_among l.before l.records l.after

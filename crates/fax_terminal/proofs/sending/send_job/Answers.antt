@@ -1,5 +1,5 @@
 use Rattle.std.proofs.Common.{Option, IfSome, subst}
-use Rattle.fax_terminal.specs.declared.sending.Sent.{Sent}
+use Rattle.fax_terminal.specs.declared.sending.SentJob.{SentJob}
 use Rattle.fax_terminal.specs.Calls.{TellsCall}
 use Rattle.fax_terminal.proofs.SendingLemmas.{IsInCall-ticked}
 use Rattle.fax_terminal.proofs.sending.send_job.Goals as goal
@@ -15,7 +15,7 @@ returns-in-Some-sent g c =
     let pause = c.args.settings.preamble_ms in
     let job = c.args.job.now in
     let told = c.sent.ensures pause job (IsInCall-ticked pause job _ _ (c.in_ok-turn.ensures.ticked pause c.loop.invariant.call)) in
-    subst (λ (o : Option Sent). IfSome o (TellsCall pause job)) c.in-Some-sent.is told
+    subst (λ (o : Option SentJob). IfSome o (TellsCall pause job)) c.in-Some-sent.is told
 
 pub loop-preserved : goal.loop-preserved
 loop-preserved g c = record { job = c.in_ok-turn.ensures.job; call = IsInCall-ticked _ _ _ _ (c.in_ok-turn.ensures.ticked _ c.loop.invariant.call) }

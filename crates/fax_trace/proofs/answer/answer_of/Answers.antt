@@ -1,7 +1,7 @@
 use Rattle.std.proofs.Common.{◌≡◌, ℕ, List, ◌++◌, Ok, Err, codes, refl, append-nil, sym, ◌∙◌, ap, subst}
 use Rattle.fax_trace.specs.declared.script_fault.ScriptFault.TheVariants.{Line, NoMemory}
 use Rattle.fax_trace.specs.Answers.{Outcome}
-use Rattle.fax_trace.specs.Kept.{HasPlayed}
+use Rattle.fax_trace.specs.Rep.{HasPlayed}
 use Rattle.fax_trace.proofs.AnswerLemmas.{answers_played, played_to_memory}
 use Rattle.fax_trace.proofs.answer.answer_of.Goals as goal
 

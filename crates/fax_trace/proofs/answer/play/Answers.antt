@@ -1,6 +1,6 @@
 use Rattle.std.proofs.Common.{List, ℕ, ◌++◌, codes, refl, sym, ap, subst}
 use Rattle.fax_gateway.specs.declared.settings.Settings.{Settings}
-use Rattle.fax_trace.specs.Kept.{HasPlayed}
+use Rattle.fax_trace.specs.Rep.{HasPlayed}
 use Rattle.fax_trace.proofs.AnswerLemmas.{Answers-memory, Answers-same}
 use Rattle.fax_trace.proofs.answer.play.Goals as goal
 

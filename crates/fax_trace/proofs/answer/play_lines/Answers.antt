@@ -25,7 +25,7 @@ loop-line-preserved c =
     let told = rw c.in-Some-2.is at c.in_ok-event.ensures.some in
     record {
       before = so_far.before ++ line ∷ [];
-      lines_are = so_far.lines_are ∙ ap (λ rest. so_far.before ++ rest) c.in-Some.ensures.lines ∙ sym (append_assoc so_far.before (line ∷ []) (lines_of c.in-Some.behind.now));
+      lines_are = so_far.lines_are ∙ ap (λ rest. so_far.before ++ rest) c.in-Some.ensures.lines ∙ sym (append_assoc so_far.before (line ∷ []) (lines_of c.in-Some.after.now));
       so_many = omega (arith, length-append so_far.before (line ∷ []), so_far.so_many);
       short = omega (arith, so_far.short, c.in-Some.ensures.shorter);
       events = so_far.events ++ event ∷ [];
@@ -79,7 +79,7 @@ returns-in_default-2 c =
       lines_are = so_far.lines_are;
       events = so_far.events;
       tell = so_far.tell;
-      ends = (ap (λ (n : ℕ). n + 1) (sym so_far.so_many), c.in-Some.line.now, lines_of c.in-Some.behind.now, c.in-Some.ensures.lines, rw c.in_default-2.is at c.in_ok-event.ensures.none);
+      ends = (ap (λ (n : ℕ). n + 1) (sym so_far.so_many), c.in-Some.line.now, lines_of c.in-Some.after.now, c.in-Some.ensures.lines, rw c.in_default-2.is at c.in_ok-event.ensures.none);
       told = λ setup writes set written.
           let p = so_far.played setup writes set written in
           record { played = p.0; is_played = p.1; is_trace = p.2.reached.is_trace; text_is = text_of_none p.0.lines _ p.2.told };

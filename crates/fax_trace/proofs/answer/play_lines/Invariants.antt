@@ -4,8 +4,8 @@ use Rattle.fax_command.specs.RowLines.{lines_of}
 use Rattle.fax_gateway.specs.Setups.{AreSet, Setup}
 use Rattle.fax_trace.specs.declared.event.ScriptEvent.{ScriptEvent}
 use Rattle.fax_trace.specs.Scripts.{TellEvents}
-use Rattle.fax_trace.specs.Playing.{Played, PlaysAll, nothing_played}
-use Rattle.fax_trace.specs.Kept.{IsPlaying}
+use Rattle.fax_trace.specs.Playing.{PlayedScript, PlaysAll, nothing_played}
+use Rattle.fax_trace.specs.Rep.{IsPlaying}
 use Rattle.fax_trace.proofs.answer.play_lines.Given as goal
 
 -- the lines before the rest were played
@@ -18,7 +18,7 @@ invariant-loop-line l =
       short : l.lines + length l.rest ≤ length l.script;
       events : List ScriptEvent;
       tell : TellEvents before events;
-      played : (setup : Setup) (writes : Writing) → AreSet setup l.fn.player.gateway.settings → IsWriting writes → (p : Played) × PlaysAll setup writes nothing_played events p × IsPlaying setup writes p l.player;
+      played : (setup : Setup) (writes : Writing) → AreSet setup l.fn.player.gateway.settings → IsWriting writes → (p : PlayedScript) × PlaysAll setup writes nothing_played events p × IsPlaying setup writes p l.player;
     }
 
 abbrev pub decreases-loop-line : goal.decreases-loop-line

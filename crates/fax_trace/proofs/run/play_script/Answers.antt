@@ -1,6 +1,6 @@
 use Rattle.std.proofs.Common.{rules, ℕ, List, ◌++◌, codes, ◌∙◌, ap}
 use Rattle.fax_trace.specs.declared.answer.PlayedScript.{PlayedScript}
-use Rattle.fax_trace.specs.Kept.{status_of_answer, text_of_answer}
+use Rattle.fax_trace.specs.Rep.{status_of_answer, text_of_answer}
 use Rattle.fax_trace.proofs.AnswerLemmas.{Answers-read, Answers-unread}
 use Rattle.fax_trace.proofs.run.play_script.Goals as goal
 use Rattle.fax_trace.proofs.run.play_script.Goals.{in-Ok, in-Err-NoMemory}

@@ -1,6 +1,6 @@
 use Rattle.std.proofs.Common.{◌≡◌, ℕ, List, ◌+◌, length, add-one, arith, sym, ◌∙◌, ap}
 use Rattle.fax_udptl.specs.Datagrams.{written_packet}
-use Rattle.fax_udptl.proofs.WrittenLemmas.{packets_size, packets_size_more, short_behind, no_packets_size}
+use Rattle.fax_udptl.proofs.WrittenLemmas.{packets_size, packets_size_more, short_after, no_packets_size}
 use Rattle.fax_udptl.proofs.sender.packets_size.Goals as goal
 
 pub loop-packet-preserved : goal.loop-packet-preserved
@@ -13,7 +13,7 @@ loop-packet-preserved c =
     record {
       size = omega (arith, more, here);
       bound = omega (arith, one);
-      short = short_behind c.loop-packet.packet-iterator c.next.new.self c.in-Some.packet.now c.in-Some.ensures.steps c.loop-packet.invariant.short;
+      short = short_after c.loop-packet.packet-iterator c.next.new.self c.in-Some.packet.now c.in-Some.ensures.steps c.loop-packet.invariant.short;
     }
 
 pub returns-clause-size : goal.returns-clause-size

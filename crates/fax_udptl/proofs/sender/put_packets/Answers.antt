@@ -1,6 +1,6 @@
 use Rattle.std.proofs.Common.{◌≡◌, ◌+◌, ◌++◌, ℕ, List, ap, ◌∙◌, sym, append_assoc, flat_map, arith, length}
 use Rattle.fax_udptl.specs.Datagrams.{written_packet}
-use Rattle.fax_udptl.proofs.WrittenLemmas.{packets_size, packets_size_more, short_behind}
+use Rattle.fax_udptl.proofs.WrittenLemmas.{packets_size, packets_size_more, short_after}
 use Rattle.fax_udptl.proofs.sender.put_packets.Goals as goal
 
 pub put_packet-requires-clause-room : goal.put_packet-requires-clause-room
@@ -22,5 +22,5 @@ loop-packet-preserved c =
           ∙ sym (ap (λ (ps : List (List ℕ)). c.loop-packet.octets.items ++ flat_map written_packet ps) c.in-Some.ensures.steps)
           ∙ c.loop-packet.invariant.written;
       room = omega (arith, more, here, c.loop-packet.invariant.room, c.put_packet.ensures.len, c.put_packet.ensures.capacity);
-      short = short_behind c.loop-packet.packet-iterator c.next.new.self c.in-Some.packet.now c.in-Some.ensures.steps c.loop-packet.invariant.short;
+      short = short_after c.loop-packet.packet-iterator c.next.new.self c.in-Some.packet.now c.in-Some.ensures.steps c.loop-packet.invariant.short;
     }

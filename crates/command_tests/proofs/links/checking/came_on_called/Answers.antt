@@ -2,7 +2,7 @@ use Rattle.std.proofs.Common.{ℕ, List, [], ◌∷◌, refl, subst, arith, take
 use Rattle.std.specs.Prelude.{All, Contains}
 use Rattle.std.specs.List.{AllByRecursion}
 use Rattle.std.proofs.lemmas.List.Elements.{All-append, All-more, All-nil, recursion_from_All}
-use Rattle.fax_gateway.specs.declared.side.Side.TheVariants as side
+use Rattle.fax_gateway.specs.declared.leg.Leg.TheVariants as legs
 use Rattle.fax_gateway.specs.Wires as wires
 use Rattle.fax_gateway.specs.Wires.{Receipt}
 use Rattle.fax_loop.specs.Links.{came_called}
@@ -13,8 +13,8 @@ IsFrom sent r = All (Contains sent) (came_called (r ∷ []))
 
 all_from : (sent : List (List ℕ)) (rs : List Receipt) → AllByRecursion (IsFrom sent) rs → All (Contains sent) (came_called rs)
 all_from sent [] a = All-nil (Contains sent)
-all_from sent (wires.Came side.Called room octets ∷ rs) a = All-append (Contains sent) (octets ∷ []) (came_called rs) a.0 (all_from sent rs a.1)
-all_from sent (wires.Came side.Calling room octets ∷ rs) a = all_from sent rs a.1
+all_from sent (wires.Came legs.Called room octets ∷ rs) a = All-append (Contains sent) (octets ∷ []) (came_called rs) a.0 (all_from sent rs a.1)
+all_from sent (wires.Came legs.Calling room octets ∷ rs) a = all_from sent rs a.1
 all_from sent (wires.Nothing at room ∷ rs) a = all_from sent rs a.1
 all_from sent (wires.Failed at room ∷ rs) a = all_from sent rs a.1
 

@@ -1,12 +1,12 @@
 use Rattle.std.proofs.Common.{◌≤◌, ◌∙◌, List, length, refl, arith}
-use Rattle.fax_gateway.specs.Wires.{Handed}
+use Rattle.fax_gateway.specs.Wires.{HandedDatagram}
 use Rattle.fax_loop.specs.Links.{handed_called}
 use Rattle.command_tests.proofs.Handed.{few}
 use Rattle.command_tests.proofs.links.checking.is_linked.Goals as goal
 
 pub returns-then-came_on_calling : goal.returns-then-came_on_calling
 returns-then-came_on_calling c = λ t before after unused caller received sent answerer.
-    let handed : List Handed = c.in-Some-whole-2.handed.now in
+    let handed : List HandedDatagram = c.in-Some-whole-2.handed.now in
     let low : length (handed_called handed) ≤ length handed = few handed in
     record {
       caller_sent = c.in-Some.by_caller.now;

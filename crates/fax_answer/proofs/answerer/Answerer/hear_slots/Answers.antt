@@ -1,10 +1,10 @@
 use Rattle.std.proofs.Common.{rules, ◌≡◌, ◌++◌, ℕ, List, Some, map, sym, ◌∙◌, ap, subst}
 use Rattle.fax_ifp.specs.Elements.{Slot}
-use Rattle.fax_ifp.specs.Tracked.{Tracked, Tracks, Gives, lost_slots}
+use Rattle.fax_ifp.specs.Tracked.{TrackState, Tracks, Gives, lost_slots}
 use Rattle.fax_ifp.specs.Pieces.{Piece}
 use Rattle.fax_udptl.specs.Reading.{texts}
 use Rattle.fax_answer.specs.Images.{GoesOn}
-use Rattle.fax_answer.specs.Reached.{Kept, HearsSo, Stands, TakesAll}
+use Rattle.fax_answer.specs.Reached.{Rep, HearsSo, Stands, TakesAll}
 use Rattle.fax_answer.proofs.ImageLemmas.{goes_same, goes_further}
 use Rattle.fax_answer.proofs.SlotsLemmas.{hears_more, slots_more}
 use Rattle.fax_answer.proofs.answerer.Answerer.hear_slots.Goals as goal
@@ -12,27 +12,27 @@ use Rattle.fax_answer.proofs.answerer.Answerer.hear_slots.Goals as goal
 pub loop-packet-preserved : goal.loop-packet-preserved
 loop-packet-preserved g c =
     let before = c.loop-packet.invariant in
-    let mid : Kept = c.loop-packet.self in
+    let mid : Rep = c.loop-packet.self in
     let inside = c.self-in-loop-packet.inside in
-    let tracked : inside.signals ≡ mid.tracked = ap (λ (k : Kept). k.tracked) c.self-in-loop-packet.view_is in
+    let tracked : inside.signals ≡ mid.tracked = ap (λ (k : Rep). k.tracked) c.self-in-loop-packet.view_is in
     let given : List Piece = c.slot_into.new.pieces in
     let told = c.as_slice.ensures in
     record {
       heard = λ heard core r.
           subst (λ (s : List Slot). HearsSo s c.args.now heard core c.hear_all.new.self) (slots_more c.args.decided.now.lost c.loop-packet.yielded c.in-Some.packet)
           (hears_more (lost_slots c.args.decided.now.lost ++ map (λ (x : List ℕ). Some x) (texts c.loop-packet.yielded)) c.in-Some.packet.now c.args.now heard core mid c.hear_all.new.self c.slot_into.new.self given (before.heard heard core r)
-          (subst (λ (t : Tracked). Tracks (Some c.in-Some.packet.now) t c.slot_into.new.self) tracked c.in_ok-slot_into.ensures.tracked)
-          (subst (λ (t : Tracked). Gives (Some c.in-Some.packet.now) t given) tracked c.in_ok-slot_into.ensures.pieces)
+          (subst (λ (t : TrackState). Tracks (Some c.in-Some.packet.now) t c.slot_into.new.self) tracked c.in_ok-slot_into.ensures.tracked)
+          (subst (λ (t : TrackState). Gives (Some c.in-Some.packet.now) t given) tracked c.in_ok-slot_into.ensures.pieces)
           c.hear_all.ensures.tracked
           (λ a s.
-          let k = subst (λ (x : Kept). Stands a x) (sym c.self-in-loop-packet.view_is) s in
+          let k = subst (λ (x : Rep). Stands a x) (sym c.self-in-loop-packet.view_is) s in
           subst (λ (ps : List Piece). TakesAll ps c.args.now a c.hear_all.new.self) told
           (c.in_ok-hear_all.ensures.heard a (record { confirmed = k.confirmed; confirms = k.confirms; follows = k.follows; reason = k.reason; holds = k.holds }))));
       goes_on =
-          let here = subst (λ (k : Kept). GoesOn k.image.readers c.hear_all.new.self.image.readers) c.self-in-loop-packet.view_is c.hear_all.ensures.goes_on in
+          let here = subst (λ (k : Rep). GoesOn k.image.readers c.hear_all.new.self.image.readers) c.self-in-loop-packet.view_is c.hear_all.ensures.goes_on in
           goes_further c.args.self.now.image.readers mid.image.readers c.hear_all.new.self.image.readers before.goes_on here;
-      confirmed = c.hear_all.ensures.confirmed ∙ ap (λ (k : Kept). k.confirmed) c.self-in-loop-packet.view_is ∙ before.confirmed;
-      spare = c.hear_all.ensures.spare ∙ ap (λ (k : Kept). k.spare) c.self-in-loop-packet.view_is ∙ before.spare;
+      confirmed = c.hear_all.ensures.confirmed ∙ ap (λ (k : Rep). k.confirmed) c.self-in-loop-packet.view_is ∙ before.confirmed;
+      spare = c.hear_all.ensures.spare ∙ ap (λ (k : Rep). k.spare) c.self-in-loop-packet.view_is ∙ before.spare;
     }
 
 pub loop-packet-init : goal.loop-packet-init
@@ -45,6 +45,6 @@ loop-packet-init g c = record {
 
 pub returns-in_err-hear_all-clause-goes_on : goal.returns-in_err-hear_all-clause-goes_on
 returns-in_err-hear_all-clause-goes_on g c =
-    let mid : Kept = c.loop-packet.self in
-    let here = subst (λ (k : Kept). GoesOn k.image.readers c.hear_all.new.self.image.readers) c.self-in-loop-packet.view_is c.hear_all.ensures.goes_on in
+    let mid : Rep = c.loop-packet.self in
+    let here = subst (λ (k : Rep). GoesOn k.image.readers c.hear_all.new.self.image.readers) c.self-in-loop-packet.view_is c.hear_all.ensures.goes_on in
     goes_further c.args.self.now.image.readers mid.image.readers c.hear_all.new.self.image.readers c.loop-packet.invariant.goes_on here

@@ -1,13 +1,13 @@
 use Rattle.std.proofs.Common.{◌≡◌, true, false, refl, sym, ◌∙◌, subst, rules}
 use Rattle.fax_answer.specs.History.{since_answer, last_image}
 use Rattle.fax_answer.specs.Table.{is_one_image, is_repeat}
-use Rattle.fax_answer.specs.Reached.{Kept, Stands}
+use Rattle.fax_answer.specs.Reached.{Rep, Stands}
 use Rattle.fax_answer.proofs.AnswerLemmas.{by_image, refused_in_page}
 use Rattle.fax_answer.proofs.answerer.Answerer.judge.Goals as goal
 
 pub returns-then-is_one_image : goal.returns-then-is_one_image
 returns-then-is_one_image g c core dcs s e =
-    let k = subst (λ (x : Kept). Stands core x) (sym c.self.view_is) s in
+    let k = subst (λ (x : Rep). Stands core x) (sym c.self.view_is) s in
     let on : c.is_one_image.result ≡ true = search rules in
     let one : is_one_image (since_answer core.history) ≡ true = sym (c.is_one_image.ensures core.history k.follows.counts) ∙ on in
     by_image dcs c.args.command core.history (last_image core.history) c.args.self.now.image.readers c.read.result one refl
@@ -15,7 +15,7 @@ returns-then-is_one_image g c core dcs s e =
 
 pub returns : goal.returns
 returns g c core dcs s e =
-    let k = subst (λ (x : Kept). Stands core x) (sym c.self.view_is) s in
+    let k = subst (λ (x : Rep). Stands core x) (sym c.self.view_is) s in
     let off : c.is_one_image.result ≡ false = search rules in
     let fresh : c.is_repeat.result ≡ false = search rules in
     let none : is_one_image (since_answer core.history) ≡ false = sym (c.is_one_image.ensures core.history k.follows.counts) ∙ off in

@@ -3,7 +3,7 @@ use Rattle.fax_frames.specs.Rates.{bits_a_second}
 use Rattle.fax_answer.specs.History.{octets_since}
 use Rattle.fax_answer.specs.Table.{longest_zeros}
 use Rattle.fax_answer.specs.Replies.{is_waiting}
-use Rattle.fax_answer.specs.Reached.{Kept, Stands}
+use Rattle.fax_answer.specs.Reached.{Rep, Stands}
 use Rattle.fax_answer.proofs.Held.{longest_is, enough}
 use Rattle.fax_answer.proofs.HearingLemmas.{trained, is_good}
 use Rattle.fax_answer.proofs.answerer.Answerer.judge_training.Goals as goal
@@ -14,7 +14,7 @@ good b whole missing m longest wanted l w h e f k = h ∙ ap (λ (x : Bool). who
 pub returns-then-is_check : goal.returns-then-is_check
 returns-then-is_check g c core s =
     let is : c.is_check.result ≡ true = search rules in
-    let k = subst (λ (x : Kept). Stands core x) (sym c.self.view_is) s in
+    let k = subst (λ (x : Rep). Stands core x) (sym c.self.view_is) s in
     let e = sym k.follows.state ∙ c.in-Train.is in
     let z : ℕ = longest_zeros (octets_since core.history) in
     let few : c.bits-wanted.result / 8 ≤ 65535 = search rules in
@@ -28,7 +28,7 @@ returns-then-is_check g c core s =
 pub returns-else-is_check : goal.returns-else-is_check
 returns-else-is_check g c core s =
     let is : c.is_check.result ≡ false = search rules in
-    let k = subst (λ (x : Kept). Stands core x) (sym c.self.view_is) s in
+    let k = subst (λ (x : Rep). Stands core x) (sym c.self.view_is) s in
     let e = sym k.follows.state ∙ c.in-Train.is in
     let z : ℕ = longest_zeros (octets_since core.history) in
     let few : c.bits-wanted.result / 8 ≤ 65535 = search rules in

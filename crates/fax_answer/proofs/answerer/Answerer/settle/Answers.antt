@@ -2,14 +2,14 @@ use Rattle.std.proofs.Common.{◌≡◌, List, Option, None, refl, sym, ◌∙�
 use Rattle.fax_pagestore.specs.Readers.{ReaderValue}
 use Rattle.fax_answer.specs.declared.image.Accepted.{Accepted}
 use Rattle.fax_answer.specs.Images.{ImageValue, Confirms}
-use Rattle.fax_answer.specs.Reached.{Kept, Stands}
+use Rattle.fax_answer.specs.Reached.{Rep, Stands}
 use Rattle.fax_answer.specs.Shown.{confirmed_shown}
 use Rattle.fax_answer.proofs.SlotsLemmas.{finish_left, holds_settled}
 use Rattle.fax_answer.proofs.answerer.Answerer.settle.Goals as goal
 
 pub returns-clause-stands : goal.returns-clause-stands
 returns-clause-stands g c core s =
-    let k = subst (λ (x : Kept). Stands core x) (sym c.self.view_is) s in
+    let k = subst (λ (x : Rep). Stands core x) (sym c.self.view_is) s in
     let left : List ReaderValue = c.finish-found.new.self.readers in
     let both = finish_left c.self.inside.image.accepted c.self.inside.image.readers left c.keep.new.kept c.self.inside.confirmed c.finish-found.result (confirmed_shown {S = g.row.S.Denot}) k.confirmed refl c.keep.ensures k.confirms (c.finish-found.ensures.none, c.finish-found.ensures.page) in
     let accepted : c.keep-2.new.self.accepted ≡ None = ap (λ (i : ImageValue). i.accepted) c.keep-2.ensures ∙ c.finish-found.ensures.settled in

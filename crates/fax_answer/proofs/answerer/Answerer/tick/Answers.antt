@@ -3,9 +3,9 @@ use Rattle.std.specs.Result.{OnErr}
 use Rattle.fax_answer.specs.declared.pending.Pending.TheVariants.{Nothing}
 use Rattle.fax_answer.specs.Replies.{ConfirmedPage}
 use Rattle.fax_ifp.specs.Elements.{Slot}
-use Rattle.fax_answer.specs.Calls.{Answering, ticked, timed}
+use Rattle.fax_answer.specs.Calls.{AnswererCore, ticked, timed}
 use Rattle.fax_answer.specs.Following.{gives_now}
-use Rattle.fax_answer.specs.Reached.{Kept, IsReached}
+use Rattle.fax_answer.specs.Reached.{Rep, IsReached}
 use Rattle.fax_answer.specs.Shown.{confirmed_shown}
 use Rattle.fax_answer.proofs.PacketLemmas.{short_as}
 use Rattle.fax_answer.proofs.ReachedLemmas.{reached_rests, step_rests, reached_gives, step_gives, given_gives, left_if, taken_if, settled_follows}
@@ -22,7 +22,7 @@ not_false false h = cc
 pub returns-then-not-gives-clause-ticked : goal.returns-then-not-gives-clause-ticked
 returns-then-not-gives-clause-ticked g c heard core r =
     let now : ℕ = c.args.now in
-    let s = subst (λ (k : Kept). IsReached heard core k) (sym c.self.view_is) r in
+    let s = subst (λ (k : Rep). IsReached heard core k) (sym c.self.view_is) r in
     let acted = c.act.ensures.acted core _ (settled_follows heard core _ s) in
     let off : c.gives.result ≡ false = search rules in
     let none : gives_now (timed core now) now ≡ false = sym (c.gives.ensures.gives (timed core now) _ acted) ∙ off in
@@ -31,7 +31,7 @@ returns-then-not-gives-clause-ticked g c heard core r =
 pub returns-clause-ticked : goal.returns-clause-ticked
 returns-clause-ticked g c heard core r =
     let now : ℕ = c.args.now in
-    let s = subst (λ (k : Kept). IsReached heard core k) (sym c.self.view_is) r in
+    let s = subst (λ (k : Rep). IsReached heard core k) (sym c.self.view_is) r in
     let acted = c.act.ensures.acted core _ (settled_follows heard core _ s) in
     let on : c.gives.result ≡ true = search rules in
     let gives : gives_now (timed core now) now ≡ true = sym (c.gives.ensures.gives (timed core now) _ acted) ∙ on in
@@ -58,7 +58,7 @@ pub returns-in_err-room-clause-memory : goal.returns-in_err-room-clause-memory
 returns-in_err-room-clause-memory g c =
     let now : ℕ = c.args.now in
     let on : c.gives.result ≡ true = search rules in
-    on_err c.from_residual.result (λ (heard : List Slot) (core : Answering) (r : IsReached heard core c.args.self.now).
-    let s = subst (λ (k : Kept). IsReached heard core k) (sym c.self.view_is) r in
+    on_err c.from_residual.result (λ (heard : List Slot) (core : AnswererCore) (r : IsReached heard core c.args.self.now).
+    let s = subst (λ (k : Rep). IsReached heard core k) (sym c.self.view_is) r in
     let acted = c.act.ensures.acted core _ (settled_follows heard core _ s) in
     given_gives core now (sym (c.gives.ensures.gives (timed core now) _ acted) ∙ on))

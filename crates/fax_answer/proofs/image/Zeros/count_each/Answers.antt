@@ -1,5 +1,5 @@
 use Rattle.std.proofs.Common.{◌≡◌, ◌<◌, length, ℕ, List, take, get_or, sym, ◌∙◌, ap, max}
-use Rattle.fax_answer.specs.Images.{run_behind, longest_behind, run_with}
+use Rattle.fax_answer.specs.Images.{run_after, longest_after, run_with}
 use Rattle.fax_answer.proofs.ImageLemmas.{run_more, longest_more}
 use Rattle.fax_answer.proofs.image.Zeros.count_each.Goals as goal
 
@@ -11,9 +11,9 @@ loop-octet-preserved c =
     let run = run_more c.args.self.now.run i octets within in
     let longest = longest_more c.args.self.now.run c.args.self.now.longest i octets within in
     let octet : ℕ = get_or octets i 0 in
-    let now : c.run_with-self.result ≡ run_with (run_behind c.args.self.now.run (take i octets)) octet =
+    let now : c.run_with-self.result ≡ run_with (run_after c.args.self.now.run (take i octets)) octet =
     c.run_with-self.ensures ∙ ap (λ (n : ℕ). run_with n octet) c.loop-octet.invariant.run in
     record {
       run = now ∙ sym run;
-      longest = c.max-self.ensures ∙ ap (λ (n : ℕ). max n c.run_with-self.result) c.loop-octet.invariant.longest ∙ ap (λ (n : ℕ). max (longest_behind c.args.self.now.run c.args.self.now.longest (take i octets)) n) now ∙ sym longest;
+      longest = c.max-self.ensures ∙ ap (λ (n : ℕ). max n c.run_with-self.result) c.loop-octet.invariant.longest ∙ ap (λ (n : ℕ). max (longest_after c.args.self.now.run c.args.self.now.longest (take i octets)) n) now ∙ sym longest;
     }

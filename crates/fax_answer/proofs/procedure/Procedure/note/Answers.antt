@@ -9,15 +9,15 @@ pub returns-then-eq-clause-noted : goal.returns-then-eq-clause-noted
 returns-then-eq-clause-noted c core confirmed p d f is verdict can =
     let nothing : c.args.self.now.pending ≡ Nothing = search rules in
     noted_free core confirmed c.args.self.now _ p d c.args.now f can nothing
-    (c.state_behind-self.ensures d verdict ∙ ap (λ (s : State). state_after s d) f.state)
+    (c.state_then-self.ensures d verdict ∙ ap (λ (s : State). state_after s d) f.state)
     (c.note.ensures core.history (record { piece = p; decision = d }) f.counts is verdict)
-    (c.timers_behind-self.ensures core confirmed p d f is verdict) refl
-    (c.pending_behind-self.ensures.reply d verdict)
+    (c.timers_then-self.ensures core confirmed p d f is verdict) refl
+    (c.pending_after-self.ensures.reply d verdict)
 
 pub returns-else-eq-clause-noted : goal.returns-else-eq-clause-noted
 returns-else-eq-clause-noted c core confirmed p d f is verdict can =
     let some : c.args.self.now.pending ≡ Nothing → ⊥ = search rules in
     noted_waiting core confirmed c.args.self.now _ p d c.args.now f can some
-    (c.state_behind-self.ensures d verdict ∙ ap (λ (s : State). state_after s d) f.state)
+    (c.state_then-self.ensures d verdict ∙ ap (λ (s : State). state_after s d) f.state)
     (c.note.ensures core.history (record { piece = p; decision = d }) f.counts is verdict)
-    (c.timers_behind-self.ensures core confirmed p d f is verdict) refl refl
+    (c.timers_then-self.ensures core confirmed p d f is verdict) refl refl

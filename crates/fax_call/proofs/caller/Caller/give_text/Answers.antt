@@ -3,7 +3,7 @@ use Rattle.std.proofs.lemmas.Option.{slice_get_read}
 use Rattle.fax_pagestore.specs.Pages.{PageValue}
 use Rattle.fax_call.specs.declared.procedure.Procedure.{Procedure}
 use Rattle.fax_call.specs.Following.{Follows, GivesPacket}
-use Rattle.fax_call.specs.Reached.{Kept}
+use Rattle.fax_call.specs.Reached.{Rep}
 use Rattle.fax_call.proofs.GivingLemmas.{text_gives}
 use Rattle.fax_call.proofs.caller.Caller.give_text.Goals as goal
 
@@ -17,7 +17,7 @@ returns-clause-given g c writes core f =
     let pages : c.as_slice.result.now ≡ job.pages = c.as_slice.ensures ∙ c.pages.ensures.same in
     let is_at : page ≡ get_or job.pages p.counts.page page = subst (λ (xs : List PageValue). page ≡ get_or xs p.counts.page page) pages c.index-as_slice-procedure.is in
     let at : slice_get job.pages p.counts.page ≡ Some page = slice_get_read job.pages (length job.pages) p.counts.page page refl c.requires.page is_at in
-    let shown : Follows writes job core c.self.inside.writer p = subst (λ (k : Kept). Follows writes job core k.writer p) (sym c.self.view_is) f in
+    let shown : Follows writes job core c.self.inside.writer p = subst (λ (k : Rep). Follows writes job core k.writer p) (sym c.self.view_is) f in
     subst (λ (n : Procedure). GivesPacket writes job core c.args.now (Some packet.octets) c.text_packet.new.writer n) (sym c.give.ensures.given)
     (text_gives writes job core c.self.inside.writer c.text_packet.new.writer p c.args.now c.args.dcs c.requires.pending.0 page packet.octets packet.is_last
     c.requires.fit shown c.requires.pending.1 at told.packet told.last told.left)

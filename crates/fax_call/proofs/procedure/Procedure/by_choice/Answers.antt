@@ -1,5 +1,5 @@
 use Rattle.std.proofs.Common.{sym, ◌∙◌, rules}
-use Rattle.fax_call.proofs.KeptLemmas.{step_few}
+use Rattle.fax_call.proofs.RepLemmas.{step_few}
 use Rattle.fax_call.proofs.procedure.Procedure.by_choice.Goals as goal
 
 pub returns-in-Ok-clause-fits : goal.returns-in-Ok-clause-fits

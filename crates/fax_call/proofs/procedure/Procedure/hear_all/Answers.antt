@@ -3,7 +3,7 @@ use Rattle.fax_ifp.specs.Pieces.{Piece}
 use Rattle.fax_ifp.specs.Shown.{piece_of, pieces_shown}
 use Rattle.fax_call.specs.declared.procedure.Procedure.{Procedure}
 use Rattle.fax_call.specs.declared.state.State.TheVariants.{Idle}
-use Rattle.fax_call.specs.Calls.{Calling, came_all}
+use Rattle.fax_call.specs.Calls.{CallerCore, came_all}
 use Rattle.fax_call.specs.Following.{Follows}
 use Rattle.fax_call.proofs.HearingLemmas.{came_more, shown_more}
 use Rattle.fax_call.proofs.JobLemmas.{heard_job}
@@ -19,7 +19,7 @@ loop-piece-preserved c =
       text = λ writer h. c.hear.ensures.text writer (before.text writer h);
       heard = λ writes job core writer f.
           subst (λ (ps : List Piece). Follows writes job (came_all core ps c.args.now) writer c.hear.new.self) (shown_more c.args.pieces.now i c.piece-item.result c.loop-piece-test.true c.piece-item.is)
-          (subst (λ (a : Calling). Follows writes job a writer c.hear.new.self) (sym (came_more core (pieces_shown (take i c.args.pieces.now)) (piece_of c.piece-item.result) c.args.now))
+          (subst (λ (a : CallerCore). Follows writes job a writer c.hear.new.self) (sym (came_more core (pieces_shown (take i c.args.pieces.now)) (piece_of c.piece-item.result) c.args.now))
           (c.hear.ensures.heard writes job _ writer (before.heard writes job core writer f)));
     }
 

@@ -9,7 +9,7 @@ use Rattle.fax_call.specs.declared.state.State.TheVariants.{Idle}
 use Rattle.fax_call.specs.declared.table.Move.{Move}
 use Rattle.fax_call.specs.declared.table.Move.TheVariants as moves
 use Rattle.fax_call.specs.Calls.{moved}
-use Rattle.fax_call.specs.Kept.{move_shown, FitsMove}
+use Rattle.fax_call.specs.Rep.{move_shown, FitsMove}
 use Rattle.fax_call.specs.Following.{IsFit, Follows}
 use Rattle.fax_call.proofs.MakingLemmas.{replied, turned, trains, sends, asks_again, turns, closes}
 use Rattle.fax_call.proofs.procedure.Procedure.make.Goals as goal

@@ -1,5 +1,5 @@
 use Rattle.std.proofs.Common.{ap, subst, sym, List, ℕ}
-use Rattle.fax_telling.specs.declared.lane.Lane.{Lane}
+use Rattle.fax_descriptions.specs.declared.lane.Lane.{Lane}
 use Rattle.fax_explain.specs.Heard.{AddsLine, BeginsAsOneOf}
 use Rattle.fax_explain.specs.Openings.{end_opening}
 use Rattle.fax_explain.proofs.OpenedLemmas.{hears_told, ok_then}

@@ -20,11 +20,11 @@ returns-clause-told c = ok_then c.hear_packets.result c.hear_packets.ensures.tol
     let from = c.from-from.result in
     let lost = c.lost-lost.result in
     let some : slots_in decided ≡ [] → ⊥ = λ none. let no = c.is_empty.ensures.1 none in cc in
-    let behind = c.in_ok-lose.ensures.heard slots h in
+    let after = c.in_ok-lose.ensures.heard slots h in
     decided_told slots c.args.number decided from lost c.args.self.now c.lose.new.self c.hear_packets.new.self c.args.tale.now c.lose.new.tale c.bring_back.new.tale c.hear_packets.new.tale
     some c.from-from.ensures c.lost-lost.ensures c.in_ok-lose.ensures.told c.in_ok-bring_back.ensures
     (subst (λ (ps : List (List ℕ)). Hears (packets_openings (lost_slots lost ++ slots) ((from + lost) % 65536) ps) c.lose.new.self c.hear_packets.new.self c.bring_back.new.tale c.hear_packets.new.tale)
-    c.packets.ensures (told (lost_slots lost ++ slots) behind)))
+    c.packets.ensures (told (lost_slots lost ++ slots) after)))
 
 pub returns-clause-heard : goal.returns-clause-heard
 returns-clause-heard c = ok_then c.hear_packets.result c.hear_packets.ensures.heard (λ heard slots h.

@@ -1,6 +1,6 @@
 use Rattle.std.proofs.Common.{[], ◌∷◌, ◌++◌, ◌∙◌, ap, subst}
 use Rattle.fax_frames.specs.Frames.{frame_of}
-use Rattle.fax_telling.specs.declared.lane.Lane.{Lane}
+use Rattle.fax_descriptions.specs.declared.lane.Lane.{Lane}
 use Rattle.fax_explain.specs.declared.listener.Listener.{Listener}
 use Rattle.fax_explain.specs.Heard.{AddsLine}
 use Rattle.fax_explain.specs.Openings.{frame_opening}

@@ -16,11 +16,11 @@ loop-packet-preserved c =
     record {
       at = next_at at first (length ys) so_far.at ∙ ap (λ (n : ℕ). (first + n) % 65536) (sym (length-append ys (y ∷ [])));
       told = λ slots h.
-          let behind : List Slot = reverse (map (λ (x : List ℕ). Some x) (texts ys)) ++ slots in
+          let after : List Slot = reverse (map (λ (x : List ℕ). Some x) (texts ys)) ++ slots in
           subst (λ (os : List Opening). Hears os c.args.self.now c.hear_packet.new.self c.args.tale.now c.hear_packet.new.tale) (sym (packets_told slots first at ys y so_far.at))
-          (hears_both (packets_openings slots first (texts ys)) (packet_openings behind at y.now) c.args.self.now c.loop-packet.self c.hear_packet.new.self c.args.tale.now c.loop-packet.tale c.hear_packet.new.tale
-          (so_far.told slots h) (c.in_ok-hear_packet.ensures.told behind (so_far.heard slots h)));
+          (hears_both (packets_openings slots first (texts ys)) (packet_openings after at y.now) c.args.self.now c.loop-packet.self c.hear_packet.new.self c.args.tale.now c.loop-packet.tale c.hear_packet.new.tale
+          (so_far.told slots h) (c.in_ok-hear_packet.ensures.told after (so_far.heard slots h)));
       heard = λ slots h.
-          let behind : List Slot = reverse (map (λ (x : List ℕ). Some x) (texts ys)) ++ slots in
-          slots_kept slots ys y c.hear_packet.new.self (c.in_ok-hear_packet.ensures.heard behind (so_far.heard slots h));
+          let after : List Slot = reverse (map (λ (x : List ℕ). Some x) (texts ys)) ++ slots in
+          slots_kept slots ys y c.hear_packet.new.self (c.in_ok-hear_packet.ensures.heard after (so_far.heard slots h));
     }

@@ -1,12 +1,12 @@
 use Rattle.std.proofs.Common.{ℕ, List, Ok, inl, inr, refl, sym, ◌∙◌, ap, subst}
-use Rattle.fax_gateway.specs.declared.side.Side.{Side}
+use Rattle.fax_gateway.specs.declared.leg.Leg.{Leg}
 use Rattle.fax_gateway.specs.Driving.{DriverValue, FailsToReceive, HasMade, ReceivesNothing}
 use Rattle.fax_gateway.proofs.DrivingLemmas.{carries_datagram, carries_failure, carries_nothing, made_nothing, wire_by, wire_came}
 use Rattle.fax_gateway.proofs.engine.Engine.receive.Goals as goal
 
 pub returns-in-Ok-Some : goal.returns-in-Ok-Some
 returns-in-Ok-Some g c setup writes trace earlier reached made =
-    let at : Side = c.args.side in
+    let at : Leg = c.args.leg in
     let h = c.hand_on-is_accepted.ensures setup writes trace reached in
     let k = c.receive.ensures in
     let octets : List ℕ = c.front.result.now in (
@@ -25,7 +25,7 @@ returns-in-Ok-Some g c setup writes trace earlier reached made =
 
 pub returns-in-Ok-None : goal.returns-in-Ok-None
 returns-in-Ok-None g c setup writes trace earlier reached made =
-    let at : Side = c.args.side in
+    let at : Leg = c.args.leg in
     let k = c.receive.ensures in (
       ReceivesNothing at,
       inl refl,
@@ -42,7 +42,7 @@ returns-in-Ok-None g c setup writes trace earlier reached made =
 
 pub returns-in-Err : goal.returns-in-Err
 returns-in-Err g c setup writes trace earlier reached made =
-    let at : Side = c.args.side in
+    let at : Leg = c.args.leg in
     let k = c.receive.ensures in (
       FailsToReceive at,
       inr refl,

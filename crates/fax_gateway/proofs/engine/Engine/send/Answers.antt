@@ -1,12 +1,12 @@
 use Rattle.std.proofs.Common.{ℕ, List, [], ◌∷◌, true, false, refl, sym, subst}
-use Rattle.fax_gateway.specs.declared.side.Side.{Side}
+use Rattle.fax_gateway.specs.declared.leg.Leg.{Leg}
 use Rattle.fax_gateway.specs.Driving.{DriverValue, Entry, HasMade, Sends}
 use Rattle.fax_gateway.proofs.DrivingLemmas.{carries_send, made_failed_send, made_unseen, is_sent, wire_by}
 use Rattle.fax_gateway.proofs.engine.Engine.send.Goals as goal
 
 pub returns-in-Ok : goal.returns-in-Ok
 returns-in-Ok g c earlier made =
-    let at : Side = c.args.side in
+    let at : Leg = c.args.leg in
     let octets : List ℕ = c.as_slice.result.now in
     let e : Entry = Sends at octets false in
     let h = c.in-Ok.ensures in (
@@ -19,7 +19,7 @@ returns-in-Ok g c earlier made =
 
 pub returns-in-Err : goal.returns-in-Err
 returns-in-Err g c earlier made =
-    let at : Side = c.args.side in
+    let at : Leg = c.args.leg in
     let octets : List ℕ = c.as_slice.result.now in
     let e : Entry = Sends at octets true in
     let h = c.in-Err.ensures in

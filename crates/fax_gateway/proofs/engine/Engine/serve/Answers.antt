@@ -15,7 +15,7 @@ loop-preserved g c setup writes trace earlier reached made =
     let steps = before.3 in
     let more = c.if-not-receive.ensures setup writes (events came ++ trace) (came ++ earlier) steps.happens.reached steps.made in (
       more.0 ∷ came,
-      All-cons (Comes c.args.side c.args.now) more.0 came more.1 before.1,
+      All-cons (Comes c.args.leg c.args.now) more.0 came more.1 before.1,
       let many : length came ≡ c.loop.counter = before.2 in omega arith,
       steps_more setup writes came (more.0 ∷ []) trace earlier _ _ _ _ _ _ _ steps more.2,
       wire_more g.W.Wire.receives g.W.Wire.sends came (more.0 ∷ []) c.args.wire.now c.loop.wire _ before.4 more.3,

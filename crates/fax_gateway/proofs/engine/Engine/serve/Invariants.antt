@@ -11,5 +11,5 @@ use Rattle.fax_gateway.proofs.engine.Engine.serve.Given as goal
 abbrev pub invariant-loop : goal.invariant-loop
 invariant-loop g l =
     (setup : Setup) (writes : Writing) (trace : List Event) (earlier : List Entry) → IsReachedBy setup writes trace l.fn.gateway → HasMade earlier l.fn.self
-    → (came : List Entry) × All (Comes l.side l.now) came × (length came ≡ l.counter) × Steps setup writes came trace earlier l.gateway (g.W.Wire.known l.fn.wire) (g.W.Wire.known l.wire) l.self
+    → (came : List Entry) × All (Comes l.leg l.now) came × (length came ≡ l.counter) × Steps setup writes came trace earlier l.gateway (g.W.Wire.known l.fn.wire) (g.W.Wire.known l.wire) l.self
     × WireGoes g.W.Wire.receives g.W.Wire.sends came l.fn.wire l.wire

@@ -3,7 +3,7 @@ use Rattle.fax_gateway.specs.CallingLegs.{calling_leg}
 use Rattle.fax_gateway.specs.Events.{Tick, clock}
 use Rattle.fax_gateway.specs.Reached.{given_shown}
 use Rattle.fax_gateway.specs.Turns.{IsRefusedAt, TellTicks}
-use Rattle.fax_gateway.specs.declared.side.Side.TheVariants as side
+use Rattle.fax_gateway.specs.declared.leg.Leg.TheVariants as legs
 use Rattle.fax_gateway.specs.Driving.{Accepts, DriverValue, Entry, HasMade, RefusesTick, Steps, events}
 use Rattle.fax_gateway.proofs.DrivingLemmas.{carries_unseen, made_refused_tick, made_unseen, steps_more, steps_send, wire_by, wire_more}
 use Rattle.fax_gateway.proofs.Turning.{due_where_refused, refused_tells, tick_tells}
@@ -22,12 +22,12 @@ returns-in-Ok g c setup writes trace earlier writing reached made =
     } in
     let first = c.send.ensures (e ∷ earlier) step.made in
     let steps = steps_more setup writes (e ∷ []) first.0 trace earlier _ _ _ _ _ _ _ step
-    (steps_send setup writes side.Calling c.in-Ok.given.calling first.0 (events (e ∷ []) ++ trace) (e ∷ earlier) _ _ _ _ first.1 first.2 first.3 step.happens.reached) in
+    (steps_send setup writes legs.Calling c.in-Ok.given.calling first.0 (events (e ∷ []) ++ trace) (e ∷ earlier) _ _ _ _ first.1 first.2 first.3 step.happens.reached) in
     let second = c.send-in-Ok.ensures ((first.0 ++ e ∷ []) ++ earlier) steps.made in (
       second.0 ++ (first.0 ++ e ∷ []),
       inl (given_shown c.in-Ok.given, first.0, second.0, first.1, second.1, refl),
       steps_more setup writes (first.0 ++ e ∷ []) second.0 trace earlier _ _ _ _ _ _ _ steps
-          (steps_send setup writes side.Called c.in-Ok.given.called second.0 (events (first.0 ++ e ∷ []) ++ trace) ((first.0 ++ e ∷ []) ++ earlier) _ _ _ _ second.1 second.2 second.3 steps.happens.reached),
+          (steps_send setup writes legs.Called c.in-Ok.given.called second.0 (events (first.0 ++ e ∷ []) ++ trace) ((first.0 ++ e ∷ []) ++ earlier) _ _ _ _ second.1 second.2 second.3 steps.happens.reached),
       tick_tells setup trace c.args.now (given_shown c.in-Ok.given) first.0 second.0 c.told.result.report c.told.result.kept c.told.result.refused c.told.result.gave_up first.1 second.1
           (ap (λ t. t.report) c.told.ensures)
           (ap (λ t. t.kept) c.told.ensures ∙ c.in-Ok.ensures.confirmed setup writes trace reached)

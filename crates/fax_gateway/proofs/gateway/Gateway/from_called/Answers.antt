@@ -3,7 +3,7 @@ use Rattle.fax_gateway.specs.Setups.{Setup}
 use Rattle.fax_gateway.specs.Events.{FromCalled, clock}
 use Rattle.fax_gateway.specs.CallingLegs.{CallingLeg, calling_after, calling_leg}
 use Rattle.fax_gateway.specs.CalledLegs.{hears}
-use Rattle.fax_gateway.specs.Sides.{sides}
+use Rattle.fax_gateway.specs.BothLegs.{both_legs}
 use Rattle.fax_gateway.specs.Reached.{GatewayValue, IsCalled, IsCalling, IsReachedBy}
 use Rattle.fax_gateway.proofs.gateway.Gateway.from_called.Goals as goal
 
@@ -17,7 +17,7 @@ returns-clause-heard g c = λ setup writes trace r.
     let octets : List ℕ = c.args.octets.now in
     let s = subst (λ (k : GatewayValue). IsReachedBy setup writes trace k) (sym c.self.view_is) r in
     let now : c.read.new.self ≡ max at (clock trace) = c.read.ensures.later ∙ ap (λ (m : ℕ). max at m) s.at in
-    let leg = (sides setup writes trace).leg in
+    let leg = (both_legs setup writes trace).leg in
     let new = c.hear.new.self in
     record {
       is_trace = (c.in_ok-decided.ensures.decided setup writes leg s.called, s.is_trace);

@@ -1,11 +1,11 @@
 use Rattle.std.proofs.Common.{◌≡◌, ℕ, max, Option, refl, sym, ◌∙◌, ap, subst}
 use Rattle.fax_jobs.specs.Books.{Book, taken}
-use Rattle.fax_gateway.specs.declared.called.CalledSide.{CalledSide}
+use Rattle.fax_gateway.specs.declared.called.CalledEndpoint.{CalledEndpoint}
 use Rattle.fax_gateway.specs.Events.{clock}
 use Rattle.fax_gateway.specs.CallingLegs.{CallingLeg, calling_leg, told_calling}
 use Rattle.fax_gateway.specs.CalledLegs.{CalledLeg}
-use Rattle.fax_gateway.specs.Sides.{in_tick, sides}
-use Rattle.fax_gateway.specs.Reached.{Begins, GatewayValue, IsCalling, IsReachedBy, ended_if, outcome_kept, report_if, ticked_on}
+use Rattle.fax_gateway.specs.BothLegs.{both_legs, in_tick}
+use Rattle.fax_gateway.specs.Reached.{Begins, GatewayValue, IsCalling, IsReachedBy, ended_if, outcome_of_rep, report_if, ticked_on}
 use Rattle.fax_gateway.proofs.Turning.{call_told, page_told, refusal_told}
 use Rattle.fax_gateway.proofs.Ticking.{IsHeard, same_served, serves_off, ticks}
 use Rattle.fax_gateway.proofs.gateway.Gateway.tick_between.Goals as goal
@@ -17,28 +17,28 @@ returns-clause-ticked g c setup writes trace writing fresh r =
     let s = subst (λ (k : GatewayValue). IsReachedBy setup writes trace k) (sym c.self.view_is) r in
     let old : GatewayValue = record { settings = inside.settings; clock = inside.clock; rings = inside.rings; calling = inside.calling; called = inside.called; book = inside.jobs.book; spare = inside.jobs.spare } in
     let left = c.end_job-report.new.jobs in
-    let side : CalledSide = c.begin-called.new.self in
-    let new : GatewayValue = record { settings = inside.settings; clock = c.read-moment.new.self; rings = inside.rings; calling = c.serve_calling-served.new.calling; called = side; book = left.book; spare = left.spare } in
+    let endpoint : CalledEndpoint = c.begin-called.new.self in
+    let new : GatewayValue = record { settings = inside.settings; clock = c.read-moment.new.self; rings = inside.rings; calling = c.serve_calling-served.new.calling; called = endpoint; book = left.book; spare = left.spare } in
     let leg : Option CallingLeg = calling_leg setup trace in
     let now_is : c.read-moment.result ≡ max at (clock trace) = c.read-moment.ensures.moment ∙ c.read-moment.ensures.later ∙ ap (λ (m : ℕ). max at m) s.at in
     let served = c.serve_calling-served.ensures in
     let heard : Book = c.serve_calling-served.new.jobs.book in
     let next : c.next.new.self.book ≡ taken heard = c.next.ensures.taken in
     let none = ap (λ (k : GatewayValue). k.book.sending) c.self.view_is ∙ c.requires.none in
-    let o = outcome_kept side.caller.procedure in
-    let d : ℕ = side.caller.procedure.counts.delivered in
+    let o = outcome_of_rep endpoint.caller.procedure in
+    let d : ℕ = endpoint.caller.procedure.counts.delivered in
     let given = c.begin-called.result in
-    let l : Option CalledLeg = (sides setup writes trace).leg in
+    let l : Option CalledLeg = (both_legs setup writes trace).leg in
     ticks setup writes trace at _ old new s c.read-moment.ensures.later refl refl
     (subst (λ (m : ℕ). IsCalling setup (ticked_on leg m) new.calling) now_is (served.ticked setup leg s.calling))
     (served.told setup leg s.calling ∙ ap (λ (m : ℕ). told_calling setup leg m) now_is)
-    (same_served setup writes (max at (clock trace)) (in_tick setup writes trace at) (in_tick setup writes trace at) side given _ c.end_job-report.result _ left.book refl
+    (same_served setup writes (max at (clock trace)) (in_tick setup writes trace at) (in_tick setup writes trace at) endpoint given _ c.end_job-report.result _ left.book refl
     (c.end_job-report.ensures.report ∙ ap (λ (b : Book). report_if b.sending o d) next)
     (c.end_job-report.ensures.ended ∙ ap (λ (b : Book). ended_if b.sending o d b) next)
-    (serves_off setup writes trace at old side given heard (sym s.set.asks ∙ (ap (λ (k : GatewayValue). k.settings.asks) c.self.view_is ∙ c.requires.asks)) s none
+    (serves_off setup writes trace at old endpoint given heard (sym s.set.asks ∙ (ap (λ (k : GatewayValue). k.settings.asks) c.self.view_is ∙ c.requires.asks)) s none
     (subst (λ (m : ℕ). IsHeard setup trace m old heard) now_is (served.heard setup leg s.calling))
-    (subst (λ (m : ℕ). Begins setup writes l (taken heard).sending m given inside.called side) now_is
-    (subst (λ (b : Book). Begins setup writes l b.sending c.read-moment.result given inside.called side) next (c.begin-called.ensures.begun setup writes l writing fresh s.called)))))
+    (subst (λ (m : ℕ). Begins setup writes l (taken heard).sending m given inside.called endpoint) now_is
+    (subst (λ (b : Book). Begins setup writes l b.sending c.read-moment.result given inside.called endpoint) next (c.begin-called.ensures.begun setup writes l writing fresh s.called)))))
 
 pub returns-clause-confirmed : goal.returns-clause-confirmed
 returns-clause-confirmed g c setup writes trace r =

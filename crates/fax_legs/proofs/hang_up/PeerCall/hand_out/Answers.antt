@@ -10,7 +10,7 @@ called n = record { newest = Some n; standing = standings.Told }
 
 pub returns-clause-handed : goal.returns-clause-handed
 returns-clause-handed c =
-    let number = c.number_behind-number.ensures in
+    let number = c.number_after-number.ensures in
     λ _. record {
       octets = ap (λ (front : List ℕ). front ++ drop 14 c.args.buffer.now) (c.copy_from_slice.ensures.after ∙ c.goodbye.ensures ∙ ap goodbye number);
       call = ap called number;

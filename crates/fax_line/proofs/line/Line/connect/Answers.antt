@@ -1,6 +1,6 @@
 use Rattle.std.proofs.Common.{[], ◌∷◌, Some}
-use Rattle.fax_line.specs.declared.asked.Answered.TheVariants as answered
-use Rattle.fax_line.specs.declared.asked.Asked.TheVariants as asked
+use Rattle.fax_line.specs.declared.asked.LineAnswer.TheVariants as answered
+use Rattle.fax_line.specs.declared.asked.LineRequest.TheVariants as asked
 use Rattle.fax_line.specs.Actions.{Asks}
 use Rattle.fax_line.proofs.Goings.{goes_more, goes_peers}
 use Rattle.fax_line.proofs.line.Line.connect.Goals as goal

@@ -1,6 +1,6 @@
 use Rattle.std.proofs.Common.{Some, refl}
-use Rattle.fax_line.specs.declared.asked.Answered.TheVariants as answered
-use Rattle.fax_line.specs.declared.asked.Asked.TheVariants as asked
+use Rattle.fax_line.specs.declared.asked.LineAnswer.TheVariants as answered
+use Rattle.fax_line.specs.declared.asked.LineRequest.TheVariants as asked
 use Rattle.fax_line.proofs.Goings.{goes_quiet}
 use Rattle.fax_line.proofs.line.Line.hear_gone.Goals as goal
 

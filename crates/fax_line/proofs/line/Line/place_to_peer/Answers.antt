@@ -1,7 +1,7 @@
 use Rattle.std.proofs.Common.{[], ◌∷◌, Ok, Err, true, ◌∙◌, ap, subst, sym}
-use Rattle.fax_gateway.specs.declared.side.Side.TheVariants as side
+use Rattle.fax_gateway.specs.declared.leg.Leg.TheVariants as legs
 use Rattle.fax_repeat.specs.Peers.{Peers, bounded, change_on, cut_off, no_bounds}
-use Rattle.fax_line.specs.declared.asked.Asked.TheVariants as asked
+use Rattle.fax_line.specs.declared.asked.LineRequest.TheVariants as asked
 use Rattle.fax_line.specs.Actions.{Asks, LineValue, TellsWire}
 use Rattle.fax_line.proofs.Goings.{goes_more, goes_peers, placed_as}
 use Rattle.fax_line.proofs.Heard.{freed_last}
@@ -13,10 +13,10 @@ returns-in-Ok-clause-goes g c = λ connecting.
     (goes_peers c.place.new.self c.begin.new.self c.begin.ensures.tells)
 
 pub returns-in-Ok-clause-freed : goal.returns-in-Ok-clause-freed
-returns-in-Ok-clause-freed g c = freed_last side.Called c.args.self.now c.place.new.self c.begin.new.self c.in-Ok.ensures.freed c.begin.ensures.tells
+returns-in-Ok-clause-freed g c = freed_last legs.Called c.args.self.now c.place.new.self c.begin.new.self c.in-Ok.ensures.freed c.begin.ensures.tells
 
 pub returns-in-Ok-clause-ok : goal.returns-in-Ok-clause-ok
-returns-in-Ok-clause-ok g c = c.begin.ensures.peers ∙ ap (λ (p : Peers). change_on side.Called (bounded no_bounds) p) c.place.ensures.peers
+returns-in-Ok-clause-ok g c = c.begin.ensures.peers ∙ ap (λ (p : Peers). change_on legs.Called (bounded no_bounds) p) c.place.ensures.peers
 
 pub returns-in-Err-clause-goes : goal.returns-in-Err-clause-goes
 returns-in-Err-clause-goes g c = λ connecting.
@@ -24,7 +24,7 @@ returns-in-Err-clause-goes g c = λ connecting.
     (goes_peers c.place.new.self c.cut.new.self c.cut.ensures.tells)
 
 pub returns-in-Err-clause-cut : goal.returns-in-Err-clause-cut
-returns-in-Err-clause-cut g c = c.cut.ensures.peers ∙ ap (λ (p : Peers). change_on side.Called cut_off p) c.place.ensures.peers
+returns-in-Err-clause-cut g c = c.cut.ensures.peers ∙ ap (λ (p : Peers). change_on legs.Called cut_off p) c.place.ensures.peers
 
 pub returns-in-Err-clause-err : goal.returns-in-Err-clause-err
 returns-in-Err-clause-err g c = subst (λ (l : LineValue). TellsWire l c.cut.new.self) c.in-Err.ensures.err c.cut.ensures.tells

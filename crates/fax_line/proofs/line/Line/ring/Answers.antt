@@ -1,7 +1,7 @@
 use Rattle.std.proofs.Common.{[], ◌∷◌, Ok, ◌∙◌, ap}
-use Rattle.fax_gateway.specs.declared.side.Side.TheVariants as side
+use Rattle.fax_gateway.specs.declared.leg.Leg.TheVariants as legs
 use Rattle.fax_repeat.specs.Peers.{Peers, bounded, change_on}
-use Rattle.fax_line.specs.declared.asked.Asked.TheVariants as asked
+use Rattle.fax_line.specs.declared.asked.LineRequest.TheVariants as asked
 use Rattle.fax_line.specs.Actions.{Asks}
 use Rattle.fax_line.proofs.Goings.{goes_more, goes_peers, rung_as}
 use Rattle.fax_line.specs.LegPeers.{cut_if}
@@ -15,13 +15,13 @@ returns-in-Ok-clause-goes g c =
 
 pub returns-in-Ok-clause-freed : goal.returns-in-Ok-clause-freed
 returns-in-Ok-clause-freed g c =
-    freed_last side.Calling c.args.self.now c.accept_ring.new.self c.begin.new.self c.in-Ok.ensures.freed
+    freed_last legs.Calling c.args.self.now c.accept_ring.new.self c.begin.new.self c.in-Ok.ensures.freed
     (tells_more c.accept_ring.new.self c.cut_if.new.self c.begin.new.self c.cut_if.ensures.tells c.begin.ensures.tells)
 
 pub returns-in-Ok-clause-peers : goal.returns-in-Ok-clause-peers
 returns-in-Ok-clause-peers g c =
     c.begin.ensures.peers
-    ∙ ap (λ (p : Peers). change_on side.Calling (bounded c.args.ringing.bounds) p) (c.cut_if.ensures.peers ∙ ap (λ (p : Peers). cut_if side.Calling c.args.ringing.forgets_peer p) c.accept_ring.ensures.peers)
+    ∙ ap (λ (p : Peers). change_on legs.Calling (bounded c.args.ringing.bounds) p) (c.cut_if.ensures.peers ∙ ap (λ (p : Peers). cut_if legs.Calling c.args.ringing.forgets_peer p) c.accept_ring.ensures.peers)
 
 pub returns-in-Err-clause-goes : goal.returns-in-Err-clause-goes
 returns-in-Err-clause-goes g c = c.in-Err.ensures.goes c.args.ringing

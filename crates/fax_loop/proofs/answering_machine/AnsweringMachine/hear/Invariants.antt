@@ -2,7 +2,7 @@ use Rattle.std.proofs.Common.{[], Option}
 use Rattle.fax_gateway.specs.CallingLegs.{CallingLeg}
 use Rattle.fax_gateway.specs.Setups.{Setup}
 use Rattle.fax_gateway.specs.Wires.{Grows}
-use Rattle.fax_loop.specs.Kept.{AnswererHears, IsAnswering}
+use Rattle.fax_loop.specs.Rep.{AnswererHears, IsAnswering}
 use Rattle.fax_loop.proofs.answering_machine.AnsweringMachine.hear.Given as goal
 
 -- so many datagrams were heard, and none was sent

@@ -6,7 +6,7 @@ use Rattle.fax_gateway.specs.CalledLegs.{CalledLeg}
 use Rattle.fax_gateway.specs.Reached.{IsCalled}
 use Rattle.fax_gateway.specs.Setups.{Setup}
 use Rattle.fax_gateway.specs.Wires.{Grows}
-use Rattle.fax_loop.specs.Kept.{CallerHears, caller_of}
+use Rattle.fax_loop.specs.Rep.{CallerHears, caller_of}
 use Rattle.fax_loop.proofs.calling_machine.CallingMachine.hear.Given as goal
 
 -- so many datagrams were heard, and none was sent

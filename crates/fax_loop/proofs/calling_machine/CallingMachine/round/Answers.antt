@@ -1,4 +1,4 @@
-use Rattle.fax_loop.specs.Kept.{caller_of}
+use Rattle.fax_loop.specs.Rep.{caller_of}
 use Rattle.fax_loop.proofs.CallerLemmas.{caller_turns}
 use Rattle.fax_loop.proofs.calling_machine.CallingMachine.round.Goals as goal
 

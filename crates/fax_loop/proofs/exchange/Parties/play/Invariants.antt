@@ -3,7 +3,7 @@ use Rattle.fax_call.specs.Writings.{IsWriting, Writing}
 use Rattle.std.proofs.Common.{[]}
 use Rattle.fax_gateway.specs.Setups.{Setup}
 use Rattle.fax_loop.specs.Exchanges.{Lines}
-use Rattle.fax_loop.specs.Kept.{HasGone, HasPlayed}
+use Rattle.fax_loop.specs.Rep.{HasGone, HasPlayed}
 use Rattle.fax_loop.proofs.exchange.Parties.play.Given as goal
 
 -- the job is that of the call, and so many rounds were played

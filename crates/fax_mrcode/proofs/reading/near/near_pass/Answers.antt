@@ -21,7 +21,7 @@ pub returns-clause-taken : goal.returns-clause-taken
 returns-clause-taken c = λ line is. record {
   text = mode_word Pass ++ [];
   first = rw (c.past.ensures.left, append-nil) (FirstAre-word c.args.near.ahead.window c.args.near.ahead.left 4 (mode_word Pass) (word_bits 60 c.args.near.ahead.window) refl (omega arith) (pass_begins c.args.near.ahead.window c.requires.word));
-  behind = c.past.ensures.behind;
+  after = c.past.ensures.after;
   takes = rw (colour_after-two c.next_change-b1.result.index, c.next_change-b1.ensures.b1.cursor.parity)
       (TakesSteps-one (painted White 0 c.args.changes.now c.args.width) c.args.width Pass [] (left_of_a0 line (start_of c.args.near)) (start_of c.args.near) _ _ c.requires.at.within
       (pass_taken c.args.changes.now c.args.width c.requires.at.rising line (start_of c.args.near) is c.requires.at.within c.next_change-b1.result.index c.next_change-b1.ensures.b1

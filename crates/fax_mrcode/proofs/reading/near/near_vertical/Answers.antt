@@ -26,20 +26,20 @@ is_at : (c : After-past) → IsAt c.args.word.offset (c.next_change-b1.result.pl
 is_at c = subst (λ n. IsAt c.args.word.offset (c.next_change-b1.result.place + c.right_of_left3.result - 3) n) c.next_change-b1.ensures.place
     ((c.right_of_left3.ensures.at (c.next_change-b1.result.place + c.right_of_left3.result - 3) c.next_change-b1.result.place).1 (omega arith))
 
-next : (c : After-past) → (colour_after_changes c.index_behind.result ≡ other (colour_after_changes c.args.near.index))
+next : (c : After-past) → (colour_after_changes c.index_after.result ≡ other (colour_after_changes c.args.near.index))
     × (c.next_change-b1.result.place + c.right_of_left3.result - 3 + 1 ≤ c.args.width
-    → IsCursor c.args.changes.now (other (colour_after_changes c.args.near.index)) (c.next_change-b1.result.place + c.right_of_left3.result - 3 + 1) c.index_behind.result)
+    → IsCursor c.args.changes.now (other (colour_after_changes c.args.near.index)) (c.next_change-b1.result.place + c.right_of_left3.result - 3 + 1) c.index_after.result)
 next c =
     next_index c.args.changes.now c.args.width c.requires.at.rising (colour_after_changes c.args.near.index) c.args.near.from c.next_change-b1.result.index c.next_change-b1.ensures.b1 c.args.word.offset c.args.word.back c.requires.back (omega (arith, c.if-b1-changes.false))
-    (c.next_change-b1.result.place + c.right_of_left3.result - 3) (is_at c) (omega arith) c.index_behind.result
-    c.index_behind.ensures
+    (c.next_change-b1.result.place + c.right_of_left3.result - 3) (is_at c) (omega arith) c.index_after.result
+    c.index_after.ensures
 
 pub returns-clause-next : goal.returns-clause-next
 returns-clause-next c =
     let at = (goal.at.returns-clause-next c).After-past in
     rw (next at).0
     (vertical_taken c.args.changes.now c.args.width c.requires.at.rising c.args.line.now (start_of c.args.near) c.requires.start c.requires.at.within c.next_change-b1.result.index c.next_change-b1.ensures.b1 c.args.word.offset
-    (c.next_change-b1.result.place + c.right_of_left3.result - 3) c.index_behind.result (is_at at) (omega arith) (omega arith) (next at).1 c.turn_below.new.line c.turn_below.ensures.left c.turn_below.ensures.right).0
+    (c.next_change-b1.result.place + c.right_of_left3.result - 3) c.index_after.result (is_at at) (omega arith) (omega arith) (next at).1 c.turn_below.new.line c.turn_below.ensures.left c.turn_below.ensures.right).0
 
 pub returns-clause-taken : goal.returns-clause-taken
 returns-clause-taken c =
@@ -51,9 +51,9 @@ returns-clause-taken c =
     record {
       text = word ++ [];
       first = rw (c.past.ensures.left, append-nil) (FirstAre-word c.args.near.ahead.window c.args.near.ahead.left n word begins.0 size (omega (arith, c.if-bits-near.false)) begins.1);
-      behind = c.past.ensures.behind;
+      after = c.past.ensures.after;
       takes = rw (next at).0 (TakesSteps-one (painted White 0 c.args.changes.now c.args.width) c.args.width (Vertical c.args.word.offset) []
           (left_of_a0 c.args.line.now (start_of c.args.near)) (start_of c.args.near) _ _ c.requires.at.within
           (vertical_taken c.args.changes.now c.args.width c.requires.at.rising c.args.line.now (start_of c.args.near) c.requires.start c.requires.at.within c.next_change-b1.result.index c.next_change-b1.ensures.b1 c.args.word.offset
-          (c.next_change-b1.result.place + c.right_of_left3.result - 3) c.index_behind.result (is_at at) (omega arith) (omega arith) (next at).1 c.turn_below.new.line c.turn_below.ensures.left c.turn_below.ensures.right).1);
+          (c.next_change-b1.result.place + c.right_of_left3.result - 3) c.index_after.result (is_at at) (omega arith) (omega arith) (next at).1 c.turn_below.new.line c.turn_below.ensures.left c.turn_below.ensures.right).1);
     }

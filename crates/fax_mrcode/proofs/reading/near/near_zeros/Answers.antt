@@ -43,7 +43,7 @@ returns-then-steps-gt0-clause-taken c =
     record {
       text = replicate steps true;
       first = rw c.past.ensures.left (FirstAre-word c.args.near.ahead.window c.args.near.ahead.left steps (replicate steps true) begun.0 (length-replicate steps true) (omega (arith, c.min-steps.ensures, c.ones.ensures.few)) begun.1);
-      behind = c.past.ensures.behind;
+      after = c.past.ensures.after;
       takes = (zeros_in_line c.args.changes.now c.args.width c.requires.at.rising c.args.line.now (start_of c.args.near) c.requires.start c.requires.at.within c.next_change-b1.result.index c.next_change-b1.ensures.b1
           steps c.if-steps-gt0.true (omega (arith, c.min-steps.ensures, c.saturating_sub.ensures)) c.if-near-gt0.true c.turn_at_all.new.self c.turn_at_all.ensures).1;
     }
@@ -81,7 +81,7 @@ returns-clause-taken c =
     record {
       text = mode_word (Vertical Zero) ++ [];
       first = rw c.past-2.ensures.left (FirstAre-word c.args.near.ahead.window c.args.near.ahead.left 1 (mode_word (Vertical Zero)) (word_bits 63 c.args.near.ahead.window) refl c.requires.some (zero_begins c.args.near.ahead.window c.requires.zero));
-      behind = c.past-2.ensures.behind;
+      after = c.past-2.ensures.after;
       takes = rw (turned at) (TakesSteps-one (painted White 0 c.args.changes.now c.args.width) c.args.width (Vertical Zero) [] (left_of_a0 c.args.line.now (start_of c.args.near)) (start_of c.args.near) _ _ c.requires.at.within
           (vertical_taken c.args.changes.now c.args.width c.requires.at.rising c.args.line.now (start_of c.args.near) c.requires.start c.requires.at.within c.next_change-b1.result.index c.next_change-b1.ensures.b1 Zero
           c.next_change-b1.result.place (c.next_change-b1.result.index + 1) c.next_change-b1.ensures.place (right at) (high at)

@@ -4,7 +4,7 @@ use Rattle.fax_runcodes.specs.declared.Colour.TheVariants.{White}
 use Rattle.fax_runcodes.specs.Painted.{painted, colour_after_changes}
 use Rattle.fax_mrcode.specs.Starts.{start_of, left_of_a0}
 use Rattle.fax_mrcode.proofs.StepLemmas.{StepsSoFar-then}
-use Rattle.fax_mrcode.proofs.VerticalLemmas.{Shows-first, behind_place, behind_none, skipped, passes_shown}
+use Rattle.fax_mrcode.proofs.VerticalLemmas.{Shows-first, after_place, after_none, skipped, passes_shown}
 use Rattle.fax_mrcode.proofs.reading.near.read_near_steps.Goals as goal
 use Rattle.fax_mrcode.proofs.reading.near.read_near_steps.Goals.{After-near_start-near, After-skip, else-loop-near-test, then-loop-near-test+in_default}
 
@@ -26,23 +26,23 @@ loop-near-init c =
         shows = shows;
         is_start = c.requires.start;
         right = omega arith;
-        so_far = λ old so_far. rw (behind_none reader known) so_far;
+        so_far = λ old so_far. rw (after_none reader known) so_far;
       })
       | inr taken ↦
           let next = c.near_start-near.result in
           let n = known - next.ahead.left in
           let bits = drop (known - known) reader.left in
           let there : known ≤ length bits = shows.there in
-          let further : known - next.ahead.left ≡ known - known + n = omega (arith, taken.behind.less) in
+          let further : known - next.ahead.left ≡ known - known + n = omega (arith, taken.after.less) in
           let begun = start_of (record { from = c.args.start.from; index = c.args.start.index; ahead = record { window = c.window.result * 2 ^ 8 % 2 ^ 64; left = known } }) in
           record {
-            few = omega (arith, taken.behind.less);
-            shows = rw (further, ← drop-drop n (known - known) reader.left) (taken.behind.shows bits shows);
+            few = omega (arith, taken.after.less);
+            shows = rw (further, ← drop-drop n (known - known) reader.left) (taken.after.shows bits shows);
             is_start = c.near_start-near.ensures.next;
             right = omega (arith, taken.takes.right);
-            so_far = λ old so_far. StepsSoFar-then (painted White 0 c.args.changes.now c.args.width) c.args.width old (behind_place reader (known - known)) (behind_place reader (known - next.ahead.left))
+            so_far = λ old so_far. StepsSoFar-then (painted White 0 c.args.changes.now c.args.width) c.args.width old (after_place reader (known - known)) (after_place reader (known - next.ahead.left))
                 (left_of_a0 c.args.line.now begun) begun (left_of_a0 c.near_start-near.new.line (start_of next)) (start_of next) taken.text
-                (rw (parity (goal.at.loop-near-init c).After-near_start-near, behind_none reader known) so_far)
+                (rw (parity (goal.at.loop-near-init c).After-near_start-near, after_none reader known) so_far)
                 (passes_shown reader (known - known) n (known - next.ahead.left) taken.text (omega arith) (taken.first bits shows) further)
                 taken.takes;
           }
@@ -59,13 +59,13 @@ loop-near-preserved c =
     let bits = drop passed c.args.reader.now.left in
     let there : left ≤ length bits = held.shows.there in
     let taken = c.in-Some.ensures.taken in
-    let further : c.known-known.result - next.ahead.left ≡ passed + n = omega (arith, held.few, taken.behind.less) in
+    let further : c.known-known.result - next.ahead.left ≡ passed + n = omega (arith, held.few, taken.after.less) in
     record {
-      few = omega (arith, held.few, taken.behind.less);
-      shows = rw (further, ← drop-drop n passed c.args.reader.now.left) (taken.behind.shows bits held.shows);
+      few = omega (arith, held.few, taken.after.less);
+      shows = rw (further, ← drop-drop n passed c.args.reader.now.left) (taken.after.shows bits held.shows);
       is_start = c.in-Some.ensures.next;
       right = omega (arith, held.right, taken.takes.right);
-      so_far = λ old so_far. StepsSoFar-then (painted White 0 c.args.changes.now c.args.width) c.args.width old (behind_place c.args.reader.now passed) (behind_place c.args.reader.now (c.known-known.result - next.ahead.left))
+      so_far = λ old so_far. StepsSoFar-then (painted White 0 c.args.changes.now c.args.width) c.args.width old (after_place c.args.reader.now passed) (after_place c.args.reader.now (c.known-known.result - next.ahead.left))
           (left_of_a0 c.loop-near.line (start_of near)) (start_of near) (left_of_a0 c.near_step.new.line (start_of next)) (start_of next) taken.text
           (held.so_far old so_far)
           (passes_shown c.args.reader.now passed n (c.known-known.result - next.ahead.left) taken.text (omega arith) (taken.first bits held.shows) further)

@@ -3,7 +3,7 @@ use Rattle.std.proofs.lemmas.Result.{err_from_is_err_and}
 use Rattle.fax_runcodes.specs.Rows.{Elements}
 use Rattle.fax_runcodes.specs.declared.Colour.TheVariants.{White}
 use Rattle.fax_runcodes.specs.Painted.{painted}
-use Rattle.fax_mrcode.specs.Starts.{behind_step}
+use Rattle.fax_mrcode.specs.Starts.{after_step}
 use Rattle.fax_mrcode.proofs.CursorLemmas.{size}
 use Rattle.fax_mrcode.proofs.StepLemmas.{StepsSoFar-none, StepsSoFar-more, IsStart-first, SpellsLine-from, FailsLine-at}
 use Rattle.fax_mrcode.proofs.reading.passing.pass_steps.Goals as goal
@@ -27,11 +27,11 @@ pub loop-start-preserved : goal.loop-start-preserved
 loop-start-preserved c =
     let step = rw c.copy-ahead.ensures at c.in_ok-taken.ensures.ok in
     let line : Elements = c.loop-start.invariant.line in
-    let behind : Elements = behind_step line c.loop-start.start c.in_ok-taken.taken in
+    let after : Elements = after_step line c.loop-start.start c.in_ok-taken.taken in
     record {
-      line = behind;
+      line = after;
       so_far = StepsSoFar-more (painted White 0 c.args.changes.now c.args.width) c.args.width c.args.reader.now c.loop-start.reader c.take_step.new.reader line c.loop-start.start
-          behind c.in_ok-taken.taken.next step.0 step.1 c.loop-start.invariant.so_far c.loop-start-test.true step.2 (step.3.takes line c.loop-start.invariant.is_start);
+          after c.in_ok-taken.taken.next step.0 step.1 c.loop-start.invariant.so_far c.loop-start-test.true step.2 (step.3.takes line c.loop-start.invariant.is_start);
       is_start = step.3.next line c.loop-start.invariant.is_start;
     }
 

@@ -11,11 +11,11 @@ pub returns-in-Some-clause-judged : goal.returns-in-Some-clause-judged
 returns-in-Some-clause-judged g c = λ octets has.
     subst (AreJudged c.args.self.now.coding (elements_of c.args.self.now.format.width) octets c.args.self.now.rows) (sym c.fault.ensures)
     (judged_with_fill c.args.self.now.coding (elements_of c.args.self.now.format.width) octets c.args.self.now.rows _
-    (settled_judged (less_fill 0 octets) c.args.self.now c.in-Some.settled has.behind (ap (λ (r : ReaderValue). r.settled) (sym c.self.view_is) ∙ c.in-Some.is)))
+    (settled_judged (less_fill 0 octets) c.args.self.now c.in-Some.settled has.after (ap (λ (r : ReaderValue). r.settled) (sym c.self.view_is) ∙ c.in-Some.is)))
 
 pub returns-in-None-clause-judged : goal.returns-in-None-clause-judged
 returns-in-None-clause-judged g c = λ octets has.
-    let before = (subst (HasRead octets) (sym c.self.view_is) has).behind in
+    let before = (subst (HasRead octets) (sym c.self.view_is) has).after in
     let less : List ℕ = less_fill 0 octets in
     let kept = sym c.as_slice.ensures.value in
     let read = subst (λ (o : List ℕ). IsReadUpTo c.self.inside.coding (elements_of c.self.inside.format.width) less (g.S.RowStore.rows c.self.inside.rows) c.self.inside.tag (drop c.self.inside.used (bits_of o))) kept

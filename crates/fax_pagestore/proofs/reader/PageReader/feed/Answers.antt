@@ -4,23 +4,23 @@ use Rattle.fax_runcodes.specs.Widths.{elements_of}
 use Rattle.fax_pagestore.specs.Ends.{HoldsEol}
 use Rattle.fax_pagestore.specs.Fill.{less_fill, zeros_after}
 use Rattle.fax_pagestore.proofs.FillLemmas.{less_fill-append, zeros_after-append}
-use Rattle.fax_pagestore.specs.Readers.{HasRead, IsBehind, ReaderValue, IsReadUpTo, NoMoreIsWhole, most_kept}
-use Rattle.fax_pagestore.proofs.ReaderLemmas.{some_if, none_if, not_none, IsReadUpTo-more, IsBehind-settled, drop_place, nothing_left, piece_waits, fill_kept}
+use Rattle.fax_pagestore.specs.Readers.{HasRead, IsAfter, ReaderValue, IsReadUpTo, NoMoreIsWhole, most_kept}
+use Rattle.fax_pagestore.proofs.ReaderLemmas.{some_if, none_if, not_none, IsReadUpTo-more, IsAfter-settled, drop_place, nothing_left, piece_waits, fill_kept}
 use Rattle.fax_pagestore.proofs.reader.PageReader.feed.Goals as goal
 
 pub returns-then-is_some-clause-read : goal.returns-then-is_some-clause-read
 returns-then-is_some-clause-read g c = λ octets has.
     let some : IsSome c.args.self.now.settled = ap (λ (r : ReaderValue). is_some r.settled) (sym c.self.view_is) ∙ sym c.is_some.ensures ∙ c.if-is_some.true in
     record {
-      behind = subst (λ (os : List ℕ). IsBehind os c.args.self.now) (sym (less_fill-append 0 octets c.args.piece.now))
-          (IsBehind-settled (less_fill 0 octets) (less_fill (zeros_after 0 octets) c.args.piece.now) c.args.self.now some has.behind);
+      after = subst (λ (os : List ℕ). IsAfter os c.args.self.now) (sym (less_fill-append 0 octets c.args.piece.now))
+          (IsAfter-settled (less_fill 0 octets) (less_fill (zeros_after 0 octets) c.args.piece.now) c.args.self.now some has.after);
       zeros = λ not_yet. absurd (not_none c.args.self.now.settled some not_yet);
     }
 
 pub returns-then-end-from-clause-read : goal.returns-then-end-from-clause-read
 returns-then-end-from-clause-read g c = λ octets has.
     let came = subst (HasRead octets) (sym c.self.view_is) has in
-    let before = came.behind in
+    let before = came.after in
     let less : List ℕ = less_fill 0 octets in
     let piece : List ℕ = less_fill c.self.inside.zeros c.args.piece.now in
     let not_yet : c.self.inside.settled ≡ None = none_if c.self.inside.settled (sym c.is_some.ensures ∙ c.if-is_some.false) in
@@ -28,25 +28,25 @@ returns-then-end-from-clause-read g c = λ octets has.
     let more = IsReadUpTo-more c.self.inside.coding (elements_of c.self.inside.format.width) less piece c.self.inside.octets.items c.append.new.octets.items c.self.inside.used
     (g.S.RowStore.rows c.self.inside.rows) c.self.inside.tag c.self.invariant.0 held (before.read not_yet) in
     let none : HoldsEol (drop (8 * c.saturating_sub-from.result) (bits_of c.append.new.octets.items)) → ⊥ =
-    λ holds. c.behind_eols-end.ensures.none
-    (subst HoldsEol (ap (λ n. drop (8 * n) (bits_of c.append.new.octets.items)) (sym c.if-end-from.true) ∙ ap (λ (o : List ℕ). drop (8 * c.behind_eols-end.result) (bits_of o)) (sym c.as_slice.ensures.value)) holds) in
+    λ holds. c.after_eols-end.ensures.none
+    (subst HoldsEol (ap (λ n. drop (8 * n) (bits_of c.append.new.octets.items)) (sym c.if-end-from.true) ∙ ap (λ (o : List ℕ). drop (8 * c.after_eols-end.result) (bits_of o)) (sym c.as_slice.ensures.value)) holds) in
     let waits = piece_waits c.self.inside.coding (elements_of c.self.inside.format.width) (g.S.RowStore.rows c.self.inside.rows) c.self.inside.tag c.self.inside.octets.items piece
     c.append.new.octets.items c.self.inside.used (8 * c.saturating_sub-from.result) (sym c.is_some-2.ensures ∙ c.if-is_some-2.true) c.self.invariant.0 held (omega (arith, c.saturating_sub-from.ensures, c.len-len.ensures)) none (before.waits not_yet) in
     let at_end : less_fill 0 (octets ++ c.args.piece.now) ≡ less ++ piece = less_fill-append 0 octets c.args.piece.now ∙ ap (λ z. less ++ less_fill z c.args.piece.now) (sym (came.zeros not_yet)) in
     let count : c.in_ok-zeros.zeros ≡ zeros_after 0 (octets ++ c.args.piece.now) =
     c.in_ok-zeros.ensures.zeros ∙ ap (λ z. zeros_after z c.args.piece.now) (came.zeros not_yet) ∙ sym (zeros_after-append 0 octets c.args.piece.now) in
     let reader : ReaderValue = record { format = c.self.inside.format; coding = c.self.inside.coding; rows = g.S.RowStore.rows c.self.inside.rows; tag = c.self.inside.tag; left = drop c.self.inside.used (bits_of c.append.new.octets.items); zeros = c.in_ok-zeros.zeros; settled = c.self.inside.settled } in
-    let there : IsBehind (less ++ piece) reader = record {
+    let there : IsAfter (less ++ piece) reader = record {
       read = λ later. more;
       waits = λ later. waits;
       settled = λ what is. absurd (cc (not_yet, is));
     } in
-    record { behind = subst (λ (os : List ℕ). IsBehind os reader) (sym at_end) there; zeros = λ later. count }
+    record { after = subst (λ (os : List ℕ). IsAfter os reader) (sym at_end) there; zeros = λ later. count }
 
 pub returns-clause-read : goal.returns-clause-read
 returns-clause-read g c = λ octets has.
     let came = subst (HasRead octets) (sym c.self.view_is) has in
-    let before = came.behind in
+    let before = came.after in
     let less : List ℕ = less_fill 0 octets in
     let piece : List ℕ = less_fill c.self.inside.zeros c.args.piece.now in
     let not_yet : c.self.inside.settled ≡ None = none_if c.self.inside.settled (sym c.is_some.ensures ∙ c.if-is_some.false) in
@@ -64,16 +64,16 @@ returns-clause-read g c = λ octets has.
     let count : c.in_ok-zeros.zeros ≡ zeros_after 0 (octets ++ c.args.piece.now) =
     c.in_ok-zeros.ensures.zeros ∙ ap (λ z. zeros_after z c.args.piece.now) (came.zeros not_yet) ∙ sym (zeros_after-append 0 octets c.args.piece.now) in
     let reader : ReaderValue = record { format = c.self.inside.format; coding = c.self.inside.coding; rows = g.S.RowStore.rows c.read_up_to.new.rows; tag = c.in-Ok.reached.tag; left = drop (c.in-Ok.reached.place % 8) (bits_of c.drop_front.new.octets.items); zeros = c.in_ok-zeros.zeros; settled = c.in-Ok.reached.settled } in
-    let there : IsBehind (less ++ piece) reader = record {
+    let there : IsAfter (less ++ piece) reader = record {
       read = λ later. subst (IsReadUpTo c.self.inside.coding (elements_of c.self.inside.format.width) (less ++ piece) (g.S.RowStore.rows c.read_up_to.new.rows) c.in-Ok.reached.tag) left
           (c.in-Ok.ensures.read later (less ++ piece) unread);
       waits = λ later. subst (NoMoreIsWhole c.self.inside.coding (elements_of c.self.inside.format.width) (g.S.RowStore.rows c.read_up_to.new.rows) c.in-Ok.reached.tag) left (c.in-Ok.ensures.waits later);
       settled = λ what is. (
         sym left ∙ nothing_left c.as_slice-2.result.now c.in-Ok.reached.place (c.in-Ok.ensures.all (some_if c.in-Ok.reached.settled what is)),
-        λ behind. c.in-Ok.ensures.settled what is (less ++ piece) behind unread,
+        λ after. c.in-Ok.ensures.settled what is (less ++ piece) after unread,
       );
     } in
-    record { behind = subst (λ (os : List ℕ). IsBehind os reader) (sym at_end) there; zeros = λ later. count }
+    record { after = subst (λ (os : List ℕ). IsAfter os reader) (sym at_end) there; zeros = λ later. count }
 
 pub returns-then-end-from-clause-fill : goal.returns-then-end-from-clause-fill
 returns-then-end-from-clause-fill g c = λ n zeros.

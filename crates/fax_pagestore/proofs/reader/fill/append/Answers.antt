@@ -23,12 +23,12 @@ loop-place-preserved c =
     let place : ℕ = c.loop-place.place in
     let k : ℕ = c.kept_front-front.result.len in
     let left = slice_from piece place in
-    let behind = slice_from piece (place + k) in
+    let after = slice_from piece (place + k) in
     let inside : place + k + c.zeros_in_front.result ≤ length piece =
-    omega (arith, c.kept_front-front.ensures.within, c.zeros_in_front.ensures.within, ap length left, ap length behind, length-drop place piece, length-drop (place + k) piece, c.loop-place-test.true) in
+    omega (arith, c.kept_front-front.ensures.within, c.zeros_in_front.ensures.within, ap length left, ap length after, length-drop place piece, length-drop (place + k) piece, c.loop-place-test.true) in
     let kept = subst (λ os. less_fill c.loop-place.count (take k os) ≡ take k os) left c.kept_front-front.ensures.kept in
     let count = subst (λ os. c.kept_front-front.result.zeros ≡ zeros_after c.loop-place.count (take k os)) left c.kept_front-front.ensures.zeros in
-    let zeros = subst (λ os. take c.zeros_in_front.result os ≡ replicate c.zeros_in_front.result 0) behind c.zeros_in_front.ensures.zeros in
+    let zeros = subst (λ os. take c.zeros_in_front.result os ≡ replicate c.zeros_in_front.result 0) after c.zeros_in_front.ensures.zeros in
     let span = take (place + k - place) (drop place piece) in
     let size : place + k - place ≡ k = omega arith in
     let all : c.extend_from_slice.new.self.items ≡ c.loop-place.octets.items ++ span =

@@ -22,7 +22,7 @@ returns-in_default-clause-judged g c = λ all read waits.
     (subst (λ t. IsReadUpTo c.args.coding (elements_of c.args.width) all (g.S.RowStore.rows c.args.rows.now) t (drop c.args.used (bits_of c.args.octets.now))) c.in_default.is read)
     (subst (λ t. NoMoreIsWhole c.args.coding (elements_of c.args.width) (g.S.RowStore.rows c.args.rows.now) t (drop c.args.used (bits_of c.args.octets.now))) c.in_default.is waits)
 
--- ---- behind a separator
+-- ---- after a separator
 
 -- the bits that are not used
 left_is : (g : Over) (c : After-skip g) → drop c.args.used (bits_of c.args.octets.now) ≡ c.skip.new.self.left

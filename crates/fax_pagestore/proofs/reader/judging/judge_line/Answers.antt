@@ -17,14 +17,14 @@ returns-in-Ok-Line g c = λ waits.
 pub returns-in-Ok-Separator : goal.returns-in-Ok-Separator
 returns-in-Ok-Separator g c = λ waits.
     let read = c.pass_line.ensures.line c.in-Whole.is in
-    let behind = c.pass_separator.ensures.separator c.in-Ok-Separator.field-0-0 (c.in-Ok-Separator.is ∙ ap (λ (ahead : Ahead). Ok ahead) c.in-Ok-Separator.field-0-is) in
+    let after = c.pass_separator.ensures.separator c.in-Ok-Separator.field-0-0 (c.in-Ok-Separator.is ∙ ap (λ (ahead : Ahead). Ok ahead) c.in-Ok-Separator.field-0-is) in
     absurd (waits record {
       line = read.1;
       row = read.0;
       rest = c.pass_line.new.reader.left;
       spelt = read.2;
       bits_are = read.3.bits;
-      behind = (c.in-Ok-Separator.field-0-0, behind.0, c.pass_separator.new.reader.left, behind.1, behind.2.bits);
+      after = (c.in-Ok-Separator.field-0-0, after.0, c.pass_separator.new.reader.left, after.1, after.2.bits);
     })
 
 pub returns-in-Err : goal.returns-in-Err

@@ -7,8 +7,8 @@ use Rattle.fax_mhcode.proofs.LineLaws.{IsWidth-elements}
 use Rattle.fax_pagestore.specs.PageTexts.{ReadSoFar}
 use Rattle.fax_pagestore.specs.Ends.{HoldsNoTaggedEol}
 use Rattle.fax_pagestore.specs.Readers.{IsReadUpTo, NoMoreIsWhole}
-use Rattle.fax_pagestore.proofs.BeforeEolLemmas.{none_behind_place}
-use Rattle.fax_pagestore.proofs.ReaderLemmas.{skipped, none_used, reached, IsReached, IfSome_at, behind_all, stopped_waits}
+use Rattle.fax_pagestore.proofs.BeforeEolLemmas.{none_after_place}
+use Rattle.fax_pagestore.proofs.ReaderLemmas.{skipped, none_used, reached, IsReached, IfSome_at, after_all, stopped_waits}
 use Rattle.fax_pagestore.proofs.reader.rows.read_up_to.Goals as goal
 use Rattle.fax_pagestore.proofs.reader.rows.read_up_to.Goals.{After-skip, In_default, In_ok-halt}
 use Rattle.fax_pagestore.proofs.reader.rows.read_up_to.Given.{Over}
@@ -34,7 +34,7 @@ read_on g c all read =
     (subst (IsReadUpTo c.args.coding (elements_of c.args.width) all (g.S.RowStore.rows c.args.rows.now) c.args.tag)
     (sym (skipped c.new-reader.result c.skip.new.self c.args.used c.skip.ensures ∙ ap (λ (p : Place). drop c.args.used p.left) c.new-reader.ensures)) read))
 
--- the bits behind it
+-- the bits after it
 place_left : (g : Over) (c : In_ok-halt g) (place : ℕ) → place ≡ c.read_rows_on.new.reader.passed → c.read_rows_on.new.reader.left ≡ drop place (bits_of c.args.octets.now)
 place_left g c place is = sym (halted g c).left_is ∙ ap (λ n. drop n (bits_of c.args.octets.now)) (sym is)
 
@@ -63,7 +63,7 @@ returns-in_default-clause-read g c = λ none all read.
 pub returns-in_default-clause-waits : goal.returns-in_default-clause-waits
 returns-in_default-clause-waits g c = λ none.
     let at = (goal.at.returns-in_default-clause-waits g c).In_default in
-    none_behind_place c.args.coding c.args.octets.now c.args.used c.max.result (omega (arith)) (nothing g at)
+    none_after_place c.args.coding c.args.octets.now c.args.used c.max.result (omega (arith)) (nothing g at)
 
 pub returns-clause-read : goal.returns-clause-read
 returns-clause-read g c = λ none all read.
@@ -77,7 +77,7 @@ returns-clause-waits g c = λ none.
     subst (NoMoreIsWhole c.args.coding (elements_of c.args.width) (g.S.RowStore.rows c.read_rows_on.new.rows) (Some c.in_ok-halt.halt.tag)) (place_left g at c.place-place.result c.place-place.ensures)
     (stopped_waits c.args.coding (elements_of c.args.width) (g.S.RowStore.rows c.read_rows_on.new.rows) c.in_ok-halt.halt.tag c.read_rows_on.new.reader.left c.in_ok-halt.halt.stop
     (IsWidth-elements c.args.width) c.in_ok-halt.ensures.each
-    (λ stop. behind_all c.args.octets.now c.args.end c.args.used c.read_rows_on.new.reader c.requires.end (halted g at) (c.in_ok-halt.ensures.no_eol stop)) c.in_ok-halt.ensures.no_line c.in_ok-halt.ensures.stops not_many)
+    (λ stop. after_all c.args.octets.now c.args.end c.args.used c.read_rows_on.new.reader c.requires.end (halted g at) (c.in_ok-halt.ensures.no_eol stop)) c.in_ok-halt.ensures.no_line c.in_ok-halt.ensures.stops not_many)
 
 pub returns-then-is_some-clause-settled : goal.returns-then-is_some-clause-settled
 returns-then-is_some-clause-settled g c = λ what is all more read.

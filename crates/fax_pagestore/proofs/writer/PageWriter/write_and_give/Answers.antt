@@ -1,7 +1,7 @@
 use Rattle.std.proofs.Common.{◌≡◌, ◌⊎◌, ◌*◌, ◌≤◌, ◌++◌, List, ℕ, Bool, length, drop, sym, ◌∙◌, ap, subst}
 use Rattle.fax_pagestore.specs.declared.writer.Place.TheVariants.{End}
 use Rattle.fax_pagestore.specs.Writers.{WriterValue, WritesOn, HasLeft}
-use Rattle.fax_pagestore.proofs.WriterLemmas.{gives, Gives, some_wait, within_more, put_behind, as_before}
+use Rattle.fax_pagestore.proofs.WriterLemmas.{gives, Gives, some_wait, within_more, put_after, as_before}
 use Rattle.fax_pagestore.proofs.writer.PageWriter.write_and_give.Goals as goal
 use Rattle.fax_pagestore.proofs.writer.PageWriter.write_and_give.Given.{Over}
 use Rattle.fax_pagestore.proofs.writer.PageWriter.write_and_give.Goals.{In_default, In-Ok, In-Ok-front}
@@ -41,7 +41,7 @@ returns-clause-some g c = λ wanted more.
 -- where the text cannot be written
 put : (g : Over) (c : In_default g) → (bits : List Bool) × (c.of-waiting.result ≡ c.self.inside.waiting ++ bits)
 put g c =
-    put_behind c.self.inside.waiting c.into_writer-writer.result c.write_up_to-written.new.writer c.of-waiting.result
+    put_after c.self.inside.waiting c.into_writer-writer.result c.write_up_to-written.new.writer c.of-waiting.result
     (c.into_writer-writer.ensures ∙ c.take.ensures.taken) c.of-waiting.ensures c.in_default.ensures.err
 
 pub keep-requires : goal.keep-requires
@@ -55,7 +55,7 @@ returns-in_default-clause-err g c =
 -- where what is given cannot be copied
 put_all : (g : Over) (c : In-Ok g) → (bits : List Bool) × (c.of-waiting.result ≡ c.self.inside.waiting ++ bits)
 put_all g c =
-    put_behind c.self.inside.waiting c.into_writer-writer.result c.write_up_to-written.new.writer c.of-waiting.result
+    put_after c.self.inside.waiting c.into_writer-writer.result c.write_up_to-written.new.writer c.of-waiting.result
     (c.into_writer-writer.ensures ∙ c.take.ensures.taken) c.of-waiting.ensures (c.in-Ok.ensures.on.bits, c.in-Ok.ensures.on.put)
 
 pub keep-requires-in_default-front : goal.keep-requires-in_default-front

@@ -1,6 +1,6 @@
 use Rattle.std.proofs.Common.{[], ◌∷◌, subst}
-use Rattle.fax_gateway.specs.declared.side.Side.TheVariants as side
-use Rattle.fax_gateway.specs.Wires.{Grows, Handed}
+use Rattle.fax_gateway.specs.declared.leg.Leg.TheVariants as legs
+use Rattle.fax_gateway.specs.Wires.{Grows, HandedDatagram}
 use Rattle.fax_repeat.specs.Policies.{RepeatingValue}
 use Rattle.fax_repeat.specs.Repeats.{told_if}
 use Rattle.fax_repeat.proofs.Sending.{repeats_calling, tells_calling, within_kept}
@@ -17,7 +17,7 @@ invariant_of-self g c = record {
 
 pub returns-clause-told : goal.returns-clause-told
 returns-clause-told g c =
-    let h : Handed = record { side = side.Calling; octets = c.args.octets.now } in
+    let h : HandedDatagram = record { leg = legs.Calling; octets = c.args.octets.now } in
     subst (λ (v : RepeatingValue). Grows (h ∷ []) (told_if v.tells v.wire.sent) (told_if c.both-self-inside.result (g.W.Wire.known c.send-answer.new.self).sent)) c.self.view_is
     (tells_calling c.self.inside.tells c.both-self-inside.result c.self.inside.policy c.args.octets.now c.self.inside.calling c.self.inside.called
     (g.W.Wire.known c.self.inside.wire).sent (g.W.Wire.known c.send-answer.new.self).sent c.both-self-inside.ensures.first

@@ -28,14 +28,14 @@ invariant_of-self c =
 
 pub returns : goal.returns
 returns c =
-    let behind : c.after_changes.result ≡ colour_after_changes (length c.self.inside.changes.items) = c.after_changes.ensures ∙ ap colour_after_changes (c.len.ensures ∙ c.self.inside.changes.ok.0) in
+    let after : c.after_changes.result ≡ colour_after_changes (length c.self.inside.changes.items) = c.after_changes.ensures ∙ ap colour_after_changes (c.len.ensures ∙ c.self.inside.changes.ok.0) in
     elim c.if-ne.branch [
       | then-ne w ↦
           let differ : other c.after_changes.result ≡ c.args.colour = other_if_ne c.args.colour c.after_changes.result (sym c.ne.ensures ∙ w.if-ne.true) in
           rw (w.self-inside-is, w.push_reserved.ensures.items, ← c.self.view_is)
-          (painted-other c.self.inside.changes.items c.self.inside.len c.args.n c.args.colour c.self.invariant.0 (ap other (sym behind) ∙ differ))
+          (painted-other c.self.inside.changes.items c.self.inside.len c.args.n c.args.colour c.self.invariant.0 (ap other (sym after) ∙ differ))
       | else-ne w ↦
           let same : c.args.colour ≡ c.after_changes.result = same_if_not_ne c.args.colour c.after_changes.result (sym c.ne.ensures ∙ w.if-ne.false) in
           rw (w.self-inside-is, ← c.self.view_is)
-          (painted-same c.self.inside.changes.items c.self.inside.len c.args.n c.args.colour c.self.invariant.0 (same ∙ behind))
+          (painted-same c.self.inside.changes.items c.self.inside.len c.args.n c.args.colour c.self.invariant.0 (same ∙ after))
     ]

@@ -60,14 +60,14 @@ invariant_of-self c =
 
 pub returns : goal.returns
 returns c =
-    let behind : c.after_changes.result ≡ colour_after_changes (length c.self.inside.changes.items) = c.after_changes.ensures ∙ ap colour_after_changes (c.len.ensures ∙ c.self.inside.changes.ok.0) in
+    let after : c.after_changes.result ≡ colour_after_changes (length c.self.inside.changes.items) = c.after_changes.ensures ∙ ap colour_after_changes (c.len.ensures ∙ c.self.inside.changes.ok.0) in
     elim c.if-eq.branch [
       | then-eq w ↦
-          let is_black : colour_after_changes (length c.self.inside.changes.items) ≡ Black = sym behind ∙ black_if_same c.after_changes.result (sym c.eq.ensures ∙ w.if-eq.true) in
+          let is_black : colour_after_changes (length c.self.inside.changes.items) ≡ Black = sym after ∙ black_if_same c.after_changes.result (sym c.eq.ensures ∙ w.if-eq.true) in
           rw (c.push_reserved-2.ensures.items, w.self-inside-is, w.push_reserved.ensures.items, ← c.self.view_is)
           (pair_painted c.self.inside.changes.items c.self.inside.len c.args.white c.args.black c.requires.white is_black c.self.invariant.0)
       | else-eq w ↦
-          let is_white : colour_after_changes (length c.self.inside.changes.items) ≡ White = sym behind ∙ white_if_not c.after_changes.result (sym c.eq.ensures ∙ w.if-eq.false) in
+          let is_white : colour_after_changes (length c.self.inside.changes.items) ≡ White = sym after ∙ white_if_not c.after_changes.result (sym c.eq.ensures ∙ w.if-eq.false) in
           rw (c.push_reserved-2.ensures.items, w.self-inside-is, ← c.self.view_is)
           (longer_painted c.self.inside.changes.items c.self.inside.len c.args.white c.args.black is_white c.self.invariant.0)
     ]

@@ -4,7 +4,7 @@ use Rattle.fax_runcodes.specs.Rows.{Elements}
 use Rattle.fax_runcodes.specs.Painted.{AreRising}
 use Rattle.fax_runcodes.proofs.PaintedLemmas.{length-painted_all}
 use Rattle.fax_runcodes.proofs.RunsOfRow.{rising-drop_more}
-use Rattle.fax_runcodes.proofs.TurningLemmas.{rising_behind, rising_below, shortened}
+use Rattle.fax_runcodes.proofs.TurningLemmas.{rising_after, rising_below, shortened}
 use Rattle.fax_runcodes.proofs.row.RowBuilder.shorten.Goals as goal
 use Rattle.fax_runcodes.proofs.row.RowBuilder.shorten.Goals.{After-truncate, then-loop-count-test+else-index-n, else-loop-count-test}
 
@@ -14,7 +14,7 @@ loop-count-init c =
     let size : length c.args.self.now ≡ c.self.inside.len = ap (λ (es : Elements). length es) (sym c.self.view_is) ∙ length-painted_all c.self.inside.changes.items c.self.inside.len c.self.invariant.0 in
     let count : c.len-count.result ≡ length c.self.inside.changes.items = c.len-count.ensures ∙ c.self.inside.changes.ok.0 in
     record {
-      behind = rw (drop_all c.len-count.result c.self.inside.changes.items (omega arith)) (omega (arith, c.requires));
+      after = rw (drop_all c.len-count.result c.self.inside.changes.items (omega arith)) (omega (arith, c.requires));
       few = omega arith;
     }
 
@@ -25,9 +25,9 @@ loop-count-preserved c =
     let last = c.loop-count.count - 1 in
     let within : last < length ps = omega (arith, c.loop-count.invariant.few, c.loop-count-test.true) in
     let place : c.index.result.now ≡ get_or ps last 0 = c.index.ensures ∙ get_or_default ps last c.index.result.now 0 within in
-    let next = (rising-drop_more 0 ps last c.self.inside.len within (rising_behind 0 ps c.self.inside.len last c.self.invariant.0)).1 in
+    let next = (rising-drop_more 0 ps last c.self.inside.len within (rising_after 0 ps c.self.inside.len last c.self.invariant.0)).1 in
     record {
-      behind = rw (drop_more ps last 0 within) (omega (arith, c.if-index-n.true), next);
+      after = rw (drop_more ps last 0 within) (omega (arith, c.if-index-n.true), next);
       few = omega (arith, c.loop-count.invariant.few);
     }
 
@@ -49,4 +49,4 @@ invariant_of-self c =
 pub returns : goal.returns
 returns c =
     rw (c.truncate.ensures.items, ← c.self.view_is)
-    (shortened c.self.inside.changes.items c.self.inside.len c.args.n c.loop-count.count (kept (goal.at.returns c).After-truncate) c.loop-count.invariant.behind)
+    (shortened c.self.inside.changes.items c.self.inside.len c.args.n c.loop-count.count (kept (goal.at.returns c).After-truncate) c.loop-count.invariant.after)

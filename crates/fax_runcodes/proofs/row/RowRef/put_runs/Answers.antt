@@ -36,9 +36,9 @@ all_put runs ps all from i width end here so_far =
 drop_further : (runs old : List ℕ) (i : ℕ) → drop i runs ≡ drop i old → drop (i + 1) runs ≡ drop (i + 1) old
 drop_further runs old i same = sym (drop-drop 1 i runs) ∙ ap (λ (rest : List ℕ). drop 1 rest) same ∙ drop-drop 1 i old
 
--- behind the one that is put nothing is changed
-kept_behind : (runs old : List ℕ) (i n : ℕ) → drop i runs ≡ drop i old → drop (i + 1) (set runs i n) ≡ drop (i + 1) old
-kept_behind runs old i n same = drop-set-lt (i + 1) runs i n (omega arith) ∙ drop_further runs old i same
+-- after the one that is put nothing is changed
+kept_after : (runs old : List ℕ) (i n : ℕ) → drop i runs ≡ drop i old → drop (i + 1) (set runs i n) ≡ drop (i + 1) old
+kept_after runs old i n same = drop-set-lt (i + 1) runs i n (omega arith) ∙ drop_further runs old i same
 
 pub overflow_sub-runs : goal.overflow_sub-runs
 overflow_sub-runs c =
@@ -58,14 +58,14 @@ loop-i-preserved c =
       all = more_put c.loop-i.runs places (runs_between 0 places c.self.inside.elements) c.loop-i.from c.loop-i.i c.self.inside.elements within here c.loop-i.invariant.all;
       rising = rising_lower (get_or places c.loop-i.i 0 + 1) (get_or places c.loop-i.i 0) (drop (c.loop-i.i + 1) places) c.self.inside.elements (omega arith) next.1;
       same = length-set c.loop-i.runs c.loop-i.i (get_or places c.loop-i.i 0 - c.loop-i.from) ∙ c.loop-i.invariant.same;
-      behind = kept_behind c.loop-i.runs c.args.runs.now c.loop-i.i (get_or places c.loop-i.i 0 - c.loop-i.from) c.loop-i.invariant.behind;
+      after = kept_after c.loop-i.runs c.args.runs.now c.loop-i.i (get_or places c.loop-i.i 0 - c.loop-i.from) c.loop-i.invariant.after;
     })
 
-pub returns-clause-behind : goal.returns-clause-behind
-returns-clause-behind c =
+pub returns-clause-after : goal.returns-clause-after
+returns-clause-after c =
     let places = c.self.inside.places.now in
     let end : c.loop-i.i ≡ length places = omega (arith, c.loop-i.auto.i-end) in
-    kept_behind c.loop-i.runs c.args.runs.now (length places) (c.self.inside.elements - c.loop-i.from) (rw end at c.loop-i.invariant.behind)
+    kept_after c.loop-i.runs c.args.runs.now (length places) (c.self.inside.elements - c.loop-i.from) (rw end at c.loop-i.invariant.after)
 
 pub returns-clause-some : goal.returns-clause-some
 returns-clause-some c =

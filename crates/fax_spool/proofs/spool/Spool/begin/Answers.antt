@@ -1,6 +1,6 @@
 use Rattle.std.proofs.Common.{◌≡◌, ◌+◌, ◌≤◌, ℕ, Vec, Global, map, List, false, refl, ◌∙◌, ap, arith}
 use Rattle.fax_spool.specs.RecordOctets.{PageValue}
-use Rattle.fax_spool.specs.Waits.{name_of, waiting, left_behind}
+use Rattle.fax_spool.specs.Waits.{name_of, waiting, left_after}
 use Rattle.fax_spool.specs.Spools.{epoch_records, greatest_epoch}
 use Rattle.fax_spool.specs.declared.spool.Spool.{Spool}
 use Rattle.fax_spool.proofs.SpoolSteps.{begun, keeps_epochs, read_all_through}
@@ -13,8 +13,8 @@ returns-clause-begun g c = λ older_items newer_items older olds_read newer news
     let number = c.max-greatest.result + 1 in
     let before : Spool g.row.D.Denot = record { older = c.args.older; newer = c.args.newer; older_pages = c.in_ok-older_pages.older_pages; newer_pages = c.in_ok-newer_pages.newer_pages; epoch = number; refuses = false } in
     let after : Spool g.row.D.Denot = record before { newer = c.append_all.new.file; refuses = c.append_all.new.refuses } in
-    let older_names : before.older_pages.items ≡ map name_of (left_behind (waiting olds) news) =
-    c.in_ok-older_pages.ensures ∙ ap (λ (pages : List PageValue). map name_of pages) (c.as_slice.ensures.value ∙ c.drop_ended.ensures ∙ ap (λ (pages : List PageValue). left_behind pages news) c.in_ok-pages.ensures) in
+    let older_names : before.older_pages.items ≡ map name_of (left_after (waiting olds) news) =
+    c.in_ok-older_pages.ensures ∙ ap (λ (pages : List PageValue). map name_of pages) (c.as_slice.ensures.value ∙ c.drop_ended.ensures ∙ ap (λ (pages : List PageValue). left_after pages news) c.in_ok-pages.ensures) in
     let newer_names : before.newer_pages.items ≡ map name_of (waiting news) =
     c.in_ok-newer_pages.ensures ∙ ap (λ (pages : List PageValue). map name_of pages) (c.as_slice-2.ensures.value ∙ c.in_ok-pages-2.ensures) in
     let most : greatest_epoch news ≤ number = omega (arith, c.newest_epoch-2.ensures, c.max-greatest.ensures) in

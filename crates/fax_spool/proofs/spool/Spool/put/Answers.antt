@@ -1,7 +1,7 @@
 use Rattle.std.proofs.Common.{List, [], ◌∷◌, ◌++◌, map, refl, inl, sym, ◌∙◌, ap, arith}
 use Rattle.std.proofs.lemmas.List.{map_push}
 use Rattle.fax_spool.specs.Waits.{PageName, name_of, waiting}
-use Rattle.fax_spool.specs.declared.kept_record.KeptRecord.TheVariants.{Page}
+use Rattle.fax_spool.specs.declared.spool_record.SpoolRecord.TheVariants.{Page}
 use Rattle.fax_spool.specs.Calls.{Puts}
 use Rattle.fax_spool.proofs.Doing.{as_before, does_err, does_none, does_nothing, does_put, may_have_put, more_pages}
 use Rattle.fax_spool.proofs.SpoolSteps.{at_rest, keeps_more, leaves_more, read_through}

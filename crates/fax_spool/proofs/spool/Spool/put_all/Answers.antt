@@ -1,5 +1,5 @@
 use Rattle.std.proofs.Common.{List, ℕ, Vec, Global, map, ◌++◌, refl, inl, ◌∙◌, ap}
-use Rattle.fax_spool.specs.KeptRecords.{kept_of}
+use Rattle.fax_spool.specs.SpoolRecords.{kept_of}
 use Rattle.fax_spool.specs.Waits.{PageName}
 use Rattle.fax_spool.specs.Calls.{Puts}
 use Rattle.fax_spool.proofs.Doing.{as_before, does_err, does_none, does_nothing, does_put, may_have_put, more_pages}

@@ -1,5 +1,5 @@
 use Rattle.std.proofs.Common.{sym, subst}
-use Rattle.fax_answer.specs.Reached.{Kept}
+use Rattle.fax_answer.specs.Reached.{Rep}
 use Rattle.fax_terminal.specs.Calls.{IsReceiving}
 use Rattle.fax_terminal.proofs.receiving.ReceivingTerminal.hear.Goals as goal
 
@@ -7,15 +7,15 @@ pub loop-init : goal.loop-init
 loop-init g c = λ pause pages is. is
 
 pub returns-in_default : goal.returns-in_default
-returns-in_default g c = λ pause pages is. subst (λ (k : Kept). IsReceiving pause pages k) (sym c.self.view_is) (c.loop.invariant pause pages is)
+returns-in_default g c = λ pause pages is. subst (λ (k : Rep). IsReceiving pause pages k) (sym c.self.view_is) (c.loop.invariant pause pages is)
 
 pub returns-in_err-hear_one : goal.returns-in_err-hear_one
 returns-in_err-hear_one g c = λ pause pages is.
-    c.in_err-hear_one.ensures pause pages (subst (λ (k : Kept). IsReceiving pause pages k) (sym c.self.view_is) (c.loop.invariant pause pages is))
+    c.in_err-hear_one.ensures pause pages (subst (λ (k : Rep). IsReceiving pause pages k) (sym c.self.view_is) (c.loop.invariant pause pages is))
 
 pub loop-preserved : goal.loop-preserved
 loop-preserved g c = λ pause pages is.
-    c.in_ok-hear_one.ensures pause pages (subst (λ (k : Kept). IsReceiving pause pages k) (sym c.self.view_is) (c.loop.invariant pause pages is))
+    c.in_ok-hear_one.ensures pause pages (subst (λ (k : Rep). IsReceiving pause pages k) (sym c.self.view_is) (c.loop.invariant pause pages is))
 
 pub returns : goal.returns
 returns g c = c.loop.invariant

@@ -5,7 +5,7 @@ use Rattle.fax_pagestore.proofs.PackedLemmas.{IsNewExtent, HasExtents-push, AreI
 use Rattle.fax_pagestore.proofs.store.packed.PackedRowsRowStore.push_lent.Goals as goal
 use Rattle.fax_pagestore.proofs.store.packed.PackedRowsRowStore.push_lent.Goals.{After-push_reserved}
 
--- what is pushed is the extent of the places put behind the others
+-- what is pushed is the extent of the places put after the others
 abbrev extent : (c : After-push_reserved) → Extent
 extent c = record { start = c.len-start.result; count = length c.changes-changes.result.now; width = c.width-width.result }
 

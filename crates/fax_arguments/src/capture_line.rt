@@ -1,0 +1,101 @@
+//! The command line of `faxgate capture`.
+ghost use Rattle.std.specs.Prelude.{◌≡◌, ◌⊎◌, IfErr, IfOk};
+ghost use Rattle.clap.specs.Words.{kind_of};
+
+use crate::building::{command, option};
+use clap::error::ErrorKind;
+use clap::{Arg, Command, Error};
+use std::alloc::{AllocError, Global};
+
+/// The command line of `faxgate capture`.
+pub(crate) fn capture_command<'a>(alloc: Global) -> Result<Command<'a>, AllocError> {
+    command(alloc, "capture", ABOUT, LINES_AND_STATUSES)
+        .arg(caller_option(alloc))?
+        .arg(called_option(alloc))
+}
+
+/// The option of the calling machine.
+fn caller_option<'a>(alloc: Global) -> Arg<'a> {
+    option(
+        alloc,
+        "caller",
+        "ADDRESS",
+        "Where the calling machine sends from: 192.0.2.10, 192.0.2.10:6000, 2001:db8::1 or [2001:db8::1]:6000; ::ffff:192.0.2.10 is 192.0.2.10",
+    )
+    .required(true)
+}
+
+/// The option of the called machine.
+fn called_option<'a>(alloc: Global) -> Arg<'a> {
+    option(
+        alloc,
+        "called",
+        "ADDRESS",
+        "Where the called machine sends from",
+    )
+    .required(true)
+}
+
+/// The error of a text after this option of `faxgate capture` that says no address.
+pub fn refused_address(alloc: Global, option: &str, text: &str) -> Error
+    ensures { (kind_of result ≡ ErrorKind.ValueValidation) ⊎ (kind_of result ≡ ErrorKind.OutOfMemory) }
+{
+    match address_error(alloc, option, text) {
+        Ok(error) | Err(error) => error,
+    }
+}
+
+/// That error. An `Err` says that memory was wanted.
+fn address_error(alloc: Global, option: &str, text: &str) -> Result<Error, Error>
+    ensures ok { IfOk result (λ error. kind_of error ≡ ErrorKind.ValueValidation) }
+    ensures err { IfErr result (λ error. kind_of error ≡ ErrorKind.OutOfMemory) }
+{
+    let message = format!(in alloc;
+        "invalid value '{text}' for '--{option} <ADDRESS>': no address of a host, with a port or without"
+    )?;
+    let mut command = capture_command(alloc)?.bin_name("faxgate capture")?;
+    Ok(command.error(ErrorKind::ValueValidation, message.as_str())?)
+}
+
+/// The error of addresses of `faxgate capture` of which both mean one endpoint.
+pub fn refused_machines(alloc: Global) -> Error
+    ensures { (kind_of result ≡ ErrorKind.ValueValidation) ⊎ (kind_of result ≡ ErrorKind.OutOfMemory) }
+{
+    match machines_error(alloc) {
+        Ok(error) | Err(error) => error,
+    }
+}
+
+/// That error. An `Err` says that memory was wanted.
+fn machines_error(alloc: Global) -> Result<Error, Error>
+    ensures ok { IfOk result (λ error. kind_of error ≡ ErrorKind.ValueValidation) }
+    ensures err { IfErr result (λ error. kind_of error ≡ ErrorKind.OutOfMemory) }
+{
+    let mut command = capture_command(alloc)?.bin_name("faxgate capture")?;
+    Ok(command.error(ErrorKind::ValueValidation, ONE_MACHINE)?)
+}
+
+const ONE_MACHINE: &str =
+    "'--caller <ADDRESS>' and '--called <ADDRESS>' mean one machine: of one host, say both ports";
+
+const ABOUT: &str =
+    "Read a capture made at a gateway (pcap or pcapng), and print the script of its call for faxgate trace: the ring, the datagrams of both machines at their ticks, and ticks until 40 s behind the last";
+
+const LINES_AND_STATUSES: &str = "\
+Reads:
+  A capture of any size, on the standard input. Only datagrams of the two machines matter, and only of them all octets have to
+  be there.
+
+Prints:
+  R       it rings
+  T MS    a tick each 40 ms: T 0 is the moment of the first datagram that one of the two sent or was sent
+  A HEX   a datagram that the caller sent, behind the tick at or before it
+  B HEX   a datagram that the called machine sent
+Or one line of what is wrong.
+
+Statuses:
+  0  the script was printed
+  1  the capture has none, and one line tells why: fault 1 NoCapture, 2 Cut, 3 Damaged, 4 NoAddress or 5 TooLong
+  2  the command line was refused
+  3  memory was wanted and refused: fault memory
+  4  a read or a write failed: the standard error tells which";

@@ -1,0 +1,81 @@
+-- REASONS: why a page is refused and why a job ended so, as a ladder tells it. (This project's profile.)
+use Rattle.std.specs.Prelude.{Bool, true, false, ℕ, List, [], ◌++◌, Option, Some, None, codes}
+use Rattle.fax_frames.specs.declared.frame.Frame.{Frame}
+use Rattle.fax_frames.specs.declared.frame.Frame.TheVariants as frames
+use Rattle.fax_jobs.specs.declared.outcome.Outcome.{Outcome}
+use Rattle.fax_jobs.specs.declared.outcome.Outcome.TheVariants.{Delivered, NotReceiver, WidthLacking, FineLacking, RatesSpent, NoAnswer, NoReply, PageRefused, HungUp, NotPlaced}
+use Rattle.fax_answer.specs.declared.refusal.Refusal.{Refusal}
+use Rattle.fax_answer.specs.declared.refusal.Refusal.TheVariants.{Fault, NotWhole, GapBehind, SeveralImages, NoImage, Untrained}
+use Rattle.fax_descriptions.specs.declared.exchange.Exchange.{Exchange}
+use Rattle.fax_descriptions.specs.declared.exchange.Exchange.TheVariants.{Before, Awaited, Answered}
+use Rattle.fax_descriptions.specs.declared.command.Command.{Command}
+use Rattle.fax_descriptions.specs.declared.command.Command.TheVariants.{Training, Mps, Eom, Eop}
+
+-- why a page is refused: what is wrong with what came since the last CFR or MCF
+abbrev pub refusal_text : Refusal → List ℕ
+refusal_text (Fault fault) = codes "the image means no page"
+refusal_text NotWhole = codes "the image is not whole"
+refusal_text GapBehind = codes "something is missing or began between the image and the command"
+refusal_text SeveralImages = codes "more than one image came since the last CFR or MCF"
+refusal_text NoImage = codes "no image came before the command"
+refusal_text Untrained = codes "an image came behind EOM, and no DCS before it"
+
+-- which timer gives up a call on the calling leg (ITU-T T.30, 5.4.3)
+abbrev pub given_up_text : Exchange → List ℕ
+given_up_text Before = codes "T1: no DCS in 35 s, so the call is given up"
+given_up_text Awaited = codes "T1: no DCS in 35 s, so the call is given up"
+given_up_text Answered = codes "T2: nothing heard in 6 s, so the call is given up"
+
+-- ---- commands that are sent on, and their answers (ITU-T T.30, 5.3.6.1)
+
+-- the command that a frame is: DCS has the training check after it
+abbrev pub command_of : Frame → Option Command
+command_of (frames.Dcs dcs) = Some Training
+command_of frames.Mps = Some Mps
+command_of frames.Eom = Some Eom
+command_of frames.Eop = Some Eop
+command_of frame = None
+
+abbrev pub command_name : Command → List ℕ
+command_name Training = codes "DCS"
+command_name Mps = codes "MPS"
+command_name Eom = codes "EOM"
+command_name Eop = codes "EOP"
+
+-- the frames that answer a training, and those that answer a command after a page (5.3.6.1.3 and 5.3.6.1.7); DCN ends the call
+abbrev pub answers_training : Frame → Bool
+answers_training frames.Cfr = true
+answers_training frames.Ftt = true
+answers_training frames.Dcn = true
+answers_training frame = false
+
+abbrev pub answers_page : Frame → Bool
+answers_page frames.Mcf = true
+answers_page frames.Rtp = true
+answers_page frames.Rtn = true
+answers_page frames.Dcn = true
+answers_page frame = false
+
+abbrev pub is_answer : Command → Frame → Bool
+is_answer Training frame = answers_training frame
+is_answer Mps frame = answers_page frame
+is_answer Eom frame = answers_page frame
+is_answer Eop frame = answers_page frame
+
+-- ---- why a job ended so, after its report: with the command that had no answer, where one waited for it
+
+abbrev pub unanswered_text : Option Command → List ℕ
+unanswered_text None = codes ": T1, no DIS in 35 s behind EOM"
+unanswered_text (Some command) = codes ": three times " ++ (command_name command ++ codes ", and no answer")
+
+abbrev pub ended_text : Outcome → (unanswered : Option Command) → List ℕ
+ended_text Delivered unanswered = []
+ended_text NotReceiver unanswered = codes ": its DIS says that it does not receive"
+ended_text WidthLacking unanswered = codes ": its DIS lacks the width of the pages"
+ended_text FineLacking unanswered = codes ": its DIS lacks the fine resolution of the pages"
+ended_text RatesSpent unanswered = codes ": the training failed at each rate that it has"
+ended_text NoAnswer unanswered = codes ": T1, no DIS in 35 s"
+ended_text NoReply unanswered = unanswered_text unanswered
+ended_text PageRefused unanswered = codes ": it refused a page three times"
+ended_text HungUp unanswered = codes ": it ended the call"
+ended_text NotPlaced unanswered = codes ": it could not be reached"

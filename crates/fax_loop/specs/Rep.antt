@@ -1,0 +1,128 @@
+-- What is kept of an exchange, and of an answer.
+use Rattle.std.specs.Prelude.{◌≡◌, ◌↔◌, ℕ, ◌<◌, ◌≤◌, Bool, IsTrue, List, [], ◌∷◌, ◌++◌, codes, string_bytes, length, reverse, is_some, Option, Some, None}
+use Rattle.fax_pagestore.specs.Pages.{PageValue}
+use Rattle.fax_jobs.specs.Jobs.{JobValue}
+use Rattle.fax_answer.specs.declared.step.Confirmed.{Confirmed}
+use Rattle.fax_answer.specs.Confirmation.{IsRead}
+use Rattle.fax_answer.specs.Table.{Reading}
+use Rattle.fax_call.specs.Writings.{Writing}
+use Rattle.fax_gateway.specs.declared.called.CalledEndpoint.{CalledEndpoint}
+use Rattle.fax_gateway.specs.declared.endpoint.Endpoint.{Endpoint}
+use Rattle.fax_gateway.specs.CalledLegs.{CalledLeg, calls}
+use Rattle.fax_gateway.specs.CalledLegs as called_legs
+use Rattle.fax_gateway.specs.CallingLegs.{CallingLeg, question, told_calling}
+use Rattle.fax_gateway.specs.Driving.{HasMade, failed_in_a_row, most_datagrams, most_failed, receipts}
+use Rattle.fax_gateway.specs.Reached.{CallingValue, IsCalled, IsCalling, IsReachedBy, heard_on}
+use Rattle.fax_gateway.specs.Setups.{Setup}
+use Rattle.fax_gateway.specs.Wires.{Grows}
+use Rattle.fax_command.specs.RowLines.{TellRows, text_of_lines}
+use Rattle.fax_loop.specs.declared.answer.Answer.{Answer}
+use Rattle.fax_loop.specs.declared.answer.Answer.TheVariants as answer
+use Rattle.fax_loop.specs.declared.answering_machine.AnsweringMachine.{AnsweringMachine}
+use Rattle.fax_loop.specs.declared.calling_machine.CallingMachine.{CallingMachine}
+use Rattle.fax_loop.specs.declared.ending.Ending.{Ending}
+use Rattle.fax_loop.specs.declared.ending.Ending.TheVariants as endings
+use Rattle.fax_loop.specs.declared.exchange.Parties.{Parties}
+use Rattle.fax_loop.specs.declared.link.Link.{Link}
+use Rattle.fax_loop.specs.Answers.{rows_of}
+use Rattle.fax_loop.specs.Ends.{EndTraffic, handed}
+use Rattle.fax_loop.specs.Machines.{AreCame, ReadDatagram, called_turned, called_with, calling_turned, calling_with, octets_of, pages_on}
+use Rattle.fax_loop.specs.Exchanges.{AreRounds, CarriesRounds, IsOver, Lines, Round, answerer_after, caller_after, log_after, trace_after}
+
+-- what is on the leg of a machine, as a gateway has it
+abbrev pub leg_of : Link → Endpoint
+leg_of link = record { receiver = link.receiver; sender = link.sender }
+
+-- ---- the machine that calls, as a gateway has its answerer
+abbrev pub caller_of : CallingMachine → CalledEndpoint
+caller_of machine = record { caller = machine.caller; leg = leg_of machine.link }
+
+-- at most so many datagrams came over its end, and led on
+pub record CallerHears (setup : Setup) (writes : Writing) (l : CalledLeg) (now most : ℕ) (before after : EndTraffic) (endpoint : CalledEndpoint) : Type 0 where
+  pub came : List (List ℕ)
+  pub few : length came ≤ most
+  pub received : Grows came before.received after.received
+  pub called : IsCalled setup writes (Some (calling_with writes now came l)) endpoint
+
+-- a turn
+pub record CallerTurns (setup : Setup) (writes : Writing) (l : CalledLeg) (now : ℕ) (before after : EndTraffic) (endpoint : CalledEndpoint) : Type 0 where
+  pub came : List (List ℕ)
+  pub few : length came ≤ most_datagrams
+  pub received : Grows came before.received after.received
+  pub sent : Grows (handed (called_legs.told_by setup (calling_with writes now came l).given (calls writes (calling_with writes now came l) now).given)) before.sent after.sent
+  pub called : IsCalled setup writes (Some (calling_turned writes now came l)) endpoint
+
+-- ---- the machine that is called, as a gateway has its caller
+abbrev pub answerer_of : {S : Type 0} → AnsweringMachine S → CallingValue
+answerer_of machine = record { number = 0; kept = machine.answerer; leg = leg_of machine.link }
+
+-- its call led to it, and it keeps the pages that it confirmed
+pub record IsAnswering {S : Type 0} (setup : Setup) (leg : Option CallingLeg) (machine : AnsweringMachine S) : Type 0 where
+  pub calling : IsCalling setup leg (answerer_of machine)
+  pub rung : machine.has_rung ≡ is_some leg
+  pub pages_are : reverse machine.confirmed.items ≡ pages_on leg
+
+-- a datagram came
+pub record AnswererListens {S : Type 0} (setup : Setup) (l : CallingLeg) (now : ℕ) (octets : List ℕ) (machine : AnsweringMachine S) : Type 0 where
+  pub read : Reading
+  pub right : IsRead (question (Some l) now octets) read
+  pub answering : IsAnswering setup (heard_on setup (Some l) now octets read) machine
+
+-- at most so many datagrams came over its end, and led on
+pub record AnswererHears {S : Type 0} (setup : Setup) (leg : Option CallingLeg) (now most : ℕ) (before after : EndTraffic) (machine : AnsweringMachine S) : Type 0 where
+  pub came : List ReadDatagram
+  pub few : length came ≤ most
+  pub read : AreCame setup now came leg
+  pub received : Grows (octets_of came) before.received after.received
+  pub answering : IsAnswering setup (called_with setup now came leg) machine
+
+-- a turn
+pub record AnswererTurns {S : Type 0} (setup : Setup) (leg : Option CallingLeg) (now : ℕ) (before after : EndTraffic) (machine : AnsweringMachine S) : Type 0 where
+  pub came : List ReadDatagram
+  pub few : length came ≤ most_datagrams
+  pub read : AreCame setup now came leg
+  pub received : Grows (octets_of came) before.received after.received
+  pub sent : Grows (handed (told_calling setup (called_with setup now came leg) now)) before.sent after.sent
+  pub answering : IsAnswering setup (called_turned setup now came leg) machine
+
+-- the page that a tick confirmed, where it did
+abbrev pub pages_in : {S : Type 0} → Option (Confirmed S) → List PageValue
+pages_in None = []
+pages_in (Some confirmed) = confirmed.page ∷ []
+
+-- ---- an exchange: these rounds led to it, since the lines were so
+pub record HasPlayed (setup : Setup) (writes : Writing) (job : JobValue) (rounds : List Round) (before after : Lines) (parties : Parties) : Type 0 where
+  pub are_rounds : AreRounds setup writes rounds
+  pub gateway : IsReachedBy setup writes (trace_after rounds) parties.gateway
+  pub driver : HasMade (log_after rounds) parties.driver
+  pub caller : IsCalled setup writes (Some (caller_after setup writes job rounds)) (caller_of parties.caller)
+  pub answerer : IsAnswering setup (answerer_after setup rounds) parties.answerer
+  pub carried : CarriesRounds setup writes job rounds before after
+
+-- so many rounds, after which this says whether the gateway's last 100 receives did not all fail
+pub record HasGone (setup : Setup) (writes : Writing) (job : JobValue) (count : ℕ) (goes_on : Bool) (before after : Lines) (parties : Parties) : Type 0 where
+  pub rounds : List Round
+  pub many : length rounds ≡ count
+  pub receives : IsTrue goes_on ↔ (failed_in_a_row (receipts (log_after rounds)) < most_failed)
+  pub played : HasPlayed setup writes job rounds before after parties
+
+-- and no more are played
+pub record HasEnded (setup : Setup) (writes : Writing) (job : JobValue) (before after : Lines) (parties : Parties) : Type 0 where
+  pub rounds : List Round
+  pub over : IsOver setup writes rounds
+  pub played : HasPlayed setup writes job rounds before after parties
+
+-- ---- this text is that of an answer
+abbrev pub IsAnswerText : Answer → List ℕ → Type 0
+IsAnswerText (answer.Reported told) text = (lines : List (List ℕ)) × TellRows lines (rows_of told.confirmed.items)
+    × (text ≡ (string_bytes told.line ++ 10 ∷ []) ++ text_of_lines lines)
+IsAnswerText answer.Unreported text = text ≡ []
+IsAnswerText (answer.Fault line) text = text ≡ line.items
+IsAnswerText answer.NoMemory text = text ≡ codes "fault memory\n"
+
+-- how a run with an answer ends
+abbrev pub ending_of_answer : Answer → Ending
+ending_of_answer (answer.Reported told) = endings.Reported told.outcome
+ending_of_answer answer.Unreported = endings.Unreported
+ending_of_answer (answer.Fault line) = endings.Fault
+ending_of_answer answer.NoMemory = endings.NoMemory

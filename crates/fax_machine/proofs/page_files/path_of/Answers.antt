@@ -1,5 +1,0 @@
-use Rattle.std.proofs.Common.{rules, append_assoc}
-use Rattle.fax_machine.proofs.page_files.path_of.Goals as goal
-
-pub returns : goal.returns
-returns c = search (rules, append_assoc)

@@ -1,6 +1,0 @@
-use Rattle.fax_machine.specs.Keeping.{AddsFiles, HasCalls}
-use Rattle.fax_machine.proofs.receiving.answer_calls.Given as goal
-
--- the files of the calls so far
-abbrev pub invariant-loop-answered : goal.invariant-loop-answered
-invariant-loop-answered g l = AddsFiles (HasCalls l.fn.options.prefix.now l.fn.options.settings.preamble_ms l._answered) l.fn.pages.made l.pages.made

@@ -1,6 +1,0 @@
-use Rattle.std.proofs.Common.{length, arith}
-use Rattle.fax_pagestore.proofs.EndsLemmas.{NoEol-end, none_behind}
-use Rattle.fax_pagestore.proofs.ends.behind_eols.Goals as goal
-
-pub returns-then-len-from-clause-none : goal.returns-then-len-from-clause-none
-returns-then-len-from-clause-none c = none_behind c.args.octets.now (length c.args.octets.now) (length c.args.octets.now) 255 (omega arith) (omega arith) (NoEol-end c.args.octets.now)

@@ -1,0 +1,45 @@
+-- The pages that wait on a disk, and what the end of a job makes of them. (This project's profile.)
+use Rattle.std.specs.Prelude.{◌≡◌, ◌⊎◌, ℕ, Bool, true, List, [], drop, Some, slice_get, slice_set}
+use Rattle.fax_spool.specs.RecordOctets.{EndedValue, PageValue}
+use Rattle.fax_spool.specs.Calls.{EachCrashTells, Refuses, Rests}
+use Rattle.fax_spool.specs.Spools.{NoneIsLeft, Stores}
+use Rattle.fax_spool.specs.Waits.{without}
+use Rattle.fax_spool.specs.declared.spool_record.SpoolRecord.{SpoolRecord}
+use Rattle.fax_spool.specs.declared.spool.Spool.{Spool}
+use Rattle.fax_queue.specs.Queues.{QueueValue, left_by}
+
+-- THESE PAGES WAIT ON THE DISK, in the order in which they were put, whatever crash follows.
+abbrev pub PagesWait : {D : Type 0} → (D → List ℕ) → (D → List ℕ → Type 0) → (D → Bool) → Spool D → List PageValue → Type 0
+PagesWait seen may_leave is_usable spool pages = Rests seen may_leave is_usable spool pages
+
+-- Pages wait on the disk of which this holds; or the spool refuses everything from now on, and each crash tells such pages.
+abbrev pub WaitSo : {D : Type 0} → (D → List ℕ) → (D → List ℕ → Type 0) → (D → Bool) → Spool D → (List PageValue → Type 0) → Type 0
+WaitSo seen may_leave is_usable now P =
+    ((told : List PageValue) × PagesWait seen may_leave is_usable now told × P told) ⊎ (Refuses now × EachCrashTells may_leave now P)
+
+-- NO FILE IS KEPT FOR NOTHING: where the older one has records, one of its pages waits.
+pub record IsTidy {D : Type 0} (seen : D → List ℕ) (may_leave : D → List ℕ → Type 0) (is_usable : D → Bool) (spool : Spool D) : Type 0 where
+  pub olds : List SpoolRecord
+  pub news : List SpoolRecord
+  pub kept : Stores seen may_leave is_usable spool olds news
+  pub tidy : NoneIsLeft olds news → olds ≡ []
+
+-- A JOB OF SO MANY PAGES ENDED: they are the first of its line's queue, and leave it, which stays whole; and the record of its end is on
+-- the disk, whatever crash follows, which names no page that stays on the queue.
+pub record EndsJob {D : Type 0} (seen : D → List ℕ) (may_leave : D → List ℕ → Type 0) (is_usable : D → Bool) (pages : ℕ) (old new : QueueValue) (before after : Spool D) : Type 0 where
+  pub ended : EndedValue
+  pub line_is : new.line ≡ old.line
+  pub named : ended.line ≡ old.line
+  pub first : new.waits ≡ drop pages old.waits
+  pub whole : new.is_whole ≡ true
+  pub leaves : left_by ended old.line old.waits ≡ new.waits
+  pub wait : (waits : List PageValue) → PagesWait seen may_leave is_usable before waits → WaitSo seen may_leave is_usable after (λ told. told ≡ without ended waits)
+
+-- the same of the line at a place among the others, which stay as they were
+pub record EndsJobAt {D : Type 0} (seen : D → List ℕ) (may_leave : D → List ℕ → Type 0) (is_usable : D → Bool) (pages place : ℕ) (olds news : List QueueValue) (before after : Spool D) : Type 0 where
+  pub old : QueueValue
+  pub new : QueueValue
+  pub was : slice_get olds place ≡ Some old
+  pub is : slice_get news place ≡ Some new
+  pub are : news ≡ slice_set olds place new
+  pub ends : EndsJob seen may_leave is_usable pages old new before after

@@ -1,0 +1,15 @@
+pub mod Book
+pub mod CallTags
+pub mod EndFaults
+pub mod Histories
+pub mod Jobs
+pub mod Storing
+pub mod Lives
+pub mod NotedRuns
+pub mod OnLeg
+pub mod Refusals
+pub mod Restorations
+pub mod Queues
+pub mod SpoolStorage
+pub mod Tags
+pub mod TurnsTold

@@ -1,0 +1,5 @@
+pub mod Faults
+pub mod Files
+pub mod Folders
+pub mod Storing
+pub mod Runs

@@ -1,0 +1,157 @@
+//! Pages that are stored in files.
+ghost use Rattle.std.specs.Prelude.{◌≡◌, ◌≤◌, string_bytes, IfOk, OnErr, OnOk};
+ghost use Rattle.fax_send_receive.specs.Storing.{BeginsCall, IsPageAdded, name_of_page};
+
+use crate::named_files::{NamedFiles, write_file};
+use crate::watch::Watch;
+use fax_pagestore::{PackedRows, Page};
+use fax_pbm::write_pbm;
+use fax_terminal::{PageStore, StoreFault};
+use std::alloc::{AllocError, Global};
+use std::io;
+use std::marker::Model;
+
+/// Writes the pages of calls as pictures, into files that are named for the call and for their number in it. No file that is
+/// there is written over.
+#[derive(Drop)]
+pub struct PageFiles<'a, F: NamedFiles + Drop, E: Eprint> {
+    files: F,
+    watch: &'a Watch<'a, E>,
+    alloc: Global,
+    prefix: &'a str,
+    call: u32,
+    /// How many pages of the call it was given.
+    pages: u32,
+    /// Why the last page was not written, where the system says it.
+    fault: Option<io::Error>,
+}
+
+/// Seen as the call that is on, and the files that were made.
+impl<'a, F: NamedFiles + Drop, E: Eprint> Model for PageFiles<'a, F, E> {
+    ghost use Rattle.fax_send_receive.specs.Storing.{FilingValue};
+
+    ghost Value = { FilingValue };
+
+    ghost view = { λ p. record { prefix = p.prefix.now; call = p.call; pages = p.pages; made = F.made p.files } };
+}
+
+impl<'a, F: NamedFiles + Drop, E: Eprint> PageFiles<'a, F, E> {
+    /// These files, before the first call.
+    pub fn new(files: F, watch: &'a Watch<'a, E>, alloc: Global) -> Self
+        ensures { result.made ≡ F.made files }
+    {
+        PageFiles {
+            files,
+            watch,
+            alloc,
+            prefix: "",
+            call: 0,
+            pages: 0,
+            fault: None,
+        }
+    }
+
+    /// The next call begins, whose files are named with this prefix. It has the next number of whose first page no file is there.
+    pub(crate) fn begin_call(&mut self, prefix: &'a str) -> Result<(), AllocError>
+        ensures ok { OnOk result (BeginsCall prefix.entry.now self.old self.new) }
+        ensures err { OnErr result (self.new ≡ self.old) }
+    {
+        self.call = free_call(&self.files, self.alloc, prefix, self.call)?;
+        self.prefix = prefix;
+        self.pages = 0;
+        self.fault = None;
+        Ok(())
+    }
+
+    /// The number of the call.
+    pub(crate) fn call(&self) -> u32
+        ensures { result ≡ self.now.call }
+    {
+        self.call
+    }
+
+    /// The number of the page of the call that it was given last, from 1 on.
+    pub(crate) fn last(&self) -> u32
+        ensures { result ≡ self.now.pages }
+    {
+        self.pages
+    }
+
+    /// Why that page was not written. `None`: it was, or memory was wanted.
+    pub(crate) fn take_fault(&mut self) -> Option<io::Error>
+        ensures { self.new ≡ self.old }
+    {
+        self.fault.take()
+    }
+}
+
+impl<F: NamedFiles + Drop, E: Eprint> PageStore<PackedRows> for PageFiles<'_, F, E> {
+    ghost use Rattle.fax_send_receive.specs.Storing.{StoresPage};
+
+    ghost keeps = { StoresPage };
+
+    fn keep(&mut self, page: &Page<PackedRows>) -> Result<(), StoreFault> {
+        let Some(number) = self.pages.checked_add(1) else {
+            return Err(StoreFault);
+        };
+        self.pages = number;
+        let (alloc, prefix, call) = (self.alloc, self.prefix, self.call);
+        if let Err(fault) = write_page(&mut self.files, alloc, prefix, call, number, page) {
+            self.fault = fault;
+            return Err(StoreFault);
+        }
+        self.watch.tell_progress("received: page", number);
+        Ok(())
+    }
+}
+
+/// Writes a page as a picture, into the file of this number in a call, where there is none. An `Err` tells why it was not, where
+/// the system says it.
+fn write_page<F: NamedFiles>(
+    files: &mut F,
+    alloc: Global,
+    prefix: &str,
+    call: u32,
+    number: u32,
+    page: &Page<PackedRows>,
+) -> Result<(), Option<io::Error>>
+    ensures ok { OnOk result (IsPageAdded prefix.now call number page.now (F.made files.old) (F.made files.new)) }
+    ensures err { OnErr result (F.made files.new ≡ F.made files.old) }
+{
+    let Ok(octets) = write_pbm(alloc, page) else {
+        return Err(None);
+    };
+    let name = match path_of(alloc, prefix, call, number) {
+        Ok(name) => name,
+        Err(error) => return Err(Some(io::Error::from(error))),
+    };
+    match write_file(files, name, octets.as_slice()) {
+        Ok(()) => Ok(()),
+        Err(error) => Err(Some(error)),
+    }
+}
+
+/// The first call, from this number on, of whose first page no file is there.
+fn free_call<F: NamedFiles>(
+    files: &F,
+    alloc: Global,
+    prefix: &str,
+    from: u32,
+) -> Result<u32, AllocError>
+    ensures { IfOk result (λ call. from ≤ call) }
+{
+    for call in from..u32::MAX {
+        let path = path_of(alloc, prefix, call, 1)?;
+        if files.open(path.as_str()).is_err() {
+            return Ok(call);
+        }
+    }
+    Ok(u32::MAX)
+}
+
+/// The name of the file of a page.
+fn path_of(alloc: Global, prefix: &str, call: u32, page: u32) -> Result<String, AllocError>
+    ensures { IfOk result (λ path. string_bytes path ≡ name_of_page prefix.now call page) }
+{
+    format!(in alloc; "{prefix}-{call}-{page}.pbm")
+}

@@ -1,5 +1,0 @@
-use Rattle.fax_shelf.proofs.BookPut.{servers_lose_none_that_was_put}
-use Rattle.fax_shelf.proofs.laws.book.servers_lose_none_that_was_put.Goals as goal
-
-pub returns : goal.returns
-returns c = servers_lose_none_that_was_put c.jobs_are_cut.ensures c.jobs_have_states.ensures

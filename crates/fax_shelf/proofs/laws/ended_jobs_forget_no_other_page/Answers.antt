@@ -1,5 +1,0 @@
-use Rattle.fax_shelf.proofs.Waits.{none_is_forgotten}
-use Rattle.fax_shelf.proofs.laws.ended_jobs_forget_no_other_page.Goals as goal
-
-pub returns : goal.returns
-returns c = none_is_forgotten

@@ -1,5 +1,0 @@
-use Rattle.fax_shelf.proofs.Openings.{openings_find_what_waits}
-use Rattle.fax_shelf.proofs.laws.histories.openings_find_what_waits.Goals as goal
-
-pub returns : goal.returns
-returns g c = openings_find_what_waits _ _ _ c.openings_find_what_crashes_leave.ensures

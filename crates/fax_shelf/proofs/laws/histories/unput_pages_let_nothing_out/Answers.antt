@@ -1,5 +1,0 @@
-use Rattle.fax_shelf.proofs.PastLegs.{unput_pages_let_nothing_out}
-use Rattle.fax_shelf.proofs.laws.histories.unput_pages_let_nothing_out.Goals as goal
-
-pub returns : goal.returns
-returns c = unput_pages_let_nothing_out

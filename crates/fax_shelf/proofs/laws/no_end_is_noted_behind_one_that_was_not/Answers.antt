@@ -1,5 +1,0 @@
-use Rattle.fax_shelf.proofs.Refusing.{none_is_noted}
-use Rattle.fax_shelf.proofs.laws.no_end_is_noted_behind_one_that_was_not.Goals as goal
-
-pub returns : goal.returns
-returns c = none_is_noted

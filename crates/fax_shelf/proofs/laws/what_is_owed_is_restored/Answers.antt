@@ -1,5 +1,0 @@
-use Rattle.fax_shelf.proofs.Lives.{owed_is_restored}
-use Rattle.fax_shelf.proofs.laws.what_is_owed_is_restored.Goals as goal
-
-pub returns : goal.returns
-returns c = owed_is_restored c.pages_are_unique.ensures

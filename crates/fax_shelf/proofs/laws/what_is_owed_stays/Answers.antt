@@ -1,5 +1,0 @@
-use Rattle.fax_shelf.proofs.Lives.{owed_stays}
-use Rattle.fax_shelf.proofs.laws.what_is_owed_stays.Goals as goal
-
-pub returns : goal.returns
-returns c = owed_stays
