@@ -1,6 +1,7 @@
 pub mod Orders
 pub mod Pending
 pub mod Following
+pub mod EachCall
 pub mod History
 pub mod Table
 pub mod Replies

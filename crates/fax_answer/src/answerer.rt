@@ -1,8 +1,8 @@
 //! The answerer.
 ghost use Rattle.std.specs.Prelude.{◌≡◌, ◌≤◌, List, [], None, IsSome, IfSome, IfOk, OnOk, OnErr, length, if◌then◌else◌};
-ghost use Rattle.fax_ifp.specs.Elements.{Slot as SlotShown};
-ghost use Rattle.fax_answer.specs.Calls.{AnswererCore, new_answering, rung, ticked};
+ghost use Rattle.fax_answer.specs.Calls.{new_answering, rung, ticked};
 ghost use Rattle.fax_answer.specs.Due.{due_at};
+ghost use Rattle.fax_answer.specs.EachCall.{EachCall};
 ghost use Rattle.fax_answer.specs.Reached.{IsReached};
 ghost use Rattle.fax_answer.specs.Shown.{IsStep};
 
@@ -65,8 +65,7 @@ impl<S: RowStore> Answerer<S> {
     /// A ring, where no call is on: CED and our DIS wait, and T1 is set. It takes no memory.
     pub fn ring(&mut self, now: u64)
         requires { self.old.procedure.state ≡ State.Idle }
-        ensures rung { (heard : List SlotShown) (core : AnswererCore) → IsReached heard core self.old
-            → IsReached [] (rung core now) self.new }
+        ensures rung { EachCall self.old (λ heard core. IsReached [] (rung core now) self.new) }
         ensures spare { self.new.spare ≡ self.old.spare }
     {
         self.signals = Signals::new(self.alloc);
@@ -86,7 +85,7 @@ impl<S: RowStore> Answerer<S> {
     /// The first moment at which a tick may give something or change the call: an earlier tick does nothing. `None`: none
     /// does until something comes.
     pub fn next_due(&self) -> Option<u64>
-        ensures { (heard : List SlotShown) (core : AnswererCore) → IsReached heard core self.now → result ≡ due_at core }
+        ensures { EachCall self.now (λ heard core. result ≡ due_at core) }
     {
         self.procedure.next_due()
     }
@@ -94,8 +93,7 @@ impl<S: RowStore> Answerer<S> {
     /// Reserves memory, where none is reserved: after an `Ok` the next tick takes none. An `Err` changes nothing.
     pub fn reserve(&mut self) -> Result<(), NoMemory>
         ensures room { OnOk result (1 ≤ self.new.spare) }
-        ensures reached { (heard : List SlotShown) (core : AnswererCore) → IsReached heard core self.old
-            → IsReached heard core self.new }
+        ensures reached { EachCall self.old (λ heard core. IsReached heard core self.new) }
         ensures same { self.new ≡ record self.old { spare = self.new.spare } }
         ensures err { OnErr result (self.new ≡ self.old) }
     {
@@ -107,11 +105,9 @@ impl<S: RowStore> Answerer<S> {
     /// that one is given. It takes memory for the packet where none is reserved, and none where no packet is given. A packet
     /// has at most 12 octets. An `Err` changes nothing.
     pub fn tick(&mut self, now: u64) -> Result<Step<S>, NoMemory>
-        ensures ticked { IfOk result (λ step. (heard : List SlotShown) (core : AnswererCore) → IsReached heard core self.old
-            → IsReached heard (ticked core now).core self.new × IsStep (ticked core now) step) }
+        ensures ticked { IfOk result (λ step. EachCall self.old (λ heard core. IsReached heard (ticked core now).core self.new × IsStep (ticked core now) step)) }
         ensures err { OnErr result (self.new ≡ self.old) }
-        ensures memory { OnErr result ((heard : List SlotShown) (core : AnswererCore) → IsReached heard core self.old
-            → IsSome (ticked core now).given) }
+        ensures memory { OnErr result (EachCall self.old (λ heard core. IsSome (ticked core now).given)) }
         ensures spared { OnErr result (self.old.spare ≡ 0) }
         ensures short { IfOk result (λ step. IfSome step.packet (λ packet. length packet ≤ 12)) }
     {

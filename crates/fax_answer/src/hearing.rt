@@ -1,13 +1,12 @@
 //! What the answerer makes of the slots that come.
 ghost use Rattle.std.specs.Prelude.{◌≡◌, ◌↔◌, List, [], ◌∷◌, None, IsTrue, IsOk, IfOk, OnOk, OnErr, is_some, if◌then◌else◌};
-ghost use Rattle.fax_ifp.specs.Elements.{Slot as SlotShown};
 ghost use Rattle.fax_ifp.specs.Pieces.{Frame as FrameShown, Octets as OctetsShown};
 ghost use Rattle.fax_ifp.specs.Shown.{piece_of, pieces_shown};
 ghost use Rattle.fax_ifp.specs.Tracked.{lost_slots, with_octets};
 ghost use Rattle.fax_udptl.specs.Taking.{slots_in};
-ghost use Rattle.fax_answer.specs.Calls.{AnswererCore};
+ghost use Rattle.fax_answer.specs.EachCall.{EachCall, EachCore};
 ghost use Rattle.fax_answer.specs.Images.{GoesOn, TakesIn, begun};
-ghost use Rattle.fax_answer.specs.Reached.{IsReached, Stands, Takes, TakesAll, Hears, HearsSo};
+ghost use Rattle.fax_answer.specs.Reached.{Stands, Takes, TakesAll, Hears, HearsSo};
 
 use crate::State;
 use crate::answerer::Answerer;
@@ -24,8 +23,7 @@ impl<S: RowStore> Answerer<S> {
     /// memory for what is read of images, for the place to go back to, and for packets of more than four fields, and none
     /// where no packet is decided. An `Err` changes nothing.
     pub fn slots(&mut self, decided: &Decided<'_>, now: u64) -> Result<bool, NoMemory>
-        ensures heard { OnOk result ((heard : List SlotShown) (core : AnswererCore) → IsReached heard core self.old
-            → Hears (slots_in decided.now) now heard core self.new) }
+        ensures heard { OnOk result (EachCall self.old (λ heard core. Hears (slots_in decided.now) now heard core self.new)) }
         ensures ended { IfOk result (λ ended. IsTrue ended ↔ (self.new.procedure.state ≡ State.Idle)) }
         ensures err { OnErr result (self.new ≡ self.old) }
         ensures no_packet { decided.now.packets ≡ [] → IsOk result }
@@ -38,8 +36,7 @@ impl<S: RowStore> Answerer<S> {
 
     /// Hears the slots, all of them or none. An `Err` changes nothing.
     fn hear_whole(&mut self, decided: &Decided<'_>, now: u64) -> Result<(), NoMemory>
-        ensures heard { OnOk result ((heard : List SlotShown) (core : AnswererCore) → IsReached heard core self.old
-            → HearsSo (slots_in decided.now) now heard core self.new) }
+        ensures heard { OnOk result (EachCall self.old (λ heard core. HearsSo (slots_in decided.now) now heard core self.new)) }
         ensures err { OnErr result (self.new ≡ self.old) }
         ensures no_packet { decided.now.packets ≡ [] → IsOk result }
         ensures spare { self.new.spare ≡ self.old.spare }
@@ -69,8 +66,7 @@ impl<S: RowStore> Answerer<S> {
 
     /// Hears the slot of a packet that gives these octets of the open image and nothing else. An `Err` changes nothing.
     fn hear_alone(&mut self, octets: &[u8], now: u64) -> Result<(), NoMemory>
-        ensures heard { OnOk result ((core : AnswererCore) → Stands core self.old
-            → TakesAll (OctetsShown octets.now ∷ []) now core self.new) }
+        ensures heard { OnOk result (EachCore self.old (λ core. TakesAll (OctetsShown octets.now ∷ []) now core self.new)) }
         ensures tracked { OnOk result (self.new.tracked ≡ with_octets self.old.tracked) }
         ensures err { OnErr result (self.new ≡ self.old) }
         ensures spare { self.new.spare ≡ self.old.spare }
@@ -82,8 +78,7 @@ impl<S: RowStore> Answerer<S> {
 
     /// Hears the slots. An `Err` leaves readers to go back from, and the page that is confirmed.
     fn hear_slots(&mut self, decided: &Decided<'_>, now: u64) -> Result<(), NoMemory>
-        ensures heard { OnOk result ((heard : List SlotShown) (core : AnswererCore) → IsReached heard core self.old
-            → HearsSo (slots_in decided.now) now heard core self.new) }
+        ensures heard { OnOk result (EachCall self.old (λ heard core. HearsSo (slots_in decided.now) now heard core self.new)) }
         ensures goes_on { GoesOn self.old.image.readers self.new.image.readers }
         ensures confirmed { self.new.confirmed ≡ self.old.confirmed }
         ensures spare { self.new.spare ≡ self.old.spare }
@@ -99,8 +94,7 @@ impl<S: RowStore> Answerer<S> {
 
     /// So many slots are missing.
     fn lose(&mut self, count: u16, now: u64)
-        ensures heard { (heard : List SlotShown) (core : AnswererCore) → IsReached heard core self.old
-            → HearsSo (lost_slots count) now heard core self.new }
+        ensures heard { EachCall self.old (λ heard core. HearsSo (lost_slots count) now heard core self.new) }
         ensures image { self.new.image ≡ self.old.image }
         ensures confirmed { self.new.confirmed ≡ self.old.confirmed }
         ensures spare { self.new.spare ≡ self.old.spare }
@@ -113,8 +107,7 @@ impl<S: RowStore> Answerer<S> {
 
     /// Hears pieces, in the order of time.
     fn hear_all(&mut self, pieces: &[Piece<'_>], now: u64) -> Result<(), NoMemory>
-        ensures heard { OnOk result ((core : AnswererCore) → Stands core self.old
-            → TakesAll (pieces_shown pieces.now) now core self.new) }
+        ensures heard { OnOk result (EachCore self.old (λ core. TakesAll (pieces_shown pieces.now) now core self.new)) }
         ensures tracked { self.new.tracked ≡ self.old.tracked }
         ensures spare { self.new.spare ≡ self.old.spare }
         ensures goes_on { GoesOn self.old.image.readers self.new.image.readers }
@@ -128,8 +121,7 @@ impl<S: RowStore> Answerer<S> {
 
     /// Hears a piece.
     fn hear(&mut self, piece: &Piece<'_>, now: u64) -> Result<(), NoMemory>
-        ensures heard { OnOk result ((core : AnswererCore) → Stands core self.old
-            → Takes (piece_of piece.now) now core self.new) }
+        ensures heard { OnOk result (EachCore self.old (λ core. Takes (piece_of piece.now) now core self.new)) }
         ensures tracked { self.new.tracked ≡ self.old.tracked }
         ensures spare { self.new.spare ≡ self.old.spare }
         ensures goes_on { GoesOn self.old.image.readers self.new.image.readers }
@@ -167,8 +159,7 @@ impl<S: RowStore> Answerer<S> {
 
     /// Hears octets of the image under way. An `Err` changes nothing.
     fn hear_octets(&mut self, octets: &[u8], now: u64) -> Result<(), NoMemory>
-        ensures heard { OnOk result ((core : AnswererCore) → Stands core self.old
-            → Takes (OctetsShown octets.now) now core self.new) }
+        ensures heard { OnOk result (EachCore self.old (λ core. Takes (OctetsShown octets.now) now core self.new)) }
         ensures goes_on { GoesOn self.old.image.readers self.new.image.readers }
         ensures err { OnErr result (self.new ≡ self.old) }
         ensures tracked { self.new.tracked ≡ self.old.tracked }
@@ -197,7 +188,7 @@ impl<S: RowStore> Answerer<S> {
     /// Hears a frame, which is passed over while a packet waits.
     fn hear_frame(&mut self, piece: &Piece<'_>, octets: &[u8], now: u64)
         requires { piece_of piece.now ≡ FrameShown octets.now }
-        ensures heard { (core : AnswererCore) → Stands core self.old → Takes (FrameShown octets.now) now core self.new }
+        ensures heard { EachCore self.old (λ core. Takes (FrameShown octets.now) now core self.new) }
         ensures tracked { self.new.tracked ≡ self.old.tracked }
         ensures spare { self.new.spare ≡ self.old.spare }
         ensures readers { self.new.image.readers ≡ self.old.image.readers }
@@ -216,7 +207,7 @@ impl<S: RowStore> Answerer<S> {
     /// Nothing can be refused any more: the page that is accepted is taken out of its reader, and the readers that nothing
     /// asks for are let go. It takes no memory.
     fn settle(&mut self)
-        ensures stands { (core : AnswererCore) → Stands core self.old → Stands core self.new }
+        ensures stands { EachCore self.old (λ core. Stands core self.new) }
         ensures settled { self.new.image.accepted ≡ None }
         ensures procedure { self.new.procedure ≡ self.old.procedure }
         ensures tracked { self.new.tracked ≡ self.old.tracked }

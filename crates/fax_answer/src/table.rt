@@ -2,9 +2,10 @@
 //! order of `specs/Table`.
 ghost use Rattle.std.specs.Prelude.{ℕ, ◌≡◌, List, None, ◌&&◌, not, nat_le};
 ghost use Rattle.fax_ifp.specs.Pieces.{End as EndShown};
+ghost use Rattle.fax_answer.specs.Calls.{AnswererCore};
+ghost use Rattle.fax_answer.specs.EachCall.{EachCore};
 ghost use Rattle.fax_answer.specs.Table.{decision};
 ghost use Rattle.fax_answer.specs.Replies.{is_last, is_waiting};
-ghost use Rattle.fax_answer.specs.Calls.{AnswererCore};
 ghost use Rattle.fax_answer.specs.Rep.{decided_outside, verdict_of};
 ghost use Rattle.fax_answer.specs.Images.{HasEnded};
 ghost use Rattle.fax_answer.specs.Reached.{Stands, Answers, AnswersAgain, AnswersCommand, AnswersImage};
@@ -21,8 +22,7 @@ use fax_pagestore::RowStore;
 impl<S: RowStore> Answerer<S> {
     /// What is decided at a frame, in each state, where no packet waits.
     pub(crate) fn answer(&self, octets: &[u8]) -> Answer
-        ensures { (core : AnswererCore) → Stands core self.now
-            → Answers octets.now core self.now.image.readers result }
+        ensures { EachCore self.now (λ core. Answers octets.now core self.now.image.readers result) }
     {
         let order = Order::read(octets);
         match self.procedure.state {
@@ -41,8 +41,7 @@ impl<S: RowStore> Answerer<S> {
 
     /// What is decided where an image ends: in Train, whether the training check is good.
     pub(crate) fn judge_training(&self, whole: bool) -> Decision
-        ensures { (core : AnswererCore) → Stands core self.now
-            → verdict_of (decision None core.state (is_waiting core.waiting) core.history (EndShown whole)) ≡ result }
+        ensures { EachCore self.now (λ core. verdict_of (decision None core.state (is_waiting core.waiting) core.history (EndShown whole)) ≡ result) }
     {
         let State::Train(dcs) = self.procedure.state else {
             return Decision::PassOver;
@@ -86,7 +85,7 @@ impl<S: RowStore> Answerer<S> {
 
     /// What is decided at a command in Again: MCF to an EOM after which nothing came, else RTN.
     fn judge_again(&self, command: Command) -> Answer
-        ensures { (core : AnswererCore) → Stands core self.now → AnswersAgain command core.history self.now.image.readers result }
+        ensures { EachCore self.now (λ core. AnswersAgain command core.history self.now.image.readers result) }
     {
         match command {
             Command::Eom if self.procedure.counts.is_quiet() => Answer::plain(Decision::Mcf(

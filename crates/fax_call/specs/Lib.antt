@@ -2,6 +2,7 @@ pub mod Calls
 pub mod Delivery
 pub mod Emission
 pub mod Following
+pub mod EachCall
 pub mod Rep
 pub mod Numbers
 pub mod Reached

@@ -2,6 +2,7 @@
 ghost use Rattle.std.specs.Prelude.{◌≡◌, ◌≢◌, ◌<◌, ◌≤◌, Bool, false, List, [], Ok, Some, None, IsSome, IfSome, IfOk, OnOk, OnErr, length};
 ghost use Rattle.fax_ifp.specs.Elements.{Slot as SlotShown};
 ghost use Rattle.fax_jobs.specs.Jobs.{JobValue, IsJob};
+ghost use Rattle.fax_call.specs.EachCall.{EachCall};
 ghost use Rattle.fax_call.specs.Writings.{Writing, IsWriting};
 ghost use Rattle.fax_call.specs.Calls.{CallerCore, new_calling, not_placed, started, ticked};
 ghost use Rattle.fax_call.specs.Following.{IsFit, Follows, HasTextLeft, IsJobOfCall, given_by, with_turn, GivesPacket};
@@ -71,8 +72,7 @@ impl Caller {
     /// none. An `Err` changes nothing.
     pub fn reserve(&mut self) -> Result<(), NoMemory>
         ensures room { OnOk result (1 ≤ self.new.spare) }
-        ensures reached { (writes : Writing) (job : JobValue) (heard : List SlotShown) (core : CallerCore) → IsReached writes job heard core self.old
-            → IsReached writes job heard core self.new }
+        ensures reached { EachCall self.old (λ writes job heard core. IsReached writes job heard core self.new) }
         ensures same { self.new ≡ record self.old { spare = self.new.spare } }
         ensures err { OnErr result (self.new ≡ self.old) }
     {
@@ -134,7 +134,7 @@ impl Caller {
     /// The first moment at which a tick may give something or change the call: an earlier tick does nothing. `None`: none
     /// does until something comes.
     pub fn next_due(&self) -> Option<u64>
-        ensures { (writes : Writing) (job : JobValue) (heard : List SlotShown) (core : CallerCore) → IsReached writes job heard core self.now → result ≡ due_at core }
+        ensures { EachCall self.now (λ writes job heard core. result ≡ due_at core) }
     {
         self.procedure.next_due()
     }

@@ -5,6 +5,7 @@ ghost use Rattle.fax_ifp.specs.Shown.{pieces_shown};
 ghost use Rattle.fax_ifp.specs.Tracked.{lost_slots};
 ghost use Rattle.fax_udptl.specs.Taking.{slots_in};
 ghost use Rattle.fax_jobs.specs.Jobs.{JobValue};
+ghost use Rattle.fax_call.specs.EachCall.{EachCall};
 ghost use Rattle.fax_call.specs.Writings.{Writing};
 ghost use Rattle.fax_call.specs.Calls.{CallerCore, came_all};
 ghost use Rattle.fax_call.specs.Following.{Follows, IsJobOfCall};
@@ -20,8 +21,7 @@ impl Caller {
     /// MCF or RTP answers an EOM, T1 is set from this moment. It takes memory for packets of more than four fields, and
     /// none where no packet is decided. An `Err` changes nothing.
     pub fn slots(&mut self, decided: &Decided<'_>, now: u64) -> Result<(), NoMemory>
-        ensures heard { OnOk result ((writes : Writing) (job : JobValue) (heard : List SlotShown) (core : CallerCore)
-            → IsReached writes job heard core self.old → Hears writes job (slots_in decided.now) now heard core self.new) }
+        ensures heard { OnOk result (EachCall self.old (λ writes job heard core. Hears writes job (slots_in decided.now) now heard core self.new)) }
         ensures job { (job : JobValue) → IsJobOfCall self.old.procedure job → IsJobOfCall self.new.procedure job }
         ensures err { OnErr result (self.new ≡ self.old) }
         ensures no_packet { decided.now.packets ≡ [] → IsOk result }
@@ -38,8 +38,7 @@ impl Caller {
 
     /// Hears the slots. An `Err` leaves the writer of the text, and the room.
     fn hear_slots(&mut self, decided: &Decided<'_>, now: u64) -> Result<(), NoMemory>
-        ensures heard { OnOk result ((writes : Writing) (job : JobValue) (heard : List SlotShown) (core : CallerCore)
-            → IsReached writes job heard core self.old → Hears writes job (slots_in decided.now) now heard core self.new) }
+        ensures heard { OnOk result (EachCall self.old (λ writes job heard core. Hears writes job (slots_in decided.now) now heard core self.new)) }
         ensures job { (job : JobValue) → IsJobOfCall self.old.procedure job → IsJobOfCall self.new.procedure job }
         ensures writer { self.new.writer ≡ self.old.writer }
         ensures spare { self.new.spare ≡ self.old.spare }
@@ -59,8 +58,7 @@ impl Caller {
 
     /// Hears the slot of a packet. An `Err` leaves the writer of the text, and the room.
     fn hear_packet(&mut self, packet: &[u8], now: u64) -> Result<(), NoMemory>
-        ensures heard { OnOk result ((writes : Writing) (job : JobValue) (heard : List SlotShown) (core : CallerCore)
-            → IsReached writes job heard core self.old → Hears writes job (Some packet.now ∷ []) now heard core self.new) }
+        ensures heard { OnOk result (EachCall self.old (λ writes job heard core. Hears writes job (Some packet.now ∷ []) now heard core self.new)) }
         ensures job { (job : JobValue) → IsJobOfCall self.old.procedure job → IsJobOfCall self.new.procedure job }
         ensures writer { self.new.writer ≡ self.old.writer }
         ensures spare { self.new.spare ≡ self.old.spare }

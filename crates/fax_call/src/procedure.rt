@@ -3,6 +3,7 @@
 ghost use Rattle.std.specs.Prelude.{◌≡◌, ◌≢◌, ◌↔◌, ◌≤◌, ◌<◌, IsTrue, List, ℕ, length, Option, None, Some, if◌then◌else◌, false};
 ghost use Rattle.fax_jobs.specs.Jobs.{JobValue, IsJob};
 ghost use Rattle.fax_pagestore.specs.Writers.{WriterValue};
+ghost use Rattle.fax_call.specs.EachCall.{EachCore};
 ghost use Rattle.fax_call.specs.Writings.{Writing};
 ghost use Rattle.fax_call.specs.Replies.{turn_after};
 ghost use Rattle.fax_call.specs.Calls.{formats_of};
@@ -214,8 +215,7 @@ impl Procedure {
         ensures idle { self.old.state ≡ State.Idle → self.new ≡ self.old }
         ensures job { (job : JobValue) → IsJobOfCall self.old job → IsJobOfCall self.new job }
         ensures text { (writer : WriterValue) → HasText self.old.pending writer → HasText self.new.pending writer }
-        ensures heard { (writes : Writing) (job : JobValue) (core : CallerCore) (writer : WriterValue) → Follows writes job core writer self.old
-            → Follows writes job (came_all core (pieces_shown pieces.now) now) writer self.new }
+        ensures heard { EachCore self.old (λ writes job core writer. Follows writes job (came_all core (pieces_shown pieces.now) now) writer self.new) }
     {
         for piece in pieces {
             self.hear(piece, now);
@@ -228,8 +228,7 @@ impl Procedure {
         ensures fit { IsFit self.new }
         ensures text { (writer : WriterValue) → HasText self.old.pending writer → HasText self.new.pending writer }
         ensures idle { self.old.state ≡ State.Idle → self.new ≡ self.old }
-        ensures heard { (writes : Writing) (job : JobValue) (core : CallerCore) (writer : WriterValue) → Follows writes job core writer self.old
-            → Follows writes job (came core (piece_of piece.now) now) writer self.new }
+        ensures heard { EachCore self.old (λ writes job core writer. Follows writes job (came core (piece_of piece.now) now) writer self.new) }
     {
         let Piece::Frame(octets) = piece else {
             return;
@@ -246,8 +245,7 @@ impl Procedure {
     /// Whether a packet is given now: one waits, and the pace lets it through.
     pub fn gives(&self, now: u64) -> bool
         requires { IsFit self.now }
-        ensures gives { (writes : Writing) (job : JobValue) (core : CallerCore) (writer : WriterValue) → Follows writes job core writer self.now
-            → result ≡ gives_now core now }
+        ensures gives { EachCore self.now (λ writes job core writer. result ≡ gives_now core now) }
         ensures waits { IsTrue result → self.now.pending ≢ Pending.Nothing }
     {
         self.is_waiting() && self.pace.allows(now)
@@ -257,8 +255,7 @@ impl Procedure {
     /// else that of the timer that acts.
     pub fn next_due(&self) -> Option<u64>
         requires { IsFit self.now }
-        ensures { (writes : Writing) (job : JobValue) (core : CallerCore) (writer : WriterValue) → Follows writes job core writer self.now
-            → result ≡ due_at core }
+        ensures { EachCore self.now (λ writes job core writer. result ≡ due_at core) }
     {
         if self.is_waiting() {
             self.pace.allowed_from()
@@ -286,8 +283,7 @@ impl Procedure {
         ensures idle { self.old.state ≡ State.Idle → self.new ≡ self.old }
         ensures job { (job : JobValue) → IsJobOfCall self.old job → IsJobOfCall self.new job }
         ensures text { (writer : WriterValue) → HasText self.old.pending writer → HasText self.new.pending writer }
-        ensures acted { (writes : Writing) (job : JobValue) (core : CallerCore) (writer : WriterValue) → Follows writes job core writer self.old
-            → Follows writes job (timed core now) writer self.new }
+        ensures acted { EachCore self.old (λ writes job core writer. Follows writes job (timed core now) writer self.new) }
     {
         if self.is_waiting() {
             return;

@@ -9,6 +9,7 @@ pub mod Cuts
 pub mod Driving
 pub mod Events
 pub mod Forwards
+pub mod EachTrace
 pub mod GoesOn
 pub mod Lacking
 pub mod LegNames

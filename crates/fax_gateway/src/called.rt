@@ -7,6 +7,7 @@ ghost use Rattle.fax_call.specs.declared.pending.Pending.TheVariants as Pending;
 ghost use Rattle.fax_gateway.specs.Setups.{AreAllowed, HasSettings, Setup};
 ghost use Rattle.fax_gateway.specs.CalledLegs.{CalledLeg, begun_leg, placed_leg, core_left, core_of, decided_called, hears};
 ghost use Rattle.fax_gateway.specs.Due.{call_due};
+ghost use Rattle.fax_gateway.specs.EachTrace.{EachCalledLeg};
 ghost use Rattle.fax_gateway.specs.Reached.{Begins, CalledHasRoom, IsCalled, IsLeg, IsServed, TicksOn, called_alone, most_octets, outcome_of_rep};
 
 use crate::endpoint::{Endpoint, MOST_OCTETS};
@@ -41,12 +42,9 @@ impl CalledEndpoint {
     /// A datagram came: the octets of it. It answers whether it decided a slot, and it takes memory only where it did. An
     /// `Err` changes nothing.
     pub fn hear(&mut self, octets: &[u8], now: u64) -> Result<bool, NoMemory>
-        ensures heard { OnOk result ((setup : Setup) (writes : Writing) (leg : Option CalledLeg) → IsCalled setup writes leg self.old
-            → IsCalled setup writes (option_map (hears writes octets.now now) leg) self.new) }
-        ensures decided { IfOk result (λ decided. (setup : Setup) (writes : Writing) (leg : Option CalledLeg) → IsCalled setup writes leg self.old
-            → decided ≡ decided_called writes leg octets.now) }
-        ensures memory { OnErr result ((setup : Setup) (writes : Writing) (leg : Option CalledLeg) → IsCalled setup writes leg self.old
-            → decided_called writes leg octets.now ≡ true) }
+        ensures heard { OnOk result (EachCalledLeg self.old (λ setup writes leg. IsCalled setup writes (option_map (hears writes octets.now now) leg) self.new)) }
+        ensures decided { IfOk result (λ decided. EachCalledLeg self.old (λ setup writes leg. decided ≡ decided_called writes leg octets.now)) }
+        ensures memory { OnErr result (EachCalledLeg self.old (λ setup writes leg. decided_called writes leg octets.now ≡ true)) }
         ensures idle { self.old.caller.procedure.state ≡ State.Idle → self.new ≡ self.old }
         ensures job { (job : JobValue) → IsJobOfCall self.old.caller.procedure job → IsJobOfCall self.new.caller.procedure job }
         ensures err { OnErr result (self.new ≡ self.old) }
@@ -94,7 +92,7 @@ impl CalledEndpoint {
     /// Takes the memory of the next datagram, and of the first packet of a call.
     pub fn reserve(&mut self) -> Result<(), NoMemory>
         ensures room { OnOk result (CalledHasRoom self.new) }
-        ensures reached { (setup : Setup) (writes : Writing) (leg : Option CalledLeg) → IsCalled setup writes leg self.old → IsCalled setup writes leg self.new }
+        ensures reached { EachCalledLeg self.old (λ setup writes leg. IsCalled setup writes leg self.new) }
         ensures same { called_alone self.new ≡ called_alone self.old }
         ensures procedure { self.new.caller.procedure ≡ self.old.caller.procedure }
     {

@@ -4,6 +4,7 @@ ghost use Rattle.fax_udptl.specs.Sending.{most_redundancy};
 ghost use Rattle.fax_gateway.specs.Setups.{AreAllowed, HasSettings, Setup};
 ghost use Rattle.fax_gateway.specs.CallingLegs.{CallingLeg, decided_calling, idle_after, rung_leg};
 ghost use Rattle.fax_gateway.specs.Due.{calling_due};
+ghost use Rattle.fax_gateway.specs.EachTrace.{EachCallingLeg};
 ghost use Rattle.fax_gateway.specs.Reached.{IsCalling, HearsCalling, CallingHasRoom, TellsTick, answering_of, calling_alone, ticked_on};
 ghost use Rattle.fax_gateway.specs.Turns.{call_of_rep, call_on};
 
@@ -52,7 +53,7 @@ impl<S: RowStore> CallingEndpoint<S> {
 
     /// Whether no call is on.
     pub fn is_idle(&self) -> bool
-        ensures idle { (setup : Setup) (leg : Option CallingLeg) → IsCalling setup leg self.now → result ≡ idle_after leg }
+        ensures idle { EachCallingLeg self.now (λ setup leg. result ≡ idle_after leg) }
         ensures state { IsTrue result ↔ (self.now.kept.procedure.state ≡ State.Idle) }
     {
         self.answerer.state() == State::Idle
@@ -61,7 +62,7 @@ impl<S: RowStore> CallingEndpoint<S> {
     /// The number of the call that is on.
     pub fn call(&self) -> Option<u32>
         ensures call { result ≡ call_of_rep self.now }
-        ensures told { (setup : Setup) (leg : Option CallingLeg) → IsCalling setup leg self.now → result ≡ call_on leg }
+        ensures told { EachCallingLeg self.now (λ setup leg. result ≡ call_on leg) }
     {
         if self.is_idle() {
             None
@@ -88,9 +89,9 @@ impl<S: RowStore> CallingEndpoint<S> {
     /// A datagram came: the octets of it. It answers whether it decided a slot, and it takes memory only where it did. An
     /// `Err` changes nothing.
     pub fn hear(&mut self, octets: &[u8], now: u64) -> Result<bool, NoMemory>
-        ensures heard { OnOk result ((setup : Setup) (leg : Option CallingLeg) → IsCalling setup leg self.old → HearsCalling setup leg now octets.now self.new) }
-        ensures decided { IfOk result (λ decided. (setup : Setup) (leg : Option CallingLeg) → IsCalling setup leg self.old → decided ≡ decided_calling leg octets.now) }
-        ensures memory { OnErr result ((setup : Setup) (leg : Option CallingLeg) → IsCalling setup leg self.old → decided_calling leg octets.now ≡ true) }
+        ensures heard { OnOk result (EachCallingLeg self.old (λ setup leg. HearsCalling setup leg now octets.now self.new)) }
+        ensures decided { IfOk result (λ decided. EachCallingLeg self.old (λ setup leg. decided ≡ decided_calling leg octets.now)) }
+        ensures memory { OnErr result (EachCallingLeg self.old (λ setup leg. decided_calling leg octets.now ≡ true)) }
         ensures err { OnErr result (self.new ≡ self.old) }
     {
         if self.is_idle() {
@@ -114,7 +115,7 @@ impl<S: RowStore> CallingEndpoint<S> {
 
     /// The first moment at which a tick may give something or change the call.
     pub fn next_due(&self) -> Option<u64>
-        ensures { (setup : Setup) (leg : Option CallingLeg) → IsCalling setup leg self.now → result ≡ calling_due setup leg }
+        ensures { EachCallingLeg self.now (λ setup leg. result ≡ calling_due setup leg) }
     {
         self.answerer.next_due()
     }
@@ -122,7 +123,7 @@ impl<S: RowStore> CallingEndpoint<S> {
     /// Takes the memory of the next tick.
     pub fn reserve(&mut self) -> Result<(), NoMemory>
         ensures room { OnOk result (CallingHasRoom self.new) }
-        ensures reached { (setup : Setup) (leg : Option CallingLeg) → IsCalling setup leg self.old → IsCalling setup leg self.new }
+        ensures reached { EachCallingLeg self.old (λ setup leg. IsCalling setup leg self.new) }
         ensures same { calling_alone self.new ≡ calling_alone self.old }
     {
         self.answerer.reserve()?;
@@ -134,8 +135,8 @@ impl<S: RowStore> CallingEndpoint<S> {
     /// The memory is reserved.
     pub fn tick(&mut self, now: u64) -> Step<S>
         requires { CallingHasRoom self.old }
-        ensures ticked { (setup : Setup) (leg : Option CallingLeg) → IsCalling setup leg self.old → IsCalling setup (ticked_on leg now) self.new }
-        ensures told { (setup : Setup) (leg : Option CallingLeg) → IsCalling setup leg self.old → TellsTick setup leg now result }
+        ensures ticked { EachCallingLeg self.old (λ setup leg. IsCalling setup (ticked_on leg now) self.new) }
+        ensures told { EachCallingLeg self.old (λ setup leg. TellsTick setup leg now result) }
         ensures number { self.new.number ≡ self.old.number }
     {
         match self.answerer.tick(now) {

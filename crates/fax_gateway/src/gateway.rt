@@ -14,7 +14,8 @@ ghost use Rattle.fax_gateway.specs.CallingLegs.{CallingLeg, calling_leg, decided
 ghost use Rattle.fax_gateway.specs.CalledLegs.{decided_called};
 ghost use Rattle.fax_gateway.specs.BothLegs.{book_of, both_legs, job_asked};
 ghost use Rattle.fax_gateway.specs.Due.{called_due, due_at, job_due, nothing_given};
-ghost use Rattle.fax_gateway.specs.Reached.{CallingHasRoom, HasRoom, HearsFrom, IsCalling, IsLeg, IsReachedBy, IsServed, alone, closed_if, confirmed_if, confirmed_on, ended_if, ended_on, given_shown, most_octets, outcome_of_rep, report_if, ticked_on};
+ghost use Rattle.fax_gateway.specs.Reached.{CallingHasRoom, HasRoom, IsCalling, IsLeg, IsReachedBy, IsServed, alone, closed_if, confirmed_if, confirmed_on, ended_if, ended_on, given_shown, most_octets, outcome_of_rep, report_if, ticked_on};
+ghost use Rattle.fax_gateway.specs.EachTrace.{Advances, AdvancesByHearing, AdvancesByTick, EachTrace, OfBook, OfCallingLeg, OfJobAsked, Remains};
 ghost use Rattle.fax_gateway.specs.Turns.{IsRefusedAt, Refuses, call_asked, call_if, call_of_rep, call_on, given_up_at, kept_at, kept_if, refused_if};
 
 use crate::called::CalledEndpoint;
@@ -115,12 +116,9 @@ impl<S: RowStore> Gateway<S> {
     /// A ring, where no call is on the calling leg: a call begins. It answers its number, counted from 0. It takes memory
     /// for the leg. An `Err` changes nothing.
     pub fn ring(&mut self, now: u64) -> Result<u32, RingFault>
-        ensures rung { IfOk result (λ number. (setup : Setup) (writes : Writing) (trace : List Event) → IsReachedBy setup writes trace self.old
-            → IsReachedBy setup writes (Ring now number ∷ trace) self.new) }
-        ensures busy { (setup : Setup) (writes : Writing) (trace : List Event) → IsReachedBy setup writes trace self.old
-            → result ≡ Err RingFault.Busy ↔ (idle_after (calling_leg setup trace) ≡ false) }
-        ensures no_number { (setup : Setup) (writes : Writing) (trace : List Event) → IsReachedBy setup writes trace self.old → idle_after (calling_leg setup trace) ≡ true
-            → result ≡ Err RingFault.NoNumber ↔ (4294967296 ≤ rings trace) }
+        ensures rung { IfOk result (λ number. Advances self.old (Ring now number) self.new) }
+        ensures busy { EachTrace self.old (λ setup writes trace. result ≡ Err RingFault.Busy ↔ (idle_after (calling_leg setup trace) ≡ false)) }
+        ensures no_number { EachTrace self.old (λ setup writes trace. idle_after (calling_leg setup trace) ≡ true → result ≡ Err RingFault.NoNumber ↔ (4294967296 ≤ rings trace)) }
         ensures err { OnErr result (self.new ≡ self.old) }
     {
         if !self.calling.is_idle() {
@@ -139,10 +137,8 @@ impl<S: RowStore> Gateway<S> {
     /// no call is on, where it cannot be read and where it is late. It takes memory only where it did. An `Err` changes
     /// nothing.
     pub fn from_calling(&mut self, octets: &[u8], now: u64) -> Result<bool, NoMemory>
-        ensures heard { IfOk result (λ decided. (setup : Setup) (writes : Writing) (trace : List Event) → IsReachedBy setup writes trace self.old
-            → HearsFrom setup writes trace octets.now now decided self.new) }
-        ensures memory { (setup : Setup) (writes : Writing) (trace : List Event) → IsReachedBy setup writes trace self.old
-            → decided_calling (calling_leg setup trace) octets.now ≡ false → result ≡ Ok false }
+        ensures heard { IfOk result (λ decided. AdvancesByHearing self.old octets.now now decided self.new) }
+        ensures memory { EachTrace self.old (λ setup writes trace. decided_calling (calling_leg setup trace) octets.now ≡ false → result ≡ Ok false) }
         ensures err { OnErr result (self.new ≡ self.old) }
     {
         let mut clock = self.clock;
@@ -158,10 +154,8 @@ impl<S: RowStore> Gateway<S> {
 
     /// The same of a datagram that came on the called leg.
     pub fn from_called(&mut self, octets: &[u8], now: u64) -> Result<bool, NoMemory>
-        ensures heard { IfOk result (λ decided. (setup : Setup) (writes : Writing) (trace : List Event) → IsReachedBy setup writes trace self.old
-            → IsReachedBy setup writes (FromCalled octets.now now decided ∷ trace) self.new) }
-        ensures memory { (setup : Setup) (writes : Writing) (trace : List Event) → IsReachedBy setup writes trace self.old
-            → decided_called writes (both_legs setup writes trace).leg octets.now ≡ false → result ≡ Ok false }
+        ensures heard { IfOk result (λ decided. Advances self.old (FromCalled octets.now now decided) self.new) }
+        ensures memory { EachTrace self.old (λ setup writes trace. decided_called writes (both_legs setup writes trace).leg octets.now ≡ false → result ≡ Ok false) }
         ensures err { OnErr result (self.new ≡ self.old) }
     {
         let mut clock = self.clock;
@@ -173,10 +167,8 @@ impl<S: RowStore> Gateway<S> {
     /// The call of the job that is asked for is placed: the called machine has answered, and the job's call begins, with all its
     /// timers. The next tick gives the tone of a calling terminal. It takes memory for the leg. An `Err` changes nothing.
     pub fn connect(&mut self, now: u64) -> Result<(), PlaceFault>
-        ensures placed { OnOk result ((setup : Setup) (writes : Writing) (trace : List Event) → IsReachedBy setup writes trace self.old
-            → IsReachedBy setup writes (Placed now true ∷ trace) self.new) }
-        ensures not_asked { (setup : Setup) (writes : Writing) (trace : List Event) → IsReachedBy setup writes trace self.old
-            → result ≡ Err PlaceFault.NotAsked ↔ (job_asked setup.asks (book_of (both_legs setup writes trace)) ≡ None) }
+        ensures placed { OnOk result (Advances self.old (Placed now true) self.new) }
+        ensures not_asked { OfJobAsked self.old (λ job. result ≡ Err PlaceFault.NotAsked ↔ (job ≡ None)) }
         ensures err { OnErr result (self.new ≡ self.old) }
     {
         self.place(true, now)
@@ -185,10 +177,8 @@ impl<S: RowStore> Gateway<S> {
     /// The called machine of the job that is asked for could not be reached: its call is over as it begins, and the next tick
     /// reports the job as `NotPlaced`. It takes memory for the leg. An `Err` changes nothing.
     pub fn not_connected(&mut self, now: u64) -> Result<(), PlaceFault>
-        ensures placed { OnOk result ((setup : Setup) (writes : Writing) (trace : List Event) → IsReachedBy setup writes trace self.old
-            → IsReachedBy setup writes (Placed now false ∷ trace) self.new) }
-        ensures not_asked { (setup : Setup) (writes : Writing) (trace : List Event) → IsReachedBy setup writes trace self.old
-            → result ≡ Err PlaceFault.NotAsked ↔ (job_asked setup.asks (book_of (both_legs setup writes trace)) ≡ None) }
+        ensures placed { OnOk result (Advances self.old (Placed now false) self.new) }
+        ensures not_asked { OfJobAsked self.old (λ job. result ≡ Err PlaceFault.NotAsked ↔ (job ≡ None)) }
         ensures err { OnErr result (self.new ≡ self.old) }
     {
         self.place(false, now)
@@ -196,10 +186,8 @@ impl<S: RowStore> Gateway<S> {
 
     /// The call of the job that is asked for is placed, or could not be.
     fn place(&mut self, connected: bool, now: u64) -> Result<(), PlaceFault>
-        ensures placed { OnOk result ((setup : Setup) (writes : Writing) (trace : List Event) → IsReachedBy setup writes trace self.old
-            → IsReachedBy setup writes (Placed now connected ∷ trace) self.new) }
-        ensures not_asked { (setup : Setup) (writes : Writing) (trace : List Event) → IsReachedBy setup writes trace self.old
-            → result ≡ Err PlaceFault.NotAsked ↔ (job_asked setup.asks (book_of (both_legs setup writes trace)) ≡ None) }
+        ensures placed { OnOk result (Advances self.old (Placed now connected) self.new) }
+        ensures not_asked { OfJobAsked self.old (λ job. result ≡ Err PlaceFault.NotAsked ↔ (job ≡ None)) }
         ensures err { OnErr result (self.new ≡ self.old) }
     {
         if self.job_asked().is_none() {
@@ -238,8 +226,7 @@ impl<S: RowStore> Gateway<S> {
     /// not asked for none ever is.
     pub fn asked(&self) -> Option<u32>
         ensures asked { result ≡ call_asked (job_asked self.now.settings.asks self.now.book) }
-        ensures told { (setup : Setup) (writes : Writing) (trace : List Event) → IsReachedBy setup writes trace self.now
-            → result ≡ call_asked (job_asked setup.asks (book_of (both_legs setup writes trace))) }
+        ensures told { OfJobAsked self.now (λ job. result ≡ call_asked job) }
     {
         let job = self.job_asked()?;
         Some(job.call())
@@ -252,19 +239,13 @@ impl<S: RowStore> Gateway<S> {
     /// gives up. Before the moment of `next_due` the clock is read, and nothing else is done. It takes memory for the datagrams,
     /// and for a page. An `Err` changes nothing but the memory that is reserved.
     pub fn tick(&mut self, now: u64) -> Result<Given, NoMemory>
-        ensures ticked { IfOk result (λ given. (setup : Setup) (writes : Writing) (trace : List Event) → IsWriting writes → IsReachedBy setup writes trace self.old
-            → IsReachedBy setup writes (Tick now (given_shown given) ∷ trace) self.new) }
-        ensures confirmed { IfOk result (λ given. (setup : Setup) (writes : Writing) (trace : List Event) → IsReachedBy setup writes trace self.old
-            → given.kept ≡ kept_at (calling_leg setup trace) (max now (clock trace))) }
-        ensures refused { IfOk result (λ given. (setup : Setup) (writes : Writing) (trace : List Event) → IsReachedBy setup writes trace self.old
-            → IsRefusedAt (calling_leg setup trace) (max now (clock trace)) given.refused) }
-        ensures given_up { IfOk result (λ given. (setup : Setup) (writes : Writing) (trace : List Event) → IsReachedBy setup writes trace self.old
-            → given.gave_up ≡ given_up_at (calling_leg setup trace) (max now (clock trace))) }
-        ensures rests { (setup : Setup) (writes : Writing) (trace : List Event) → IsReachedBy setup writes trace self.old
-            → is_due (due_at setup writes trace) (max now (clock trace)) ≡ false
-            → (result ≡ Ok nothing_given) × (self.new ≡ record self.old { clock = max now self.old.clock }) }
+        ensures ticked { IfOk result (λ given. AdvancesByTick self.old now (given_shown given) self.new) }
+        ensures confirmed { IfOk result (λ given. OfCallingLeg self.old now (λ leg moment. given.kept ≡ kept_at leg moment)) }
+        ensures refused { IfOk result (λ given. OfCallingLeg self.old now (λ leg moment. IsRefusedAt leg moment given.refused)) }
+        ensures given_up { IfOk result (λ given. OfCallingLeg self.old now (λ leg moment. given.gave_up ≡ given_up_at leg moment)) }
+        ensures rests { EachTrace self.old (λ setup writes trace. is_due (due_at setup writes trace) (max now (clock trace)) ≡ false → (result ≡ Ok nothing_given) × (self.new ≡ record self.old { clock = max now self.old.clock })) }
         ensures err { OnErr result (alone self.new ≡ alone self.old) }
-        ensures kept { OnErr result ((setup : Setup) (writes : Writing) (trace : List Event) → IsReachedBy setup writes trace self.old → IsReachedBy setup writes trace self.new) }
+        ensures kept { OnErr result (Remains self.old self.new) }
     {
         let mut clock = self.clock;
         let at = clock.read(now);
@@ -287,16 +268,14 @@ impl<S: RowStore> Gateway<S> {
     /// where a tick is to begin a job, and where a call is over whose end the book does not know yet. `None`: nothing is due until
     /// something comes.
     pub fn next_due(&self) -> Option<u64>
-        ensures { (setup : Setup) (writes : Writing) (trace : List Event) → IsReachedBy setup writes trace self.now
-            → result ≡ due_at setup writes trace }
+        ensures { EachTrace self.now (λ setup writes trace. result ≡ due_at setup writes trace) }
     {
         earlier(self.calling.next_due(), self.called_due())
     }
 
     /// The same of the called leg, and of the jobs that wait.
     fn called_due(&self) -> Option<u64>
-        ensures { (setup : Setup) (writes : Writing) (trace : List Event) → IsReachedBy setup writes trace self.now
-            → result ≡ called_due setup.asks writes (both_legs setup writes trace).leg (book_of (both_legs setup writes trace)).waiting }
+        ensures { EachTrace self.now (λ setup writes trace. result ≡ called_due setup.asks writes (both_legs setup writes trace).leg (book_of (both_legs setup writes trace)).waiting) }
     {
         match self.jobs.sending() {
             Some(_) => self.called.next_due(),
@@ -308,7 +287,7 @@ impl<S: RowStore> Gateway<S> {
     /// Takes the memory of a tick, but for that of a packet of a call that is on on the called leg.
     fn reserve(&mut self) -> Result<(), NoMemory>
         ensures room { OnOk result (HasRoom self.new) }
-        ensures reached { (setup : Setup) (writes : Writing) (trace : List Event) → IsReachedBy setup writes trace self.old → IsReachedBy setup writes trace self.new }
+        ensures reached { Remains self.old self.new }
         ensures same { alone self.new ≡ alone self.old }
     {
         self.calling.reserve()?;
@@ -321,14 +300,10 @@ impl<S: RowStore> Gateway<S> {
     fn tick_in_call(&mut self, now: u64) -> Result<Given, NoMemory>
         requires room { HasRoom self.old }
         requires sends { IsSome self.old.book.sending }
-        ensures ticked { IfOk result (λ given. (setup : Setup) (writes : Writing) (trace : List Event) → IsWriting writes → IsReachedBy setup writes trace self.old
-            → IsReachedBy setup writes (Tick now (given_shown given) ∷ trace) self.new) }
-        ensures confirmed { IfOk result (λ given. (setup : Setup) (writes : Writing) (trace : List Event) → IsReachedBy setup writes trace self.old
-            → given.kept ≡ kept_at (calling_leg setup trace) (max now (clock trace))) }
-        ensures refused { IfOk result (λ given. (setup : Setup) (writes : Writing) (trace : List Event) → IsReachedBy setup writes trace self.old
-            → IsRefusedAt (calling_leg setup trace) (max now (clock trace)) given.refused) }
-        ensures given_up { IfOk result (λ given. (setup : Setup) (writes : Writing) (trace : List Event) → IsReachedBy setup writes trace self.old
-            → given.gave_up ≡ given_up_at (calling_leg setup trace) (max now (clock trace))) }
+        ensures ticked { IfOk result (λ given. AdvancesByTick self.old now (given_shown given) self.new) }
+        ensures confirmed { IfOk result (λ given. OfCallingLeg self.old now (λ leg moment. given.kept ≡ kept_at leg moment)) }
+        ensures refused { IfOk result (λ given. OfCallingLeg self.old now (λ leg moment. IsRefusedAt leg moment given.refused)) }
+        ensures given_up { IfOk result (λ given. OfCallingLeg self.old now (λ leg moment. given.gave_up ≡ given_up_at leg moment)) }
         ensures err { OnErr result (self.new ≡ self.old) }
     {
         let mut clock = self.clock;
@@ -355,14 +330,10 @@ impl<S: RowStore> Gateway<S> {
         requires room { HasRoom self.old }
         requires none { self.old.book.sending ≡ None }
         requires asks { self.old.settings.asks ≡ true }
-        ensures ticked { (setup : Setup) (writes : Writing) (trace : List Event) → IsReachedBy setup writes trace self.old
-            → IsReachedBy setup writes (Tick now (given_shown result) ∷ trace) self.new }
-        ensures confirmed { (setup : Setup) (writes : Writing) (trace : List Event) → IsReachedBy setup writes trace self.old
-            → result.kept ≡ kept_at (calling_leg setup trace) (max now (clock trace)) }
-        ensures refused { (setup : Setup) (writes : Writing) (trace : List Event) → IsReachedBy setup writes trace self.old
-            → IsRefusedAt (calling_leg setup trace) (max now (clock trace)) result.refused }
-        ensures given_up { (setup : Setup) (writes : Writing) (trace : List Event) → IsReachedBy setup writes trace self.old
-            → result.gave_up ≡ given_up_at (calling_leg setup trace) (max now (clock trace)) }
+        ensures ticked { Advances self.old (Tick now (given_shown result)) self.new }
+        ensures confirmed { OfCallingLeg self.old now (λ leg moment. result.kept ≡ kept_at leg moment) }
+        ensures refused { OfCallingLeg self.old now (λ leg moment. IsRefusedAt leg moment result.refused) }
+        ensures given_up { OfCallingLeg self.old now (λ leg moment. result.gave_up ≡ given_up_at leg moment) }
     {
         let moment = self.clock.read(now);
         let served = serve_calling(&mut self.calling, &mut self.jobs, moment);
@@ -384,12 +355,9 @@ impl<S: RowStore> Gateway<S> {
         requires datagram { most_octets < leg.sender.spare }
         ensures ticked { (setup : Setup) (writes : Writing) (trace : List Event) → IsWriting writes → IsLeg setup [] [] leg → IsReachedBy setup writes trace self.old
             → IsReachedBy setup writes (Tick now (given_shown result) ∷ trace) self.new }
-        ensures confirmed { (setup : Setup) (writes : Writing) (trace : List Event) → IsReachedBy setup writes trace self.old
-            → result.kept ≡ kept_at (calling_leg setup trace) (max now (clock trace)) }
-        ensures refused { (setup : Setup) (writes : Writing) (trace : List Event) → IsReachedBy setup writes trace self.old
-            → IsRefusedAt (calling_leg setup trace) (max now (clock trace)) result.refused }
-        ensures given_up { (setup : Setup) (writes : Writing) (trace : List Event) → IsReachedBy setup writes trace self.old
-            → result.gave_up ≡ given_up_at (calling_leg setup trace) (max now (clock trace)) }
+        ensures confirmed { OfCallingLeg self.old now (λ leg moment. result.kept ≡ kept_at leg moment) }
+        ensures refused { OfCallingLeg self.old now (λ leg moment. IsRefusedAt leg moment result.refused) }
+        ensures given_up { OfCallingLeg self.old now (λ leg moment. result.gave_up ≡ given_up_at leg moment) }
     {
         let moment = self.clock.read(now);
         let served = serve_calling(&mut self.calling, &mut self.jobs, moment);
@@ -409,8 +377,7 @@ impl<S: RowStore> Gateway<S> {
     /// The number of the call that is on on the calling leg.
     pub fn call(&self) -> Option<u32>
         ensures call { result ≡ call_of_rep self.now.calling }
-        ensures told { (setup : Setup) (writes : Writing) (trace : List Event) → IsReachedBy setup writes trace self.now
-            → result ≡ call_on (calling_leg setup trace) }
+        ensures told { EachTrace self.now (λ setup writes trace. result ≡ call_on (calling_leg setup trace)) }
     {
         self.calling.call()
     }
@@ -418,8 +385,7 @@ impl<S: RowStore> Gateway<S> {
     /// The job that is being sent: its call is on on the called leg.
     pub fn sending(&self) -> Option<&Job<S>>
         ensures sending { option_copied result ≡ self.now.book.sending }
-        ensures told { (setup : Setup) (writes : Writing) (trace : List Event) → IsReachedBy setup writes trace self.now
-            → option_copied result ≡ (book_of (both_legs setup writes trace)).sending }
+        ensures told { OfBook self.now (λ book. option_copied result ≡ book.sending) }
     {
         self.jobs.sending()
     }
@@ -427,8 +393,7 @@ impl<S: RowStore> Gateway<S> {
     /// The page that was confirmed last, for as long as its job has not ended: after a tick that tells one in `kept`, that page.
     pub fn newest_page(&self) -> Option<&Page<S>>
         ensures newest { option_copied result ≡ newest_page self.now.book }
-        ensures told { (setup : Setup) (writes : Writing) (trace : List Event) → IsReachedBy setup writes trace self.now
-            → option_copied result ≡ newest_page (book_of (both_legs setup writes trace)) }
+        ensures told { OfBook self.now (λ book. option_copied result ≡ newest_page book) }
     {
         self.jobs.newest_page()
     }
@@ -436,8 +401,7 @@ impl<S: RowStore> Gateway<S> {
     /// How many jobs wait.
     pub fn waiting(&self) -> usize
         ensures waiting { result ≡ length self.now.book.waiting }
-        ensures told { (setup : Setup) (writes : Writing) (trace : List Event) → IsReachedBy setup writes trace self.now
-            → result ≡ length (book_of (both_legs setup writes trace)).waiting }
+        ensures told { OfBook self.now (λ book. result ≡ length book.waiting) }
     {
         self.jobs.waiting()
     }
@@ -445,8 +409,7 @@ impl<S: RowStore> Gateway<S> {
     /// Report i of those that are kept, counted from 0, the oldest.
     pub fn report(&self, i: usize) -> Option<Report>
         ensures report { result ≡ slice_get self.now.book.reports i }
-        ensures told { (setup : Setup) (writes : Writing) (trace : List Event) → IsReachedBy setup writes trace self.now
-            → result ≡ slice_get (book_of (both_legs setup writes trace)).reports i }
+        ensures told { OfBook self.now (λ book. result ≡ slice_get book.reports i) }
     {
         self.jobs.report(i)
     }

@@ -1,14 +1,12 @@
 //! One line.
 ghost use Rattle.std.specs.Prelude.{◌≡◌, List, [], ◌∷◌, ℕ, Some, None, IfOk, OnErr, OnOk, Err, IsTrue, ◌↔◌, ◌<◌, ◌≤◌, false, true, length, is_some, option_copied, map, slice_get};
 ghost use Rattle.fax_timers.specs.Moments.{earlier};
-ghost use Rattle.fax_call.specs.Writings.{Writing};
-ghost use Rattle.fax_gateway.specs.Asking.{asked_after};
 ghost use Rattle.fax_gateway.specs.CallingLegs.{calling_leg, idle_after};
 ghost use Rattle.fax_gateway.specs.Due.{due_at};
 ghost use Rattle.fax_gateway.specs.Driving.{Entry, HasMade, failed_in_a_row, most_failed, receipts};
-ghost use Rattle.fax_gateway.specs.Events.{Event, Placed, rings};
-ghost use Rattle.fax_gateway.specs.Reached.{IsReachedBy};
-ghost use Rattle.fax_gateway.specs.Setups.{AreAllowed, Setup};
+ghost use Rattle.fax_gateway.specs.Events.{Placed, rings};
+ghost use Rattle.fax_gateway.specs.EachTrace.{Advances, EachTrace, OfJobAsked};
+ghost use Rattle.fax_gateway.specs.Setups.{AreAllowed};
 ghost use Rattle.fax_gateway.specs.BothLegs.{job_asked};
 ghost use Rattle.fax_gateway.specs.Turns.{call_asked, call_dialled, call_ended, call_if_new, call_of_rep};
 ghost use Rattle.fax_gateway.specs.Restored.{call_shown};
@@ -279,10 +277,8 @@ impl<W: LineWire + Drop> Line<W> {
     /// A ring. It answers the number of the call that begins; what was handed over on the calling leg before is sent no more.
     pub fn ring(&mut self, ringing: RingRequest, now: u64) -> Result<u32, RingFault>
         ensures goes { Goes (Asks now (asked.Ring ringing) (Some (answered.Rung result)) ∷ []) self.old self.new }
-        ensures busy { (setup : Setup) (writes : Writing) (trace : List Event) → IsReachedBy setup writes trace self.old.gateway
-            → result ≡ Err RingFault.Busy ↔ (idle_after (calling_leg setup trace) ≡ false) }
-        ensures no_number { (setup : Setup) (writes : Writing) (trace : List Event) → IsReachedBy setup writes trace self.old.gateway → idle_after (calling_leg setup trace) ≡ true
-            → result ≡ Err RingFault.NoNumber ↔ (4294967296 ≤ rings trace) }
+        ensures busy { EachTrace self.old.gateway (λ setup writes trace. result ≡ Err RingFault.Busy ↔ (idle_after (calling_leg setup trace) ≡ false)) }
+        ensures no_number { EachTrace self.old.gateway (λ setup writes trace. idle_after (calling_leg setup trace) ≡ true → result ≡ Err RingFault.NoNumber ↔ (4294967296 ≤ rings trace)) }
         ensures freed { OnOk result (CeasesWhere leg_shown.Calling self.old.holding self.new.holding) }
         ensures peers { self.new.peers ≡ peers_after (asked.Ring ringing) (Some (answered.Rung result)) self.old.peers }
         ensures err { OnErr result (self.new ≡ self.old) }
@@ -301,10 +297,8 @@ impl<W: LineWire + Drop> Line<W> {
     /// The gateway rings, and the wire is told that a call begins.
     fn accept_ring(&mut self, now: u64) -> Result<u32, RingFault>
         ensures goes { (ringing : RingingShown) → Goes (Asks now (asked.Ring ringing) (Some (answered.Rung result)) ∷ []) self.old self.new }
-        ensures busy { (setup : Setup) (writes : Writing) (trace : List Event) → IsReachedBy setup writes trace self.old.gateway
-            → result ≡ Err RingFault.Busy ↔ (idle_after (calling_leg setup trace) ≡ false) }
-        ensures no_number { (setup : Setup) (writes : Writing) (trace : List Event) → IsReachedBy setup writes trace self.old.gateway → idle_after (calling_leg setup trace) ≡ true
-            → result ≡ Err RingFault.NoNumber ↔ (4294967296 ≤ rings trace) }
+        ensures busy { EachTrace self.old.gateway (λ setup writes trace. result ≡ Err RingFault.Busy ↔ (idle_after (calling_leg setup trace) ≡ false)) }
+        ensures no_number { EachTrace self.old.gateway (λ setup writes trace. idle_after (calling_leg setup trace) ≡ true → result ≡ Err RingFault.NoNumber ↔ (4294967296 ≤ rings trace)) }
         ensures freed { OnOk result (CeasesWhere leg_shown.Calling self.old.holding self.new.holding) }
         ensures peers { self.new.peers ≡ self.old.peers }
         ensures err { OnErr result (self.new ≡ self.old) }
@@ -324,8 +318,7 @@ impl<W: LineWire + Drop> Line<W> {
     /// has no peer after it.
     pub fn connect(&mut self, connecting: ConnectRequest, now: u64) -> LineAnswer
         ensures goes { Goes (Asks now (asked.Connect connecting) (Some result) ∷ []) self.old self.new }
-        ensures not_asked { (placed : Placing) → result ≡ answered.Placed placed → (setup : Setup) (writes : Writing) (trace : List Event) → IsReachedBy setup writes trace self.old.gateway
-            → placed ≡ Err PlaceFault.NotAsked ↔ (asked_after setup writes trace ≡ None) }
+        ensures not_asked { (placed : Placing) → result ≡ answered.Placed placed → OfJobAsked self.old.gateway (λ job. placed ≡ Err PlaceFault.NotAsked ↔ (job ≡ None)) }
         ensures frees { Frees (leg_begun (Some result)) self.old.holding self.new.holding }
         ensures peers { self.new.peers ≡ peers_after (asked.Connect connecting) (Some result) self.old.peers }
         ensures refused { leg_begun (Some result) ≡ None → TellsWire self.old self.new }
@@ -340,8 +333,7 @@ impl<W: LineWire + Drop> Line<W> {
     /// The call of the job that is asked for begins, to the peer that the called leg has. Where none does the leg is cut.
     fn place_to_peer(&mut self, now: u64) -> Result<(), PlaceFault>
         ensures goes { (connecting : ConnectingShown) → Goes (Asks now (asked.Connect connecting) (Some (answered.Placed result)) ∷ []) self.old self.new }
-        ensures not_asked { (setup : Setup) (writes : Writing) (trace : List Event) → IsReachedBy setup writes trace self.old.gateway
-            → result ≡ Err PlaceFault.NotAsked ↔ (asked_after setup writes trace ≡ None) }
+        ensures not_asked { OfJobAsked self.old.gateway (λ job. result ≡ Err PlaceFault.NotAsked ↔ (job ≡ None)) }
         ensures freed { OnOk result (CeasesWhere leg_shown.Called self.old.holding self.new.holding) }
         ensures ok { OnOk result (self.new.peers ≡ change_on leg_shown.Called (bounded no_bounds) self.old.peers) }
         ensures cut { OnErr result (self.new.peers ≡ change_on leg_shown.Called cut_off self.old.peers) }
@@ -368,8 +360,7 @@ impl<W: LineWire + Drop> Line<W> {
     /// reports the job as `NotPlaced`. What was handed over on the called leg before is sent no more, and the leg has no peer.
     pub fn not_connected(&mut self, now: u64) -> Result<(), PlaceFault>
         ensures goes { Goes (Asks now asked.NotConnected (Some (answered.Placed result)) ∷ []) self.old self.new }
-        ensures not_asked { (setup : Setup) (writes : Writing) (trace : List Event) → IsReachedBy setup writes trace self.old.gateway
-            → result ≡ Err PlaceFault.NotAsked ↔ (asked_after setup writes trace ≡ None) }
+        ensures not_asked { OfJobAsked self.old.gateway (λ job. result ≡ Err PlaceFault.NotAsked ↔ (job ≡ None)) }
         ensures freed { OnOk result (CeasesWhere leg_shown.Called self.old.holding self.new.holding) }
         ensures peers { self.new.peers ≡ peers_after asked.NotConnected (Some (answered.Placed result)) self.old.peers }
         ensures err { OnErr result (self.new ≡ self.old) }
@@ -387,8 +378,7 @@ impl<W: LineWire + Drop> Line<W> {
     /// The call of the job that is asked for is placed, or could not be.
     fn place(&mut self, connected: bool, now: u64) -> Result<(), PlaceFault>
         ensures goes { (what : AskedShown) → IsPlacing connected what → Goes (Asks now what (Some (answered.Placed result)) ∷ []) self.old self.new }
-        ensures not_asked { (setup : Setup) (writes : Writing) (trace : List Event) → IsReachedBy setup writes trace self.old.gateway
-            → result ≡ Err PlaceFault.NotAsked ↔ (asked_after setup writes trace ≡ None) }
+        ensures not_asked { OfJobAsked self.old.gateway (λ job. result ≡ Err PlaceFault.NotAsked ↔ (job ≡ None)) }
         ensures freed { OnOk result (CeasesWhere leg_shown.Called self.old.holding self.new.holding) }
         ensures peers { self.new.peers ≡ self.old.peers }
         ensures err { OnErr result (self.new ≡ self.old) }
@@ -406,8 +396,7 @@ impl<W: LineWire + Drop> Line<W> {
     /// From which moment on something is due: a tick before it gives nothing, and the wire has nothing to do. `None`: nothing is
     /// due until something comes.
     pub fn next_due(&self) -> Option<u64>
-        ensures { (setup : Setup) (writes : Writing) (trace : List Event) → IsReachedBy setup writes trace self.now.gateway
-            → result ≡ earlier (due_at setup writes trace) self.now.wire_due }
+        ensures { EachTrace self.now.gateway (λ setup writes trace. result ≡ earlier (due_at setup writes trace) self.now.wire_due) }
     {
         earlier(self.gateway.next_due(), self.wire.next_due())
     }
@@ -444,8 +433,7 @@ impl<W: LineWire + Drop> Line<W> {
     /// The number of the call whose job is asked for: it waits for its own call to be placed.
     pub fn asked(&self) -> Option<u32>
         ensures asked { result ≡ call_asked (job_asked self.now.gateway.settings.asks self.now.gateway.book) }
-        ensures told { (setup : Setup) (writes : Writing) (trace : List Event) → IsReachedBy setup writes trace self.now.gateway
-            → result ≡ call_asked (asked_after setup writes trace) }
+        ensures told { OfJobAsked self.now.gateway (λ job. result ≡ call_asked job) }
     {
         self.gateway.asked()
     }
@@ -531,10 +519,8 @@ impl<W: TimedWire + Drop> Line<HoldingWire<W>> {
 
 /// The call of the job that a gateway asks for is placed, or could not be.
 fn place(gateway: &mut Gateway<PackedRows>, connected: bool, now: u64) -> Result<(), PlaceFault>
-    ensures placed { OnOk result ((setup : Setup) (writes : Writing) (trace : List Event) → IsReachedBy setup writes trace gateway.old
-        → IsReachedBy setup writes (Placed now connected ∷ trace) gateway.new) }
-    ensures not_asked { (setup : Setup) (writes : Writing) (trace : List Event) → IsReachedBy setup writes trace gateway.old
-        → result ≡ Err PlaceFault.NotAsked ↔ (asked_after setup writes trace ≡ None) }
+    ensures placed { OnOk result (Advances gateway.old (Placed now connected) gateway.new) }
+    ensures not_asked { OfJobAsked gateway.old (λ job. result ≡ Err PlaceFault.NotAsked ↔ (job ≡ None)) }
     ensures err { OnErr result (gateway.new ≡ gateway.old) }
 {
     if connected {
