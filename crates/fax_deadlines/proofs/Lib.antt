@@ -1,0 +1,3 @@
+mod Prompts
+mod JobsEnd
+mod SilentCalls

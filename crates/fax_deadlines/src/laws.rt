@@ -1,0 +1,34 @@
+//! Laws of the definitions: functions that do nothing, each of whose contracts is a theorem.
+ghost use Rattle.fax_deadlines.specs.Deadlines.{JobsEndInTime, PromptTracesGoOn, SilentCallsEnd, SteadyTicksArePrompt};
+
+use fax_answer::laws::no_call_hangs;
+use fax_gateway::laws::{jobs_are_of_their_calls, jobs_have_states};
+use fax_udptl::laws::slots_go_on;
+
+/// Each job that is sent is reported within a time that its pages tell, whatever is heard, where ticks are prompt: nobody holds the
+/// called leg for ever.
+pub fn jobs_end_in_time()
+    ensures { JobsEndInTime }
+{
+    jobs_are_of_their_calls();
+    jobs_have_states();
+}
+
+/// Each call of the calling leg on which nothing more is heard is over within a time that its state tells, where ticks are prompt: nobody
+/// holds that leg by silence.
+pub fn silent_calls_end()
+    ensures { SilentCallsEnd }
+{
+    no_call_hangs();
+    slots_go_on();
+}
+
+/// Each trace whose ticks are prompt goes on so.
+pub fn prompt_traces_go_on()
+    ensures { PromptTracesGoOn }
+{}
+
+/// Ticks at most so far apart are prompt.
+pub fn steady_ticks_are_prompt()
+    ensures { SteadyTicksArePrompt }
+{}
