@@ -1,6 +1,8 @@
-//! Tests of SIP messages, of transactions, of digests and of session descriptions, through what their crates show.
+//! Tests of SIP messages, of transactions, of dialogs and sessions, of digests and of session descriptions, through what their crates show.
 #![tactic(auto)]
 
+#[cfg(test)]
+mod dialogs;
 #[cfg(test)]
 mod digests;
 #[cfg(test)]
@@ -11,3 +13,5 @@ mod sdp;
 mod serving;
 #[cfg(test)]
 mod transactions;
+#[cfg(test)]
+mod trunks;

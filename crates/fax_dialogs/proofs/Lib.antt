@@ -1,0 +1,5 @@
+pub mod DialogProofs
+pub mod SessionEndProofs
+pub mod SessionProofs
+pub mod TimerProofs
+pub mod WithinLemmas

@@ -1,0 +1,9 @@
+pub mod Agreements
+pub mod DialogLaws
+pub mod DialogValues
+pub mod Dialogs
+pub mod SessionLaws
+pub mod Sessions
+pub mod TimerLaws
+pub mod Timers
+pub mod Within

@@ -1,0 +1,10 @@
+use Rattle.std.proofs.Common.{arith}
+use Rattle.std.proofs.Math.Pow.{pow-lt}
+use Rattle.fax_trunks.proofs.BitLemmas.{all_taken}
+use Rattle.fax_trunks.proofs.network.last_bits.Goals as goal
+
+pub returns-then-free-ge-BITS : goal.returns-then-free-ge-BITS
+returns-then-free-ge-BITS c = all_taken c.args.bits c.args.free (omega arith) c.if-free-ge-BITS.true
+
+pub pow-requires : goal.pow-requires
+pow-requires c = pow-lt {i = c.args.free} {j = 128} c.if-free-ge-BITS.false

@@ -1,0 +1,13 @@
+pub mod CallCounts
+pub mod Hosts
+pub mod Networks
+pub mod Numbers
+pub mod Pauses
+pub mod RegistrationLaws
+pub mod Registrations
+pub mod RouteValues
+pub mod Routes
+pub mod Runs
+pub mod SlowHostLaws
+pub mod SlowHosts
+pub mod Texts
