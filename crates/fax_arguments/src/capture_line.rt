@@ -3,6 +3,7 @@ ghost use Rattle.std.specs.Prelude.{◌≡◌, ◌⊎◌, IfErr, IfOk};
 ghost use Rattle.clap.specs.Words.{kind_of};
 
 use crate::building::{command, option};
+use clap::builder::ValueParser;
 use clap::error::ErrorKind;
 use clap::{Arg, Command, Error};
 use std::alloc::{AllocError, Global};
@@ -11,7 +12,8 @@ use std::alloc::{AllocError, Global};
 pub(crate) fn capture_command<'a>(alloc: Global) -> Result<Command<'a>, AllocError> {
     command(alloc, "capture", ABOUT, LINES_AND_STATUSES)
         .arg(caller_option(alloc))?
-        .arg(called_option(alloc))
+        .arg(called_option(alloc))?
+        .arg(call_option(alloc))
 }
 
 /// The option of the calling machine.
@@ -34,6 +36,17 @@ fn called_option<'a>(alloc: Global) -> Arg<'a> {
         "Where the called machine sends from",
     )
     .required(true)
+}
+
+/// The option of one call.
+fn call_option<'a>(alloc: Global) -> Arg<'a> {
+    option(
+        alloc,
+        "call",
+        "N",
+        "Only this call of the caller, counted from 1 [default: all]",
+    )
+    .value_parser(ValueParser::Unsigned(1, u64::MAX))
 }
 
 /// The error of a text after this option of `faxgate capture` that says no address.
@@ -79,15 +92,15 @@ const ONE_MACHINE: &str =
     "'--caller <ADDRESS>' and '--called <ADDRESS>' mean one machine: of one host, say both ports";
 
 const ABOUT: &str =
-    "Read a capture made at a gateway (pcap or pcapng), and print the script of its call for faxgate trace: the ring, the datagrams of both machines at their ticks, and ticks until 40 s behind the last";
+    "Read a capture made at a gateway (pcap or pcapng), and print the script of its calls for faxgate trace: the rings, the datagrams of both machines at their ticks, and ticks until 40 s behind the last";
 
 const LINES_AND_STATUSES: &str = "\
 Reads:
   A capture of any size, on the standard input. Only datagrams of the two machines matter, and only of them all octets have to
-  be there.
+  be there. Those that went in fragments are passed over, and counted on the standard error.
 
 Prints:
-  R       it rings
+  R       it rings: first, and where the caller's UDPTL numbers start over, or 60 s pass without a datagram of it
   T MS    a tick each 40 ms: T 0 is the moment of the first datagram that one of the two sent or was sent
   A HEX   a datagram that the caller sent, behind the tick at or before it
   B HEX   a datagram that the called machine sent
@@ -95,7 +108,8 @@ Or one line of what is wrong.
 
 Statuses:
   0  the script was printed
-  1  the capture has none, and one line tells why: fault 1 NoCapture, 2 Cut, 3 Damaged, 4 NoAddress or 5 TooLong
+  1  the capture has none, and one line tells why: fault 1 NoCapture, 2 Cut, 3 Damaged, 4 NoAddress,
+     5 TooLong or 6 NoCall
   2  the command line was refused
   3  memory was wanted and refused: fault memory
   4  a read or a write failed: the standard error tells which";

@@ -2,7 +2,7 @@
 use Rattle.std.proofs.Common.{◌≡◌, ℕ, ◌<◌, List, [], ◌++◌, take, length, Option, None, Some, IfSome, Ok, Err, refl, sym, ◌∙◌, ap, subst, append-nil}
 use Rattle.std.specs.Io.KnownBytes.{Appends, Consumes, IsAtEnd}
 use Rattle.std.proofs.KnownBytes.{Consumes-trans, Consumes-whole}
-use Rattle.fax_capture.specs.declared.address.Address.{Address}
+use Rattle.fax_capture.specs.declared.options.CaptureOptions.{CaptureOptions}
 use Rattle.fax_capture.specs.declared.counts.Counts.{Counts}
 use Rattle.fax_capture.specs.declared.script_fault.ScriptFault.{ScriptFault}
 use Rattle.fax_capture.specs.Answers.{Allows, Answers, Fails, fault_counts, fault_line, fault_status}
@@ -30,28 +30,28 @@ broken P a b c read piece taken told more holds is =
     so_far P a c (read ++ piece) (Consumes-trans a b c read piece told (subst (λ (l : List ℕ). Consumes b c l) (sym is) more)) holds
 
 -- a script, or what is wrong, is an answer
-pub Answers-script : (caller called : Address) (known : Option (List ℕ)) (text : List ℕ) (counts : Counts)
-    → IfSome known (λ input. Allows caller called input (Ok (text, counts))) → IfSome known (λ input. Answers caller called input 0 (Some counts) text)
-Answers-script caller called None text counts allowed = tt
-Answers-script caller called (Some input) text counts allowed = record { outcome = Ok (text, counts); allowed = allowed; status_is = refl; counts_is = refl; text_is = refl }
+pub Answers-script : (options : CaptureOptions) (known : Option (List ℕ)) (text : List ℕ) (counts : Counts)
+    → IfSome known (λ input. Allows options input (Ok (text, counts))) → IfSome known (λ input. Answers options input 0 (Some counts) text)
+Answers-script options None text counts allowed = tt
+Answers-script options (Some input) text counts allowed = record { outcome = Ok (text, counts); allowed = allowed; status_is = refl; counts_is = refl; text_is = refl }
 
-pub Answers-fault : (caller called : Address) (known : Option (List ℕ)) (fault : ScriptFault)
-    → IfSome known (λ input. Fails caller called input fault) → IfSome known (λ input. Answers caller called input (fault_status fault) (fault_counts fault) (fault_line fault))
-Answers-fault caller called None fault fails = tt
-Answers-fault caller called (Some input) fault fails = record { outcome = Err fault; allowed = fails; status_is = refl; counts_is = refl; text_is = refl }
+pub Answers-fault : (options : CaptureOptions) (known : Option (List ℕ)) (fault : ScriptFault)
+    → IfSome known (λ input. Fails options input fault) → IfSome known (λ input. Answers options input (fault_status fault) (fault_counts fault) (fault_line fault))
+Answers-fault options None fault fails = tt
+Answers-fault options (Some input) fault fails = record { outcome = Err fault; allowed = fails; status_is = refl; counts_is = refl; text_is = refl }
 
 -- an answer, said of equal things
-Answers-same : (caller called : Address) (input : List ℕ) (m n : ℕ) (c d : Option Counts) (s t : List ℕ)
-    → Answers caller called input m c s → n ≡ m → d ≡ c → t ≡ s → Answers caller called input n d t
-Answers-same caller called input m n c d s t r status counts text =
-    subst (λ (k : ℕ). Answers caller called input k d t) (sym status)
-    (subst (λ (e : Option Counts). Answers caller called input m e t) (sym counts)
-    (subst (λ (u : List ℕ). Answers caller called input m c u) (sym text) r))
+Answers-same : (options : CaptureOptions) (input : List ℕ) (m n : ℕ) (c d : Option Counts) (s t : List ℕ)
+    → Answers options input m c s → n ≡ m → d ≡ c → t ≡ s → Answers options input n d t
+Answers-same options input m n c d s t r status counts text =
+    subst (λ (k : ℕ). Answers options input k d t) (sym status)
+    (subst (λ (e : Option Counts). Answers options input m e t) (sym counts)
+    (subst (λ (u : List ℕ). Answers options input m c u) (sym text) r))
 
 -- an answer to an input, where that is known, that was written
-pub Answers-written : (caller called : Address) (known : Option (List ℕ)) (m n : ℕ) (c d : Option Counts) (s t : List ℕ) (old new : Option (List ℕ))
-    → IfSome known (λ input. Answers caller called input m c s) → n ≡ m → d ≡ c → t ≡ s → Appends old new t
-    → IfSome known (λ input. (text : List ℕ) × Answers caller called input n d text × Appends old new text)
-Answers-written caller called None m n c d s t old new r status counts text written = tt
-Answers-written caller called (Some input) m n c d s t old new r status counts text written =
-    (t, Answers-same caller called input m n c d s t r status counts text, written)
+pub Answers-written : (options : CaptureOptions) (known : Option (List ℕ)) (m n : ℕ) (c d : Option Counts) (s t : List ℕ) (old new : Option (List ℕ))
+    → IfSome known (λ input. Answers options input m c s) → n ≡ m → d ≡ c → t ≡ s → Appends old new t
+    → IfSome known (λ input. (text : List ℕ) × Answers options input n d text × Appends old new text)
+Answers-written options None m n c d s t old new r status counts text written = tt
+Answers-written options (Some input) m n c d s t old new r status counts text written =
+    (t, Answers-same options input m n c d s t r status counts text, written)

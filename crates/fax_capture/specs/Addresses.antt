@@ -1,11 +1,11 @@
 -- ADDRESSES of the two machines, and what a datagram is to them. (This project's profile.)
-use Rattle.std.specs.Prelude.{◌≡◌, ℕ, ◌⊎◌, Bool, false, not, List, Option, Some, None}
+use Rattle.std.specs.Prelude.{◌≡◌, ℕ, ◌⊎◌, ◌&&◌, Bool, true, false, not, List, Option, Some, None}
 use Rattle.fax_pcap.specs.Frames.{EndpointValue, DatagramValue}
 use Rattle.fax_capture.specs.declared.address.Host.{Host}
 use Rattle.fax_capture.specs.declared.address.Host.TheVariants.{V4, V6}
 use Rattle.fax_capture.specs.declared.address.Address.{Address}
 use Rattle.fax_capture.specs.declared.address.Role.{Role}
-use Rattle.fax_capture.specs.declared.address.Role.TheVariants.{FromCaller, FromCalled, ToEither, Unrelated}
+use Rattle.fax_capture.specs.declared.address.Role.TheVariants.{FromCaller, FromCalled, ToCaller, ToCalled, InFragments, Unrelated}
 
 -- the octets of a host's address
 abbrev pub host_octets : Host → List ℕ
@@ -29,18 +29,32 @@ ShareAPort (Some one) port = HasPort port one
 abbrev pub AreApart : Address → Address → Type 0
 AreApart one other = (host_octets one.host ≡ host_octets other.host) → ShareAPort one.port other.port → ⊥
 
+-- a datagram went in fragments, of which the first has not all of its data
+abbrev pub is_in_fragments : DatagramValue → Bool
+is_in_fragments datagram = datagram.is_fragment && not datagram.is_whole
+
 -- Whoever sends a datagram decides, the caller first: a capture at the gateway has what they send to the gateway.
 abbrev pub IsRole : Address → Address → DatagramValue → Role → Type 0
-IsRole caller called datagram FromCaller = IsAt caller datagram.source
-IsRole caller called datagram FromCalled = (IsAt caller datagram.source → ⊥) × IsAt called datagram.source
-IsRole caller called datagram ToEither =
-    (IsAt caller datagram.source → ⊥) × (IsAt called datagram.source → ⊥) × (IsAt caller datagram.destination ⊎ IsAt called datagram.destination)
+IsRole caller called datagram FromCaller = IsAt caller datagram.source × (is_in_fragments datagram ≡ false)
+IsRole caller called datagram FromCalled =
+    (IsAt caller datagram.source → ⊥) × IsAt called datagram.source × (is_in_fragments datagram ≡ false)
+IsRole caller called datagram InFragments = (IsAt caller datagram.source ⊎ IsAt called datagram.source) × (is_in_fragments datagram ≡ true)
+IsRole caller called datagram ToCaller =
+    (IsAt caller datagram.source → ⊥) × (IsAt called datagram.source → ⊥) × IsAt caller datagram.destination
+IsRole caller called datagram ToCalled =
+    (IsAt caller datagram.source → ⊥) × (IsAt called datagram.source → ⊥) × (IsAt caller datagram.destination → ⊥) × IsAt called datagram.destination
 IsRole caller called datagram Unrelated =
     (IsAt caller datagram.source → ⊥) × (IsAt called datagram.source → ⊥) × (IsAt caller datagram.destination → ⊥) × (IsAt called datagram.destination → ⊥)
 
--- Of a datagram that one of the two sent some is lacking, where it is not whole. Of others nothing is wanted.
+-- Of a capture's datagrams those are passed over that went in fragments, or are of others.
+abbrev pub is_passed_over : Role → Bool
+is_passed_over InFragments = true
+is_passed_over Unrelated = true
+is_passed_over role = false
+
+-- Of a datagram that one of the two sent some is lacking, where it is not whole. Of others nothing is wanted, nor of one that went
+-- in fragments, which is passed over.
 abbrev pub lacks : Role → Bool → Bool
 lacks FromCaller is_whole = not is_whole
 lacks FromCalled is_whole = not is_whole
-lacks ToEither is_whole = false
-lacks Unrelated is_whole = false
+lacks role is_whole = false

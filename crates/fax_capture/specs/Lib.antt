@@ -1,5 +1,6 @@
 pub mod Addresses
 pub mod Answers
+pub mod Calls
 pub mod Counts
 pub mod Faults
 pub mod Growing

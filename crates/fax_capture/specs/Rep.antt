@@ -3,13 +3,13 @@ use Rattle.std.specs.Prelude.{◌≡◌, ℕ, ◌<◌, ◌≤◌, ◌^◌, ◌�
 use Rattle.fax_command.specs.RowLines.{text_of_lines}
 use Rattle.fax_pcap.specs.declared.fault.CaptureFault.TheVariants.{Cut, Snapped, NoMemory}
 use Rattle.fax_pcap.specs.Captures.{TimedDatagram, HeadValue, Follow, read_of, record_at, untold_head}
-use Rattle.fax_capture.specs.declared.address.Address.{Address}
+use Rattle.fax_capture.specs.declared.options.CaptureOptions.{CaptureOptions}
 use Rattle.fax_capture.specs.declared.answer.Answer.{Answer}
 use Rattle.fax_capture.specs.declared.answer.Answer.TheVariants as answers
 use Rattle.fax_capture.specs.declared.counts.Counts.{Counts}
 use Rattle.fax_capture.specs.declared.script.Script.{Script}
 use Rattle.fax_capture.specs.declared.script_fault.ScriptFault.{ScriptFault}
-use Rattle.fax_capture.specs.declared.script_fault.ScriptFault.TheVariants.{Capture, NoAddress, TooLong}
+use Rattle.fax_capture.specs.declared.script_fault.ScriptFault.TheVariants.{Capture, NoAddress, NoCall, TooLong}
 use Rattle.fax_capture.specs.Answers.{Refuses, fault_counts, fault_line, fault_status, most_octets}
 use Rattle.fax_capture.specs.Growing.{Stops}
 use Rattle.fax_capture.specs.Scripts.{IsLacking, ScriptSoFar, Tells, TellsAll, only_ring, script_lines}
@@ -18,42 +18,44 @@ pub record Holds (script : Script) (told : ScriptSoFar) : Type 0 where
   pub start : script.start ≡ told.start
   pub ticks : script.ticks ≡ told.ticks
   pub text : script.text.items ≡ text_of_lines told.lines
+  pub leg : script.leg ≡ told.leg
   pub counts : script.counts ≡ told.counts
 
 -- Records at the front of octets were read, and told: what is told of the capture then, the octets after, and the script.
-pub record TakesRecords (caller called : Address) (old : HeadValue) (octets : List ℕ) (told : ScriptSoFar) (new : HeadValue) (after : List ℕ) (script : Script) : Type 0 where
+pub record TakesRecords (options : CaptureOptions) (old : HeadValue) (octets : List ℕ) (told : ScriptSoFar) (new : HeadValue) (after : List ℕ) (script : Script) : Type 0 where
   pub found : List (Option TimedDatagram)
   pub next : ScriptSoFar
   pub follow : Follow old octets found new after
-  pub tells : TellsAll caller called told found next
+  pub tells : TellsAll options told found next
   pub holds : Holds script next
 
 -- and the octets after end inside of a record
-pub record TakesAllRecords (caller called : Address) (old : HeadValue) (octets : List ℕ) (told : ScriptSoFar) (new : HeadValue) (left : List ℕ) (script : Script) : Type 0 where
-  pub took : TakesRecords caller called old octets told new left script
+pub record TakesAllRecords (options : CaptureOptions) (old : HeadValue) (octets : List ℕ) (told : ScriptSoFar) (new : HeadValue) (left : List ℕ) (script : Script) : Type 0 where
+  pub took : TakesRecords options old octets told new left script
   pub waits : read_of (record_at new left) ≡ Err Cut
 
 -- A fault is met after records that were read and told, whatever follows these octets.
-abbrev pub BreaksAt : Address → Address → HeadValue → List ℕ → ScriptSoFar → ScriptFault → Type 0
-BreaksAt caller called head octets told (Capture NoMemory) = Unit {0}
-BreaksAt caller called head octets told (Capture fault) = Refuses caller called head octets fault
-BreaksAt caller called head octets told (NoAddress counts) = ⊥
-BreaksAt caller called head octets told TooLong = most_octets < length (text_of_lines (script_lines told))
+abbrev pub BreaksAt : CaptureOptions → HeadValue → List ℕ → ScriptSoFar → ScriptFault → Type 0
+BreaksAt options head octets told (Capture NoMemory) = Unit {0}
+BreaksAt options head octets told (Capture fault) = Refuses options head octets fault
+BreaksAt options head octets told (NoAddress counts) = ⊥
+BreaksAt options head octets told (NoCall counts) = ⊥
+BreaksAt options head octets told TooLong = most_octets < length (text_of_lines (script_lines told))
 
-abbrev pub Breaks : Address → Address → HeadValue → List ℕ → ScriptSoFar → ScriptFault → Type 0
-Breaks caller called old octets told fault = (found : List (Option TimedDatagram)) × (head : HeadValue) × (after : List ℕ) × (next : ScriptSoFar)
-    × Follow old octets found head after × TellsAll caller called told found next × BreaksAt caller called head after next fault
+abbrev pub Breaks : CaptureOptions → HeadValue → List ℕ → ScriptSoFar → ScriptFault → Type 0
+Breaks options old octets told fault = (found : List (Option TimedDatagram)) × (head : HeadValue) × (after : List ℕ) × (next : ScriptSoFar)
+    × Follow old octets found head after × TellsAll options told found next × BreaksAt options head after next fault
 
 -- a datagram is not told: some of it is lacking, or with it the text stops to grow
-abbrev pub Untold : Address → Address → ScriptSoFar → Option TimedDatagram → ScriptFault → Type 0
-Untold caller called told None fault = ⊥
-Untold caller called told (Some captured) fault = (IsLacking caller called captured × (fault ≡ Capture Snapped))
-    ⊎ ((next : ScriptSoFar) × Tells caller called told captured next × Stops fault (text_of_lines next.lines))
+abbrev pub Untold : CaptureOptions → ScriptSoFar → Option TimedDatagram → ScriptFault → Type 0
+Untold options told None fault = ⊥
+Untold options told (Some captured) fault = (IsLacking options captured × (fault ≡ Capture Snapped))
+    ⊎ ((next : ScriptSoFar) × Tells options told captured next × Stops fault (text_of_lines next.lines))
 
 -- All whole records of what was read of a capture were told: what is told of the capture, the script, and the octets that are left.
-pub record HasRead (caller called : Address) (read : List ℕ) (head : HeadValue) (script : Script) (left : List ℕ) : Type 0 where
+pub record HasRead (options : CaptureOptions) (read : List ℕ) (head : HeadValue) (script : Script) (left : List ℕ) : Type 0 where
   pub few : script.ticks ≤ 2 ^ 103
-  pub took : TakesRecords caller called untold_head read only_ring head left script
+  pub took : TakesRecords options untold_head read only_ring head left script
   pub waits : read_of (record_at head left) ≡ Err Cut
 
 -- the text, the exit status and the counts of a script, or of what is wrong

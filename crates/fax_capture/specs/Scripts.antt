@@ -1,13 +1,15 @@
 -- SCRIPTS: what a capture's datagrams tell, as `faxgate trace` reads it. (This project's profile.)
-use Rattle.std.specs.Prelude.{◌≡◌, ℕ, true, false, zero, suc, ◌+◌, ◌-◌, ◌*◌, ◌/◌, max, List, [], ◌∷◌, ◌++◌, codes, decimal, Option, Some, None}
+use Rattle.std.specs.Prelude.{◌≡◌, ℕ, Bool, true, false, zero, suc, ◌+◌, ◌-◌, ◌*◌, ◌/◌, max, List, [], ◌∷◌, ◌++◌, codes, decimal, Option, Some, None, if◌then◌else◌}
 use Rattle.hex.specs.Hex.{encode_lower}
 use Rattle.fax_pcap.specs.Captures.{TimedDatagram}
-use Rattle.fax_capture.specs.declared.address.Address.{Address}
+use Rattle.fax_capture.specs.declared.options.CaptureOptions.{CaptureOptions}
 use Rattle.fax_capture.specs.declared.address.Role.{Role}
-use Rattle.fax_capture.specs.declared.address.Role.TheVariants.{FromCaller, FromCalled, ToEither, Unrelated}
+use Rattle.fax_capture.specs.declared.address.Role.TheVariants.{FromCaller, FromCalled}
 use Rattle.fax_capture.specs.declared.counts.Counts.{Counts}
-use Rattle.fax_capture.specs.Addresses.{IsRole, lacks}
-use Rattle.fax_capture.specs.Counts.{counts_with, no_counts}
+use Rattle.fax_capture.specs.declared.leg.CallingLeg.{CallingLeg}
+use Rattle.fax_capture.specs.Addresses.{IsRole, is_passed_over, lacks}
+use Rattle.fax_capture.specs.Calls.{begins_anew, is_asked, leg_with, number_of, silent_leg}
+use Rattle.fax_capture.specs.Counts.{counts_of_call, counts_of_other, counts_told, counts_with, no_counts}
 
 -- tick k is the moment 40 k, in milliseconds
 abbrev pub tick_line : ℕ → List ℕ
@@ -23,20 +25,26 @@ tick_lines from (suc count) = tick_line from ∷ tick_lines (from + 1) count
 abbrev pub role_lines : Role → List ℕ → List (List ℕ)
 role_lines FromCaller octets = (codes "A " ++ encode_lower octets) ∷ []
 role_lines FromCalled octets = (codes "B " ++ encode_lower octets) ∷ []
-role_lines ToEither octets = []
-role_lines Unrelated octets = []
+role_lines role octets = []
+
+-- It rings where a call begins anew, but not for the one call that is asked for: there the ring stands first.
+abbrev pub ring_lines : Option ℕ → Bool → List (List ℕ)
+ring_lines None true = codes "R" ∷ []
+ring_lines asked begins = []
 
 -- What was told: when the first of the datagrams was captured that one of the two sent or was sent, where that is known;
--- how many ticks were told, from 0 on; the lines; and how many datagrams came from whom.
+-- how many ticks were told, from 0 on; the lines; what was heard last on the calling leg; and how many datagrams came from whom, in
+-- how many calls.
 pub record ScriptSoFar : Type 0 where
   pub start : Option ℕ
   pub ticks : ℕ
   pub lines : List (List ℕ)
+  pub leg : CallingLeg
   pub counts : Counts
 
 -- it rings
 abbrev pub only_ring : ScriptSoFar
-only_ring = record { start = None; ticks = 0; lines = codes "R" ∷ []; counts = no_counts }
+only_ring = record { start = None; ticks = 0; lines = codes "R" ∷ []; leg = silent_leg; counts = no_counts }
 
 abbrev pub start_of : Option ℕ → Option ℕ → Option ℕ
 start_of None time = time
@@ -52,35 +60,53 @@ tick_of (Some start) (Some time) = (time - start) / 40000000
 abbrev pub ticks_to : ScriptSoFar → Option ℕ → ℕ
 ticks_to told time = max told.ticks (tick_of (start_of told.start time) time + 1)
 
-abbrev pub told_with : ScriptSoFar → Option ℕ → Role → List ℕ → ScriptSoFar
-told_with told time role octets = record {
-  start = start_of told.start time;
-  ticks = ticks_to told time;
-  lines = (told.lines ++ tick_lines told.ticks (ticks_to told time - told.ticks)) ++ role_lines role octets;
-  counts = counts_with told.counts role;
+abbrev pub told_with : ScriptSoFar → TimedDatagram → Role → List (List ℕ) → ScriptSoFar
+told_with told captured role rings = record told {
+  start = start_of told.start captured.time;
+  ticks = ticks_to told captured.time;
+  lines = ((told.lines ++ tick_lines told.ticks (ticks_to told captured.time - told.ticks)) ++ rings) ++ role_lines role captured.datagram.octets;
+  counts = counts_told told.counts role captured.datagram.octets;
 }
 
--- one datagram more; one of others is counted alone
-abbrev pub told_of : ScriptSoFar → TimedDatagram → Role → ScriptSoFar
-told_of told captured Unrelated = record told { counts = counts_with told.counts Unrelated }
-told_of told captured role = told_with told captured.time role captured.datagram.octets
+-- whether a call begins anew with a datagram
+abbrev pub begins_with : ScriptSoFar → TimedDatagram → Role → Bool
+begins_with told captured role = begins_anew told.leg role (number_of captured.datagram.octets) captured.time
 
-abbrev pub Tells : Address → Address → ScriptSoFar → TimedDatagram → ScriptSoFar → Type 0
-Tells caller called old captured new = (role : Role) × IsRole caller called captured.datagram role
-    × (lacks role captured.datagram.is_whole ≡ false) × (new ≡ told_of old captured role)
+-- the datagram is heard
+abbrev pub heard_with : ScriptSoFar → TimedDatagram → Role → ScriptSoFar
+heard_with told captured role = record told {
+  leg = leg_with told.leg role (number_of captured.datagram.octets) captured.time (begins_with told captured role);
+  counts = counts_of_call told.counts (begins_with told captured role);
+}
+
+-- a datagram of the call that is on: where another one is asked for it is counted alone
+abbrev pub told_in : Option ℕ → ScriptSoFar → TimedDatagram → Role → Bool → ScriptSoFar
+told_in asked told captured role begins =
+    if is_asked asked told.counts.calls then told_with told captured role (ring_lines asked begins)
+    else record told { counts = counts_of_other told.counts }
+
+-- one datagram more; one that is passed over is counted alone
+abbrev pub told_of : Option ℕ → ScriptSoFar → TimedDatagram → Role → ScriptSoFar
+told_of asked told captured role =
+    if is_passed_over role then record told { counts = counts_with told.counts role }
+    else told_in asked (heard_with told captured role) captured role (begins_with told captured role)
+
+abbrev pub Tells : CaptureOptions → ScriptSoFar → TimedDatagram → ScriptSoFar → Type 0
+Tells options old captured new = (role : Role) × IsRole options.caller options.called captured.datagram role
+    × (lacks role captured.datagram.is_whole ≡ false) × (new ≡ told_of options.call old captured role)
 
 -- some is lacking of a datagram that one of the two sent, so that it is not told
-abbrev pub IsLacking : Address → Address → TimedDatagram → Type 0
-IsLacking caller called captured = (role : Role) × IsRole caller called captured.datagram role × (lacks role captured.datagram.is_whole ≡ true)
+abbrev pub IsLacking : CaptureOptions → TimedDatagram → Type 0
+IsLacking options captured = (role : Role) × IsRole options.caller options.called captured.datagram role × (lacks role captured.datagram.is_whole ≡ true)
 
 -- what was found in the records of a capture, one by one
-abbrev pub TellsFound : Address → Address → ScriptSoFar → Option TimedDatagram → ScriptSoFar → Type 0
-TellsFound caller called old None new = new ≡ old
-TellsFound caller called old (Some captured) new = Tells caller called old captured new
+abbrev pub TellsFound : CaptureOptions → ScriptSoFar → Option TimedDatagram → ScriptSoFar → Type 0
+TellsFound options old None new = new ≡ old
+TellsFound options old (Some captured) new = Tells options old captured new
 
-abbrev pub TellsAll : Address → Address → ScriptSoFar → List (Option TimedDatagram) → ScriptSoFar → Type 0
-TellsAll caller called old [] new = new ≡ old
-TellsAll caller called old (found ∷ more) new = (next : ScriptSoFar) × TellsFound caller called old found next × TellsAll caller called next more new
+abbrev pub TellsAll : CaptureOptions → ScriptSoFar → List (Option TimedDatagram) → ScriptSoFar → Type 0
+TellsAll options old [] new = new ≡ old
+TellsAll options old (found ∷ more) new = (next : ScriptSoFar) × TellsFound options old found next × TellsAll options next more new
 
 -- 40 s after the last tick of a datagram: a thousand ticks more
 abbrev pub script_lines : ScriptSoFar → List (List ℕ)

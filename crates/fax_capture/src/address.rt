@@ -1,7 +1,8 @@
 //! The addresses of the two machines of a call.
-ghost use Rattle.std.specs.Prelude.{◌≡◌, ◌↔◌, IsTrue};
-ghost use Rattle.fax_capture.specs.Addresses.{AreApart, HasPort, IsAt, IsRole, ShareAPort, host_octets};
+ghost use Rattle.std.specs.Prelude.{◌≡◌, ◌↔◌, IsTrue, true, false};
+ghost use Rattle.fax_capture.specs.Addresses.{AreApart, HasPort, IsAt, IsRole, ShareAPort, host_octets, is_in_fragments, is_passed_over};
 
+use crate::options::CaptureOptions;
 use fax_pcap::{Datagram, Endpoint};
 
 /// The address of a host.
@@ -76,21 +77,51 @@ impl Address {
 pub(crate) enum Role {
     FromCaller,
     FromCalled,
-    ToEither,
+    ToCaller,
+    ToCalled,
+    /// One of the two sent it, in fragments.
+    InFragments,
     Unrelated,
 }
 
+impl Role {
+    /// Whether a datagram is counted alone.
+    pub fn is_passed_over(self) -> bool
+        ensures { result ≡ is_passed_over self }
+    {
+        match self {
+            Role::InFragments | Role::Unrelated => true,
+            Role::FromCaller | Role::FromCalled | Role::ToCaller | Role::ToCalled => false,
+        }
+    }
+}
+
 /// What a datagram is to the caller and the called machine.
-pub(crate) fn role_of(caller: &Address, called: &Address, datagram: &Datagram<'_>) -> Role
-    ensures { IsRole caller.now called.now datagram.now result }
+pub(crate) fn role_of(options: &CaptureOptions, datagram: &Datagram<'_>) -> Role
+    ensures { IsRole options.now.caller options.now.called datagram.now result }
 {
+    let CaptureOptions { caller, called, .. } = options;
     if caller.is_at(datagram.source()) {
-        Role::FromCaller
+        role_of_sent(Role::FromCaller, datagram)
     } else if called.is_at(datagram.source()) {
-        Role::FromCalled
-    } else if caller.is_at(datagram.destination()) || called.is_at(datagram.destination()) {
-        Role::ToEither
+        role_of_sent(Role::FromCalled, datagram)
+    } else if caller.is_at(datagram.destination()) {
+        Role::ToCaller
+    } else if called.is_at(datagram.destination()) {
+        Role::ToCalled
     } else {
         Role::Unrelated
+    }
+}
+
+/// The role of a datagram that one of the two sent, unless it went in fragments.
+fn role_of_sent(role: Role, datagram: &Datagram<'_>) -> Role
+    ensures whole { is_in_fragments datagram.now ≡ false → result ≡ role }
+    ensures fragments { is_in_fragments datagram.now ≡ true → result ≡ Role.InFragments }
+{
+    if datagram.is_fragment() && !datagram.is_whole() {
+        Role::InFragments
+    } else {
+        role
     }
 }

@@ -6,8 +6,8 @@ ghost use Rattle.fax_command.specs.Streams.{failed_after_write, greatest_count};
 ghost use Rattle.fax_capture.specs.Answers.{Answers};
 ghost use Rattle.fax_capture.specs.Rep.{counts_of_answer, status_of_answer, text_of_answer};
 
-use crate::address::Address;
 use crate::counts::Counts;
+use crate::options::CaptureOptions;
 use crate::reading::script_of;
 use crate::reading_fault::ReadingFault;
 use crate::script::Made;
@@ -56,19 +56,18 @@ impl Answer {
     }
 }
 
-/// The answer to the capture that a source gives, for the addresses of the caller and the called machine; None where a read
+/// The answer to the capture that a source gives, for these options; None where a read
 /// failed.
 pub(crate) fn answer_to<I: Source>(
     alloc: Global,
     source: &mut I,
-    caller: &Address,
-    called: &Address,
+    options: &CaptureOptions,
 ) -> Option<Answer>
-    ensures answers { IfSome result (λ answer. IfSome (I.remaining source.old) (λ input. Answers caller.now called.now input (status_of_answer answer) (counts_of_answer answer) (text_of_answer answer))) }
+    ensures answers { IfSome result (λ answer. IfSome (I.remaining source.old) (λ input. Answers options.now input (status_of_answer answer) (counts_of_answer answer) (text_of_answer answer))) }
     ensures failed { result ≡ None → I.reads source.old ≡ 0 → (I.failed source.new ≡ true) ⊎ (I.reads source.new ≡ greatest_count) }
     ensures unfailed { result ≢ None → I.failed source.new ≡ I.failed source.old }
 {
-    match script_of(alloc, source, caller, called) {
+    match script_of(alloc, source, options) {
         Ok(made) => Some(Answer::Script(made)),
         Err(ReadingFault::Script(fault)) => Some(Answer::Fault(fault)),
         Err(ReadingFault::Stream) => None,

@@ -4,6 +4,8 @@
 mod address;
 mod answer;
 mod counts;
+mod leg;
+mod options;
 mod reading;
 mod reading_fault;
 mod run;
@@ -12,4 +14,5 @@ mod script_fault;
 
 pub use address::{Address, Host};
 pub use counts::Counts;
+pub use options::CaptureOptions;
 pub use run::{CaptureRun, run_capture};

@@ -1,15 +1,17 @@
 //! A capture that is read in pieces, as a source gives them, and told.
-ghost use Rattle.std.specs.Prelude.{ℕ, List, ◌≡◌, ◌≢◌, ◌≤◌, ◌^◌, ◌++◌, ◌⊎◌, true, Err, IfOk, IfErr, IfSome, OnOk, Ok, vec_len};
+ghost use Rattle.std.specs.Prelude.{ℕ, List, ◌≡◌, ◌≢◌, ◌<◌, ◌≤◌, ◌^◌, ◌++◌, ◌⊎◌, true, Err, IfOk, IfErr, IfSome, OnOk, Ok, vec_len};
 ghost use Rattle.fax_pcap.specs.Captures.{untold_head};
 ghost use Rattle.fax_command.specs.Streams.{greatest_count};
-ghost use Rattle.fax_capture.specs.declared.address.Address.{Address};
+ghost use Rattle.fax_capture.specs.declared.options.CaptureOptions.{CaptureOptions};
 ghost use Rattle.fax_capture.specs.Addresses.{lacks};
 ghost use Rattle.fax_capture.specs.Answers.{Allows, Fails};
 ghost use Rattle.fax_capture.specs.Rep.{Breaks, HasRead, Holds, TakesAllRecords, Untold};
 ghost use Rattle.fax_capture.specs.Reading.{FailsSo};
 ghost use Rattle.fax_capture.specs.Scripts.{ScriptSoFar, TellsFound};
 
-use crate::address::{Address, Role, role_of};
+use crate::address::{Role, role_of};
+use crate::counts::Counts;
+use crate::options::CaptureOptions;
 use crate::reading_fault::ReadingFault;
 use crate::script::{Made, Script};
 use crate::script_fault::ScriptFault;
@@ -18,16 +20,15 @@ use fax_command::{MOST_AT_ONCE, ReadFault, Source};
 use fax_pcap::{Capture, CaptureFault, CapturedPacket};
 use std::alloc::{AllocError, Global};
 
-/// The script of the capture that a source gives, for the addresses of the caller and the called machine, or why there is none.
+/// The script of the capture that a source gives, for these options, or why there is none.
 /// Of the capture a record and a piece are kept at once.
 pub(crate) fn script_of<I: Source>(
     alloc: Global,
     source: &mut I,
-    caller: &Address,
-    called: &Address,
+    options: &CaptureOptions,
 ) -> Result<Made, ReadingFault>
-    ensures ok { IfOk result (λ made. IfSome (I.remaining source.old) (λ input. Allows caller.now called.now input (Ok (made.text.items, made.counts)))) }
-    ensures err { IfErr result (λ e. IfSome (I.remaining source.old) (λ input. FailsSo caller.now called.now input e)) }
+    ensures ok { IfOk result (λ made. IfSome (I.remaining source.old) (λ input. Allows options.now input (Ok (made.text.items, made.counts)))) }
+    ensures err { IfErr result (λ e. IfSome (I.remaining source.old) (λ input. FailsSo options.now input e)) }
     ensures failed { result ≡ Err ReadingFault.Stream → I.reads source.old ≡ 0 → (I.failed source.new ≡ true) ⊎ (I.reads source.new ≡ greatest_count) }
     ensures unfailed { result ≢ Err ReadingFault.Stream → I.failed source.new ≡ I.failed source.old }
 {
@@ -40,15 +41,7 @@ pub(crate) fn script_of<I: Source>(
             Ok(0) => return Ok(finish(alloc, &capture, left.as_slice(), script)?),
             Ok(count) => {
                 let piece = &buffer[..count];
-                left = take(
-                    alloc,
-                    caller,
-                    called,
-                    &mut capture,
-                    &mut script,
-                    left,
-                    piece,
-                )?;
+                left = take(alloc, options, &mut capture, &mut script, left, piece)?;
             }
             Err(ReadFault::Interrupted) => {}
             Err(ReadFault::Failed) => return Err(ReadingFault::Stream),
@@ -67,8 +60,7 @@ fn new_buffer(alloc: Global) -> Result<Vec<u8>, AllocError>
 /// Takes a piece after the octets that are left, reads and tells all whole records, and answers the octets that are left then.
 fn take(
     alloc: Global,
-    caller: &Address,
-    called: &Address,
+    options: &CaptureOptions,
     capture: &mut Capture,
     script: &mut Script,
     left: Vec<u8>,
@@ -76,23 +68,22 @@ fn take(
 ) -> Result<Vec<u8>, ScriptFault>
     requires few { script.old.ticks ≤ 2 ^ 103 }
     ensures few { OnOk result (script.new.ticks ≤ 2 ^ 103) }
-    ensures ok { (read : List ℕ) → HasRead caller.now called.now read capture.old script.old left.items
-        → IfOk result (λ still. HasRead caller.now called.now (read ++ piece.now) capture.new script.new still.items) }
-    ensures err { (read : List ℕ) → HasRead caller.now called.now read capture.old script.old left.items
-        → IfErr result (λ e. (more : List ℕ) → Fails caller.now called.now ((read ++ piece.now) ++ more) e) }
+    ensures ok { (read : List ℕ) → HasRead options.now read capture.old script.old left.items
+        → IfOk result (λ still. HasRead options.now (read ++ piece.now) capture.new script.new still.items) }
+    ensures err { (read : List ℕ) → HasRead options.now read capture.old script.old left.items
+        → IfErr result (λ e. (more : List ℕ) → Fails options.now ((read ++ piece.now) ++ more) e) }
 {
     let mut octets = left;
     if octets.extend_from_slice(piece).is_err() {
         return Err(NoMemory.into());
     }
-    take_records(alloc, caller, called, capture, script, octets.as_slice())
+    take_records(alloc, options, capture, script, octets.as_slice())
 }
 
 /// Reads and tells all whole records at the front of octets, and answers those that are left.
 fn take_records(
     alloc: Global,
-    caller: &Address,
-    called: &Address,
+    options: &CaptureOptions,
     capture: &mut Capture,
     script: &mut Script,
     octets: &[u8],
@@ -100,12 +91,12 @@ fn take_records(
     requires few { script.old.ticks ≤ 2 ^ 103 }
     ensures few { OnOk result (script.new.ticks ≤ 2 ^ 103) }
     ensures ok { (told : ScriptSoFar) → Holds script.old told
-        → IfOk result (λ left. TakesAllRecords caller.now called.now capture.old octets.now told capture.new left.items script.new) }
-    ensures err { (told : ScriptSoFar) → Holds script.old told → IfErr result (λ e. Breaks caller.now called.now capture.old octets.now told e) }
+        → IfOk result (λ left. TakesAllRecords options.now capture.old octets.now told capture.new left.items script.new) }
+    ensures err { (told : ScriptSoFar) → Holds script.old told → IfErr result (λ e. Breaks options.now capture.old octets.now told e) }
 {
     let mut rest = octets;
     while let Some(read) = capture.read_record(rest)? {
-        tell(alloc, caller, called, script, read.found)?;
+        tell(alloc, options, script, read.found)?;
         rest = read.after;
     }
     match Vec::from_slice(alloc, rest) {
@@ -117,25 +108,24 @@ fn take_records(
 /// Tells a datagram that was found, where one of the two machines sent it or it was sent to one.
 fn tell(
     alloc: Global,
-    caller: &Address,
-    called: &Address,
+    options: &CaptureOptions,
     script: &mut Script,
     found: Option<CapturedPacket<'_>>,
 ) -> Result<(), ScriptFault>
     requires few { script.old.ticks ≤ 2 ^ 103 }
     ensures few { OnOk result (script.new.ticks ≤ 2 ^ 103) }
     ensures ok { (told : ScriptSoFar) → Holds script.old told
-        → OnOk result ((next : ScriptSoFar) × TellsFound caller.now called.now told found.entry next × Holds script.new next) }
-    ensures err { (told : ScriptSoFar) → Holds script.old told → IfErr result (λ e. Untold caller.now called.now told found.entry e) }
+        → OnOk result ((next : ScriptSoFar) × TellsFound options.now told found.entry next × Holds script.new next) }
+    ensures err { (told : ScriptSoFar) → Holds script.old told → IfErr result (λ e. Untold options.now told found.entry e) }
 {
     let Some(captured) = found else {
         return Ok(());
     };
-    let role = role_of(caller, called, captured.datagram());
+    let role = role_of(options, captured.datagram());
     if is_lacking(role, captured.datagram().is_whole()) {
         return Err(ScriptFault::Capture(CaptureFault::Snapped));
     }
-    script.tell(alloc, &captured, role)
+    script.tell(alloc, &captured, role, options.call)
 }
 
 /// Whether some is lacking of a datagram that one of the two sent.
@@ -144,7 +134,7 @@ fn is_lacking(role: Role, is_whole: bool) -> bool
 {
     match role {
         Role::FromCaller | Role::FromCalled => !is_whole,
-        Role::ToEither | Role::Unrelated => false,
+        Role::ToCaller | Role::ToCalled | Role::InFragments | Role::Unrelated => false,
     }
 }
 
@@ -156,16 +146,28 @@ fn finish(
     script: Script,
 ) -> Result<Made, ScriptFault>
     requires few { script.ticks ≤ 2 ^ 103 }
-    ensures ok { (caller called : Address) (read : List ℕ) → HasRead caller called read capture.now script left.now
-        → IfOk result (λ made. Allows caller called read (Ok (made.text.items, made.counts))) }
-    ensures err { (caller called : Address) (read : List ℕ) → HasRead caller called read capture.now script left.now
-        → IfErr result (λ e. Fails caller called read e) }
+    ensures ok { (options : CaptureOptions) (read : List ℕ) → HasRead options read capture.now script left.now
+        → IfOk result (λ made. Allows options read (Ok (made.text.items, made.counts))) }
+    ensures err { (options : CaptureOptions) (read : List ℕ) → HasRead options read capture.now script left.now
+        → IfErr result (λ e. Fails options read e) }
 {
     if let Some(fault) = capture.fault_at_end(left) {
         return Err(fault.into());
     }
     if script.is_empty() {
-        return Err(ScriptFault::NoAddress(script.counts()));
+        return Err(fault_of_none(script.counts()));
     }
     script.finish(alloc)
+}
+
+/// Why no datagram was told of a capture with these counts.
+fn fault_of_none(counts: Counts) -> ScriptFault
+    ensures address { counts.of_other_calls ≡ 0 → result ≡ ScriptFault.NoAddress counts }
+    ensures call { 0 < counts.of_other_calls → result ≡ ScriptFault.NoCall counts }
+{
+    if counts.of_other_calls == 0 {
+        ScriptFault::NoAddress(counts)
+    } else {
+        ScriptFault::NoCall(counts)
+    }
 }

@@ -4,9 +4,9 @@ ghost use Rattle.std.specs.Io.KnownBytes.{Appends};
 ghost use Rattle.fax_capture.specs.Answers.{Answers};
 ghost use Rattle.fax_capture.specs.Runs.{IsLongRun};
 
-use crate::address::Address;
 use crate::answer::answer_to;
 use crate::counts::Counts;
+use crate::options::CaptureOptions;
 use fax_command::{Sink, Source, Status, WriteFault};
 use std::alloc::Global;
 
@@ -26,17 +26,16 @@ pub fn run_capture<I: Source, O: Sink>(
     alloc: Global,
     source: &mut I,
     sink: &mut O,
-    caller: &Address,
-    called: &Address,
+    options: &CaptureOptions,
 ) -> CaptureRun
     // Where the input is known, what is written is the answer to it, unless a read or a write failed; in which pieces it came is
     // all one.
     ensures answers { result.status ≢ 4 → IfSome (I.remaining source.old) (λ input. (text : List ℕ)
-        × Answers caller.now called.now input result.status result.counts text × Appends (O.contents sink.old) (O.contents sink.new) text) }
+        × Answers options.now input result.status result.counts text × Appends (O.contents sink.old) (O.contents sink.new) text) }
     ensures run { IsLongRun record { remaining = I.remaining; reads = I.reads; given = I.given; failed = I.failed }
         record { contents = O.contents; failed = O.failed; held_back = O.held_back } source.old source.new sink.old sink.new result.status }
 {
-    let Some(answer) = answer_to(alloc, source, caller, called) else {
+    let Some(answer) = answer_to(alloc, source, options) else {
         return failed();
     };
     match answer.write(sink) {

@@ -4,16 +4,20 @@ ghost use Rattle.hex.specs.Hex.{encode_lower};
 ghost use Rattle.fax_command.specs.RowLines.{text_of_lines};
 ghost use Rattle.fax_capture.specs.Growing.{Stops};
 ghost use Rattle.fax_capture.specs.Rep.{Holds};
-ghost use Rattle.fax_capture.specs.Scripts.{ScriptSoFar, only_ring, role_lines, script_lines, start_of, tick_line, tick_lines, tick_of, told_of, ticks_to};
+ghost use Rattle.fax_capture.specs.Scripts.{ScriptSoFar, begins_with, heard_with, only_ring, ring_lines, role_lines, script_lines, start_of, tick_line, tick_lines, tick_of, told_in, told_of, told_with, ticks_to};
 
 use crate::address::Role;
 use crate::counts::Counts;
+use crate::leg::{CallingLeg, is_asked, number_of};
 use crate::script_fault::ScriptFault;
 use fax_bits::NoMemory;
 use fax_command::MOST_OCTETS;
 use fax_pcap::CapturedPacket;
 use itoa::Buffer;
 use std::alloc::Global;
+
+/// The line of a ring.
+const RING: &[u8] = b"R\n";
 
 /// How many nanoseconds pass from a tick to the next: 40 ms.
 const NANOSECONDS_OF_TICK: u128 = 40_000_000;
@@ -24,13 +28,14 @@ const TICKS_AFTER: u128 = 1000;
 /// How many milliseconds pass from a tick to the next.
 const MILLISECONDS_OF_TICK: u128 = 40;
 
-/// A script: when the first of its datagrams was captured, where that is known, how many ticks were told, its text, and how many
-/// datagrams came from whom.
+/// A script: when the first of its datagrams was captured, where that is known, how many ticks were told, its text, what was heard
+/// last on the calling leg, and how many datagrams came from whom.
 #[derive(Drop)]
 pub(crate) struct Script {
     start: Option<u128>,
     ticks: u128,
     text: Vec<u8>,
+    leg: CallingLeg,
     counts: Counts,
 }
 
@@ -50,7 +55,8 @@ impl Script {
         Ok(Script {
             start: None,
             ticks: 0,
-            text: Vec::from_slice(alloc, b"R\n")?,
+            text: Vec::from_slice(alloc, RING)?,
+            leg: CallingLeg::new(),
             counts: Counts::new(),
         })
     }
@@ -69,30 +75,89 @@ impl Script {
         self.counts
     }
 
-    /// Tells a datagram, after the ticks up to its own, unless it is unrelated, and counts it.
+    /// Tells a datagram, after the ticks up to its own, and counts it. One that is unrelated, in fragments, or in another call than
+    /// is asked for is counted alone. It rings where a call begins anew.
     pub fn tell(
         &mut self,
         alloc: Global,
         captured: &CapturedPacket<'_>,
         role: Role,
+        asked: Option<u64>,
     ) -> Result<(), ScriptFault>
         requires few { self.old.ticks ≤ 2 ^ 103 }
         ensures few { OnOk result (self.new.ticks ≤ 2 ^ 103) }
-        ensures ok { (told : ScriptSoFar) → Holds self.old told → OnOk result (Holds self.new (told_of told captured.now role)) }
-        ensures err { (told : ScriptSoFar) → Holds self.old told → IfErr result (λ e. Stops e (text_of_lines (told_of told captured.now role).lines)) }
+        ensures ok { (told : ScriptSoFar) → Holds self.old told → OnOk result (Holds self.new (told_of asked told captured.now role)) }
+        ensures err { (told : ScriptSoFar) → Holds self.old told → IfErr result (λ e. Stops e (text_of_lines (told_of asked told captured.now role).lines)) }
     {
-        if role == Role::Unrelated {
+        if role.is_passed_over() {
             self.counts = self.counts.with(role);
             return Ok(());
         }
+        let begins = self.hear(captured, role);
+        self.tell_in_call(alloc, captured, role, asked, begins)
+    }
+
+    /// Hears a datagram, and says whether a call begins anew with it.
+    fn hear(&mut self, captured: &CapturedPacket<'_>, role: Role) -> bool
+        ensures begins { (told : ScriptSoFar) → Holds self.old told → result ≡ begins_with told captured.now role }
+        ensures ticks { self.new.ticks ≡ self.old.ticks }
+        ensures holds { (told : ScriptSoFar) → Holds self.old told → Holds self.new (heard_with told captured.now role) }
+    {
         let time = captured.time();
+        let number = number_of(captured.datagram().octets());
+        let begins = self.leg.begins_anew(role, number, time);
+        self.leg = self.leg.with(role, number, time, begins);
+        self.counts = self.counts.with_call(begins);
+        begins
+    }
+
+    /// Tells a datagram of the call that is on, where that is asked for, or else counts it.
+    fn tell_in_call(
+        &mut self,
+        alloc: Global,
+        captured: &CapturedPacket<'_>,
+        role: Role,
+        asked: Option<u64>,
+        begins: bool,
+    ) -> Result<(), ScriptFault>
+        requires few { self.old.ticks ≤ 2 ^ 103 }
+        ensures few { OnOk result (self.new.ticks ≤ 2 ^ 103) }
+        ensures ok { (told : ScriptSoFar) → Holds self.old told → OnOk result (Holds self.new (told_in asked told captured.now role begins)) }
+        ensures err { (told : ScriptSoFar) → Holds self.old told → IfErr result (λ e. Stops e (text_of_lines (told_in asked told captured.now role begins).lines)) }
+    {
+        if is_asked(asked, self.counts.calls) {
+            self.push_told(alloc, captured, role, rings(asked, begins))
+        } else {
+            self.counts = self.counts.with_other();
+            Ok(())
+        }
+    }
+
+    /// Tells a datagram, after the ticks up to its own and the ring, where it rings.
+    fn push_told(
+        &mut self,
+        alloc: Global,
+        captured: &CapturedPacket<'_>,
+        role: Role,
+        rings: &[u8],
+    ) -> Result<(), ScriptFault>
+        requires few { self.old.ticks ≤ 2 ^ 103 }
+        ensures few { OnOk result (self.new.ticks ≤ 2 ^ 103) }
+        ensures ok { (told : ScriptSoFar) → Holds self.old told → (lines : List (List ℕ)) → rings.now ≡ text_of_lines lines
+            → OnOk result (Holds self.new (told_with told captured.now role lines)) }
+        ensures err { (told : ScriptSoFar) → Holds self.old told → (lines : List (List ℕ)) → rings.now ≡ text_of_lines lines
+            → IfErr result (λ e. Stops e (text_of_lines (told_with told captured.now role lines).lines)) }
+    {
+        let time = captured.time();
+        let octets = captured.datagram().octets();
         let start = start_at(self.start, time);
         let ticks = self.ticks.max(tick_at(start, time) + 1);
         push_ticks(alloc, &mut self.text, self.ticks, ticks)?;
-        push_datagram(alloc, &mut self.text, role, captured.datagram().octets())?;
+        push(&mut self.text, rings)?;
+        push_datagram(alloc, &mut self.text, role, octets)?;
         self.start = start;
         self.ticks = ticks;
-        self.counts = self.counts.with(role);
+        self.counts = self.counts.with_told(role, octets);
         Ok(())
     }
 
@@ -109,6 +174,16 @@ impl Script {
             text,
             counts: self.counts,
         })
+    }
+}
+
+/// The ring where a call begins anew, but for the one call that is asked for.
+fn rings(asked: Option<u64>, begins: bool) -> &'static [u8]
+    ensures { result.now ≡ text_of_lines (ring_lines asked begins) }
+{
+    match asked {
+        None if begins => RING,
+        _ => b"",
     }
 }
 
@@ -181,7 +256,7 @@ fn push_datagram(
     match role {
         Role::FromCaller => push_octets(alloc, text, b"A ", octets),
         Role::FromCalled => push_octets(alloc, text, b"B ", octets),
-        Role::ToEither | Role::Unrelated => Ok(()),
+        Role::ToCaller | Role::ToCalled | Role::InFragments | Role::Unrelated => Ok(()),
     }
 }
 

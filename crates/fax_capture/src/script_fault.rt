@@ -15,6 +15,8 @@ pub(crate) enum ScriptFault {
     Capture(CaptureFault),
     /// Of the datagrams, so many, none was sent by one of the two machines, or to one.
     NoAddress(Counts),
+    /// Of the datagrams, so many, none is in the call that is asked for.
+    NoCall(Counts),
     /// The script has more octets than are read of one.
     TooLong,
 }
@@ -27,6 +29,7 @@ impl ScriptFault {
         match self {
             ScriptFault::Capture(fault) => line_of_capture_fault(fault),
             ScriptFault::NoAddress(_) => b"fault 4 NoAddress\n",
+            ScriptFault::NoCall(_) => b"fault 6 NoCall\n",
             ScriptFault::TooLong => b"fault 5 TooLong\n",
         }
     }
@@ -46,7 +49,7 @@ impl ScriptFault {
         ensures { result ≡ fault_counts self }
     {
         match self {
-            ScriptFault::NoAddress(counts) => Some(counts),
+            ScriptFault::NoAddress(counts) | ScriptFault::NoCall(counts) => Some(counts),
             ScriptFault::Capture(_) | ScriptFault::TooLong => None,
         }
     }

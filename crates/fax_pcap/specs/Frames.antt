@@ -1,6 +1,6 @@
 -- FRAMES: where a UDP datagram stands in what was captured of a link. (IEEE 802.3 and 802.1Q; LINKTYPE_LINUX_SLL and
 -- LINKTYPE_LINUX_SLL2, LINKTYPE_NULL and LINKTYPE_LOOP of the registry of link types; RFC 791, RFC 8200, RFC 768. Of fragments
--- the first alone is read, and headers of extension are not: this project's profile.)
+-- the first alone is read, and of headers of extension that of a fragment: this project's profile.)
 use Rattle.std.specs.Prelude.{ℕ, min, ◌-◌, ◌*◌, ◌/◌, ◌%◌, ◌==◌, ◌&&◌, ◌||◌, not, nat_lt, Bool, false, List, take, drop, length, slice_index, Result, Ok, Err, if◌then◌else◌}
 use Rattle.fax_pcap.specs.declared.fields.ByteOrder.TheVariants.{Big, Little}
 use Rattle.fax_pcap.specs.declared.link.LinkType.{LinkType}
@@ -76,14 +76,35 @@ ip_4_at octets = do
       udp_at (take 4 (drop 12 parts.0)) (take 4 (drop 16 parts.0)) (is_followed parts.0) (take (number_16 Big parts.0 2 - 4 * (slice_index parts.0 0 % 16)) options.1))
       else Err Other
 
--- The 40 octets of a header of IPv6 (RFC 8200) say that it carries UDP: its version, and the next header.
-unfoldable pub is_udp_6 : List ℕ → Bool
-is_udp_6 header = (slice_index header 0 / 16 == 6) && (slice_index header 6 == 17)
+-- The 40 octets of a header of IPv6 (RFC 8200) say what stands after it: their version, and the next header.
+abbrev pub is_next_6 : List ℕ → ℕ → Bool
+is_next_6 header next = (slice_index header 0 / 16 == 6) && (slice_index header 6 == next)
+
+-- The eight octets of the header of a fragment (RFC 8200, 4.5) say that UDP stands in it from its front on: the next header, and
+-- 13 bits of an offset;
+abbrev pub is_first_6 : List ℕ → Bool
+is_first_6 header = (slice_index header 0 == 17) && (number_16 Big header 2 / 8 == 0)
+
+-- or, by one more bit, that more fragments follow
+abbrev pub is_followed_6 : List ℕ → Bool
+is_followed_6 header = number_16 Big header 2 % 2 == 1
+
+unfoldable pub fragment_6_at : List ℕ → List ℕ → List ℕ → FrameRead
+fragment_6_at source destination octets = do
+  parts ← front_of Short 8 octets
+  if is_first_6 parts.0 then udp_at source destination (is_followed_6 parts.0) parts.1 else Err Other
+
+-- UDP after the header, or after that of a fragment
+unfoldable pub after_ip_6 : List ℕ → List ℕ → FrameRead
+after_ip_6 header octets =
+    if is_next_6 header 17 then udp_at (take 16 (drop 8 header)) (take 16 (drop 24 header)) false octets
+    else if is_next_6 header 44 then fragment_6_at (take 16 (drop 8 header)) (take 16 (drop 24 header)) octets
+    else Err Other
 
 unfoldable pub ip_6_at : List ℕ → FrameRead
 ip_6_at octets = do
   parts ← front_of Short 40 octets
-  if is_udp_6 parts.0 then udp_at (take 16 (drop 8 parts.0)) (take 16 (drop 24 parts.0)) false (take (number_16 Big parts.0 4) parts.1) else Err Other
+  after_ip_6 parts.0 (take (number_16 Big parts.0 4) parts.1)
 
 -- IP of either version, which its first four bits tell
 unfoldable pub ip_at : List ℕ → FrameRead

@@ -68,6 +68,13 @@ impl<'a> Datagram<'a> {
         &self.destination
     }
 
+    /// Whether it went in fragments, of which this is the first.
+    pub fn is_fragment(&self) -> bool
+        ensures { result ≡ self.now.is_fragment }
+    {
+        self.is_fragment
+    }
+
     /// Whether all of its data is there.
     pub fn is_whole(&self) -> bool
         ensures { result ≡ self.now.is_whole }

@@ -1,7 +1,7 @@
 //! Datagrams of IP, and of UDP in them.
 ghost use Rattle.std.specs.Prelude.{◌≡◌, ◌≤◌, ◌*◌, ◌%◌, IsTrue, length, slice_index, take};
 ghost use Rattle.fax_pcap.specs.Fields.{Gives, number_16};
-ghost use Rattle.fax_pcap.specs.Frames.{udp_at, data_at, ip_4_at, ip_6_at, ip_at, is_followed, is_udp_4};
+ghost use Rattle.fax_pcap.specs.Frames.{after_ip_6, data_at, fragment_6_at, ip_4_at, ip_6_at, ip_at, is_followed, is_udp_4, udp_at};
 
 use crate::datagram::{Datagram, Endpoint};
 use crate::fields::{ByteOrder, read_16, split_front};
@@ -9,6 +9,9 @@ use crate::frame::FrameFault;
 
 /// The number of UDP among the protocols of IP.
 const UDP: u8 = 17;
+
+/// The number of the header of a fragment of IPv6.
+const FRAGMENT: u8 = 44;
 
 /// The UDP datagram in a datagram of IP of either version.
 #[tactic(auto, unfolding(crate::specs::Frames::ip_at, crate::specs::Fields::front_of))]
@@ -68,22 +71,49 @@ fn is_followed(header: &[u8]) -> bool
     read_16(ByteOrder::Big, header, 6) / 8_192 % 2 == 1
 }
 
-/// The UDP datagram in a datagram of IPv6 without headers of extension.
-#[tactic(auto, unfolding(crate::specs::Frames::ip_6_at, crate::specs::Frames::is_udp_6, crate::specs::Fields::front_of))]
+/// The UDP datagram in a datagram of IPv6, or in the first of its fragments.
+#[tactic(auto, unfolding(crate::specs::Frames::ip_6_at, crate::specs::Fields::front_of))]
 pub(crate) fn read_ip_6(octets: &[u8]) -> Result<Datagram<'_>, FrameFault>
     ensures { Gives (λ d. d) result (ip_6_at octets.now) }
 {
     let (header, rest) = split_front(FrameFault::Short, 40, octets)?;
-    if header[0] / 16 != 6 || header[6] != UDP {
+    let length = usize::from(read_16(ByteOrder::Big, header, 4));
+    read_after_ip_6(header, first_octets(length, rest))
+}
+
+/// The UDP datagram after a header of IPv6, or after that of a fragment.
+#[tactic(auto, unfolding(crate::specs::Frames::after_ip_6))]
+fn read_after_ip_6<'a>(header: &'a [u8], octets: &'a [u8]) -> Result<Datagram<'a>, FrameFault>
+    requires { length header.now ≡ 40 }
+    ensures { Gives (λ d. d) result (after_ip_6 header.now octets.now) }
+{
+    let source = &header[8..24];
+    let destination = &header[24..40];
+    if header[0] / 16 != 6 {
         return Err(FrameFault::Other);
     }
-    let length = usize::from(read_16(ByteOrder::Big, header, 4));
-    read_udp(
-        &header[8..24],
-        &header[24..40],
-        false,
-        first_octets(length, rest),
-    )
+    match header[6] {
+        UDP => read_udp(source, destination, false, octets),
+        FRAGMENT => read_fragment(source, destination, octets),
+        _ => Err(FrameFault::Other),
+    }
+}
+
+/// The UDP datagram in the first of the fragments of one of IPv6.
+#[tactic(auto, unfolding(crate::specs::Frames::fragment_6_at, crate::specs::Fields::front_of))]
+fn read_fragment<'a>(
+    source: &'a [u8],
+    destination: &'a [u8],
+    octets: &'a [u8],
+) -> Result<Datagram<'a>, FrameFault>
+    ensures { Gives (λ d. d) result (fragment_6_at source.now destination.now octets.now) }
+{
+    let (header, rest) = split_front(FrameFault::Short, 8, octets)?;
+    let place = read_16(ByteOrder::Big, header, 2);
+    if header[0] != UDP || place / 8 != 0 {
+        return Err(FrameFault::Other);
+    }
+    read_udp(source, destination, place % 2 == 1, rest)
 }
 
 /// So many octets, or all where they are fewer.

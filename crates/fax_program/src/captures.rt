@@ -1,23 +1,48 @@
 //! What is told of the datagrams of a capture.
 use crate::failures::tell;
-use fax_capture::{Address, Counts, Host};
-use fax_request::Machines;
+use fax_capture::{Address, CaptureOptions, Counts, Host};
 use std::net::{IpAddr, SocketAddr};
 
-/// Tells each of the two addresses of which nothing came, and how many datagrams were passed over, where any was.
-pub(crate) fn tell_counts<E: Eprint>(rt: &E, machines: Machines, counts: Counts) {
+/// Tells each of the two addresses of which nothing came, how many calls there are, where it is not one, what was passed over, where
+/// anything was, and that the addresses seem to be exchanged.
+pub(crate) fn tell_counts<E: Eprint>(rt: &E, options: CaptureOptions, counts: Counts) {
     if counts.from_caller == 0 {
-        tell_silence(rt, "caller", machines.caller);
+        tell_silence(rt, "caller", options.caller);
     }
     if counts.from_called == 0 {
-        tell_silence(rt, "called", machines.called);
+        tell_silence(rt, "called", options.called);
     }
-    match counts.passed_over {
+    tell_calls(rt, counts);
+    tell_passed_over(
+        rt,
+        counts.in_fragments,
+        "the two machines that went in fragments",
+    );
+    tell_passed_over(rt, counts.passed_over, "other hosts or ports");
+    if counts.exchanged > 0 {
+        tell(
+            rt,
+            "the caller answers calls (CED), or the called machine makes them (CNG): are both addresses exchanged?",
+        );
+    }
+}
+
+/// Tells how many calls the caller made, where it is not one, and what was passed over of others than the one that is asked for.
+fn tell_calls<E: Eprint>(rt: &E, counts: Counts) {
+    if counts.calls > 1 {
+        tell(rt, format_args!("the caller made {} calls", counts.calls));
+    }
+    tell_passed_over(rt, counts.of_other_calls, "other calls");
+}
+
+/// Tells how many datagrams of someone were passed over, where any was.
+fn tell_passed_over<E: Eprint>(rt: &E, count: u64, whose: &str) {
+    match count {
         0 => {}
-        1 => tell(rt, "1 datagram of other hosts or ports was passed over"),
+        1 => tell(rt, format_args!("1 datagram of {whose} was passed over")),
         count => tell(
             rt,
-            format_args!("{count} datagrams of other hosts or ports were passed over"),
+            format_args!("{count} datagrams of {whose} were passed over"),
         ),
     }
 }

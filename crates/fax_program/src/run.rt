@@ -54,7 +54,7 @@ fn run_request<R: Print + Eprint + Input + AllocGlobal, N: Net + Files + Clock +
         Request::Page(options) => answer_page(rt, options),
         Request::Trace(settings) => answer_trace(rt, settings),
         Request::Explain(options) => answer_explain(rt, system, options),
-        Request::Capture(machines) => answer_capture(rt, machines),
+        Request::Capture(options) => answer_capture(rt, options),
         Request::Loop(settings) => answer_loop(rt, system, settings),
         Request::Serve(path) => match service_of(rt, system, path) {
             Ok(service) => return RunOutcome::Serves(service),

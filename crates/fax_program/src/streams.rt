@@ -4,12 +4,12 @@ ghost use Rattle.fax_gateway.specs.Setups.{AreAllowed};
 use crate::captures::tell_counts;
 use crate::failures::{tell_loop, tell_streams};
 use crate::pictures::Pictures;
-use fax_capture::run_capture;
+use fax_capture::{CaptureOptions, run_capture};
 use fax_command::{PageOptions, Sink, Source, StdSink, StdSource, run_page};
 use fax_explain::{NoPages, run_explain};
 use fax_gateway::Settings;
 use fax_loop::play_loop;
-use fax_request::{ExplainOptions, Machines};
+use fax_request::ExplainOptions;
 use fax_trace::run_trace;
 use std::io;
 use std::net::Net;
@@ -72,22 +72,16 @@ fn explain<R: Eprint + AllocGlobal, H: Files, I: Source, O: Sink>(
     }
 }
 
-/// Runs `faxgate capture`. An address of which nothing came is told, and how many datagrams were passed over.
+/// Runs `faxgate capture`. An address of which nothing came is told, how many calls there are, and what was passed over.
 pub(crate) fn answer_capture<R: Print + Eprint + Input + AllocGlobal>(
     rt: &R,
-    machines: Machines,
+    options: CaptureOptions,
 ) -> u8 {
     let mut source = StdSource::new(rt.reader());
     let mut sink = StdSink::new(io::writer(rt));
-    let run = run_capture(
-        rt.alloc(),
-        &mut source,
-        &mut sink,
-        &machines.caller,
-        &machines.called,
-    );
+    let run = run_capture(rt.alloc(), &mut source, &mut sink, &options);
     if let Some(counts) = run.counts {
-        tell_counts(rt, machines, counts);
+        tell_counts(rt, options, counts);
     }
     tell_streams(rt, run.status, &source, &sink)
 }

@@ -1,5 +1,5 @@
 -- What a command and the values of its options ask for. (This project's profile.)
-use Rattle.std.specs.Prelude.{◌≡◌, ℕ, ◌^◌, ◌-◌, true, false, List, [], Option, Some, None, codes, option_map, map, unwrap_or}
+use Rattle.std.specs.Prelude.{◌≡◌, ℕ, ◌<◌, ◌^◌, ◌-◌, true, false, List, [], Option, Some, None, codes, option_map, map, unwrap_or}
 use Rattle.std.specs.List.{join_by}
 use Rattle.std.specs.declared.net.ip_addr.IpAddr.{IpAddr}
 use Rattle.std.specs.declared.net.ip_addr.IpAddr.TheVariants as ip
@@ -15,11 +15,11 @@ use Rattle.fax_gateway.specs.Setups.{AreAllowed}
 use Rattle.fax_capture.specs.declared.address.Host.{Host}
 use Rattle.fax_capture.specs.declared.address.Host.TheVariants as host
 use Rattle.fax_capture.specs.declared.address.Address.{Address}
+use Rattle.fax_capture.specs.declared.options.CaptureOptions.{CaptureOptions}
 use Rattle.fax_capture.specs.Addresses.{AreApart}
 use Rattle.fax_send_receive.specs.declared.sending.SendOptions.{SendOptions}
 use Rattle.fax_send_receive.specs.declared.receiving.ReceiveOptions.{ReceiveOptions}
 use Rattle.fax_request.specs.declared.explain_options.ExplainOptions.{ExplainOptions}
-use Rattle.fax_request.specs.declared.machines.Machines.{Machines}
 use Rattle.fax_request.specs.declared.request.Request.{Request}
 use Rattle.fax_request.specs.declared.request.Request.TheVariants.{Page, Trace, Explain, Capture, Loop, Serve, Check, Say, Spool, Send, Receive}
 use Rattle.fax_request.specs.SpoolWords.{AreSpoolOptionsOf}
@@ -64,11 +64,17 @@ SaysAddress text address = SaysHost text address.port address.host
 abbrev pub text_given : Text → List Row → Text
 text_given option given = unwrap_or (first_of option given) []
 
+-- The call that is asked for has a number from 1 on; where none is said, each call is.
+abbrev pub IsCallOf : List Row → Option ℕ → Type 0
+IsCallOf given None = IsNumberOf (one_of (codes "call") given) 0 (2 ^ 64 - 1) 0 0
+IsCallOf given (Some call) = IsNumberOf (one_of (codes "call") given) 0 (2 ^ 64 - 1) 0 call × (0 < call)
+
 -- the machines of a call are apart: no endpoint is at both addresses
-pub record AreMachinesOf (given : List Row) (machines : Machines) : Type 0 where
-  pub caller : SaysAddress (text_given (codes "caller") given) machines.caller
-  pub called : SaysAddress (text_given (codes "called") given) machines.called
-  pub apart : AreApart machines.caller machines.called
+pub record AreCaptureOptionsOf (given : List Row) (options : CaptureOptions) : Type 0 where
+  pub caller : SaysAddress (text_given (codes "caller") given) options.caller
+  pub called : SaysAddress (text_given (codes "called") given) options.called
+  pub apart : AreApart options.caller options.called
+  pub call : IsCallOf given options.call
 
 -- the words that are said, with one space between
 abbrev pub words_said : List Row → Text
@@ -94,7 +100,7 @@ abbrev pub Asks : Text → List Row → Request → Type 0
 Asks command given (Page options) = (command ≡ codes "page") × ArePageOptionsOf given options
 Asks command given (Trace settings) = (command ≡ codes "trace") × AreScriptSettingsOf given settings
 Asks command given (Explain options) = (command ≡ codes "explain") × AreExplainOptionsOf given options
-Asks command given (Capture machines) = (command ≡ codes "capture") × AreMachinesOf given machines
+Asks command given (Capture options) = (command ≡ codes "capture") × AreCaptureOptionsOf given options
 Asks command given (Loop settings) = (command ≡ codes "loop") × AreSettingsOf given settings
 Asks command given (Serve path) = (command ≡ codes "serve") × (path.now ≡ text_given (codes "config") given)
 Asks command given (Check path) = (command ≡ codes "check") × (path.now ≡ text_given (codes "config") given)

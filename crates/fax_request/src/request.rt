@@ -3,15 +3,16 @@ ghost use Rattle.std.specs.Prelude.{IfOk};
 ghost use Rattle.clap.specs.Words.{found_of, rows_of, subcommand_rows_of};
 ghost use Rattle.fax_request.specs.Requests.{Asks, IsAllowed, IsAskedBy};
 
+use crate::capture_words::capture_options_of;
 use crate::explain_options::{ExplainOptions, explain_options_of};
 use crate::given::{script_settings_of, settings_of, text_of};
-use crate::machines::{Machines, machines_of};
 use crate::page_words::page_options_of;
 use crate::say_words::saying_of;
 use crate::spool_words::spool_options_of;
 use crate::terminal_words::{receive_options_of, send_files_of, send_options_of};
 use clap::{ArgMatches, Error};
 use fax_arguments::{faxgate_command, refused_command};
+use fax_capture::CaptureOptions;
 use fax_command::PageOptions;
 use fax_gateway::Settings;
 use fax_listing::SpoolOptions;
@@ -29,8 +30,8 @@ pub enum Request<'a> {
     Trace(Settings),
     /// What happened in the call of a script.
     Explain(ExplainOptions<'a>),
-    /// The script of a captured call, between these machines.
-    Capture(Machines),
+    /// The script of captured calls.
+    Capture(CaptureOptions),
     /// A page that goes through a gateway with these settings, over sockets.
     Loop(Settings),
     /// A server of the lines that the configuration at this path has.
@@ -83,7 +84,7 @@ fn request_by<'a>(
     } else if command == "explain" {
         Ok(Request::Explain(explain_options_of(given)))
     } else if command == "capture" {
-        Ok(Request::Capture(machines_of(alloc, given)?))
+        Ok(Request::Capture(capture_options_of(alloc, given)?))
     } else if command == "loop" {
         Ok(Request::Loop(settings_of(given)))
     } else if command == "serve" {

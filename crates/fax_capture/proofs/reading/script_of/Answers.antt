@@ -15,44 +15,41 @@ loop-init g c = record {
   room = c.in_ok-buffer.ensures;
   read = [];
   consumed = Consumes-nil (g.I.Source.remaining c.args.source.now);
-  has = HasRead-start c.args.caller.now c.args.called.now _ _ _ c.new-capture.ensures c.new-left.ensures.items c.in_ok-script.ensures.few c.in_ok-script.ensures.ring;
+  has = HasRead-start c.args.options.now _ _ _ c.new-capture.ensures c.new-left.ensures.items c.in_ok-script.ensures.few c.in_ok-script.ensures.ring;
 }
 
 pub returns-in_err-finish-in-Ok-eq0-clause-err : goal.returns-in_err-finish-in-Ok-eq0-clause-err
 returns-in_err-finish-in-Ok-eq0-clause-err g c =
     let inv = c.loop.invariant in
-    let caller = c.args.caller.now in
-    let called = c.args.called.now in
+    let options = c.args.options.now in
     let remaining = g.I.Source.remaining in
     let none : c.in-Ok-eq0.field-0 ≡ 0 = first_of (omega arith, search rules, grind (arith, common_steps)) in
     let some : 0 < length c.read.new.buffer = first_of (omega arith, search rules, grind (arith, common_steps)) in
     let p = err_from_is_err_and c.from_residual-in_err-finish-in-Ok-eq0.result c.from_residual-in_err-finish-in-Ok-eq0.ensures.1 in
     rw (p.1, p.2)
-    (ended (λ (input : List ℕ). Fails caller called input c.in_err-finish-in-Ok-eq0.field-0.0) (remaining c.args.source.now) (remaining c.loop.source) (remaining c.read.new.self) inv.read c.read.new.buffer c.in-Ok-eq0.field-0
+    (ended (λ (input : List ℕ). Fails options input c.in_err-finish-in-Ok-eq0.field-0.0) (remaining c.args.source.now) (remaining c.loop.source) (remaining c.read.new.self) inv.read c.read.new.buffer c.in-Ok-eq0.field-0
     inv.consumed c.in-Ok-eq0.ensures.octets none some
-    (c.in_err-finish-in-Ok-eq0.ensures.err caller called inv.read (HasRead-same caller called inv.read inv.read c.loop.capture c.loop.capture c.loop.script c.loop.script c.loop.left.items c.as_slice.result.now inv.has refl refl refl c.as_slice.ensures.value)))
+    (c.in_err-finish-in-Ok-eq0.ensures.err options inv.read (HasRead-same options inv.read inv.read c.loop.capture c.loop.capture c.loop.script c.loop.script c.loop.left.items c.as_slice.result.now inv.has refl refl refl c.as_slice.ensures.value)))
 
 pub returns-in-Ok-eq0-clause-ok : goal.returns-in-Ok-eq0-clause-ok
 returns-in-Ok-eq0-clause-ok g c =
     let inv = c.loop.invariant in
-    let caller = c.args.caller.now in
-    let called = c.args.called.now in
+    let options = c.args.options.now in
     let remaining = g.I.Source.remaining in
     let none : c.in-Ok-eq0.field-0 ≡ 0 = first_of (omega arith, search rules, grind (arith, common_steps)) in
     let some : 0 < length c.read.new.buffer = first_of (omega arith, search rules, grind (arith, common_steps)) in
-    ended (λ (input : List ℕ). Allows caller called input (Ok (c.in_ok-finish-in-Ok-eq0.field-0.text.items, c.in_ok-finish-in-Ok-eq0.field-0.counts))) (remaining c.args.source.now) (remaining c.loop.source) (remaining c.read.new.self) inv.read c.read.new.buffer c.in-Ok-eq0.field-0
+    ended (λ (input : List ℕ). Allows options input (Ok (c.in_ok-finish-in-Ok-eq0.field-0.text.items, c.in_ok-finish-in-Ok-eq0.field-0.counts))) (remaining c.args.source.now) (remaining c.loop.source) (remaining c.read.new.self) inv.read c.read.new.buffer c.in-Ok-eq0.field-0
     inv.consumed c.in-Ok-eq0.ensures.octets none some
-    (c.in_ok-finish-in-Ok-eq0.ensures.ok caller called inv.read (HasRead-same caller called inv.read inv.read c.loop.capture c.loop.capture c.loop.script c.loop.script c.loop.left.items c.as_slice.result.now inv.has refl refl refl c.as_slice.ensures.value))
+    (c.in_ok-finish-in-Ok-eq0.ensures.ok options inv.read (HasRead-same options inv.read inv.read c.loop.capture c.loop.capture c.loop.script c.loop.script c.loop.left.items c.as_slice.result.now inv.has refl refl refl c.as_slice.ensures.value))
 
 pub returns-in_err-left-in-Ok-clause-err : goal.returns-in_err-left-in-Ok-clause-err
 returns-in_err-left-in-Ok-clause-err g c =
     let inv = c.loop.invariant in
-    let caller = c.args.caller.now in
-    let called = c.args.called.now in
+    let options = c.args.options.now in
     let remaining = g.I.Source.remaining in
     let p = err_from_is_err_and c.from_residual-in_err-left-in-Ok.result c.from_residual-in_err-left-in-Ok.ensures.1 in
     rw (p.1, p.2)
-    (broken (λ (input : List ℕ). Fails caller called input c.in_err-left-in-Ok.field-0.0) (remaining c.args.source.now) (remaining c.loop.source) (remaining c.read.new.self) inv.read _ (take c.in-Ok.count c.read.new.buffer)
+    (broken (λ (input : List ℕ). Fails options input c.in_err-left-in-Ok.field-0.0) (remaining c.args.source.now) (remaining c.loop.source) (remaining c.read.new.self) inv.read _ (take c.in-Ok.count c.read.new.buffer)
     inv.consumed c.in-Ok.ensures.octets.0
     (c.in_err-left-in-Ok.ensures.err inv.read inv.has)
     (first_of (search rules, grind (arith, common_steps))))
@@ -69,7 +66,7 @@ loop-preserved g c =
             room = first_of (search rules, grind (arith, common_steps));
             read = inv.read ++ take w.in-Ok.count c.read.new.buffer;
             consumed = Consumes-trans (remaining c.args.source.now) (remaining c.loop.source) (remaining c.read.new.self) inv.read (take w.in-Ok.count c.read.new.buffer) inv.consumed w.in-Ok.ensures.octets.0;
-            has = HasRead-same c.args.caller.now c.args.called.now _ (inv.read ++ take w.in-Ok.count c.read.new.buffer) _ _ _ _ _ _ (w.in_ok-left-in-Ok.ensures.ok inv.read inv.has)
+            has = HasRead-same c.args.options.now _ (inv.read ++ take w.in-Ok.count c.read.new.buffer) _ _ _ _ _ _ (w.in_ok-left-in-Ok.ensures.ok inv.read inv.has)
                 (first_of (search rules, grind (arith, common_steps))) w.capture-is w.script-is (ap (λ v. v.items) w.left-is);
           })
       | in-Err-Interrupted w ↦
@@ -79,6 +76,6 @@ loop-preserved g c =
             room = first_of (search rules, grind (arith, common_steps));
             read = inv.read;
             consumed = Consumes-kept (remaining c.args.source.now) (remaining c.loop.source) (remaining c.read.new.self) inv.read inv.consumed w.in-Err-Interrupted.ensures.octets;
-            has = HasRead-same c.args.caller.now c.args.called.now inv.read inv.read _ _ _ _ _ _ inv.has refl w.capture-is w.script-is (ap (λ v. v.items) w.left-is);
+            has = HasRead-same c.args.options.now inv.read inv.read _ _ _ _ _ _ inv.has refl w.capture-is w.script-is (ap (λ v. v.items) w.left-is);
           })
     ]

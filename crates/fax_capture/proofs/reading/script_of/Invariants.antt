@@ -13,5 +13,5 @@ invariant-loop g l =
       room : vec_len l.buffer ≡ 65536;
       read : List ℕ;
       consumed : Consumes (source.remaining l.fn.source) (source.remaining l.source) read;
-      has : HasRead l.caller l.called read l.capture l.script l.left.items;
+      has : HasRead l.options read l.capture l.script l.left.items;
     }

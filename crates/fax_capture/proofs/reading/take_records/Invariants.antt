@@ -7,7 +7,7 @@ use Rattle.fax_capture.proofs.reading.take_records.Given as goal
 abbrev pub invariant-loop-read : goal.invariant-loop-read
 invariant-loop-read l = record {
   few : l.script.ticks ≤ 2 ^ 103;
-  took : (told : ScriptSoFar) → Holds l.fn.script told → TakesRecords l.caller l.called l.fn.capture l.octets told l.capture l.rest l.script;
+  took : (told : ScriptSoFar) → Holds l.fn.script told → TakesRecords l.options l.fn.capture l.octets told l.capture l.rest l.script;
 }
 
 abbrev pub decreases-loop-read : goal.decreases-loop-read
