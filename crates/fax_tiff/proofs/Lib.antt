@@ -1,0 +1,9 @@
+mod BackLemmas
+mod ChainLemmas
+mod EntryLemmas
+mod FilledLemmas
+mod MeaningLemmas
+mod ReadBackLemmas
+mod StripLemmas
+mod TiffBackLemmas
+mod WritingLemmas
