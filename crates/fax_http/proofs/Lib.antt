@@ -1,0 +1,3 @@
+pub mod ConnectionLemmas
+pub mod PartLemmas
+pub mod TextLemmas

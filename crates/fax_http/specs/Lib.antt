@@ -1,0 +1,9 @@
+pub mod Answers
+pub mod Cells
+pub mod Connections
+pub mod Healths
+pub mod Laws
+pub mod Metrics
+pub mod Pages
+pub mod Questions
+pub mod Texts
