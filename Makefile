@@ -2,7 +2,8 @@
 RT ?= rt
 PROGRAM = crates/faxgate/out/faxgate
 
-.PHONY: all demo test play asked c-tests wrong-bodies format memory crash bench load interop serve-interop tables check-docs
+.PHONY: all demo test play asked c-tests wrong-bodies format memory crash bench load interop serve-interop tables check-docs deb dist \
+	check-package
 
 # Proves and builds the program, its crates side by side, and says where it lies. What was proved is kept in the user's cache.
 all:
@@ -141,3 +142,17 @@ load: all tools/load/load tools/load/sockets
 	tools/load/load $(PROGRAM) 2000 processes=2 $(LOAD)
 	tools/load/load $(PROGRAM) 4000 pages=0 $(LOAD)
 	tools/load/load $(PROGRAM) 10000 pages=0 processes=4 $(LOAD)
+
+# A package of the proved program, in out/: for Debian, or a tarball of the same files. Of one commit it has the same octets each time.
+# It refuses a program that `make` did not prove, and changes that are not committed. It wants git, and dpkg-deb for the first.
+deb: all
+	RT=$(RT) tools/package deb
+
+dist: all
+	RT=$(RT) tools/package dist
+
+# Checks the package: its files, its manual pages and its units; as root with debootstrap, its installation in a Debian of its own,
+# its upgrade while a page waits, and its removal; with systemd-nspawn the same under systemd. What is missing is told and passed
+# over, with status 77. `tools/check-package --unproved PROGRAM` checks the package of a program that is not proved yet.
+check-package: all
+	RT=$(RT) tools/check-package
