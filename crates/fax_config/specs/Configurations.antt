@@ -77,6 +77,7 @@ pub record IsConfig (members : Members) (config : Config) : Type 0 where
   pub keys : HasKnownKeys levels.Top members
   pub control : IsPathAt (codes "control") members (option_map (λ path. string_bytes path) config.control)
   pub spool : IsPathAt (codes "spool") members (option_map (λ path. string_bytes path) config.spool)
+  pub http : IsAddressAt (codes "http") members config.http
   pub stop_seconds : IsNumberAt (codes "stop_seconds") members 120 config.stop_seconds
   pub stop_in_range : config.stop_seconds ≤ 86400
   pub lines : AreLinesAt members config.lines.items

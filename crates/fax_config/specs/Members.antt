@@ -11,7 +11,7 @@ use Rattle.fax_config.specs.declared.keys.Level.TheVariants as levels
 
 -- the keys that a table may have: the document, a line, and a leg of a line
 abbrev pub known_keys : Level → List (List ℕ)
-known_keys levels.Top = codes "control" ∷ codes "spool" ∷ codes "stop_seconds" ∷ codes "lines" ∷ []
+known_keys levels.Top = codes "control" ∷ codes "spool" ∷ codes "http" ∷ codes "stop_seconds" ∷ codes "lines" ∷ []
 known_keys levels.Line = codes "name" ∷ codes "calling" ∷ codes "called" ∷ codes "redundancy" ∷ codes "preamble_ms" ∷ codes "repeat" ∷ codes "dial_seconds" ∷ []
 known_keys levels.Leg = codes "local" ∷ codes "peer" ∷ []
 

@@ -63,6 +63,8 @@ pub struct Config {
     pub control: Option<String>,
     /// The folder of the pages that wait.
     pub spool: Option<String>,
+    /// The address at which it is looked at over HTTP.
+    pub http: Option<SocketAddr>,
     /// How long a stop waits for calls and jobs, in seconds.
     pub stop_seconds: u32,
     pub lines: Vec<LineConfig>,

@@ -23,7 +23,7 @@ impl Level {
         ensures { IsTrue result ↔ Contains (known_keys self) key.now }
     {
         match self {
-            Level::Top => ["control", "spool", "stop_seconds", "lines"].contains(&key),
+            Level::Top => ["control", "spool", "http", "stop_seconds", "lines"].contains(&key),
             Level::Line => [
                 "name",
                 "calling",

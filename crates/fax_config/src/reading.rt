@@ -4,7 +4,7 @@ ghost use Rattle.toml.specs.Data.{Members, array, get_member};
 ghost use Rattle.toml.specs.View.{array_view, table_view};
 ghost use Rattle.fax_gateway.specs.LegNames.{leg_text};
 ghost use Rattle.fax_config.specs.declared.keys.Level.TheVariants as levels;
-ghost use Rattle.fax_config.specs.Members.{HasKnownKeys, IsNumberAt, IsPathAt};
+ghost use Rattle.fax_config.specs.Members.{HasKnownKeys, IsAddressAt, IsNumberAt, IsPathAt};
 ghost use Rattle.fax_config.specs.Configurations.{AreLines, AreLinesAt, AreUnlike, IsConfig, IsInRange, IsLeg, IsLegAt, IsLine, Tells, local_addresses, names_of};
 ghost use Rattle.fax_config.specs.Faults.{HasFlaw, HasMisfit, IsFaultOf, IsMisfitOf, IsToldAs, line_number};
 
@@ -18,6 +18,7 @@ use crate::member::{address_at, name_of, number_at, path_at, repeat_of, table_at
 use crate::unlike::{locals_unlike, names_unlike};
 use fax_control::Leg;
 use std::alloc::{AllocError, Global};
+use std::net::SocketAddr;
 use toml::Table;
 use toml::value::Array;
 
@@ -79,6 +80,7 @@ fn config_of(alloc: Global, table: &Table) -> Result<Config, Misfit>
         Ok(top) => Ok(Config {
             control: top.control,
             spool: top.spool,
+            http: top.http,
             stop_seconds: top.stop_seconds,
             lines,
         }),
@@ -91,6 +93,7 @@ fn config_of(alloc: Global, table: &Table) -> Result<Config, Misfit>
 struct Service {
     control: Option<String>,
     spool: Option<String>,
+    http: Option<SocketAddr>,
     stop_seconds: u32,
 }
 
@@ -99,6 +102,7 @@ fn top_of(alloc: Global, table: &Table) -> Result<Service, Flaw>
     ensures keys { OnOk result (HasKnownKeys levels.Top (table_view table.now)) }
     ensures control { IfOk result (λ top. IsPathAt (codes "control") (table_view table.now) (option_map (λ path. string_bytes path) top.control)) }
     ensures spool { IfOk result (λ top. IsPathAt (codes "spool") (table_view table.now) (option_map (λ path. string_bytes path) top.spool)) }
+    ensures http { IfOk result (λ top. IsAddressAt (codes "http") (table_view table.now) top.http) }
     ensures stop { IfOk result (λ top. IsNumberAt (codes "stop_seconds") (table_view table.now) 120 top.stop_seconds) }
     ensures stop_in_range { IfOk result (λ top. top.stop_seconds ≤ 86400) }
     ensures fault { IfErr result (HasFlaw levels.Top (table_view table.now)) }
@@ -107,9 +111,11 @@ fn top_of(alloc: Global, table: &Table) -> Result<Service, Flaw>
     let stop_seconds = number_at(table, "stop_seconds", 120, 0, MOST_STOP_SECONDS)?;
     let control = owned(alloc, path_at(table, "control")?)?;
     let spool = owned(alloc, path_at(table, "spool")?)?;
+    let http = address_at(table, "http")?;
     Ok(Service {
         control,
         spool,
+        http,
         stop_seconds,
     })
 }

@@ -7,6 +7,11 @@ abbrev pub of_control : {Path : Type 0} → Option Path → ℕ
 of_control None = 0
 of_control (Some path) = 1 + 64
 
+-- a listener for HTTP, and 16 connections
+abbrev pub of_http : {Address : Type 0} → Option Address → ℕ
+of_http None = 0
+of_http (Some address) = 1 + 16
+
 -- the files of a spool
 abbrev pub of_spool : {Path : Type 0} → Option Path → ℕ
 of_spool None = 0
@@ -14,4 +19,4 @@ of_spool (Some folder) = 2
 
 -- two sockets a line, and beside those the standard streams, what sockets are waited for by, and one to spare
 abbrev pub most_descriptors : Config → ℕ
-most_descriptors config = 2 * length config.lines.items + 5 + of_control config.control + of_spool config.spool
+most_descriptors config = 2 * length config.lines.items + 5 + of_control config.control + of_http config.http + of_spool config.spool

@@ -4,6 +4,7 @@ ghost use Rattle.fax_program.specs.Descriptors.{most_descriptors};
 
 use fax_clients::MOST_CLIENTS;
 use fax_config::Config;
+use fax_visitors::MOST_VISITORS;
 use libc::types::rlimit;
 use libc::{RLIMIT_NOFILE, getrlimit};
 
@@ -22,6 +23,9 @@ pub fn most_descriptors(config: &Config) -> usize
     let mut most = 2 * config.lines.len() + ALWAYS_OPEN;
     if config.control.is_some() {
         most += 1 + MOST_CLIENTS;
+    }
+    if config.http.is_some() {
+        most += 1 + MOST_VISITORS;
     }
     if config.spool.is_some() {
         most += SPOOL_FILES;

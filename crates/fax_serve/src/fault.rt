@@ -3,6 +3,7 @@ use fax_bits::NoMemory;
 use fax_control::Leg;
 use fax_spool_folder::FolderFault;
 use std::alloc::{AllocError, AllocFailed};
+use std::net::SocketAddr;
 use std::{fmt, io};
 
 /// Why a server does not begin, or does not go on.
@@ -14,6 +15,8 @@ pub enum ServeFault {
     Control(io::Error),
     /// Another process serves on the control socket.
     Served,
+    /// The address at which it is to be looked at over HTTP.
+    Http(SocketAddr, io::Error),
     /// The clock.
     Clock(io::Error),
     /// The folder of the spool.
@@ -31,6 +34,7 @@ impl fmt::Display for ServeFault {
             }
             ServeFault::Control(error) => write!(f, "control: {error}"),
             ServeFault::Served => write!(f, "control: another process serves there"),
+            ServeFault::Http(address, error) => write!(f, "http: {address}: {error}"),
             ServeFault::Clock(error) => write!(f, "no clock: {error}"),
             ServeFault::Spool(fault) => write!(f, "spool: {fault}"),
             ServeFault::NoMemory => write!(f, "memory was refused"),

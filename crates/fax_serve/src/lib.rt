@@ -15,6 +15,7 @@ mod store;
 mod telling;
 mod unserved;
 mod view;
+mod visits;
 mod watch;
 
 pub use fault::ServeFault;

@@ -4,6 +4,7 @@ ghost use Rattle.fax_serve.specs.Desking.{GivesOrder, given_by};
 ghost use Rattle.fax_queue.specs.SpoolStorage.{IsUnchanged};
 
 mod telling;
+mod visiting;
 mod words;
 
 use crate::answers::{is_calm, is_idle};
@@ -19,6 +20,7 @@ use fax_desk::{Desk, RunEnd, Tag};
 use fax_gateway::Kept;
 use fax_holding_wire::LineWire;
 use fax_line::{LineAnswer, Lines, Order, Pace, SLOTS, SlotEnd};
+use fax_visitors::Visitors;
 use sqlite_disk::Disk;
 use std::alloc::{AllocError, Global};
 use std::io::{Read, Write};
@@ -67,6 +69,9 @@ pub struct RealPace<'a, C: Clock, I: Read + Drop, O: Write + Drop> {
     teller: Teller<I, O>,
     /// What tells which legs have datagrams, where the system gives it.
     watch: Option<Watch>,
+    /// Who looks over HTTP, where that is configured, and from which moment on they are served again.
+    visitors: Option<Visitors>,
+    visits_from: u64,
     /// The lines that are to be woken: something may have come over their legs.
     woken: Vec<usize>,
     /// Whether it was looked which legs have datagrams since the last turn was ordered.
@@ -95,6 +100,7 @@ impl<'a, C: Clock, I: Read + Drop, O: Write + Drop> RealPace<'a, C, I, O> {
         desk: Desk,
         lines: usize,
         watch: Option<Watch>,
+        visitors: Option<Visitors>,
         spool_failures: u64,
     ) -> Result<Self, AllocError>
         requires { desk.waits ≡ None }
@@ -114,6 +120,8 @@ impl<'a, C: Clock, I: Read + Drop, O: Write + Drop> RealPace<'a, C, I, O> {
             to_ask: Vec::new(alloc),
             teller: Teller::new(alloc, clients, lines, spool_failures)?,
             watch,
+            visitors,
+            visits_from: 0,
             woken: Vec::new(alloc),
             has_looked: false,
             put_from: None,

@@ -19,11 +19,12 @@ use fax_line::{Lines, PageToStore, RunStore, serve};
 use fax_queue::Storage;
 use fax_spool::OpenedSpool;
 use fax_spool_folder::{Folders, SpoolFolderFile};
+use fax_visitors::Visitors;
 use sqlite_disk::{Disk, Start};
 use std::alloc::Global;
 use std::fs::Files;
 use std::io::{Read, Write};
-use std::net::Net;
+use std::net::{Net, SocketAddr};
 use std::rt::Clock;
 
 /// Milliseconds of a second.
@@ -222,6 +223,10 @@ fn pace_of<'a, W: SocketLegs + Drop, N: Net + Clock, I: Read + Drop, O: Write + 
         Err(error) => return Err(ServeFault::Clock(error)),
     };
     let watch = Watch::new(system, alloc, lines).ok();
+    let visitors = match config.http {
+        Some(address) => Some(open_visitors(system, alloc, address)?),
+        None => None,
+    };
     Ok(RealPace::new(
         alloc,
         clock,
@@ -229,8 +234,21 @@ fn pace_of<'a, W: SocketLegs + Drop, N: Net + Clock, I: Read + Drop, O: Write + 
         desk,
         lines.len(),
         watch,
+        visitors,
         spool_failures,
     )?)
+}
+
+/// Those who look at the server over HTTP, at this address.
+fn open_visitors<N: Net>(
+    system: &N,
+    alloc: Global,
+    address: SocketAddr,
+) -> Result<Visitors, ServeFault> {
+    match Visitors::listen(system, alloc, address) {
+        Ok(visitors) => Ok(visitors),
+        Err(error) => Err(ServeFault::Http(address, error)),
+    }
 }
 
 /// Serves lines that are new.

@@ -2,13 +2,17 @@
 use crate::answers::failures_of;
 use crate::failures::Failures;
 use crate::sockets::SocketLegs;
+use crate::visits::{EndedJob, words_of};
 use fax_clients::Clients;
-use fax_desk::{Damage, LineEvent, Listener};
+use fax_desk::{Cause, Damage, LineEvent, Listener, Tag};
 use fax_events::{Counters, Event, PageAside, What, write_event};
 use fax_jobs::{Outcome, Report};
 use fax_line::Line;
 use std::alloc::{AllocError, Global};
 use std::io::{Read, Write};
+
+/// The most jobs that are kept for a page.
+const MOST_JOBS: usize = 20;
 
 /// Counts, and tells the clients that want events.
 #[derive(Drop)]
@@ -22,6 +26,8 @@ pub(crate) struct Teller<I: Read + Drop, O: Write + Drop> {
     aside: Vec<Vec<u8>>,
     /// How many failures of each line were told.
     failures: Vec<Failures>,
+    /// The jobs that ended last, the newest first.
+    jobs: Vec<EndedJob>,
 }
 
 impl<I: Read + Drop, O: Write + Drop> Teller<I, O> {
@@ -45,6 +51,7 @@ impl<I: Read + Drop, O: Write + Drop> Teller<I, O> {
             lost: 0,
             aside: Vec::new(alloc),
             failures,
+            jobs: Vec::with_capacity(alloc, MOST_JOBS)?,
         })
     }
 
@@ -138,6 +145,41 @@ impl<I: Read + Drop, O: Write + Drop> Teller<I, O> {
         }
     }
 
+    /// A job that ended on the line of this name is kept for a page, in place of the one that ended first.
+    fn keep_job(
+        &mut self,
+        line: &str,
+        report: Report,
+        tag: Option<Tag>,
+        cause: Option<Cause>,
+    ) -> Result<(), AllocError> {
+        let words = words_of(report.outcome);
+        let words = match cause {
+            Some(cause) => {
+                let cause = cause.text();
+                format!(in self.alloc; "{words}: {cause}")?
+            }
+            None => String::from_str(self.alloc, words)?,
+        };
+        let line = String::from_str(self.alloc, line)?;
+        self.jobs.truncate(MOST_JOBS - 1);
+        self.jobs.insert(
+            0,
+            EndedJob {
+                line,
+                report,
+                tag,
+                words,
+            },
+        )?;
+        Ok(())
+    }
+
+    /// The jobs that ended last, the newest first.
+    pub(crate) fn jobs(&self) -> &[EndedJob] {
+        self.jobs.as_slice()
+    }
+
     /// Tells of receives and sends that fail on line i, of this name.
     pub(crate) fn tell_failures<W: SocketLegs + Drop>(
         &mut self,
@@ -163,6 +205,9 @@ impl<I: Read + Drop, O: Write + Drop> Listener for Teller<I, O> {
 
     fn tell(&mut self, line: &str, at: u64, what: LineEvent) {
         self.count(what);
+        if let LineEvent::Job(report, tag, cause) = what {
+            let _ = self.keep_job(line, report, tag, cause);
+        }
         self.tell_event(Some(line), at, what.shown());
     }
 }

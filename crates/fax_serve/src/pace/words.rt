@@ -3,7 +3,7 @@ ghost use Rattle.std.specs.Prelude.{◌≡◌, [], ◌∷◌, None, Some};
 ghost use Rattle.fax_serve.specs.Desking.{GivesOrder, Hears, asked_by, given_by};
 
 use super::RealPace;
-use crate::answers::{answer_text, counters_of, report_text, state_text, status_text};
+use crate::answers::{answer_text, report_text, state_text, status_text};
 use crate::sockets::SocketLegs;
 use crate::store::SpoolStore;
 use crate::view::Seen;
@@ -30,8 +30,10 @@ impl<'a, C: Clock, I: Read + Drop, O: Write + Drop> RealPace<'a, C, I, O> {
         requires { self.old.waits ≡ None }
         ensures { GivesOrder result self.old self.new }
     {
+        let most = most.min(self.most_between_visits());
         self.teller.clients.wait(most.min(1_000) as i32);
         self.read_clock();
+        self.serve_visitors(lines, store);
         let (asker, heard) = self.teller.clients.hear()?;
         match heard {
             HeardLine::TooLong => {
@@ -99,10 +101,7 @@ impl<'a, C: Clock, I: Read + Drop, O: Write + Drop> RealPace<'a, C, I, O> {
     )
         ensures { self.new ≡ self.old }
     {
-        let mut counters = counters_of(self.teller.counters(), lines);
-        if let Some(store) = store {
-            counters.pages_kept = store.storage.kept();
-        }
+        let counters = self.counts(lines, store);
         let text = match write_metrics(self.alloc, &counters) {
             Ok(text) => Ok(text.into_bytes()),
             Err(NoMemory) => Err(NoMemory),

@@ -9,6 +9,7 @@ returns-in-Ok-clause-told c = record {
   keys = c.in-Ok.ensures.keys;
   control = c.in-Ok.ensures.control;
   spool = c.in-Ok.ensures.spool;
+  http = c.in-Ok.ensures.http;
   stop_seconds = c.in-Ok.ensures.stop;
   stop_in_range = c.in-Ok.ensures.stop_in_range;
   lines = c.in_ok-lines.ensures.told;

@@ -1,0 +1,191 @@
+//! The page that an operator looks at.
+use crate::answers::is_idle;
+use crate::sockets::SocketLegs;
+use crate::view::Seen;
+use fax_bits::NoMemory;
+use fax_desk::{Desk, LineView as LineSeen, Tag, TagsOn, View};
+use fax_events::Counters;
+use fax_http::{CallView, CalledView, CountView, Health, JobView, LineView, PageView, write_page};
+use fax_jobs::{Outcome, Report};
+use sqlite_disk::Disk;
+use std::alloc::{AllocError, Global};
+
+/// The most lines of a page.
+const MOST_LINES: usize = 100;
+
+/// A job that ended: the name of its line, its report, its tag, and how it ended, in words.
+#[derive(Drop)]
+pub(crate) struct EndedJob {
+    pub line: String,
+    pub report: Report,
+    pub tag: Option<Tag>,
+    pub words: String,
+}
+
+/// A line on which something is under way.
+#[derive(Drop)]
+struct LineOn {
+    name: String,
+    seen: LineSeen,
+    tags: TagsOn,
+    waiting: u64,
+}
+
+/// The page of a server that is so, of which these jobs ended last.
+pub(crate) fn page_text<W: SocketLegs + Drop, D: Disk>(
+    alloc: Global,
+    desk: &Desk,
+    counters: &Counters,
+    health: Health,
+    seen: &Seen<'_, W, D>,
+    ended: &[EndedJob],
+) -> Result<Vec<u8>, NoMemory> {
+    let on = lines_on(alloc, desk, seen)?;
+    let mut lines = Vec::new(alloc);
+    for line in on.as_slice() {
+        lines.push(line_view(line))?;
+    }
+    let mut jobs = Vec::new(alloc);
+    for job in ended {
+        jobs.push(job_view(job))?;
+    }
+    let others = seen.lines.len().saturating_sub(on.len()) as u64;
+    let counts = counts_of(counters);
+    let view = PageView {
+        health,
+        lines: lines.as_slice(),
+        others,
+        jobs: jobs.as_slice(),
+        counts: &counts,
+    };
+    Ok(write_page(alloc, &view)?)
+}
+
+/// The first lines on which something is under way.
+fn lines_on<W: SocketLegs + Drop, D: Disk>(
+    alloc: Global,
+    desk: &Desk,
+    seen: &Seen<'_, W, D>,
+) -> Result<Vec<LineOn>, AllocError> {
+    let mut on = Vec::new(alloc);
+    for i in 0..seen.lines.len() {
+        if on.len() < MOST_LINES
+            && let Some(line) = line_on(alloc, desk, seen, i)?
+        {
+            on.push(line)?;
+        }
+    }
+    Ok(on)
+}
+
+/// Line i, where something is under way there.
+fn line_on<W: SocketLegs + Drop, D: Disk>(
+    alloc: Global,
+    desk: &Desk,
+    seen: &Seen<'_, W, D>,
+    i: usize,
+) -> Result<Option<LineOn>, AllocError> {
+    let (Some(line), Some(view), Some(name)) = (seen.lines.line(i), seen.line(i), desk.name(i))
+    else {
+        return Ok(None);
+    };
+    if is_idle(line) {
+        return Ok(None);
+    }
+    Ok(Some(LineOn {
+        name: String::from_str(alloc, name)?,
+        seen: view,
+        tags: desk.tags_on(i, view),
+        waiting: line.waiting() as u64,
+    }))
+}
+
+/// A line as it is shown.
+fn line_view(line: &LineOn) -> LineView<'_> {
+    let calling = match line.seen.call {
+        Some(call) => Some(CallView {
+            call,
+            tag: text_of(&line.tags.calling),
+        }),
+        None => None,
+    };
+    LineView {
+        name: line.name.as_str(),
+        calling,
+        called: called_view(line),
+        waiting: line.waiting,
+    }
+}
+
+/// What is on on its called leg.
+fn called_view(line: &LineOn) -> CalledView<'_> {
+    let tag = text_of(&line.tags.called);
+    if let Some(call) = line.seen.sending {
+        return CalledView::Sends(CallView { call, tag });
+    }
+    match line.seen.asked {
+        Some(asked) => CalledView::Asks(CallView {
+            call: asked.call,
+            tag,
+        }),
+        None => CalledView::Idle,
+    }
+}
+
+/// The text of a tag.
+fn text_of(tag: &Option<Tag>) -> Option<&str> {
+    match tag {
+        Some(tag) => Some(tag.text()),
+        None => None,
+    }
+}
+
+/// A job as it is shown.
+fn job_view(job: &EndedJob) -> JobView<'_> {
+    JobView {
+        line: job.line.as_str(),
+        call: CallView {
+            call: job.report.call,
+            tag: text_of(&job.tag),
+        },
+        pages: job.report.pages,
+        delivered: job.report.delivered,
+        outcome: job.words.as_str(),
+    }
+}
+
+/// How a job ended, in words.
+pub(crate) fn words_of(outcome: Outcome) -> &'static str {
+    match outcome {
+        Outcome::Delivered => "each page was confirmed",
+        Outcome::NotReceiver => "the called machine does not receive",
+        Outcome::WidthLacking => "the called machine lacks the width of the pages",
+        Outcome::FineLacking => "the called machine lacks the fine resolution",
+        Outcome::RatesSpent => "the training failed at each rate",
+        Outcome::NoAnswer => "no DIS came in 35 s",
+        Outcome::NoReply => "a command was not answered",
+        Outcome::PageRefused => "a page was refused three times",
+        Outcome::HungUp => "the called machine ended the call",
+        Outcome::NotPlaced => "the call was not placed",
+    }
+}
+
+/// The counts that a page has, in words.
+fn counts_of(counters: &Counters) -> [CountView<'static>; 9] {
+    [
+        count("Lines", counters.lines),
+        count("Calls that were rung", counters.calls),
+        count("Pages that were confirmed", counters.pages_confirmed),
+        count("Pages that were delivered", counters.pages_delivered),
+        count("Jobs that were delivered", counters.jobs_delivered),
+        count("Jobs that ended otherwise", counters.jobs_failed),
+        count("Jobs that wait or are sent", counters.jobs_waiting),
+        count("Pages on the disk", counters.pages_kept),
+        count("Turns that were late", counters.turns_late),
+    ]
+}
+
+/// A count.
+fn count(name: &'static str, value: u64) -> CountView<'static> {
+    CountView { name, value }
+}
