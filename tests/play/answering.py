@@ -200,21 +200,15 @@ class APageComes(Answered):
             leg.at(320, MCF)
             leg.all_quiet(360, 6280)
 
-    def test_its_command_comes_again_after_a_missing_slot(self):
-        with self.leg() as leg:
-            leg.whole_call()
-            leg.takes_as(8, PREAMBLE, CALLER_EOP)
-            leg.at(280, PREAMBLE)
-            leg.refuses(320, NO_IMAGE)
-            leg.all_quiet(360, 6280)
-
-    def test_its_command_comes_again_after_a_new_signal(self):
-        with self.leg() as leg:
-            leg.whole_call()
-            leg.takes_as(7, TRAINING, CALLER_EOP)
-            leg.at(280, PREAMBLE)
-            leg.refuses(320, NO_IMAGE)
-            leg.all_quiet(360, 6280)
+    def test_its_command_comes_again_after_something_else(self):
+        """After a slot that is missing, and after a signal that is new, it is of no image."""
+        for number, before in ((8, PREAMBLE), (7, TRAINING)):
+            with self.subTest(number), self.leg() as leg:
+                leg.whole_call()
+                leg.takes_as(number, before, CALLER_EOP)
+                leg.at(280, PREAMBLE)
+                leg.refuses(320, NO_IMAGE)
+                leg.all_quiet(360, 6280)
 
     def test_after_another_one(self):
         with self.leg() as leg:

@@ -296,21 +296,20 @@ class APageGoesOut(Sent):
             leg.white_call()
             self.assertEqual(leg.last - int(leg.lines[[line[0] for line in leg.lines].index("C")][2:]), 1920)
 
-    def test_in_two_dimensions(self):
-        with self.leg([WHITE]) as leg:
+    def goes_out(self, page, dis, dcs, sent):
+        """The page is sent under that DCS to a machine that says this DIS, in these packets, and confirmed."""
+        with self.leg([page]) as leg:
             leg.begins()
-            leg.is_trained(FAST_DIS, FAST)
-            leg.gives_all(*WHITE_SENT_FAST, EOP)
+            leg.is_trained(dis, dcs)
+            leg.gives_all(*sent, EOP)
             leg.hears(MCF)
             leg.ends("Delivered", 1)
 
+    def test_in_two_dimensions(self):
+        self.goes_out(WHITE, FAST_DIS, FAST, WHITE_SENT_FAST)
+
     def test_whose_last_packet_is_a_whole_one(self):
-        with self.leg([TWELVE]) as leg:
-            leg.begins()
-            leg.is_trained(TWO_DIS, SLOW_TWO)
-            leg.gives_all(*TWELVE_SENT, EOP)
-            leg.hears(MCF)
-            leg.ends("Delivered", 1)
+        self.goes_out(TWELVE, TWO_DIS, SLOW_TWO, TWELVE_SENT)
 
     def test_after_another_one(self):
         with self.leg([WHITE, BLACK]) as leg:
