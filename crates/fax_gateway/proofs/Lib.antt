@@ -4,14 +4,14 @@ mod Confirmed
 mod Cutting
 pub mod DrivingLemmas
 mod Examples
-mod Fitting
+pub mod Fitting
 mod Forwarding
 mod Going
 mod Hearing
 mod Held
 mod HonestCall
 mod IdleLegs
-mod InCalls
+pub mod InCalls
 mod KeptApart
 mod LegsRead
 mod Living
