@@ -1,0 +1,6 @@
+mod BadGateways
+mod Given
+mod GoOn
+mod Links
+mod Octets
+mod Times

@@ -1,0 +1,4 @@
+pub mod Given
+pub mod GoOn
+pub mod Links
+pub mod Times

@@ -1,0 +1,4 @@
+//! Two gateways in a row: laws of the octets that go from the one to the other.
+#![tactic(auto)]
+
+pub mod laws;
