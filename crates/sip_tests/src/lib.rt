@@ -1,4 +1,4 @@
-//! Tests of SIP messages, of transactions, of dialogs and sessions, of digests and of session descriptions, through what their crates show.
+//! Tests of SIP messages, of transactions, of dialogs and sessions, of digests, of session descriptions and of the switch, through what their crates show.
 #![tactic(auto)]
 
 #[cfg(test)]
@@ -11,6 +11,8 @@ mod messages;
 mod sdp;
 #[cfg(test)]
 mod serving;
+#[cfg(test)]
+mod switch;
 #[cfg(test)]
 mod transactions;
 #[cfg(test)]

@@ -1,0 +1,8 @@
+pub mod CallEnds
+pub mod EntryLemmas
+pub mod Findings
+pub mod Holding
+pub mod Keeping
+pub mod Stages
+pub mod Stepping
+pub mod SwitchProofs
