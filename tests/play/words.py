@@ -34,6 +34,26 @@ class Words(Play):
         client.send(b"tus\nreport a2\nreport a1\n")
         self.assertEqual([client.answer() for _ in range(3)], [IDLE, ["refused 7 NoLine"], ["ok"]])
 
+    def test_a_call_is_named_by_its_line_its_life_and_its_number(self):
+        """The numbers are decimal, without a sign or a zero before them, and have 32 bits."""
+        client = self.serve(self.line()).client()
+        for word in ("discard", "retry"):
+            for rest in (
+                *("", " ", " a1", " a1 ", " a1 0", " a1 0 ", "  0 0", " a1  0 0", " a1 0  0", " a1 0 0 ", " a1 0 0 0"),
+                *(" a1 00 0", " a1 0 01", " a1 +1 0", " a1 0 -1", " a1 0x1 0", " a1 0 1e1", " a1 4294967296 0", " a1 0 4294967296"),
+            ):
+                with self.subTest(said=word + rest):
+                    self.assertEqual(client.say(word + rest), ["refused 8 NoWord"])
+            for rest in (" a1 0 0", " a1 10 7", " a1 4294967295 4294967295"):
+                with self.subTest(said=word + rest):
+                    self.assertNotEqual(client.say(word + rest), ["refused 8 NoWord"])
+        for said in ("undelivered ", "undelivered  a1", "undelivered a1 ", "undelivered a1 a1"):
+            with self.subTest(said=said):
+                self.assertEqual(client.say(said), ["refused 8 NoWord"])
+        for said in ("undelivered", "undelivered a1"):
+            with self.subTest(said=said):
+                self.assertEqual(client.say(said), ["ok"])
+
     def test_the_last_word_is_answered(self):
         """A client that says no more is answered still, and then let go."""
         client = self.serve(self.line()).client()

@@ -44,7 +44,7 @@ peer_is Calling text found None other says is = absurd (other is)
 peer_is Called text found None other says is = absurd is
 
 -- a word that begins otherwise is no option of this name
-pub no_value : (name text first : List ℕ) (rest after : Option (List ℕ)) (value : Option ℕ) (least most : ℕ) → most < 2 ^ 16 → text ≡ led first rest → HasNoSpace first → HasNoSpace name → IsWithin least most value
+pub no_value : (name text first : List ℕ) (rest after : Option (List ℕ)) (value : Option ℕ) (least most : ℕ) → most < 2 ^ 32 → text ≡ led first rest → HasNoSpace first → HasNoSpace name → IsWithin least most value
     → ¬ (BeginsWith name first) → Some text ≡ option_led name value after → (value ≡ None) × (after ≡ Some text)
 no_value name text first rest after None least most fits is none free small other e = (refl, sym e)
 no_value name text first rest after (Some n) least most fits is none free small other e =
@@ -53,9 +53,9 @@ no_value name text first rest after (Some n) least most fits is none free small 
     absurd (other (decimal n, same.0))
 
 -- one that begins so is: with the digits of its value after its name
-pub a_value : (name text first digits : List ℕ) (rest after : Option (List ℕ)) (value : Option ℕ) (least most : ℕ) → most < 2 ^ 16 → text ≡ led first rest → HasNoSpace first → HasNoSpace name → IsWithin least most value
+pub a_value : (name text first digits : List ℕ) (rest after : Option (List ℕ)) (value : Option ℕ) (least most : ℕ) → most < 2 ^ 32 → text ≡ led first rest → HasNoSpace first → HasNoSpace name → IsWithin least most value
     → first ≡ name ++ digits → (value ≡ None → StartsOtherwise name after) → Some text ≡ option_led name value after
-    → (n : ℕ) × (value ≡ Some n) × (n < 2 ^ 16) × (digits ≡ decimal n) × (rest ≡ after)
+    → (n : ℕ) × (value ≡ Some n) × (n < 2 ^ 32) × (digits ≡ decimal n) × (rest ≡ after)
 a_value name text first digits rest after None least most fits is none free small begins otherwise e =
     let begun : text ≡ name ++ led digits rest = is ∙ ap (λ l. led l rest) begins ∙ led-append name digits rest in
     absurd (subst (StartsOtherwise name) (sym e) (otherwise refl) (led digits rest, begun))

@@ -1,10 +1,10 @@
 -- Which orders a text may spell, by its first word.
-use Rattle.std.proofs.Common.{◌≡◌, ◌≢◌, ℕ, List, ◌∷◌, Bool, false, Option, None, codes, IfSome, nat_eq, refl, sym, ◌∙◌, subst, arith}
+use Rattle.std.proofs.Common.{◌≡◌, ◌≢◌, ℕ, List, ◌∷◌, Bool, false, Option, None, Some, codes, IfSome, nat_eq, refl, sym, ◌∙◌, subst, arith}
 use Rattle.std.proofs.lemmas.Bool.Decides.{nat_tests}
 use Rattle.std.specs.declared.net.socket_addr.SocketAddr.{SocketAddr}
 use Rattle.fax_control.specs.declared.word.Bounds.{Bounds}
 use Rattle.fax_gateway.specs.declared.leg.Leg.{Leg}
-use Rattle.fax_control.specs.Words.{Order, Ring, Peer, HangUp, Refuse, Report, Status, Metrics, Events, Stop, HasNoSpace, IsCause, IsInRange, IsName, IsPeerText, IsRingTag, IsRungLine, Spells, bounds_led, led, moved_text, rung_text, spaced, word_led}
+use Rattle.fax_control.specs.Words.{Order, Ring, Peer, HangUp, Refuse, Report, Undelivered, Discard, Retry, Status, Metrics, Events, Stop, HasNoSpace, IsCallNumber, IsCause, IsInRange, IsName, IsPeerText, IsRingTag, IsRungLine, Spells, bounds_led, call_text, led, moved_text, rung_text, spaced, word_led}
 use Rattle.fax_gateway.specs.LegNames.{leg_text}
 use Rattle.fax_control.proofs.SpaceLemmas.{heads, tails, has_space, cut_once, NoSpace-by_test}
 
@@ -31,6 +31,10 @@ ring_spelled rest (Peer line leg address bounds is_moved) (text, e, name, is_add
 ring_spelled rest (HangUp line leg) (e, name) = apart 114 104 _ _ refl e
 ring_spelled rest (Refuse line cause) (e, name, is_cause) = second_apart 114 105 114 101 _ _ refl e
 ring_spelled rest (Report line) (e, name) = second_apart 114 105 114 101 _ _ refl e
+ring_spelled rest (Undelivered None) (e, name) = apart 114 117 _ _ refl e
+ring_spelled rest (Undelivered (Some line)) (e, name) = apart 114 117 _ _ refl e
+ring_spelled rest (Discard line life call) (e, name, is_life, is_call) = apart 114 100 _ _ refl e
+ring_spelled rest (Retry line life call) (e, name, is_life, is_call) = second_apart 114 105 114 101 _ _ refl e
 ring_spelled rest Status e = apart 114 115 _ _ refl e
 ring_spelled rest Metrics e = apart 114 109 _ _ refl e
 ring_spelled rest Events e = apart 114 101 _ _ refl e
@@ -47,6 +51,10 @@ peer_spelled rest (Peer line leg address bounds is_moved) (text, e, name, is_add
 peer_spelled rest (HangUp line leg) (e, name) = apart 112 104 _ _ refl e
 peer_spelled rest (Refuse line cause) (e, name, is_cause) = apart 112 114 _ _ refl e
 peer_spelled rest (Report line) (e, name) = apart 112 114 _ _ refl e
+peer_spelled rest (Undelivered None) (e, name) = apart 112 117 _ _ refl e
+peer_spelled rest (Undelivered (Some line)) (e, name) = apart 112 117 _ _ refl e
+peer_spelled rest (Discard line life call) (e, name, is_life, is_call) = apart 112 100 _ _ refl e
+peer_spelled rest (Retry line life call) (e, name, is_life, is_call) = apart 112 114 _ _ refl e
 peer_spelled rest Status e = apart 112 115 _ _ refl e
 peer_spelled rest Metrics e = apart 112 109 _ _ refl e
 peer_spelled rest Events e = apart 112 101 _ _ refl e
@@ -60,6 +68,10 @@ hangup_spelled rest (Peer line leg address bounds is_moved) (text, e, name, is_a
 hangup_spelled rest (HangUp line leg) (e, name) = let same : rest ≡ spaced line (leg_text leg) = cc in (line, leg, refl, same, name)
 hangup_spelled rest (Refuse line cause) (e, name, is_cause) = apart 104 114 _ _ refl e
 hangup_spelled rest (Report line) (e, name) = apart 104 114 _ _ refl e
+hangup_spelled rest (Undelivered None) (e, name) = apart 104 117 _ _ refl e
+hangup_spelled rest (Undelivered (Some line)) (e, name) = apart 104 117 _ _ refl e
+hangup_spelled rest (Discard line life call) (e, name, is_life, is_call) = apart 104 100 _ _ refl e
+hangup_spelled rest (Retry line life call) (e, name, is_life, is_call) = apart 104 114 _ _ refl e
 hangup_spelled rest Status e = apart 104 115 _ _ refl e
 hangup_spelled rest Metrics e = apart 104 109 _ _ refl e
 hangup_spelled rest Events e = apart 104 101 _ _ refl e
@@ -73,6 +85,10 @@ report_spelled rest (Peer line leg address bounds is_moved) (text, e, name, is_a
 report_spelled rest (HangUp line leg) (e, name) = apart 114 104 _ _ refl e
 report_spelled rest (Refuse line cause) (e, name, is_cause) = third_apart 114 101 112 114 101 102 _ _ refl e
 report_spelled rest (Report line) (e, name) = let same : rest ≡ line = cc in (line, refl, same, name)
+report_spelled rest (Undelivered None) (e, name) = apart 114 117 _ _ refl e
+report_spelled rest (Undelivered (Some line)) (e, name) = apart 114 117 _ _ refl e
+report_spelled rest (Discard line life call) (e, name, is_life, is_call) = apart 114 100 _ _ refl e
+report_spelled rest (Retry line life call) (e, name, is_life, is_call) = third_apart 114 101 112 114 101 116 _ _ refl e
 report_spelled rest Status e = apart 114 115 _ _ refl e
 report_spelled rest Metrics e = apart 114 109 _ _ refl e
 report_spelled rest Events e = apart 114 101 _ _ refl e
@@ -86,32 +102,95 @@ refuse_spelled rest (Peer line leg address bounds is_moved) (text, e, name, is_a
 refuse_spelled rest (HangUp line leg) (e, name) = apart 114 104 _ _ refl e
 refuse_spelled rest (Refuse line cause) (e, name, is_cause) = let same : rest ≡ spaced line cause = cc in (line, cause, refl, same, name, is_cause)
 refuse_spelled rest (Report line) (e, name) = third_apart 114 101 102 114 101 112 _ _ refl e
+refuse_spelled rest (Undelivered None) (e, name) = apart 114 117 _ _ refl e
+refuse_spelled rest (Undelivered (Some line)) (e, name) = apart 114 117 _ _ refl e
+refuse_spelled rest (Discard line life call) (e, name, is_life, is_call) = apart 114 100 _ _ refl e
+refuse_spelled rest (Retry line life call) (e, name, is_life, is_call) = third_apart 114 101 102 114 101 116 _ _ refl e
 refuse_spelled rest Status e = apart 114 115 _ _ refl e
 refuse_spelled rest Metrics e = apart 114 109 _ _ refl e
 refuse_spelled rest Events e = apart 114 101 _ _ refl e
 refuse_spelled rest Stop e = apart 114 115 _ _ refl e
 
--- a text with no space that is none of the bare words spells nothing
-pub no_bare_word : (text : List ℕ) (order : Order) → HasNoSpace text → text ≢ codes "status" → text ≢ codes "metrics" → text ≢ codes "events" → text ≢ codes "stop" → Spells text order → ⊥
-no_bare_word text (Ring line tag bounds) none a b c d (e, name, is_tag, range) = has_space (codes "ring") (led (rung_text line) (word_led tag (bounds_led bounds None))) (subst HasNoSpace e none)
-no_bare_word text (Peer line leg address bounds is_moved) none a b c d (peer_text, e, name, is_address, range) = has_space (codes "peer") (spaced line (spaced (leg_text leg) (led peer_text (bounds_led bounds (moved_text is_moved))))) (subst HasNoSpace e none)
-no_bare_word text (HangUp line leg) none a b c d (e, name) = has_space (codes "hangup") (spaced line (leg_text leg)) (subst HasNoSpace e none)
-no_bare_word text (Refuse line cause) none a b c d (e, name, is_cause) = has_space (codes "refuse") (spaced line cause) (subst HasNoSpace e none)
-no_bare_word text (Report line) none a b c d (e, name) = has_space (codes "report") line (subst HasNoSpace e none)
-no_bare_word text Status none a b c d e = a e
-no_bare_word text Metrics none a b c d e = b e
-no_bare_word text Events none a b c d e = c e
-no_bare_word text Stop none a b c d e = d e
+-- what follows `undelivered`
+pub undelivered_spelled : (rest : List ℕ) (order : Order) → Spells (spaced (codes "undelivered") rest) order
+    → (line : List ℕ) × (order ≡ Undelivered (Some line)) × (rest ≡ line) × IsName line
+undelivered_spelled rest (Ring line tag bounds) (e, name, is_tag, range) = apart 117 114 _ _ refl e
+undelivered_spelled rest (Peer line leg address bounds is_moved) (text, e, name, is_address, range) = apart 117 112 _ _ refl e
+undelivered_spelled rest (HangUp line leg) (e, name) = apart 117 104 _ _ refl e
+undelivered_spelled rest (Refuse line cause) (e, name, is_cause) = apart 117 114 _ _ refl e
+undelivered_spelled rest (Report line) (e, name) = apart 117 114 _ _ refl e
+undelivered_spelled rest (Undelivered None) (e, name) = absurd (has_space (codes "undelivered") rest (subst HasNoSpace (sym e) (NoSpace-by_test (codes "undelivered") refl)))
+undelivered_spelled rest (Undelivered (Some line)) (e, name) = let same : rest ≡ line = cc in (line, refl, same, name)
+undelivered_spelled rest (Discard line life call) (e, name, is_life, is_call) = apart 117 100 _ _ refl e
+undelivered_spelled rest (Retry line life call) (e, name, is_life, is_call) = apart 117 114 _ _ refl e
+undelivered_spelled rest Status e = apart 117 115 _ _ refl e
+undelivered_spelled rest Metrics e = apart 117 109 _ _ refl e
+undelivered_spelled rest Events e = apart 117 101 _ _ refl e
+undelivered_spelled rest Stop e = apart 117 115 _ _ refl e
 
--- a text whose first word is none of the five spells nothing
-pub no_verb : (text verb rest : List ℕ) (order : Order) → text ≡ spaced verb rest → HasNoSpace verb → verb ≢ codes "ring" → verb ≢ codes "peer" → verb ≢ codes "hangup" → verb ≢ codes "report" → verb ≢ codes "refuse" → Spells text order → ⊥
-no_verb text verb rest (Ring line tag bounds) cut none a b c d f (e, name, is_tag, range) = a (cut_once verb rest (codes "ring") (led (rung_text line) (word_led tag (bounds_led bounds None))) none (NoSpace-by_test (codes "ring") refl) (sym cut ∙ e)).0
-no_verb text verb rest (Peer line leg address bounds is_moved) cut none a b c d f (peer_text, e, name, is_address, range) =
+-- what follows `discard`
+pub discard_spelled : (rest : List ℕ) (order : Order) → Spells (spaced (codes "discard") rest) order
+    → (line : List ℕ) × (life : ℕ) × (call : ℕ) × (order ≡ Discard line life call) × (rest ≡ call_text line life call) × IsName line × IsCallNumber life × IsCallNumber call
+discard_spelled rest (Ring line tag bounds) (e, name, is_tag, range) = apart 100 114 _ _ refl e
+discard_spelled rest (Peer line leg address bounds is_moved) (text, e, name, is_address, range) = apart 100 112 _ _ refl e
+discard_spelled rest (HangUp line leg) (e, name) = apart 100 104 _ _ refl e
+discard_spelled rest (Refuse line cause) (e, name, is_cause) = apart 100 114 _ _ refl e
+discard_spelled rest (Report line) (e, name) = apart 100 114 _ _ refl e
+discard_spelled rest (Undelivered None) (e, name) = apart 100 117 _ _ refl e
+discard_spelled rest (Undelivered (Some line)) (e, name) = apart 100 117 _ _ refl e
+discard_spelled rest (Discard line life call) (e, name, is_life, is_call) = let same : rest ≡ call_text line life call = cc in (line, life, call, refl, same, name, is_life, is_call)
+discard_spelled rest (Retry line life call) (e, name, is_life, is_call) = apart 100 114 _ _ refl e
+discard_spelled rest Status e = apart 100 115 _ _ refl e
+discard_spelled rest Metrics e = apart 100 109 _ _ refl e
+discard_spelled rest Events e = apart 100 101 _ _ refl e
+discard_spelled rest Stop e = apart 100 115 _ _ refl e
+
+-- what follows `retry`
+pub retry_spelled : (rest : List ℕ) (order : Order) → Spells (spaced (codes "retry") rest) order
+    → (line : List ℕ) × (life : ℕ) × (call : ℕ) × (order ≡ Retry line life call) × (rest ≡ call_text line life call) × IsName line × IsCallNumber life × IsCallNumber call
+retry_spelled rest (Ring line tag bounds) (e, name, is_tag, range) = second_apart 114 101 114 105 _ _ refl e
+retry_spelled rest (Peer line leg address bounds is_moved) (text, e, name, is_address, range) = apart 114 112 _ _ refl e
+retry_spelled rest (HangUp line leg) (e, name) = apart 114 104 _ _ refl e
+retry_spelled rest (Refuse line cause) (e, name, is_cause) = third_apart 114 101 116 114 101 102 _ _ refl e
+retry_spelled rest (Report line) (e, name) = third_apart 114 101 116 114 101 112 _ _ refl e
+retry_spelled rest (Undelivered None) (e, name) = apart 114 117 _ _ refl e
+retry_spelled rest (Undelivered (Some line)) (e, name) = apart 114 117 _ _ refl e
+retry_spelled rest (Discard line life call) (e, name, is_life, is_call) = apart 114 100 _ _ refl e
+retry_spelled rest (Retry line life call) (e, name, is_life, is_call) = let same : rest ≡ call_text line life call = cc in (line, life, call, refl, same, name, is_life, is_call)
+retry_spelled rest Status e = apart 114 115 _ _ refl e
+retry_spelled rest Metrics e = apart 114 109 _ _ refl e
+retry_spelled rest Events e = apart 114 101 _ _ refl e
+retry_spelled rest Stop e = apart 114 115 _ _ refl e
+
+-- a text with no space that is none of the bare words spells nothing
+pub no_bare_word : (text : List ℕ) (order : Order) → HasNoSpace text → text ≢ codes "status" → text ≢ codes "metrics" → text ≢ codes "events" → text ≢ codes "stop" → text ≢ codes "undelivered" → Spells text order → ⊥
+no_bare_word text (Ring line tag bounds) none a b c d f (e, name, is_tag, range) = has_space (codes "ring") (led (rung_text line) (word_led tag (bounds_led bounds None))) (subst HasNoSpace e none)
+no_bare_word text (Peer line leg address bounds is_moved) none a b c d f (peer_text, e, name, is_address, range) = has_space (codes "peer") (spaced line (spaced (leg_text leg) (led peer_text (bounds_led bounds (moved_text is_moved))))) (subst HasNoSpace e none)
+no_bare_word text (HangUp line leg) none a b c d f (e, name) = has_space (codes "hangup") (spaced line (leg_text leg)) (subst HasNoSpace e none)
+no_bare_word text (Refuse line cause) none a b c d f (e, name, is_cause) = has_space (codes "refuse") (spaced line cause) (subst HasNoSpace e none)
+no_bare_word text (Report line) none a b c d f (e, name) = has_space (codes "report") line (subst HasNoSpace e none)
+no_bare_word text (Undelivered None) none a b c d f (e, name) = f e
+no_bare_word text (Undelivered (Some line)) none a b c d f (e, name) = has_space (codes "undelivered") line (subst HasNoSpace e none)
+no_bare_word text (Discard line life call) none a b c d f (e, name, is_life, is_call) = has_space (codes "discard") (call_text line life call) (subst HasNoSpace e none)
+no_bare_word text (Retry line life call) none a b c d f (e, name, is_life, is_call) = has_space (codes "retry") (call_text line life call) (subst HasNoSpace e none)
+no_bare_word text Status none a b c d f e = a e
+no_bare_word text Metrics none a b c d f e = b e
+no_bare_word text Events none a b c d f e = c e
+no_bare_word text Stop none a b c d f e = d e
+
+-- a text whose first word is none of these spells nothing
+pub no_verb : (text verb rest : List ℕ) (order : Order) → text ≡ spaced verb rest → HasNoSpace verb → verb ≢ codes "ring" → verb ≢ codes "peer" → verb ≢ codes "hangup" → verb ≢ codes "report" → verb ≢ codes "refuse" → verb ≢ codes "undelivered" → verb ≢ codes "discard" → verb ≢ codes "retry" → Spells text order → ⊥
+no_verb text verb rest (Ring line tag bounds) cut none a b c d f g h i (e, name, is_tag, range) = a (cut_once verb rest (codes "ring") (led (rung_text line) (word_led tag (bounds_led bounds None))) none (NoSpace-by_test (codes "ring") refl) (sym cut ∙ e)).0
+no_verb text verb rest (Peer line leg address bounds is_moved) cut none a b c d f g h i (peer_text, e, name, is_address, range) =
     b (cut_once verb rest (codes "peer") (spaced line (spaced (leg_text leg) (led peer_text (bounds_led bounds (moved_text is_moved))))) none (NoSpace-by_test (codes "peer") refl) (sym cut ∙ e)).0
-no_verb text verb rest (HangUp line leg) cut none a b c d f (e, name) = c (cut_once verb rest (codes "hangup") (spaced line (leg_text leg)) none (NoSpace-by_test (codes "hangup") refl) (sym cut ∙ e)).0
-no_verb text verb rest (Refuse line cause) cut none a b c d f (e, name, is_cause) = f (cut_once verb rest (codes "refuse") (spaced line cause) none (NoSpace-by_test (codes "refuse") refl) (sym cut ∙ e)).0
-no_verb text verb rest (Report line) cut none a b c d f (e, name) = d (cut_once verb rest (codes "report") line none (NoSpace-by_test (codes "report") refl) (sym cut ∙ e)).0
-no_verb text verb rest Status cut none a b c d f e = has_space verb rest (subst HasNoSpace (sym e ∙ cut) (NoSpace-by_test (codes "status") refl))
-no_verb text verb rest Metrics cut none a b c d f e = has_space verb rest (subst HasNoSpace (sym e ∙ cut) (NoSpace-by_test (codes "metrics") refl))
-no_verb text verb rest Events cut none a b c d f e = has_space verb rest (subst HasNoSpace (sym e ∙ cut) (NoSpace-by_test (codes "events") refl))
-no_verb text verb rest Stop cut none a b c d f e = has_space verb rest (subst HasNoSpace (sym e ∙ cut) (NoSpace-by_test (codes "stop") refl))
+no_verb text verb rest (HangUp line leg) cut none a b c d f g h i (e, name) = c (cut_once verb rest (codes "hangup") (spaced line (leg_text leg)) none (NoSpace-by_test (codes "hangup") refl) (sym cut ∙ e)).0
+no_verb text verb rest (Refuse line cause) cut none a b c d f g h i (e, name, is_cause) = f (cut_once verb rest (codes "refuse") (spaced line cause) none (NoSpace-by_test (codes "refuse") refl) (sym cut ∙ e)).0
+no_verb text verb rest (Report line) cut none a b c d f g h i (e, name) = d (cut_once verb rest (codes "report") line none (NoSpace-by_test (codes "report") refl) (sym cut ∙ e)).0
+no_verb text verb rest (Undelivered None) cut none a b c d f g h i (e, name) = has_space verb rest (subst HasNoSpace (sym e ∙ cut) (NoSpace-by_test (codes "undelivered") refl))
+no_verb text verb rest (Undelivered (Some line)) cut none a b c d f g h i (e, name) = g (cut_once verb rest (codes "undelivered") line none (NoSpace-by_test (codes "undelivered") refl) (sym cut ∙ e)).0
+no_verb text verb rest (Discard line life call) cut none a b c d f g h i (e, name, is_life, is_call) = h (cut_once verb rest (codes "discard") (call_text line life call) none (NoSpace-by_test (codes "discard") refl) (sym cut ∙ e)).0
+no_verb text verb rest (Retry line life call) cut none a b c d f g h i (e, name, is_life, is_call) = i (cut_once verb rest (codes "retry") (call_text line life call) none (NoSpace-by_test (codes "retry") refl) (sym cut ∙ e)).0
+no_verb text verb rest Status cut none a b c d f g h i e = has_space verb rest (subst HasNoSpace (sym e ∙ cut) (NoSpace-by_test (codes "status") refl))
+no_verb text verb rest Metrics cut none a b c d f g h i e = has_space verb rest (subst HasNoSpace (sym e ∙ cut) (NoSpace-by_test (codes "metrics") refl))
+no_verb text verb rest Events cut none a b c d f g h i e = has_space verb rest (subst HasNoSpace (sym e ∙ cut) (NoSpace-by_test (codes "events") refl))
+no_verb text verb rest Stop cut none a b c d f g h i e = has_space verb rest (subst HasNoSpace (sym e ∙ cut) (NoSpace-by_test (codes "stop") refl))

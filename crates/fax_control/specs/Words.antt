@@ -1,5 +1,5 @@
 -- Control words, each a line (this project's profile).
-use Rattle.std.specs.Prelude.{◌≡◌, ◌≢◌, ℕ, ◌<◌, ◌≤◌, Bool, true, false, List, ◌∷◌, ◌++◌, length, slice_index, codes, decimal, Option, None, Some, option_map, IfSome}
+use Rattle.std.specs.Prelude.{◌≡◌, ◌≢◌, ℕ, ◌<◌, ◌≤◌, ◌^◌, Bool, true, false, List, ◌∷◌, ◌++◌, length, slice_index, codes, decimal, Option, None, Some, option_map, IfSome}
 use Rattle.std.specs.Str.{IsUtf8}
 use Rattle.std.specs.Net.Grammar.{IsSocketText}
 use Rattle.std.specs.declared.net.socket_addr.SocketAddr.{SocketAddr}
@@ -17,6 +17,9 @@ pub data Order : Type 0 where
   HangUp : List ℕ → Leg → Order
   Refuse : List ℕ → List ℕ → Order
   Report : List ℕ → Order
+  Undelivered : Option (List ℕ) → Order
+  Discard : (line : List ℕ) → (life call : ℕ) → Order
+  Retry : (line : List ℕ) → (life call : ℕ) → Order
   Status : Order
   Metrics : Order
   Events : Order
@@ -28,6 +31,9 @@ order_of (word.Peer peer) = Peer peer.line.now peer.leg peer.address peer.bounds
 order_of (word.HangUp line leg) = HangUp line.now leg
 order_of (word.Refuse line cause) = Refuse line.now cause.now
 order_of (word.Report line) = Report line.now
+order_of (word.Undelivered line) = Undelivered (option_map (λ text. text.now) line)
+order_of (word.Discard said) = Discard said.line.now said.life said.call
+order_of (word.Retry said) = Retry said.line.now said.life said.call
 order_of word.Status = Status
 order_of word.Metrics = Metrics
 order_of word.Events = Events
@@ -106,6 +112,14 @@ IsPeerText leg text (Some address) = HasNoSpace text × IsSocketText text addres
 IsPeerText Calling text None = text ≡ codes "any"
 IsPeerText Called text None = ⊥
 
+-- the number of a life, or of a call in it, has 32 bits
+abbrev pub IsCallNumber : ℕ → Type 0
+IsCallNumber n = n < 2 ^ 32
+
+-- which call of a line: its name, the number of the life that the call came in, and the number of the call there
+abbrev pub call_text : (line : List ℕ) → (life call : ℕ) → List ℕ
+call_text line life call = spaced line (spaced (decimal life) (decimal call))
+
 -- the text spells the order
 abbrev pub Spells : List ℕ → Order → Type 0
 Spells text (Ring line tag bounds) =
@@ -116,6 +130,9 @@ Spells text (Peer line leg address bounds is_moved) =
 Spells text (HangUp line leg) = (text ≡ spaced (codes "hangup") (spaced line (leg_text leg))) × IsName line
 Spells text (Refuse line cause) = (text ≡ spaced (codes "refuse") (spaced line cause)) × IsName line × IsCause cause
 Spells text (Report line) = (text ≡ spaced (codes "report") line) × IsName line
+Spells text (Undelivered line) = (text ≡ led (codes "undelivered") line) × IfSome line IsName
+Spells text (Discard line life call) = (text ≡ spaced (codes "discard") (call_text line life call)) × IsName line × IsCallNumber life × IsCallNumber call
+Spells text (Retry line life call) = (text ≡ spaced (codes "retry") (call_text line life call)) × IsName line × IsCallNumber life × IsCallNumber call
 Spells text Status = text ≡ codes "status"
 Spells text Metrics = text ≡ codes "metrics"
 Spells text Events = text ≡ codes "events"

@@ -3,6 +3,7 @@
 
 mod answer;
 mod hearing;
+mod number;
 mod options;
 mod reading;
 mod refusal;
@@ -14,4 +15,4 @@ pub use fax_gateway::Leg;
 pub use hearing::{ClientLines, HeardLine};
 pub use reading::read_word;
 pub use refusal::Refusal;
-pub use word::{Bounds, MOST_OCTETS, MOST_TAG_OCTETS, PeerWord, RingWord, Word};
+pub use word::{Bounds, CallWord, MOST_OCTETS, MOST_TAG_OCTETS, PeerWord, RingWord, Word};

@@ -1,12 +1,12 @@
 //! What stands after the names of `ring` and `peer`: a tag, bounds, and whether a peer has moved. No words are `None`.
-ghost use Rattle.std.specs.Prelude.{◌≡◌, ◌≢◌, ℕ, ◌<◌, ◌^◌, ◌++◌, List, Bool, Option, None, Some, true, false, codes, decimal, IfSome, IfNone, IsSomeAnd};
+ghost use Rattle.std.specs.Prelude.{◌≡◌, ◌≢◌, ℕ, ◌++◌, List, Bool, Option, None, Some, true, false, codes, IfSome, IfNone, IsSomeAnd};
 ghost use Rattle.fax_control.specs.declared.word.Bounds.{Bounds as BoundsShown};
 ghost use Rattle.fax_control.specs.Options.{IsNoOption, IsOption, MayFollowNoTag, StartsOtherwise, text_of};
 ghost use Rattle.fax_control.specs.Words.{BeginsWith, HasNoSpace, IsInRange, IsRingTag, IsTag, IsWithin, bounds_led, led, moved_text, option_led, word_led};
 
+use crate::number::number_of;
 use crate::spaces::{cut, first_word};
 use crate::word::{Bounds, MOST_TAG_OCTETS};
-use itoa::Buffer;
 
 /// Whether a text can be a tag, or a cause.
 pub fn is_tag(text: &str) -> bool
@@ -70,28 +70,13 @@ fn value_of<'a>(front: &str, word: &'a str) -> Option<&'a str>
     word.strip_prefix(front)
 }
 
-/// The number that a text writes, in decimal digits, with no sign and no zero before it.
-fn number_of(text: &str) -> Option<u16>
-    ensures some { IfSome result (λ number. text.now ≡ decimal number) }
-    ensures only { (number : ℕ) → number < 2 ^ 16 → text.now ≡ decimal number → result ≡ Some number }
-{
-    let Ok(number) = text.parse::<u16>() else {
-        return None;
-    };
-    if Buffer::new().format(number) == text {
-        Some(number)
-    } else {
-        None
-    }
-}
-
 /// The value of an option that words begin with, if they do, and what follows it.
 fn option_of<'a>(
     name: &str,
-    least: u16,
-    most: u16,
+    least: u32,
+    most: u32,
     words: Option<&'a str>,
-) -> Option<(Option<u16>, Option<&'a str>)>
+) -> Option<(Option<u32>, Option<&'a str>)>
     requires { HasNoSpace name.now }
     ensures said { IfSome result (λ parts. text_of words.entry ≡ option_led name.now parts.0 (text_of parts.1)) }
     ensures within { IfSome result (λ parts. IsWithin least most parts.0) }
@@ -127,17 +112,29 @@ pub fn bounds_of(words: Option<&str>) -> Option<(Bounds, Option<&str>)>
     let (redundancy, words) = option_of("redundancy=", 0, 8, words)?;
     let (octets, words) = option_of("octets=", 32, 65_535, words)?;
     let redundancy = octet_of(redundancy);
+    let octets = double_octet_of(octets);
     Some((Bounds { redundancy, octets }, words))
 }
 
 /// The same number, in an octet.
-fn octet_of(number: Option<u16>) -> Option<u8>
+fn octet_of(number: Option<u32>) -> Option<u8>
     requires { IsWithin 0 8 number }
     ensures { result ≡ number }
 {
     match number {
         None => None,
         Some(number) => Some(number as u8),
+    }
+}
+
+/// The same number, in two octets.
+fn double_octet_of(number: Option<u32>) -> Option<u16>
+    requires { IsWithin 32 65535 number }
+    ensures { result ≡ number }
+{
+    match number {
+        None => None,
+        Some(number) => Some(number as u16),
     }
 }
 

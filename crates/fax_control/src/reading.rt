@@ -2,12 +2,13 @@
 ghost use Rattle.std.specs.Prelude.{◌≡◌, List, ℕ, Option, Some, codes, IfSome, IfNone, IsSomeAnd};
 ghost use Rattle.std.specs.declared.net.socket_addr.SocketAddr.{SocketAddr as SocketAddrShown};
 ghost use Rattle.fax_control.specs.Options.{text_of};
-ghost use Rattle.fax_control.specs.Words.{HasNoSpace, IsPeerText, IsRungLine, Order, Says, Spells, order_of, rung_text, spaced};
+ghost use Rattle.fax_control.specs.Words.{HasNoSpace, IsCallNumber, IsName, IsPeerText, IsRungLine, Order, Says, Spells, call_text, order_of, rung_text, spaced};
 ghost use Rattle.fax_gateway.specs.LegNames.{leg_text};
 
+use crate::number::number_of;
 use crate::options::{bounds_of, is_tag, moved_of, tag_of};
 use crate::spaces::{cut, first_word};
-use crate::word::{MOST_OCTETS, PeerWord, RingWord, Word};
+use crate::word::{CallWord, MOST_OCTETS, PeerWord, RingWord, Word};
 use fax_gateway::Leg;
 use std::net::SocketAddr;
 
@@ -43,6 +44,12 @@ fn word_of(text: &str) -> Option<Word<'_>>
                 report_of(rest)
             } else if verb == "refuse" {
                 refuse_of(rest)
+            } else if verb == "undelivered" {
+                undelivered_of(rest)
+            } else if verb == "discard" {
+                discard_of(rest)
+            } else if verb == "retry" {
+                retry_of(rest)
             } else {
                 None
             }
@@ -64,6 +71,8 @@ fn bare_word(text: &str) -> Option<Word<'_>>
         Some(Word::Events)
     } else if text == "stop" {
         Some(Word::Stop)
+    } else if text == "undelivered" {
+        Some(Word::Undelivered(None))
     } else {
         None
     }
@@ -112,6 +121,61 @@ fn report_of(rest: &str) -> Option<Word<'_>>
     match cut(rest) {
         None => Some(Word::Report(rest)),
         Some(_) => None,
+    }
+}
+
+/// What follows `undelivered`: the name of a line.
+fn undelivered_of(rest: &str) -> Option<Word<'_>>
+    ensures said { IfSome result (λ word. Spells (spaced (codes "undelivered") rest.now) (order_of word)) }
+    ensures only { (order : Order) → Spells (spaced (codes "undelivered") rest.now) order → IsSomeAnd result (λ word. order_of word ≡ order) }
+{
+    if rest.is_empty() {
+        return None;
+    }
+    match cut(rest) {
+        None => Some(Word::Undelivered(Some(rest))),
+        Some(_) => None,
+    }
+}
+
+/// What follows `discard`: which call.
+fn discard_of(rest: &str) -> Option<Word<'_>>
+    ensures said { IfSome result (λ word. Spells (spaced (codes "discard") rest.now) (order_of word)) }
+    ensures only { (order : Order) → Spells (spaced (codes "discard") rest.now) order → IsSomeAnd result (λ word. order_of word ≡ order) }
+{
+    match call_of(rest) {
+        Some(call) => Some(Word::Discard(call)),
+        None => None,
+    }
+}
+
+/// What follows `retry`: which call.
+fn retry_of(rest: &str) -> Option<Word<'_>>
+    ensures said { IfSome result (λ word. Spells (spaced (codes "retry") rest.now) (order_of word)) }
+    ensures only { (order : Order) → Spells (spaced (codes "retry") rest.now) order → IsSomeAnd result (λ word. order_of word ≡ order) }
+{
+    match call_of(rest) {
+        Some(call) => Some(Word::Retry(call)),
+        None => None,
+    }
+}
+
+/// The call that a text names: by its line, the number of its life, and its own there.
+fn call_of(text: &str) -> Option<CallWord<'_>>
+    ensures said { IfSome result (λ word. text.now ≡ call_text word.line.now word.life word.call) }
+    ensures name { IfSome result (λ word. IsName word.line.now) }
+    ensures range { IfSome result (λ word. IsCallNumber word.life × IsCallNumber word.call) }
+    ensures only { (line : List ℕ) (life call : ℕ) → text.now ≡ call_text line life call → IsName line → IsCallNumber life → IsCallNumber call
+        → IsSomeAnd result (λ word. (word.line.now ≡ line) × (word.life ≡ life) × (word.call ≡ call)) }
+{
+    let (line, numbers) = cut(text)?;
+    let (first, second) = cut(numbers)?;
+    let life = number_of(first)?;
+    let call = number_of(second)?;
+    if line.is_empty() {
+        None
+    } else {
+        Some(CallWord { line, life, call })
     }
 }
 

@@ -41,6 +41,17 @@ pub struct PeerWord<'a> {
     pub is_moved: bool,
 }
 
+/// Which call `discard` and `retry` are about.
+#[derive(Clone, Copy, PartialEq, Eq, Debug)]
+pub struct CallWord<'a> {
+    /// The name of the line.
+    pub line: &'a str,
+    /// The number of the life that the call came in.
+    pub life: u32,
+    /// The number of the call there.
+    pub call: u32,
+}
+
 /// A control word. Names of lines and tags are as they were said.
 #[derive(Clone, Copy, PartialEq, Eq, Debug)]
 pub enum Word<'a> {
@@ -54,6 +65,12 @@ pub enum Word<'a> {
     Refuse(&'a str, &'a str),
     /// Asks for the last reports of a line.
     Report(&'a str),
+    /// Asks for the jobs that could not be delivered: those of a line, or of all lines.
+    Undelivered(Option<&'a str>),
+    /// Drops the pages of a call that could not be delivered.
+    Discard(CallWord<'a>),
+    /// Tries at once to deliver the pages of a call that could not be delivered.
+    Retry(CallWord<'a>),
     /// Asks how each line is.
     Status,
     /// Asks for the counts.

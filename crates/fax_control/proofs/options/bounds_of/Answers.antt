@@ -18,6 +18,7 @@ returns-clause-only c = λ bounds rest is range none.
     let first = c.in_ok-redundancy.ensures.only bounds.redundancy (option_led (codes "octets=") bounds.octets rest) is range.0 (λ _. octets_start_otherwise bounds.octets rest none.0) in
     let second = c.in_ok-octets.ensures.only bounds.octets rest first.1 range.1 (λ _. none.1) in
     let redundancy : c.octet_of-redundancy.result ≡ bounds.redundancy = c.octet_of-redundancy.ensures ∙ first.0 in
-    let same : ◌≡◌ {A = Bounds} (record { redundancy = c.octet_of-redundancy.result; octets = c.in_ok-octets.octets }) bounds =
-    ap (λ n. record { redundancy = n; octets = c.in_ok-octets.octets }) redundancy ∙ ap (λ n. record { redundancy = bounds.redundancy; octets = n }) second.0 in
+    let octets : c.double_octet_of-octets.result ≡ bounds.octets = c.double_octet_of-octets.ensures ∙ second.0 in
+    let same : ◌≡◌ {A = Bounds} (record { redundancy = c.octet_of-redundancy.result; octets = c.double_octet_of-octets.result }) bounds =
+    ap (λ n. record { redundancy = n; octets = c.double_octet_of-octets.result }) redundancy ∙ ap (λ n. record { redundancy = bounds.redundancy; octets = n }) octets in
     (same, second.1)
