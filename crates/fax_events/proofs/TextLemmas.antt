@@ -1,5 +1,5 @@
 -- Texts and tokens that are written one after the other.
-use Rattle.std.proofs.Common.{◌≡◌, ℕ, List, ◌++◌, Result, Ok, Err, refl, sym, ◌∙◌, ap, append_assoc}
+use Rattle.std.proofs.Common.{◌≡◌, ℕ, List, ◌++◌, Result, Ok, Err, ◌∙◌, ap, append_assoc}
 use Rattle.std.specs.Result.{OnOk}
 use Rattle.json.specs.Token.{Token}
 use Rattle.json.specs.Written.{Written}

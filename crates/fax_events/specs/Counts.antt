@@ -51,6 +51,12 @@ damage_counts counters =
     ++ count_text (codes "faxgate_octets_passed_over_total") Counter counters.octets_passed_over
     ++ count_text (codes "faxgate_spool_failures_total") Counter counters.spool_failures
 
+unfoldable pub undelivered_counts : Counters → List ℕ
+undelivered_counts counters =
+    count_text (codes "faxgate_jobs_undelivered_total") Counter counters.jobs_undelivered
+    ++ count_text (codes "faxgate_jobs_discarded_total") Counter counters.jobs_discarded
+    ++ count_text (codes "faxgate_pages_undelivered") Gauge counters.pages_undelivered
+
 -- all counts, and the mark of the end
 abbrev pub metrics_text : Counters → List ℕ
-metrics_text counters = call_counts counters ++ job_counts counters ++ wire_counts counters ++ spool_counts counters ++ damage_counts counters ++ codes "# EOF\n"
+metrics_text counters = call_counts counters ++ job_counts counters ++ wire_counts counters ++ spool_counts counters ++ damage_counts counters ++ undelivered_counts counters ++ codes "# EOF\n"

@@ -20,7 +20,7 @@ use Rattle.fax_events.specs.declared.event.Ending.TheVariants.{Done, HungUp, Giv
 use Rattle.fax_events.specs.declared.event.WhyAside.{WhyAside}
 use Rattle.fax_events.specs.declared.event.WhyAside.TheVariants.{NoPage, TornCall, NoLine}
 use Rattle.fax_events.specs.declared.event.What.{What}
-use Rattle.fax_events.specs.declared.event.What.TheVariants.{Rung, Page, RefusedPage, Ended, Dial, Asked, Connected, Job, Wire, Late, SetAside, Damaged, SpoolFailed}
+use Rattle.fax_events.specs.declared.event.What.TheVariants.{Rung, Page, RefusedPage, Ended, Dial, Asked, Connected, Job, Undelivered, Discarded, Wire, Late, SetAside, Damaged, SpoolFailed}
 use Rattle.fax_events.specs.declared.event.What.TheVariants as what
 use Rattle.fax_events.specs.declared.event.Event.{Event}
 
@@ -64,6 +64,8 @@ event_name (Dial call tag) = codes "dial"
 event_name (Asked job tag) = codes "dial"
 event_name (Connected call tag) = codes "connected"
 event_name (Job report tag cause) = codes "job"
+event_name (Undelivered job tag cause) = codes "undelivered"
+event_name (Discarded life call tag) = codes "discarded"
 event_name (Wire leg direction count) = codes "wire"
 event_name (Late span) = codes "late"
 event_name (what.NotKept call tag) = codes "not_kept"
@@ -111,6 +113,10 @@ abbrev pub cause_members : Option (List ℕ) → List Token
 cause_members None = []
 cause_members (Some cause) = text_member (codes "cause") cause
 
+-- for what cause a job's call was not placed last, how often the job was tried, and when it ended last, in seconds since 1970
+abbrev pub try_members : Option (List ℕ) → (tries last : ℕ) → List Token
+try_members cause tries last = cause_members cause ++ (number_member (codes "tries") tries ++ number_member (codes "last") last)
+
 -- ---- the members of each event
 
 abbrev pub what_members : What → List Token
@@ -129,6 +135,12 @@ what_members (Job report tag cause) =
     number_member (codes "call") report.call ++ (tag_member (option_map (λ text. text.now) tag) ++ (format_members report.format
     ++ (number_member (codes "pages") report.pages ++ (number_member (codes "delivered") report.delivered
     ++ (text_member (codes "outcome") (outcome_name report.outcome) ++ cause_members (option_map (λ text. text.now) cause))))))
+what_members (Undelivered job tag cause) =
+    number_member (codes "life") job.life ++ (number_member (codes "call") job.call ++ (tag_member (option_map (λ text. text.now) tag)
+    ++ (number_member (codes "pages") job.pages ++ (text_member (codes "outcome") (outcome_name job.outcome)
+    ++ try_members (option_map (λ text. text.now) cause) job.tries job.at))))
+what_members (Discarded life call tag) =
+    number_member (codes "life") life ++ (number_member (codes "call") call ++ tag_member (option_map (λ text. text.now) tag))
 what_members (Wire leg direction count) =
     text_member (codes "leg") (leg_text leg) ++ (text_member (codes "direction") (direction_name direction) ++ number_member (codes "failures") count)
 what_members (Late span) = number_member (codes "ms") span

@@ -1,5 +1,5 @@
 -- The lines that wait for a reader, and the places where some were lost (this project's profile).
-use Rattle.std.specs.Prelude.{◌≡◌, ℕ, zero, suc, ◌+◌, ◌-◌, ◌^◌, min, nat_lt, List, [], ◌∷◌, ◌++◌, flat_map, if◌then◌else◌, Option, None, Some, Vec}
+use Rattle.std.specs.Prelude.{ℕ, zero, suc, ◌+◌, ◌-◌, ◌^◌, min, nat_lt, List, [], ◌∷◌, ◌++◌, flat_map, if◌then◌else◌, Option, None, Some, Vec}
 use Rattle.fax_events.specs.declared.queue.Due.{Due}
 use Rattle.std.specs.declared.alloc.Global.{Global}
 use Rattle.fax_events.specs.declared.queue.WaitingLine.{WaitingLine}

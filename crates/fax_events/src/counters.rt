@@ -46,6 +46,12 @@ pub struct Counters {
     pub octets_passed_over: u64,
     /// How often the spool's disk has failed, in this run and in those before it.
     pub spool_failures: u64,
+    /// Jobs that could not be delivered and whose pages were kept: once for each time that one ended so.
+    pub jobs_undelivered: u64,
+    /// Jobs that could not be delivered and whose pages a word dropped.
+    pub jobs_discarded: u64,
+    /// Pages that could not be delivered and are kept now.
+    pub pages_undelivered: u64,
     /// Lines of events that readers lost.
     pub events_lost: u64,
 }

@@ -4,7 +4,7 @@ ghost use Rattle.fax_events.specs.Events.{aside_name, direction_name, ending_nam
 
 use fax_answer::Refusal;
 use fax_control::Leg;
-use fax_jobs::Report;
+use fax_jobs::{Outcome, Report};
 use fax_pagestore::Format;
 
 /// Which way datagrams go.
@@ -114,6 +114,23 @@ pub struct AskedJob {
     pub seconds: u32,
 }
 
+/// A job that could not be delivered, and whose pages are kept: those that its called machine did not confirm.
+#[derive(Clone, Copy, PartialEq, Eq, Debug)]
+pub struct UndeliveredJob {
+    /// The number of the life in which its pages came.
+    pub life: u32,
+    /// The number of the call that they came in.
+    pub call: u32,
+    /// How many pages are kept.
+    pub pages: u32,
+    /// How it ended last.
+    pub outcome: Outcome,
+    /// How often it was tried.
+    pub tries: u32,
+    /// When it ended last, in seconds since 1970 (Unix time).
+    pub at: u64,
+}
+
 /// What happened.
 #[derive(Clone, Copy, PartialEq, Eq, Debug)]
 pub enum What<'a> {
@@ -134,6 +151,12 @@ pub enum What<'a> {
     Connected(u32, Option<&'a str>),
     /// A job ended: its report, the tag of the call that its pages came in, and for what cause its own call was not placed.
     Job(Report, Option<&'a str>, Option<&'a str>),
+    /// A job could not be delivered, and its pages are kept; the tag of the call that they came in, and for what cause its own call
+    /// was not placed. It is told too of each such job, to a client that asks for them.
+    Undelivered(UndeliveredJob, Option<&'a str>, Option<&'a str>),
+    /// A word dropped the pages of a job that could not be delivered: the number of the life in which they came, that of the call
+    /// that they came in, and the tag of that.
+    Discarded(u32, u32, Option<&'a str>),
     /// A leg's receives or sends fail: so many did since the line began.
     Wire(Leg, Direction, u64),
     /// The line was turned so many milliseconds late.
@@ -163,6 +186,8 @@ impl<'a> What<'a> {
             What::Dial(_, _) | What::Asked(_, _) => "dial",
             What::Connected(_, _) => "connected",
             What::Job(_, _, _) => "job",
+            What::Undelivered(_, _, _) => "undelivered",
+            What::Discarded(_, _, _) => "discarded",
             What::Wire(_, _, _) => "wire",
             What::Late(_) => "late",
             What::NotKept(_, _) => "not_kept",

@@ -8,7 +8,9 @@ mod queue;
 mod writing;
 
 pub use counters::Counters;
-pub use event::{AskedJob, Direction, Ending, Event, PageAside, PageConfirmed, What, WhyAside};
+pub use event::{
+    AskedJob, Direction, Ending, Event, PageAside, PageConfirmed, UndeliveredJob, What, WhyAside,
+};
 pub use metrics::write_metrics;
 pub use queue::{Due, EventQueue, MOST_WAITING};
 pub use writing::write_event;

@@ -1,6 +1,6 @@
 //! Counts in the text format of Prometheus.
 ghost use Rattle.std.specs.Prelude.{◌≡◌, ◌++◌, IfOk, OnOk, string_bytes};
-ghost use Rattle.fax_events.specs.Counts.{call_counts, count_text, damage_counts, job_counts, kind_name, metrics_text, spool_counts, wire_counts};
+ghost use Rattle.fax_events.specs.Counts.{call_counts, count_text, damage_counts, job_counts, kind_name, metrics_text, spool_counts, undelivered_counts, wire_counts};
 
 use crate::counters::Counters;
 use fax_bits::NoMemory;
@@ -35,6 +35,7 @@ pub fn write_metrics(alloc: Global, counters: &Counters) -> Result<String, NoMem
     put_wire_counts(&mut text, counters)?;
     put_spool_counts(&mut text, counters)?;
     put_damage_counts(&mut text, counters)?;
+    put_undelivered_counts(&mut text, counters)?;
     text.push_str("# EOF\n")?;
     Ok(text)
 }
@@ -192,5 +193,29 @@ fn put_damage_counts(text: &mut String, counters: &Counters) -> Result<(), Alloc
         "faxgate_spool_failures_total",
         Kind::Counter,
         counters.spool_failures,
+    )
+}
+
+/// Writes the counts of what could not be delivered.
+fn put_undelivered_counts(text: &mut String, counters: &Counters) -> Result<(), AllocError>
+    ensures { OnOk result (string_bytes text.new ≡ string_bytes text.old ++ undelivered_counts counters.now) }
+{
+    put(
+        text,
+        "faxgate_jobs_undelivered_total",
+        Kind::Counter,
+        counters.jobs_undelivered,
+    )?;
+    put(
+        text,
+        "faxgate_jobs_discarded_total",
+        Kind::Counter,
+        counters.jobs_discarded,
+    )?;
+    put(
+        text,
+        "faxgate_pages_undelivered",
+        Kind::Gauge,
+        counters.pages_undelivered,
     )
 }

@@ -1,9 +1,11 @@
 //! From an event to its line.
 ghost use Rattle.std.specs.Prelude.{◌≡◌, option_map, IfOk, OnOk};
 ghost use Rattle.fax_jobs.specs.ReportTexts.{resolution_name};
-ghost use Rattle.fax_events.specs.Events.{Adds, cause_members, detail_members, event_line, fault_members, fault_name, format_members, line_members, refusal_members, refusal_name, row_members, number_member, tag_member, text_member, what_members};
+ghost use Rattle.fax_events.specs.Events.{Adds, cause_members, detail_members, event_line, fault_members, fault_name, format_members, line_members, refusal_members, refusal_name, row_members, number_member, tag_member, text_member, try_members, what_members};
 
-use crate::event::{AskedJob, Direction, Ending, Event, PageAside, PageConfirmed, What};
+use crate::event::{
+    AskedJob, Direction, Ending, Event, PageAside, PageConfirmed, UndeliveredJob, What,
+};
 use fax_answer::Refusal;
 use fax_bits::NoMemory;
 use fax_control::Leg;
@@ -222,6 +224,51 @@ fn put_job(
     put_cause(writer, cause)
 }
 
+/// Writes for what cause a job's call was not placed last, how often it was tried, and when it ended last.
+fn put_tries(
+    writer: &mut Writer,
+    cause: Option<&str>,
+    tries: u32,
+    last: u64,
+) -> Result<(), AllocError>
+    ensures { OnOk result (Adds writer.old writer.new (try_members (option_map (λ text. text.now) cause.entry) tries last)) }
+{
+    put_cause(writer, cause)?;
+    put_number(writer, "tries", u64::from(tries))?;
+    put_number(writer, "last", last)
+}
+
+/// Writes what is told of a job that could not be delivered.
+fn put_undelivered(
+    writer: &mut Writer,
+    job: UndeliveredJob,
+    tag: Option<&str>,
+    cause: Option<&str>,
+) -> Result<(), AllocError>
+    ensures { OnOk result (Adds writer.old writer.new (what_members (What.Undelivered job tag.entry cause.entry))) }
+{
+    put_number(writer, "life", u64::from(job.life))?;
+    put_number(writer, "call", u64::from(job.call))?;
+    put_tag(writer, tag)?;
+    put_number(writer, "pages", u64::from(job.pages))?;
+    put_text(writer, "outcome", job.outcome.name())?;
+    put_tries(writer, cause, job.tries, job.at)
+}
+
+/// Writes what is told of a job whose pages were dropped.
+fn put_discarded(
+    writer: &mut Writer,
+    life: u32,
+    call: u32,
+    tag: Option<&str>,
+) -> Result<(), AllocError>
+    ensures { OnOk result (Adds writer.old writer.new (what_members (What.Discarded life call tag.entry))) }
+{
+    put_number(writer, "life", u64::from(life))?;
+    put_number(writer, "call", u64::from(call))?;
+    put_tag(writer, tag)
+}
+
 /// Writes what is told of receives or sends that fail.
 fn put_wire(
     writer: &mut Writer,
@@ -264,6 +311,8 @@ fn put_what(writer: &mut Writer, what: &What<'_>) -> Result<(), AllocError>
         What::RefusedPage(call, tag, why) => put_refused_page(writer, call, tag, why),
         What::Ended(call, tag, how) => put_ended(writer, call, tag, how),
         What::Job(report, tag, cause) => put_job(writer, report, tag, cause),
+        What::Undelivered(job, tag, cause) => put_undelivered(writer, job, tag, cause),
+        What::Discarded(life, call, tag) => put_discarded(writer, life, call, tag),
         What::Wire(leg, direction, count) => put_wire(writer, leg, direction, count),
         What::Late(span) => put_number(writer, "ms", span),
         What::SetAside(page, tag) => put_aside(writer, page, tag),

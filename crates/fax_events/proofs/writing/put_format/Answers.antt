@@ -1,4 +1,4 @@
-use Rattle.fax_events.proofs.TextLemmas.{Adds-then, Adds-last}
+use Rattle.fax_events.proofs.TextLemmas.{Adds-last}
 use Rattle.fax_events.proofs.writing.put_format.Goals as goal
 
 pub returns : goal.returns

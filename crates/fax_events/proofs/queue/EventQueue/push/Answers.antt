@@ -1,8 +1,8 @@
-use Rattle.std.proofs.Common.{◌≡◌, ◌<◌, ◌≤◌, ℕ, ◌++◌, length, refl, sym, ◌∙◌, ap, arith}
+use Rattle.std.proofs.Common.{◌<◌, ◌≤◌, ◌++◌, length, refl, ◌∙◌, ap, arith}
 use Rattle.std.proofs.lemmas.Bool.{false≢true}
 use Rattle.circular_buffer.specs.Buffer.{Buffer}
 use Rattle.fax_events.specs.declared.queue.WaitingLine.{WaitingLine}
-use Rattle.fax_events.specs.Queues.{after_line, due_of, lost_lines}
+use Rattle.fax_events.specs.Queues.{due_of, lost_lines}
 use Rattle.fax_events.proofs.QueueLemmas.{told, keeps, loses}
 use Rattle.fax_events.proofs.queue.EventQueue.push.Goals as goal
 use Rattle.fax_events.proofs.queue.EventQueue.push.Goals.{in-Ok, in-Err}

@@ -1,7 +1,7 @@
-use Rattle.std.proofs.Common.{◌≡◌, ℕ, List, [], ◌++◌, drop, sym, ◌∙◌, ap}
+use Rattle.std.proofs.Common.{◌++◌, drop, sym, ◌∙◌, ap}
 use Rattle.circular_buffer.specs.Buffer.{Buffer}
 use Rattle.fax_events.specs.declared.queue.WaitingLine.{WaitingLine}
-use Rattle.fax_events.specs.Queues.{due_of, lost_lines, tellings_of_waiting}
+use Rattle.fax_events.specs.Queues.{lost_lines, tellings_of_waiting}
 use Rattle.fax_events.proofs.QueueLemmas.{told, takes_first, first_of_list, none_of_list, alone_none, alone_told, alone_some}
 use Rattle.fax_events.proofs.queue.EventQueue.take.Goals as goal
 
