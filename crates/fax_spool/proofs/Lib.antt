@@ -7,7 +7,7 @@ mod Numbers
 mod Shorts
 mod Digests
 mod SpoolSteps
-mod Loops
+pub mod Loops
 mod Shares
 pub mod Order
 mod Reopening
@@ -17,4 +17,5 @@ mod TornCalls
 mod Lost
 mod Passed
 mod Harming
-mod Doing
+pub mod Doing
+pub mod ReadBack

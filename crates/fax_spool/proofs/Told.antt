@@ -147,7 +147,7 @@ one_reading octets Damaged Damaged a b = refl
 
 -- ---- all of them
 
-one_list : (items : List (List ℕ)) (records others : List SpoolRecord) → AreReadAs items records → AreReadAs items others → records ≡ others
+pub one_list : (items : List (List ℕ)) (records others : List SpoolRecord) → AreReadAs items records → AreReadAs items others → records ≡ others
 one_list [] [] [] a b = refl
 one_list [] [] (s ∷ others) a b = absurd b
 one_list [] (r ∷ records) others a b = absurd a

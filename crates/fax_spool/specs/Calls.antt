@@ -3,7 +3,7 @@
 use Rattle.std.specs.Prelude.{◌≡◌, ◌⊎◌, ℕ, Bool, true, false, List, [], ◌∷◌, ◌++◌, if◌then◌else◌}
 use Rattle.fax_spool.specs.RecordOctets.{PageValue, EndedValue}
 use Rattle.fax_spool.specs.Waits.{waiting, without}
-use Rattle.fax_spool.specs.Spools.{AreInOrder, IsOrderFound, MayLeaveBoth, Stores, TellBoth, Tells, files_of}
+use Rattle.fax_spool.specs.Spools.{AreInOrder, IsOrderFound, MayLeaveBoth, Stores, TellBoth, Tells, epoch_now, files_of}
 use Rattle.fax_spool.specs.declared.spool_record.SpoolRecord.{SpoolRecord}
 use Rattle.fax_spool.specs.declared.spool.Spool.{Spool}
 
@@ -70,6 +70,13 @@ pub record IsAsBefore {D : Type 0} (seen : D → List ℕ) (may_leave : D → Li
   pub files : files_of new ≡ files_of old
   pub keeps : (olds news : List SpoolRecord) → Stores seen may_leave is_usable old olds news → Stores seen may_leave is_usable new olds news
   pub refuses : refuses_now new ≡ refuses_now old
+
+-- It was read: it keeps what it kept, a crash leaves nothing that one before could not have left, and it refuses where it did.
+pub record IsRead {D : Type 0} (seen : D → List ℕ) (may_leave : D → List ℕ → Type 0) (is_usable : D → Bool) (old new : Spool D) : Type 0 where
+  pub keeps : (olds news : List SpoolRecord) → Stores seen may_leave is_usable old olds news → Stores seen may_leave is_usable new olds news
+  pub crash : (older newer : List ℕ) → MayLeaveBoth may_leave new older newer → MayLeaveBoth may_leave old older newer
+  pub refuses : refuses_now new ≡ refuses_now old
+  pub epoch : epoch_now new ≡ epoch_now old
 
 -- WHAT A CALL DOES: at an `Ok` it is done, whatever crash follows. At an `Err` each crash leaves it done or not, and the spool
 -- refuses everything from then on; or nothing has changed. A spool that refuses answers an `Err`, and nothing changes.

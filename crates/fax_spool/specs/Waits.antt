@@ -25,6 +25,10 @@ ends ended page =
 abbrev pub without : EndedValue → List PageValue → List PageValue
 without ended pages = filter (λ page. not (ends ended (name_of page))) pages
 
+-- and those that it had
+abbrev pub ended_by : EndedValue → List PageValue → List PageValue
+ended_by ended pages = filter (λ page. ends ended (name_of page)) pages
+
 abbrev pub left_of : List PageValue → SpoolRecord → List PageValue
 left_of pages (Page page) = pages
 left_of pages (Ended ended) = without ended pages

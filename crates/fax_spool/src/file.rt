@@ -266,7 +266,7 @@ pub(crate) fn records_of(alloc: Global, octets: &[u8]) -> Result<FileContents, A
 }
 
 /// All octets of a file.
-fn read_all<D: Disk>(alloc: Global, disk: &mut D) -> io::Result<Vec<u8>>
+pub(crate) fn read_all<D: Disk>(alloc: Global, disk: &mut D) -> io::Result<Vec<u8>>
     requires usable { IsTrue (D.is_usable disk.old) }
     ensures usable { IsTrue (D.is_usable disk.new) }
     ensures octets { IfOk result (λ v. IsTrue (D.is_clean disk.new) → v.items ≡ D.seen disk.old) }

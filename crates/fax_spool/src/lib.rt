@@ -7,6 +7,7 @@ pub mod laws;
 mod listing;
 mod opening;
 mod page_name;
+mod reading;
 mod record;
 mod sealing;
 mod spool;

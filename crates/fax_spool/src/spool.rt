@@ -1,20 +1,21 @@
 //! A spool: the records of confirmed pages and of jobs that ended, in two files in turn.
-ghost use Rattle.std.specs.Prelude.{◌≡◌, ◌⊎◌, ◌<◌, ◌≤◌, ◌++◌, [], ◌∷◌, List, ℕ, length, map, not, true, false, IfOk, OnOk, OnErr, IsTrue};
+ghost use Rattle.std.specs.Prelude.{◌≡◌, ◌⊎◌, ◌<◌, ◌≤◌, ◌++◌, [], ◌∷◌, List, ℕ, length, map, not, true, false, IfOk, OnOk, OnErr, IsErr, IsTrue};
 ghost use Rattle.std.specs.List.{filter};
 ghost use Rattle.std.specs.Bool.{MatchBool};
 ghost use Rattle.std.specs.Result.{is_ok};
-ghost use Rattle.fax_spool.specs.Calls.{Accepts, Does, Puts, Ends, Refuses, Turns, refuses_now};
+ghost use Rattle.fax_spool.specs.Calls.{Accepts, Does, IsRead, Puts, Ends, Refuses, Turns, refuses_now};
 ghost use Rattle.fax_spool.specs.Records.{Stands};
 ghost use Rattle.fax_spool.specs.Settled.{IsSettled};
 ghost use Rattle.fax_spool.specs.SpoolRecords.{AreReadAs, kept_of};
-ghost use Rattle.fax_spool.specs.Waits.{ends};
+ghost use Rattle.fax_spool.specs.Waits.{ended_by, ends, waiting};
 ghost use Rattle.fax_spool.specs.Spools.{AreClean, Stores, NoneIsLeft, MayLeaveBoth, TellBoth, epoch_now, epoch_records, files_of, greatest_epoch};
 ghost use Rattle.fax_spool.specs.declared.spool_record.SpoolRecord.{SpoolRecord as SpoolRecordShown};
 
 use crate::page_name::PageName;
+use crate::reading::{ended_pages, read_items};
 use crate::spool_record::{seal_ended, seal_epochs, seal_page, seal_pages};
 use crate::waiting::{drop_ended, names_of, newest_epoch};
-use crate::{EndedRecord, PageRecord, RecordFile, SpoolRecord, waiting_pages};
+use crate::{EndedRecord, PageRecord, RecordFile, SpoolRecord, WaitingPage, waiting_pages};
 use sqlite_disk::Disk;
 use std::alloc::Global;
 use std::{io, mem};
@@ -176,6 +177,27 @@ impl<D: Disk> Spool<D> {
         forget_ended(&mut self.older_pages, ended);
         forget_ended(&mut self.newer_pages, ended);
         Ok(())
+    }
+
+    /// The pages that wait and that this end of a job would end, in the order in which they were put, each as its record has it. Both
+    /// files are read through, and nothing is written. An `Err` (the disk's failure, no memory, or a spool that refuses) makes nothing
+    /// refuse.
+    pub fn pages_ended_by(
+        &mut self,
+        alloc: Global,
+        ended: &EndedRecord<'_>,
+    ) -> io::Result<Vec<WaitingPage>>
+        ensures found { IfOk result (λ pages. AreClean D.is_clean (files_of self.new) → (olds news : List SpoolRecordShown) → Stores D.seen D.may_leave D.is_usable self.old olds news
+            → pages.items ≡ ended_by ended.now (waiting (olds ++ news))) }
+        ensures read { IsRead D.seen D.may_leave D.is_usable self.old self.new }
+        ensures refused { Refuses self.old → IsErr result × (self.new ≡ self.old) }
+    {
+        if self.refuses {
+            return Err(io::ErrorKind::Other.into());
+        }
+        let olds = read_items(alloc, &mut self.older)?;
+        let news = read_items(alloc, &mut self.newer)?;
+        Ok(ended_pages(alloc, olds.as_slice(), news.as_slice(), ended)?)
     }
 
     /// Drops the records of the older file where none of its pages waits, and answers whether it did: not where one waits.
