@@ -24,7 +24,35 @@ pub fn open_folder<S: Start>(
     ensures accepts { IfOk result (λ opened. Accepts opened.spool) }
 {
     let path = format!(in rt.alloc(); "{folder}/pages")?;
-    let files = open(rt, path.as_str(), start)?;
+    open_pair(rt, path.as_str(), start)
+}
+
+/// Opens the second pair of files of a folder, `undelivered` and `undelivered-wal`, in which pages lie that could not be delivered: a
+/// spool of the same form, opened as `open_folder` opens the first.
+pub fn open_undelivered_folder<S: Start>(
+    rt: &HostRuntime,
+    folder: &str,
+    start: S,
+) -> Result<OpenedSpool<FileFrom<S>>, FolderFault>
+    ensures opened { IfOk result (λ opened. AreClean ⟦<FileFrom<S> as Disk>⟧.is_clean (files_of opened.spool)
+        → IsOpened ⟦<FileFrom<S> as Disk>⟧.seen ⟦<FileFrom<S> as Disk>⟧.may_leave ⟦<FileFrom<S> as Disk>⟧.is_usable S.db S.log opened) }
+    ensures accepts { IfOk result (λ opened. Accepts opened.spool) }
+{
+    let path = format!(in rt.alloc(); "{folder}/undelivered")?;
+    open_pair(rt, path.as_str(), start)
+}
+
+/// Opens a spool over the file of this path and the one beside it.
+fn open_pair<S: Start>(
+    rt: &HostRuntime,
+    path: &str,
+    start: S,
+) -> Result<OpenedSpool<FileFrom<S>>, FolderFault>
+    ensures opened { IfOk result (λ opened. AreClean ⟦<FileFrom<S> as Disk>⟧.is_clean (files_of opened.spool)
+        → IsOpened ⟦<FileFrom<S> as Disk>⟧.seen ⟦<FileFrom<S> as Disk>⟧.may_leave ⟦<FileFrom<S> as Disk>⟧.is_usable S.db S.log opened) }
+    ensures accepts { IfOk result (λ opened. Accepts opened.spool) }
+{
+    let files = open(rt, path, start)?;
     let Files { log, db } = files;
     Ok(open_spool(rt.alloc(), db, log)?)
 }
@@ -33,6 +61,16 @@ pub fn open_folder<S: Start>(
 pub trait Folders {
     /// Opens the spool of a folder, as `open_folder`. `S` stands for what its files hold.
     fn open_spool<S: Start>(
+        &self,
+        folder: &str,
+        start: S,
+    ) -> Result<OpenedSpool<FileFrom<S>>, FolderFault>
+        ensures opened { IfOk result (λ opened. AreClean ⟦<FileFrom<S> as Disk>⟧.is_clean (files_of opened.spool)
+            → IsOpened ⟦<FileFrom<S> as Disk>⟧.seen ⟦<FileFrom<S> as Disk>⟧.may_leave ⟦<FileFrom<S> as Disk>⟧.is_usable S.db S.log opened) }
+        ensures accepts { IfOk result (λ opened. Accepts opened.spool) };
+
+    /// Opens the second pair of files of a folder, as `open_undelivered_folder`. `S` stands for what its files hold.
+    fn open_undelivered<S: Start>(
         &self,
         folder: &str,
         start: S,
@@ -49,5 +87,13 @@ impl Folders for HostRuntime {
         start: S,
     ) -> Result<OpenedSpool<FileFrom<S>>, FolderFault> {
         open_folder(self, folder, start)
+    }
+
+    fn open_undelivered<S: Start>(
+        &self,
+        folder: &str,
+        start: S,
+    ) -> Result<OpenedSpool<FileFrom<S>>, FolderFault> {
+        open_undelivered_folder(self, folder, start)
     }
 }

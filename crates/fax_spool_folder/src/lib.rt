@@ -6,5 +6,5 @@ mod folder;
 mod pages;
 
 pub use fault::FolderFault;
-pub use folder::{Folders, SpoolFolderFile, open_folder};
+pub use folder::{Folders, SpoolFolderFile, open_folder, open_undelivered_folder};
 pub use pages::{read_waiting_page, write_stored_text};

@@ -1,4 +1,4 @@
-use Rattle.fax_spool_folder.proofs.folder.open_folder.Goals as goal
+use Rattle.fax_spool_folder.proofs.folder.open_pair.Goals as goal
 
 -- the files are as they were as they were opened
 pub returns-clause-opened : goal.returns-clause-opened
