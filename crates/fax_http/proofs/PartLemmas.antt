@@ -18,3 +18,7 @@ five r old s t u v w a b c d x e f g h i = two r old s (t ++ (u ++ (v ++ w))) a 
 pub six : {A E : Type 0} (r : Result A E) (old s t u v w y a b c d x z : List ℕ) → a ≡ old ++ s → b ≡ a ++ t → c ≡ b ++ u → d ≡ c ++ v → x ≡ d ++ w → OnOk r (z ≡ x ++ y)
     → OnOk r (z ≡ old ++ (s ++ (t ++ (u ++ (v ++ (w ++ y))))))
 six r old s t u v w y a b c d x z e f g h i j = two r old s (t ++ (u ++ (v ++ (w ++ y)))) a z e (five r a t u v w y b c d x z f g h i j)
+
+pub seven : {A E : Type 0} (r : Result A E) (old s t u v w y k a b c d x z l : List ℕ) → a ≡ old ++ s → b ≡ a ++ t → c ≡ b ++ u → d ≡ c ++ v → x ≡ d ++ w → z ≡ x ++ y → OnOk r (l ≡ z ++ k)
+    → OnOk r (l ≡ old ++ (s ++ (t ++ (u ++ (v ++ (w ++ (y ++ k)))))))
+seven r old s t u v w y k a b c d x z l e f g h i j m = two r old s (t ++ (u ++ (v ++ (w ++ (y ++ k))))) a l e (six r a t u v w y k b c d x z l f g h i j m)

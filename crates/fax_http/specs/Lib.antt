@@ -7,3 +7,4 @@ pub mod Metrics
 pub mod Pages
 pub mod Questions
 pub mod Texts
+pub mod Undelivered

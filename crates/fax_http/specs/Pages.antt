@@ -9,6 +9,7 @@ use Rattle.fax_http.specs.declared.view.LineView.{LineView}
 use Rattle.fax_http.specs.declared.view.PageView.{PageView}
 use Rattle.fax_http.specs.Cells.{called_cell, calling_cell, name_cell, number_cell, shown_cell, text_cell}
 use Rattle.fax_http.specs.Healths.{is_well, reason}
+use Rattle.fax_http.specs.Undelivered.{undelivered_part}
 
 -- what is wrong
 unfoldable pub ill_part : Health → List ℕ
@@ -60,6 +61,7 @@ count_row count = codes "<tr>" ++ (name_cell count.name.now ++ (number_cell coun
 unfoldable pub counts_part : List CountView → List ℕ
 counts_part counts = COUNTS.now ++ (flat_map count_row counts ++ (ROWS_END.now ++ BOTTOM.now))
 
--- THE PAGE: how the server is, the lines on which something is under way, the jobs that ended last, and the counts.
+-- THE PAGE: how the server is, the lines on which something is under way, the jobs that ended last, the calls of which pages could not be
+-- delivered, and the counts.
 unfoldable pub page_octets : PageView → List ℕ
-page_octets view = TOP.now ++ (state_part view.health ++ (lines_part view.lines.now view.others ++ (jobs_part view.jobs.now ++ counts_part view.counts.now)))
+page_octets view = TOP.now ++ (state_part view.health ++ (lines_part view.lines.now view.others ++ (jobs_part view.jobs.now ++ (undelivered_part view.undelivered.now ++ counts_part view.counts.now))))

@@ -13,6 +13,7 @@ mod page;
 mod question;
 mod reading;
 mod text;
+mod undelivered;
 mod view;
 
 pub use answer::{Answer, Content, Status, refusal, write_answer};
@@ -23,4 +24,4 @@ pub use metrics::write_open_metrics;
 pub use page::write_page;
 pub use question::{Question, Refusal, Resource, Wanted};
 pub use reading::{MOST_HEAD, read_question};
-pub use view::{CallView, CalledView, CountView, JobView, LineView, PageView};
+pub use view::{CallView, CalledView, CountView, JobView, LineView, PageView, UndeliveredView};

@@ -8,6 +8,7 @@ use crate::cells::{
 };
 use crate::health::{Health, put_if};
 use crate::text::{put, put_number};
+use crate::undelivered::put_undelivered;
 use crate::view::{CountView, JobView, LineView, PageView};
 use std::alloc::{AllocError, Global};
 
@@ -91,6 +92,7 @@ fn put_page(octets: &mut Vec<u8>, view: &PageView<'_>) -> Result<(), AllocError>
     put_state(octets, view.health)?;
     put_lines(octets, view.lines, view.others)?;
     put_jobs(octets, view.jobs)?;
+    put_undelivered(octets, view.undelivered)?;
     put_counts(octets, view.counts)
 }
 

@@ -44,6 +44,20 @@ pub struct JobView<'a> {
     pub outcome: &'a str,
 }
 
+/// A call of which pages could not be delivered.
+#[derive(Clone, Copy)]
+pub struct UndeliveredView<'a> {
+    /// The name of its line.
+    pub line: &'a str,
+    /// In which life of the server its pages came.
+    pub life: u64,
+    pub call: CallView<'a>,
+    /// How many pages are kept.
+    pub pages: u64,
+    /// How its job ended last, in words.
+    pub outcome: &'a str,
+}
+
 /// A count.
 #[derive(Clone, Copy)]
 pub struct CountView<'a> {
@@ -62,5 +76,7 @@ pub struct PageView<'a> {
     pub others: u64,
     /// The jobs that ended last.
     pub jobs: &'a [JobView<'a>],
+    /// Calls of which pages could not be delivered, as many as are to be told.
+    pub undelivered: &'a [UndeliveredView<'a>],
     pub counts: &'a [CountView<'a>],
 }

@@ -1,5 +1,8 @@
 //! The page for an operator, with names and tags that are markup.
-use fax_http::{CallView, CalledView, CountView, Health, JobView, LineView, PageView, write_page};
+use fax_http::{
+    CallView, CalledView, CountView, Health, JobView, LineView, PageView, UndeliveredView,
+    write_page,
+};
 use std::test::Fail;
 
 const LINES: &[LineView<'static>] = &[
@@ -37,6 +40,17 @@ const JOBS: &[JobView<'static>] = &[JobView {
     outcome: "a command was not answered",
 }];
 
+const UNDELIVERED: &[UndeliveredView<'static>] = &[UndeliveredView {
+    line: "a<1>",
+    life: 12,
+    call: CallView {
+        call: 9,
+        tag: Some("49&1"),
+    },
+    pages: 4,
+    outcome: "its call could not be placed: 486",
+}];
+
 const COUNTS: &[CountView<'static>] = &[CountView {
     name: "pages confirmed",
     value: 18_446_744_073_709_551_615,
@@ -58,6 +72,7 @@ fn a_page_shows_texts_as_they_are(rt: HostRuntime) -> Result<(), Fail> {
         lines: LINES,
         others: 97,
         jobs: JOBS,
+        undelivered: UNDELIVERED,
         counts: COUNTS,
     };
     let page = write_page(rt.alloc(), &view)?;
@@ -82,6 +97,12 @@ fn a_page_shows_texts_as_they_are(rt: HostRuntime) -> Result<(), Fail> {
         )
     );
     assert!(rt; has(page, b"<td class=\"number\">18446744073709551615</td>"));
+    assert!(rt;
+        has(
+            page,
+            b"<tr><th scope=\"row\">a&lt;1&gt;</th><td>call 9, 49&amp;1</td><td class=\"number\">12</td><td class=\"number\">4</td><td>its call could not be placed: 486</td></tr>\n"
+        )
+    );
     assert!(rt; has(page, b"<p>Other lines: 97.</p>"));
     assert!(rt; has(page, b"<li>the spool's disk has failed</li>"));
     assert!(rt; !has(page, b"<script"));
@@ -100,6 +121,7 @@ fn an_empty_page_says_so(rt: HostRuntime) -> Result<(), Fail> {
         lines: &[],
         others: 0,
         jobs: &[],
+        undelivered: &[],
         counts: &[],
     };
     let page = write_page(rt.alloc(), &view)?;
