@@ -6,7 +6,7 @@ mod BookEntries
 mod BookTurns
 pub mod Calls
 mod Cut
-mod EndsIf
+pub mod EndsIf
 mod Lives
 mod Naming
 mod Numbering
@@ -26,3 +26,4 @@ mod Refusing
 mod Tagging
 mod Tags
 mod Tidying
+mod ReadBack

@@ -1,12 +1,14 @@
 -- What a job's end names, of pages that are in the order in which they came.
-use Rattle.std.proofs.Common.{◌≡◌, ◌∙◌, ℕ, zero, suc, ◌+◌, ◌^◌, ◌<◌, ◌≤◌, ◌⊎◌, inl, inr, Bool, true, false, not, cond, List, [], ◌∷◌, ◌++◌, length, take, drop, count_by, Some, slice_get, refl, sym, ap, subst, ◌-◌, arith, bytes_eq}
+use Rattle.std.proofs.Common.{◌≡◌, ◌∙◌, ℕ, zero, suc, ◌+◌, ◌^◌, ◌<◌, ◌≤◌, ◌⊎◌, inl, inr, Bool, true, false, not, cond, List, [], ◌∷◌, ◌++◌, length, take, drop, count_by, Option, None, Some, IfNone, IfSome, slice_get, refl, sym, ap, subst, ◌-◌, arith, bytes_eq}
+use Rattle.std.proofs.Common.{length-drop}
+use Rattle.std.proofs.Math.Seq.{take-length}
 use Rattle.std.proofs.lemmas.Bool.Decides.{nat_tests}
 use Rattle.std.proofs.lemmas.Slice.Eq.{bytes_eq-Decides}
 use Rattle.fax_spool.specs.RecordOctets.{EndedValue}
 use Rattle.fax_spool.specs.Waits.{PageName, ends}
 use Rattle.fax_queue.specs.declared.queue.QueuedPage.{QueuedPage}
 use Rattle.fax_queue.specs.declared.queue.EndedJob.{EndedJob}
-use Rattle.fax_queue.specs.Queues.{AreAfter, AreInOrder, IsAfter, IsFirstJob, NamesFirst, left_by, name_in}
+use Rattle.fax_queue.specs.Queues.{AreAfter, AreInOrder, BeginsAt, IsAfter, IsFirstJob, NamesFirst, NamesLeft, left_by, name_in}
 
 -- ---- one page
 
@@ -102,6 +104,55 @@ names_first waits first last n ended order begins at life call a b d low end cou
   as_many = there waits n last at;
   leaves = λ line e is. all_leave e line waits first last n order begins at life call (is.life ∙ a) (is.call ∙ b) is.line_is (is.first ∙ d) (let f : e.first ≡ ended.first = is.first in let p : e.pages ≡ ended.pages = is.pages in omega arith) low;
 }
+
+-- ---- those of a job that are left
+
+had_not_before : (e : EndedValue) (page : PageName) → (e.life ≡ page.life → e.call ≡ page.call → page.number < e.first) → ends e page ≡ false
+had_not_before e page h = grind (arith, nat_tests)
+
+-- a record that begins with a page names none of those before it
+before_left : (e : EndedValue) (line : List ℕ) (first : QueuedPage) (n : ℕ) (pages : List QueuedPage) → AreInOrder pages → slice_get pages n ≡ Some first → e.life ≡ first.life → e.call ≡ first.call → e.first ≡ first.number
+    → left_by e line (take n pages) ≡ take n pages
+before_left e line first zero pages order at life call low = refl
+before_left e line first (suc n) [] order at life call low = refl
+before_left e line first (suc n) (page ∷ pages) order at life call low =
+    let after : IsAfter first page = after_at pages page first n order.0 at in
+    let no : ends e (name_in line page) ≡ false = had_not_before e (name_in line page) (λ l k. grind arith) in
+    subst (λ (b : Bool). cond (not b) (page ∷ left_by e line (take n pages)) (left_by e line (take n pages)) ≡ page ∷ take n pages) (sym no)
+    (ap (λ (l : List QueuedPage). page ∷ l) (before_left e line first n pages order.1 at life call low))
+
+first_of_drop : (n : ℕ) (pages : List QueuedPage) → slice_get (drop n pages) 0 ≡ slice_get pages n
+first_of_drop zero pages = refl
+first_of_drop (suc n) [] = refl
+first_of_drop (suc n) (page ∷ pages) = first_of_drop n pages
+
+names_left : (pages delivered : ℕ) (left : EndedJob) (waits : List QueuedPage) → AreInOrder waits → NamesFirst (pages - delivered) left (drop delivered waits) → BeginsAt left (drop delivered waits) → NamesLeft pages delivered left waits
+names_left pages delivered left waits order names begins = record {
+  names = names;
+  before = λ line e is.
+      before_left e line begins.first delivered waits order (sym (first_of_drop delivered waits) ∙ begins.is_first) (is.life ∙ begins.life) (is.call ∙ begins.call) (is.first ∙ begins.number);
+}
+
+-- the slice from a place on
+pub rest_is : (n : ℕ) (slice waits : List QueuedPage) → slice ≡ waits → take (length slice - n) (drop n slice) ≡ drop n waits
+rest_is n slice waits same = ap (λ (m : ℕ). take m (drop n slice)) (sym (length-drop n slice)) ∙ take-length (drop n slice) ∙ ap (λ (l : List QueuedPage). drop n l) same
+
+pub if_names_left : (o : Option EndedJob) (pages delivered count : ℕ) (waits rest : List QueuedPage) → rest ≡ drop delivered waits → count ≡ pages - delivered → AreInOrder waits
+    → IfSome o (λ ended. NamesFirst count ended rest) → IfSome o (λ ended. BeginsAt ended rest) → IfSome o (λ left. NamesLeft pages delivered left waits)
+if_names_left None pages delivered count waits rest same counts order names begins = tt
+if_names_left (Some e) pages delivered count waits rest same counts order names begins =
+    names_left pages delivered e waits order (subst (λ (n : ℕ). NamesFirst n e (drop delivered waits)) counts (subst (λ (l : List QueuedPage). NamesFirst count e l) same names))
+    (subst (λ (l : List QueuedPage). BeginsAt e l) same begins)
+
+pub if_none_left : (o : Option EndedJob) (whole : Bool) (pages delivered count : ℕ) (waits rest : List QueuedPage) → rest ≡ drop delivered waits → count ≡ pages - delivered
+    → IfNone o (¬ IsFirstJob count rest) → IfNone o ((whole ≡ false) ⊎ (¬ IsFirstJob (pages - delivered) (drop delivered waits)))
+if_none_left None whole pages delivered count waits rest same counts none =
+    inr (λ is. none (subst (λ (n : ℕ). IsFirstJob n rest) (sym counts) (subst (λ (l : List QueuedPage). IsFirstJob (pages - delivered) l) (sym same) is)))
+if_none_left (Some e) whole pages delivered count waits rest same counts none = tt
+
+-- none is first of no pages, and no job of none is
+pub no_first : (count : ℕ) → IsFirstJob count [] → ⊥
+no_first count is = let none = is.begins in cc
 
 -- ---- the job that is first
 

@@ -1,5 +1,5 @@
 -- What the wire of a line did in a run, order by order.
-use Rattle.std.proofs.Common.{◌≡◌, ◌≢◌, ◌∙◌, ℕ, zero, suc, ◌<◌, ◌⊎◌, inl, inr, Bool, true, false, ◌&&◌, ◌||◌, nat_eq, List, [], ◌∷◌, ◌++◌, length, All, AllPairs, Option, Some, None, is_ok, is_some, slice_index_or, arith, refl, sym, ap, subst, append-nil}
+use Rattle.std.proofs.Common.{◌≡◌, ◌∙◌, ℕ, zero, suc, ◌<◌, ◌⊎◌, inl, inr, Bool, true, false, ◌&&◌, ◌||◌, nat_eq, List, [], ◌∷◌, ◌++◌, All, AllPairs, Option, Some, None, is_ok, is_some, slice_index_or, arith, refl, sym, ap, subst, append-nil}
 use Rattle.std.proofs.lemmas.Bool.{eqb-true}
 use Rattle.fax_pagestore.specs.PageLaws.{PagesAreUnique}
 use Rattle.fax_pagestore.specs.Pages.{PageValue}
@@ -9,7 +9,7 @@ use Rattle.fax_gateway.specs.Restored.{CallPage}
 use Rattle.fax_gateway.specs.Setups.{Setup}
 use Rattle.fax_gateway.specs.Events.{Event, Placed, Ring}
 use Rattle.fax_holding_wire.specs.Holding.{CeasesWhere, HoldingValue, StaysWhere}
-use Rattle.fax_holding_wire.specs.Storing.{Begins, HasDone, HasDoneWhere, HoldsAfterWhere, LegAction, Turn, went_out}
+use Rattle.fax_holding_wire.specs.Storing.{Begins, HasDoneWhere, HoldsAfterWhere, LegAction, Turn, went_out}
 use Rattle.fax_holding_wire.proofs.Held.{begins_where, ceases_beside, done_where_still, no_turn_where, silenced_until}
 use Rattle.fax_line.specs.Actions.{LineValue}
 use Rattle.fax_line.specs.StoredRuns.{kept_if}

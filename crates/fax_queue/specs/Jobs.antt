@@ -1,12 +1,13 @@
 -- The pages that wait on a disk, and what the end of a job makes of them. (This project's profile.)
-use Rattle.std.specs.Prelude.{◌≡◌, ◌⊎◌, ℕ, Bool, true, List, [], drop, Some, slice_get, slice_set}
+use Rattle.std.specs.Prelude.{◌≡◌, ◌⊎◌, ◌≤◌, ℕ, Bool, true, List, [], drop, map, Some, slice_get, slice_set}
 use Rattle.fax_spool.specs.RecordOctets.{EndedValue, PageValue}
 use Rattle.fax_spool.specs.Calls.{EachCrashTells, Refuses, Rests}
-use Rattle.fax_spool.specs.Spools.{NoneIsLeft, Stores}
-use Rattle.fax_spool.specs.Waits.{without}
+use Rattle.fax_spool.specs.Spools.{AreClean, NoneIsLeft, Stores, files_of}
+use Rattle.fax_spool.specs.Waits.{ended_by, name_of, without}
 use Rattle.fax_spool.specs.declared.spool_record.SpoolRecord.{SpoolRecord}
 use Rattle.fax_spool.specs.declared.spool.Spool.{Spool}
-use Rattle.fax_queue.specs.Queues.{QueueValue, left_by}
+use Rattle.fax_queue.specs.declared.queue.EndedJob.{EndedJob}
+use Rattle.fax_queue.specs.Queues.{AreAmong, IsEndOf, NamesLeft, QueueValue, left_by, not_delivered}
 
 -- THESE PAGES WAIT ON THE DISK, in the order in which they were put, whatever crash follows.
 abbrev pub PagesWait : {D : Type 0} → (D → List ℕ) → (D → List ℕ → Type 0) → (D → Bool) → Spool D → List PageValue → Type 0
@@ -43,3 +44,23 @@ pub record EndsJobAt {D : Type 0} (seen : D → List ℕ) (may_leave : D → Lis
   pub is : slice_get news place ≡ Some new
   pub are : news ≡ slice_set olds place new
   pub ends : EndsJob seen may_leave is_usable pages old new before after
+
+-- ---- the pages of a job that were not delivered
+
+-- pages were read from the disk by the record of these: where nothing wrong was read, they are just those that wait there and that it names
+pub record ReadsNamed {D : Type 0} (seen : D → List ℕ) (may_leave : D → List ℕ → Type 0) (is_usable is_clean : D → Bool) (left : EndedJob) (line : List ℕ) (before after : Spool D) (read : List PageValue) : Type 0 where
+  pub ended : EndedValue
+  pub is_end : IsEndOf left line ended
+  pub found : AreClean is_clean (files_of after) → (waits : List PageValue) → PagesWait seen may_leave is_usable before waits → read ≡ ended_by ended waits
+
+-- and that record names those of a job that were not delivered
+pub record AreLeft {D : Type 0} (seen : D → List ℕ) (may_leave : D → List ℕ → Type 0) (is_usable is_clean : D → Bool) (pages delivered : ℕ) (queue : QueueValue) (before after : Spool D) (read : List PageValue) : Type 0 where
+  pub left : EndedJob
+  pub names : NamesLeft pages delivered left queue.waits
+  pub reads : ReadsNamed seen may_leave is_usable is_clean left queue.line before after read
+
+-- THE PAGES OF A JOB THAT WERE NOT DELIVERED WERE READ, of so many of which the first so many were: each that the queue of its line says to be
+-- on the disk is among them, and no page of another job is.
+pub record ReadsLeft {D : Type 0} (seen : D → List ℕ) (may_leave : D → List ℕ → Type 0) (is_usable is_clean : D → Bool) (pages delivered : ℕ) (queue : QueueValue) (before after : Spool D) (read : List PageValue) : Type 0 where
+  pub all : AreAmong queue.line (not_delivered pages delivered queue.waits) (map name_of read)
+  pub are : ((pages ≤ delivered) × (read ≡ [])) ⊎ AreLeft seen may_leave is_usable is_clean pages delivered queue before after read

@@ -115,6 +115,23 @@ pub record NamesFirst (pages : ℕ) (ended : EndedJob) (waits : List QueuedPage)
   pub kept : ended.kept ≡ count_by (λ page. page.is_stored) (take pages waits)
   pub leaves : (line : List ℕ) (kept : EndedValue) → IsEndOf ended line kept → left_by kept line waits ≡ drop pages waits
 
+-- the record of pages names the first of these
+pub record BeginsAt (ended : EndedJob) (waits : List QueuedPage) : Type 0 where
+  pub first : QueuedPage
+  pub is_first : slice_get waits 0 ≡ Some first
+  pub life : ended.life ≡ first.life
+  pub call : ended.call ≡ first.call
+  pub number : ended.first ≡ first.number
+
+-- of the first so many pages, those from the one after the first so many on, which were delivered
+abbrev pub not_delivered : (pages delivered : ℕ) → List QueuedPage → List QueuedPage
+not_delivered pages delivered waits = take (pages - delivered) (drop delivered waits)
+
+-- THE RECORD OF THE PAGES OF A JOB THAT WERE NOT DELIVERED names none before them, and of those from them on just the job's.
+pub record NamesLeft (pages delivered : ℕ) (left : EndedJob) (waits : List QueuedPage) : Type 0 where
+  pub names : NamesFirst (pages - delivered) left (drop delivered waits)
+  pub before : (line : List ℕ) (kept : EndedValue) → IsEndOf left line kept → left_by kept line (take delivered waits) ≡ take delivered waits
+
 -- ---- what of it is on the disk
 
 abbrev pub IsAmong : PageName → List PageName → Type 0

@@ -22,4 +22,7 @@ pub enum EndFault {
     /// A call of the disk failed, this one or one before it: the end is on the disk or not.
     #[error("the disk failed")]
     DiskFailed,
+    /// Its pages that were not delivered could not be kept elsewhere before: they were not read from the disk, or not put.
+    #[error("the pages could not be kept")]
+    NotKept,
 }

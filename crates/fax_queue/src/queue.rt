@@ -1,6 +1,6 @@
 //! The pages of a line that wait, as a spool knows them.
-ghost use Rattle.std.specs.Prelude.{◌≡◌, ◌⊎◌, ◌↔◌, [], ◌∷◌, ◌++◌, take, drop, count_by, true, false, not, nat_eq, None, Some, IsTrue, IfOk, IfNone, IfSome, MatchOption, OnOk, OnErr};
-ghost use Rattle.fax_queue.specs.Queues.{AreInOrder, IsAfter, IsFirstJob, IsQueued, NamesFirst, first_tag, is_of_earlier_life, kept_of, next_number, tag_in};
+ghost use Rattle.std.specs.Prelude.{◌≡◌, ◌⊎◌, ◌↔◌, [], ◌∷◌, ◌++◌, ◌-◌, take, drop, count_by, true, false, not, nat_eq, None, Some, IsTrue, IfOk, IfNone, IfSome, MatchOption, OnOk, OnErr};
+ghost use Rattle.fax_queue.specs.Queues.{AreInOrder, BeginsAt, IsAfter, IsFirstJob, IsQueued, NamesFirst, NamesLeft, first_tag, is_of_earlier_life, kept_of, next_number, tag_in};
 
 use fax_bits::NoMemory;
 use std::alloc::{AllocError, Global};
@@ -247,6 +247,24 @@ impl Queue {
         let _ = self.waits.drain(..pages as usize);
         Some(ended)
     }
+
+    /// Of the job that is first in turn, which has so many pages, those after the first so many, which were delivered. `None`: which
+    /// ones they are is not known, or there is none.
+    pub fn job_left(&self, pages: u32, delivered: u32) -> Option<EndedJob>
+        ensures some { IfSome result (λ left. NamesLeft pages delivered left self.now.waits) }
+        ensures none { IfNone result ((self.now.is_whole ≡ false) ⊎ (¬ IsFirstJob (pages - delivered) (drop delivered self.now.waits))) }
+    {
+        if !self.is_whole {
+            return None;
+        }
+        let waits = self.waits.as_slice();
+        let from = delivered as usize;
+        if from > waits.len() {
+            return None;
+        }
+        let count = pages.checked_sub(delivered)?;
+        first_job(&waits[from..], count)
+    }
 }
 
 /// The tag of a call of an earlier life, where one of these is.
@@ -289,6 +307,7 @@ fn is_after(page: &QueuedPage, other: &QueuedPage) -> bool
 fn first_job(waits: &[QueuedPage], pages: u32) -> Option<EndedJob>
     requires { AreInOrder waits.now }
     ensures names { IfSome result (λ ended. NamesFirst pages ended waits.now) }
+    ensures begins { IfSome result (λ ended. BeginsAt ended waits.now) }
     ensures none { IfNone result (¬ IsFirstJob pages waits.now) }
 {
     let first = waits.first()?;

@@ -1,12 +1,12 @@
 //! The pages of a server that are stored on a disk.
-ghost use Rattle.std.specs.Prelude.{ℕ, ◌≡◌, ◌<◌, false, true, List, [], ◌++◌, All, IfErr, IfOk, IsErr, MatchOption, None, Some, OnErr, OnOk, is_ok, length, slice_get};
-ghost use Rattle.fax_spool.specs.Calls.{Accepts, Refuses, refuses_now};
+ghost use Rattle.std.specs.Prelude.{ℕ, ◌≡◌, ◌<◌, false, true, List, [], ◌++◌, All, IfErr, IfOk, IsErr, MatchOption, None, Some, OnErr, OnOk, is_ok, length, slice_get, slice_set};
+ghost use Rattle.fax_spool.specs.Calls.{Accepts, IsRead, Refuses, refuses_now};
 ghost use Rattle.fax_spool.specs.RecordOctets.{PageValue as SpoolPage};
 ghost use Rattle.fax_spool.specs.Spools.{epoch_now};
 ghost use Rattle.fax_spool.specs.Waits.{PageName};
 ghost use Rattle.fax_line.specs.declared.settling.PageToStore.{PageToStore as ToStore};
 ghost use Rattle.fax_queue.specs.EndFaults.{IsWhy, IsWhyAt};
-ghost use Rattle.fax_queue.specs.Jobs.{EndsJob, EndsJobAt, IsTidy, PagesWait, WaitSo};
+ghost use Rattle.fax_queue.specs.Jobs.{EndsJob, EndsJobAt, IsTidy, PagesWait, ReadsLeft, WaitSo};
 ghost use Rattle.fax_queue.specs.Storing.{AddAll, AddsAt, Agree, AllAreAmong, AreNumbersOf, ArePut, HaveOwnNames, PutsNumbered, StoresPages, number_at};
 ghost use Rattle.fax_queue.specs.Refusals.{AreRefused, EndsSomehow, EndsSomehowAt, PutsEnd, notes_of};
 ghost use Rattle.fax_queue.specs.Queues.{QueueValue, first_tag, is_of_earlier_life};
@@ -15,11 +15,12 @@ ghost use Rattle.fax_queue.specs.Tags.{NotesTag, PutsTagged};
 use crate::end_fault::EndFault;
 use crate::putting::{CallTag, Names, put_pages};
 use crate::queue::{EndedJob, Queue, QueuedPage};
+use crate::reading::read_job;
 use fax_holding_wire::{PageStore, StoreFault};
 use fax_jobs::Report;
 use fax_line::PageToStore;
 use fax_spool::laws::files_share_what_waits;
-use fax_spool::{EndedRecord, Spool};
+use fax_spool::{EndedRecord, Spool, WaitingPage};
 use sqlite_disk::Disk;
 use std::alloc::Global;
 
@@ -254,6 +255,41 @@ impl<D: Disk> Storage<D> {
         self.octets = change_files(self.alloc, &mut self.spool, self.octets);
         Ok(())
     }
+
+    /// Of the job of line i that is first in turn its pages that are on the disk, from the first that was not delivered on: none where
+    /// all were, or where none of the others is there. An `Err` where there is no such line, where it is not known which pages the job
+    /// had, or where one of them could not be read; then none of them is lost, and the spool refuses only where it did.
+    pub fn job_pages(&mut self, i: usize, report: Report) -> Result<Vec<WaitingPage>, EndFault>
+        ensures ok { IfOk result (λ pages. MatchOption (slice_get self.old.queues.items i) ⊥
+            (λ queue. ReadsLeft D.seen D.may_leave D.is_usable D.is_clean report.pages report.delivered queue self.old.spool self.new.spool pages.items)) }
+        ensures fault { IfErr result (λ fault. MatchOption (slice_get self.old.queues.items i) (fault ≡ EndFault.NoLine) (λ queue. fault ≡ EndFault.NotKept)) }
+        ensures read { IsRead D.seen D.may_leave D.is_usable self.old.spool self.new.spool }
+        ensures refuses { Refuses self.old.spool → self.new.spool ≡ self.old.spool }
+        ensures queues { self.new.queues.items ≡ self.old.queues.items }
+        ensures life { self.new.life ≡ self.old.life }
+        ensures tags { self.new.tags.items ≡ self.old.tags.items }
+        ensures kept { self.new.kept ≡ self.old.kept }
+    {
+        if i >= self.queues.len() {
+            return Err(EndFault::NoLine);
+        }
+        read_job(self.alloc, &mut self.spool, &self.queues[i], report)
+    }
+
+    /// The end of the job of line i that is first in turn is not noted, since its pages could not be kept elsewhere: they are restored
+    /// at the next start, and sent again, and no later end of the line is noted in this life.
+    pub fn leave(&mut self, i: usize)
+        ensures spool { self.new.spool ≡ self.old.spool }
+        ensures life { self.new.life ≡ self.old.life }
+        ensures unsure { MatchOption (slice_get self.old.queues.items i) (self.new.queues.items ≡ self.old.queues.items)
+            (λ queue. self.new.queues.items ≡ slice_set self.old.queues.items i (record queue { is_whole = false })) }
+        ensures left { (pages : ℕ) → i < length self.old.queues.items → EndsSomehowAt D.seen D.may_leave D.is_usable pages i self.old.queues.items self.new.queues.items self.old.spool self.new.spool }
+    {
+        if i >= self.queues.len() {
+            return;
+        }
+        self.queues[i].mark_unsure();
+    }
 }
 
 /// The job of so many pages that is first in turn on a queue ended: puts its record into a spool, and answers how many of its pages
@@ -330,7 +366,7 @@ fn put_ended<D: Disk>(
 /// The older file is cleared where nothing in it waits; and where so many octets were put into the newer one that they are enough,
 /// the other is taken into use, and the one before cleared, where nothing in it waits. It answers how many count from then on. What
 /// fails is tried again after the next end of a job.
-fn change_files<D: Disk>(alloc: Global, spool: &mut Spool<D>, octets: usize) -> usize
+pub fn change_files<D: Disk>(alloc: Global, spool: &mut Spool<D>, octets: usize) -> usize
     ensures told { (waits : List SpoolPage) → PagesWait D.seen D.may_leave D.is_usable spool.old waits
         → WaitSo D.seen D.may_leave D.is_usable spool.new (λ told. told ≡ waits) }
     ensures tidy { (waits : List SpoolPage) → PagesWait D.seen D.may_leave D.is_usable spool.old waits → Accepts spool.new → IsTidy D.seen D.may_leave D.is_usable spool.new }

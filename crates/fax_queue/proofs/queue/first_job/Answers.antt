@@ -51,3 +51,6 @@ returns-in_err-checked_add-clause-none c =
     let at : slice_get waits (c.args.pages - 1) ≡ Some last = subst (λ (m : ℕ). slice_get waits m ≡ Some last) same (slice_get_read waits (length waits) n last refl looked.3.0 looked.1) in
     on_none c.from_residual-in_err-checked_add.result (λ is.
     let counted = (says_of c.args.pages waits first last c.requires (sym c.in_ok-first.ensures.value) at is).counted in c.in_err-checked_add.ensures (omega (arith, counted, span.0, span.1)))
+
+pub returns-clause-begins : goal.returns-clause-begins
+returns-clause-begins c = record { first = c.in_ok-first.first.now; is_first = sym c.in_ok-first.ensures.value; life = refl; call = refl; number = refl }

@@ -1,9 +1,8 @@
-use Rattle.std.proofs.Common.{◌≡◌, ◌∙◌, ℕ, List, Some, None, MatchOption, arith, refl, slice_get, sym, subst}
+use Rattle.std.proofs.Common.{◌≡◌, ◌∙◌, ℕ, Some, None, MatchOption, arith, refl, slice_get, sym, subst}
 use Rattle.std.proofs.lemmas.Grind.{common_steps}
 use Rattle.std.proofs.lemmas.Option.{gets}
 use Rattle.std.specs.Bool.{⊤}
 use Rattle.fax_queue.specs.Storing.{AddsAt, noted_as}
-use Rattle.fax_queue.specs.Queues.{QueueValue}
 use Rattle.fax_queue.proofs.Queueing.{next_added}
 use Rattle.fax_queue.proofs.storage.Storage.add_all.Goals as goal
 use Rattle.fax_queue.proofs.storage.Storage.add_all.Goals.{in-Some, in-None}

@@ -1,4 +1,4 @@
-use Rattle.std.proofs.Common.{ℕ, false, List, refl, sym, subst}
+use Rattle.std.proofs.Common.{ℕ, false, refl, subst}
 use Rattle.fax_queue.specs.declared.queue.QueuedPage.{QueuedPage}
 use Rattle.fax_queue.specs.Storing.{AddsAt}
 use Rattle.fax_queue.proofs.Queueing.{adds_none}
