@@ -4,6 +4,7 @@
 
 mod end_fault;
 pub mod laws;
+mod on_disk;
 mod putting;
 mod queue;
 mod reading;
@@ -12,6 +13,7 @@ mod storage;
 mod store;
 
 pub use end_fault::EndFault;
+pub use on_disk::OnDisk;
 pub use queue::{Aside, EndedJob, Queue, QueuedPage};
 pub use restored::{RestoredLine, restore_line};
 pub use storage::{Storage, change_files};

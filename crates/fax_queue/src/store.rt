@@ -3,6 +3,7 @@ ghost use Rattle.std.specs.Prelude.{◌≡◌, []};
 ghost use Rattle.fax_queue.specs.SpoolStorage.{IsUnchanged};
 ghost use Rattle.fax_queue.specs.Tags.{NotesTag};
 
+use crate::on_disk::OnDisk;
 use crate::storage::Storage;
 use fax_holding_wire::{PageStore, StoreFault};
 use fax_jobs::Report;
@@ -64,4 +65,10 @@ impl<D: Disk> RunStore for SpoolStore<D> {
     fn end_job(&mut self, line: usize, report: Report) {
         let _ = self.storage.end(line, report);
     }
+}
+
+impl<D: Disk> OnDisk<D> for SpoolStore<D> {
+    ghost queues_of = { λ store. store.storage.queues.items };
+
+    ghost spool_of = { λ store. store.storage.spool };
 }

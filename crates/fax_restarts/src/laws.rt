@@ -3,8 +3,8 @@ ghost use Rattle.fax_restarts.specs.Crossings.{NewFilesHaveNoPast, RunsCross, Ru
 ghost use Rattle.fax_restarts.specs.Files.{PastsHaveFiles};
 ghost use Rattle.fax_restarts.specs.Kills.{KilledRunsCross, RunsCanBeCut};
 ghost use Rattle.fax_restarts.specs.WholePasts.{NewFilesHaveWholePasts, OpeningsFindWhatIsLeft, WholePastsHaveFiles, WholeRunsCross};
-ghost use Rattle.fax_queue.specs.declared.store.SpoolStore.{SpoolStore as StoreShown};
 
+use fax_queue::OnDisk;
 use fax_queue::laws::histories::{
     openings_find_what_waits, restarts_find_what_is_left, runs_make_history, runs_note_all,
 };
@@ -28,21 +28,21 @@ pub fn stopped_openings_leave_the_past()
 }
 
 /// A run leads from what its files held to whatever a crash leaves of them: the line has one life more, which is that run.
-pub fn runs_cross<D: Disk>()
-    ensures { RunsCross D.seen D.may_leave D.is_usable (λ (store : StoreShown D). store.storage.queues.items) (λ (store : StoreShown D). store.storage.spool) }
+pub fn runs_cross<D: Disk, K: OnDisk<D>>()
+    ensures { RunsCross D.seen D.may_leave D.is_usable K.queues_of K.spool_of }
 {
     openings_find_what_waits::<D>();
-    runs_make_history::<D>();
+    runs_make_history::<D, K>();
     crashes_leave_what_waits::<D>();
 }
 
 /// After whichever of its orders the process of a run is killed, it was a run so far, which leads from what its files held to whatever
 /// that leaves of them.
-pub fn killed_runs_cross<D: Disk>()
-    ensures cut { RunsCanBeCut D.seen D.may_leave D.is_usable (λ (store : StoreShown D). store.storage.queues.items) (λ (store : StoreShown D). store.storage.spool) }
-    ensures crosses { KilledRunsCross D.seen D.may_leave D.is_usable (λ (store : StoreShown D). store.storage.queues.items) (λ (store : StoreShown D). store.storage.spool) }
+pub fn killed_runs_cross<D: Disk, K: OnDisk<D>>()
+    ensures cut { RunsCanBeCut D.seen D.may_leave D.is_usable K.queues_of K.spool_of }
+    ensures crosses { KilledRunsCross D.seen D.may_leave D.is_usable K.queues_of K.spool_of }
 {
-    runs_cross::<D>();
+    runs_cross::<D, K>();
 }
 
 /// Any number of runs, each over files of a type of its own, from new files on, whatever crashes came between them, and however many
@@ -56,12 +56,12 @@ pub fn runs_join()
 
 /// A run may be any of these, by what its files held and what a crash left of them; and after any number of them it is one life more,
 /// whatever a crash leaves.
-pub fn runs_go_on<D: Disk>()
-    ensures leads { RunsLead D.seen D.may_leave D.is_usable (λ (store : StoreShown D). store.storage.queues.items) (λ (store : StoreShown D). store.storage.spool) }
-    ensures goes_on { RunsGoOn D.seen D.may_leave D.is_usable (λ (store : StoreShown D). store.storage.queues.items) (λ (store : StoreShown D). store.storage.spool) }
+pub fn runs_go_on<D: Disk, K: OnDisk<D>>()
+    ensures leads { RunsLead D.seen D.may_leave D.is_usable K.queues_of K.spool_of }
+    ensures goes_on { RunsGoOn D.seen D.may_leave D.is_usable K.queues_of K.spool_of }
 {
     runs_join();
-    runs_cross::<D>();
+    runs_cross::<D, K>();
 }
 
 /// Each past of a line can be had over files that are not empty.
@@ -71,14 +71,14 @@ pub fn pasts_have_files()
 
 /// A run in which all puts of a line's pages and all ends of its jobs answered `Ok` leads from files to files over which all of it was put
 /// and noted, where it began over such files, whatever a crash leaves: so any number of them. New files are such.
-pub fn whole_runs_cross<D: Disk>()
+pub fn whole_runs_cross<D: Disk, K: OnDisk<D>>()
     ensures begins { NewFilesHaveWholePasts }
-    ensures crosses { WholeRunsCross D.seen D.may_leave D.is_usable (λ (store : StoreShown D). store.storage.queues.items) (λ (store : StoreShown D). store.storage.spool) }
+    ensures crosses { WholeRunsCross D.seen D.may_leave D.is_usable K.queues_of K.spool_of }
 {
     new_spools_tell_none();
     restarts_find_what_is_left();
     openings_find_what_waits::<D>();
-    runs_note_all::<D>();
+    runs_note_all::<D, K>();
     crashes_leave_what_waits::<D>();
 }
 

@@ -2,10 +2,10 @@
 ghost use Rattle.fax_queue.specs.Histories.{OpeningsFindWhatWaits, RunsMakeHistory};
 ghost use Rattle.fax_queue.specs.NotedRuns.{NewLinesHaveWholePasts, RestartsFindWhatIsLeft, RunsNoteAll};
 ghost use Rattle.fax_queue.specs.OnLeg.{UnputPagesLetNothingOut};
-ghost use Rattle.fax_queue.specs.declared.store.SpoolStore.{SpoolStore as StoreShown};
 
 use crate::laws::book::{servers_lose_none, turns_tell_both};
 use crate::laws::what_is_owed_is_restored;
+use crate::on_disk::OnDisk;
 use fax_gateway::laws::{confirms_the_newest, jobs_are_of_their_calls};
 use fax_pagestore::laws::{pages_are_unique, pages_are_written, written_pages_mean};
 use fax_spool::laws::openings_find_what_crashes_leave;
@@ -14,8 +14,8 @@ use sqlite_disk::Disk;
 /// Each run of lines whose pages are stored leaves of each of them actions that are those of the lives of its gateway, with one life more:
 /// whatever came over the wires, whatever was ordered, whichever puts failed, and wherever it stops. What a line's wire let out on the
 /// calling leg is what the ticks of that life gave, but where a page was not put with an `Ok`, and then nothing until the next call.
-pub fn runs_make_history<D: Disk>()
-    ensures { RunsMakeHistory D.seen D.may_leave D.is_usable (λ (store : StoreShown D). store.storage.queues.items) (λ (store : StoreShown D). store.storage.spool) }
+pub fn runs_make_history<D: Disk, K: OnDisk<D>>()
+    ensures { RunsMakeHistory D.seen D.may_leave D.is_usable K.queues_of K.spool_of }
 {
     turns_tell_both();
     confirms_the_newest();
@@ -28,8 +28,8 @@ pub fn runs_make_history<D: Disk>()
 
 /// A run in which all puts of a line's pages and all ends of its jobs answered `Ok` leaves it a past in which all was put and noted,
 /// where it had one, with one life more, whatever crash follows, and whatever became of other lines.
-pub fn runs_note_all<D: Disk>()
-    ensures { RunsNoteAll D.seen D.may_leave D.is_usable (λ (store : StoreShown D). store.storage.queues.items) (λ (store : StoreShown D). store.storage.spool) }
+pub fn runs_note_all<D: Disk, K: OnDisk<D>>()
+    ensures { RunsNoteAll D.seen D.may_leave D.is_usable K.queues_of K.spool_of }
 {
     turns_tell_both();
     confirms_the_newest();

@@ -6,4 +6,4 @@ returns-clause-begins g c = new_files_whole c.new_spools_tell_none.ensures c.res
 
 pub returns-clause-crosses : goal.returns-clause-crosses
 returns-clause-crosses g c =
-    whole_runs_cross _ _ _ (λ k. k.storage.queues.items) (λ k. k.storage.spool) c.openings_find_what_waits.ensures c.runs_note_all.ensures c.crashes_leave_what_waits.ensures
+    whole_runs_cross _ _ _ _ _ c.openings_find_what_waits.ensures c.runs_note_all.ensures c.crashes_leave_what_waits.ensures

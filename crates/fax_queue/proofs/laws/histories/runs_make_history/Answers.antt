@@ -3,4 +3,4 @@ use Rattle.fax_queue.proofs.laws.histories.runs_make_history.Goals as goal
 
 pub returns : goal.returns
 returns g c =
-    runs_make_history _ _ _ (λ k. k.storage.queues.items) (λ k. k.storage.spool) c.turns_tell_both.ensures c.confirms_the_newest.ensures c.jobs_are_of_their_calls.ensures c.pages_are_written.ensures c.written_pages_mean.ensures c.pages_are_unique.ensures c.what_is_owed_is_restored.ensures
+    runs_make_history _ _ _ _ _ c.turns_tell_both.ensures c.confirms_the_newest.ensures c.jobs_are_of_their_calls.ensures c.pages_are_written.ensures c.written_pages_mean.ensures c.pages_are_unique.ensures c.what_is_owed_is_restored.ensures
