@@ -36,6 +36,9 @@ came : (asker : ℕ) (to : Next) (xs ys : List ℕ) → xs ≡ ys → who_waits 
 came asker (next.Orders order) xs ys e = ap (λ l. asker ∷ l) e
 came asker (next.Replies reply) xs ys e = ap (λ l. asker ∷ l) e
 came asker (next.Reports line) xs ys e = ap (λ l. asker ∷ l) e
+came asker next.Undelivered xs ys e = ap (λ l. asker ∷ l) e
+came asker next.Discards xs ys e = ap (λ l. asker ∷ l) e
+came asker next.Retries xs ys e = ap (λ l. asker ∷ l) e
 came asker next.Status xs ys e = ap (λ l. asker ∷ l) e
 came asker next.Metrics xs ys e = ap (λ l. asker ∷ l) e
 came asker next.Events xs ys e = ap (λ l. asker ∷ l) e
@@ -61,6 +64,9 @@ gave_word : (asker : ℕ) (to : Next) (waits : Waits) → waits_if asker to ≡ 
 gave_word asker (next.Orders order) waits e = let w : record { asker = Some asker; order = order } ≡ waits = cc in rw (← w) (refl, refl)
 gave_word asker (next.Replies reply) waits e = cc
 gave_word asker (next.Reports line) waits e = cc
+gave_word asker next.Undelivered waits e = cc
+gave_word asker next.Discards waits e = cc
+gave_word asker next.Retries waits e = cc
 gave_word asker next.Status waits e = cc
 gave_word asker next.Metrics waits e = cc
 gave_word asker next.Events waits e = cc

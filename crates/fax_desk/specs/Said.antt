@@ -40,6 +40,9 @@ abbrev pub waits_if : ℕ → Next → Option Waits
 waits_if asker (next.Orders order) = Some (record { asker = Some asker; order = order })
 waits_if asker (next.Replies reply) = None
 waits_if asker (next.Reports line) = None
+waits_if asker next.Undelivered = None
+waits_if asker next.Discards = None
+waits_if asker next.Retries = None
 waits_if asker next.Status = None
 waits_if asker next.Metrics = None
 waits_if asker next.Events = None
@@ -62,6 +65,9 @@ abbrev pub any_after : ℕ → Next → ℕ
 any_after from (next.Orders order) = any_from from order.line order.note
 any_after from (next.Replies reply) = from
 any_after from (next.Reports line) = from
+any_after from next.Undelivered = from
+any_after from next.Discards = from
+any_after from next.Retries = from
 any_after from next.Status = from
 any_after from next.Metrics = from
 any_after from next.Events = from

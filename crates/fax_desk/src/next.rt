@@ -96,6 +96,12 @@ pub enum Next {
     Orders(Order),
     /// The last reports of this line.
     Reports(usize),
+    /// The jobs that could not be delivered, of the line that the word names, or of all.
+    Undelivered,
+    /// The pages of the job that the word names are to be dropped.
+    Discards,
+    /// The job that the word names is to be tried again at once.
+    Retries,
     Status,
     Metrics,
     /// From now on the client hears events; first it is told what is on.
