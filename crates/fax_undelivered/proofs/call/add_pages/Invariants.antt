@@ -1,0 +1,7 @@
+use Rattle.std.proofs.Common.{◌≡◌, drop}
+use Rattle.fax_undelivered.specs.Calls.{calls_after}
+use Rattle.fax_undelivered.proofs.call.add_pages.Given as goal
+
+-- what is still to come makes of the calls so far those of all
+abbrev pub invariant-loop-page : goal.invariant-loop-page
+invariant-loop-page l = calls_after l.calls.items (drop l.page-index l.pages) ≡ calls_after l.initial.calls.items l.pages

@@ -1,0 +1,14 @@
+//! Pages that could not be delivered, in a second pair of files of a spool's folder: the calls that they came in, how those ended, and
+//! what keeps the pages of a run so that none of a job that failed is dropped.
+#![tactic(auto)]
+
+mod call;
+mod card;
+mod keeping;
+pub mod laws;
+mod undelivered;
+
+pub use call::UndeliveredCall;
+pub use card::{Card, read_card, write_card};
+pub use keeping::KeepingStore;
+pub use undelivered::Undelivered;
