@@ -6,6 +6,7 @@ use Rattle.fax_config.specs.Configurations.{AreUnlike, names_of_lines}
 use Rattle.fax_gateway.specs.Restored.{call_shown}
 use Rattle.fax_gateway.specs.Setups.{AreSetWith}
 use Rattle.fax_line.specs.Places.{PlaceValue}
+use Rattle.fax_line.specs.declared.settling.PageToStore.{PageToStore}
 use Rattle.fax_spool.specs.RecordOctets as spool
 use Rattle.fax_spool.specs.Opened.{closed}
 use Rattle.fax_spool.specs.declared.spool.Spool.{Spool}
@@ -15,7 +16,9 @@ use Rattle.fax_queue.specs.Queues.{QueueValue}
 use Rattle.fax_queue.specs.Histories.{RunsMakeHistory}
 use Rattle.fax_restarts.specs.Runs.{WasRun}
 use Rattle.fax_serve.specs.Crossings.{ServedLine, run_of}
-use Rattle.fax_serve.specs.Histories.{ServersMakeHistory}
+use Rattle.fax_jobs.specs.declared.report.Report.{Report}
+use Rattle.fax_serve.specs.Histories.{IsOnDisk, ServersMakeHistory}
+use Rattle.fax_serve.proofs.Weaker.{weaker_run}
 use Rattle.fax_serve.specs.StoredRuns.{AreRestored}
 use Rattle.fax_serve.specs.Openings.{IsRestored}
 
@@ -103,8 +106,8 @@ apart configs unlike number other line queue low its low_number name differs sam
   | inr less ↦ unlike number other [] less (let many : length (names_of_lines configs) ≡ length configs = length_names configs in omega (arith, many, low)) (name ∙ sym same_name ∙ sym its)
 ]
 
-module _ {D K : Type 0} (seen : D → List ℕ) (may_leave : D → List ℕ → Type 0) (is_usable : D → Bool) (queues_of : K → List QueueValue) (spool_of : K → Spool D) where
-  pub servers_make_history : WholeLinesAreRestored → RunsMakeHistory seen may_leave is_usable queues_of spool_of → ServersMakeHistory seen may_leave is_usable queues_of spool_of
+module _ {D K : Type 0} (seen : D → List ℕ) (may_leave : D → List ℕ → Type 0) (is_usable : D → Bool) (queues_of : K → List QueueValue) (spool_of : K → Spool D) (same : K → K → Type 0) (stores : List PageToStore → Bool → K → K → Type 0) (notes : ℕ → ℕ → K → K → Type 0) (ends : ℕ → Report → K → K → Type 0) (on_disk : IsOnDisk seen may_leave is_usable queues_of spool_of same stores notes ends) where
+  pub servers_make_history : WholeLinesAreRestored → RunsMakeHistory seen may_leave is_usable queues_of spool_of → ServersMakeHistory seen may_leave is_usable queues_of spool_of same stores notes ends
   servers_make_history restore runs configs served number config place pages writes lives puts setup unlike at there opened whole writing set past =
       let told : List spool.PageValue = whole_pages served.opened.torn.items served.opened.pages.items in
       let mine : Its told config number served.begun (queues_of served.store) = its told configs served.begun (queues_of served.store) number config served.restored at in
@@ -128,10 +131,10 @@ module _ {D K : Type 0} (seen : D → List ℕ) (may_leave : D → List ℕ → 
         alone = λ other queue is differs same_name.
             let its_name = named_at told configs served.begun (queues_of served.store) other queue served.restored is in
             apart configs unlike number other (string_bytes config.name) queue its_name.0 (its_name.1 []) name.0 (name.1 []) differs same_name;
-      }) served.run.ran
+      }) (weaker_run _ _ _ _ _ _ _ _ on_disk.unchanged on_disk.put on_disk.noted on_disk.ended served.run.first served.run.done served.run.settled served.begun served.run.left served.store served.run.after served.run.ran)
 
   -- what a run of the server was to a line
-  pub was_run : WholeLinesAreRestored → (line : List ℕ) (ran : ServedLine seen may_leave is_usable queues_of spool_of line) → WasRun seen may_leave is_usable queues_of spool_of line (run_of ran)
+  pub was_run : WholeLinesAreRestored → (line : List ℕ) (ran : ServedLine seen may_leave is_usable queues_of spool_of same stores notes ends line) → WasRun seen may_leave is_usable queues_of spool_of line (run_of ran)
   was_run restore line ran =
       let pages : List spool.PageValue = whole_pages ran.served.opened.torn.items ran.served.opened.pages.items in
       let mine : Its pages ran.config ran.number ran.served.begun (queues_of ran.served.store) = its pages ran.configs ran.served.begun (queues_of ran.served.store) ran.number ran.config ran.served.restored ran.at in
@@ -153,5 +156,5 @@ module _ {D K : Type 0} (seen : D → List ℕ) (may_leave : D → List ℕ → 
         alone = λ other queue is differs same_name.
             let its_name = named_at pages ran.configs ran.served.begun (queues_of ran.served.store) other queue ran.served.restored is in
             apart ran.configs ran.unlike ran.number other line queue its_name.0 (its_name.1 []) name.0 (name.1 [] ∙ ran.named) differs same_name;
-        ran = ran.served.run.ran;
+        ran = weaker_run _ _ _ _ _ _ _ _ on_disk.unchanged on_disk.put on_disk.noted on_disk.ended ran.served.run.first ran.served.run.done ran.served.run.settled ran.served.begun ran.served.run.left ran.served.store ran.served.run.after ran.served.run.ran;
       }

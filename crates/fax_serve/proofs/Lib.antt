@@ -1,4 +1,5 @@
 mod Seeing
+mod Weaker
 mod Desking
 mod Passings
 mod Restoring

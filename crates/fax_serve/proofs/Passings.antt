@@ -50,6 +50,18 @@ said_given asker next.Events given old new waits is free = (
   record { passed = Said asker next.Events ∷ []; passes = λ earlier p. (subst (λ (w : Option Waits). Passes earlier w) free p, waits); orders = is; told_is = refl },
   λ _. waits,
 )
+said_given asker next.Undelivered given old new waits is free = (
+  record { passed = Said asker next.Undelivered ∷ []; passes = λ earlier p. (subst (λ (w : Option Waits). Passes earlier w) free p, waits); orders = is; told_is = refl },
+  λ _. waits,
+)
+said_given asker next.Discards given old new waits is free = (
+  record { passed = Said asker next.Discards ∷ []; passes = λ earlier p. (subst (λ (w : Option Waits). Passes earlier w) free p, waits); orders = is; told_is = refl },
+  λ _. waits,
+)
+said_given asker next.Retries given old new waits is free = (
+  record { passed = Said asker next.Retries ∷ []; passes = λ earlier p. (subst (λ (w : Option Waits). Passes earlier w) free p, waits); orders = is; told_is = refl },
+  λ _. waits,
+)
 
 -- a question was looked at, and nobody had answered it in its time
 pub lapsed_given : (order : Order) (given : Option LoopOrder) (old new : PaceValue) → new.waits ≡ unasked_if (looked.Orders order) → asked_by order ∷ [] ≡ given_by given → GivesOrder given old new

@@ -1,5 +1,5 @@
 -- What the desk sees of a line (this project's profile).
-use Rattle.std.specs.Prelude.{ℕ, Bool, false, true, List, length, Option, Some, None, option_map, slice_get, if◌then◌else◌}
+use Rattle.std.specs.Prelude.{ℕ, Bool, false, true, List, length, Option, Some, None, option_map, slice_get, ◌||◌, if◌then◌else◌}
 use Rattle.fax_desk.specs.Tags.{tag_of_text}
 use Rattle.fax_desk.specs.declared.tag.Tag.{Tag}
 use Rattle.fax_desk.specs.declared.view.AskedView.{AskedView}
@@ -14,7 +14,10 @@ use Rattle.fax_line.specs.Actions.{LineValue}
 use Rattle.fax_line.specs.Places.{PlaceValue}
 use Rattle.fax_repeat.specs.Peers.{peer_on, state_of}
 use Rattle.fax_repeat.specs.declared.peers.LegState.{LegState}
+use Rattle.fax_spool.specs.Calls.{refuses_now}
 use Rattle.fax_queue.specs.Queues.{QueueValue, first_tag, is_of_earlier_life}
+use Rattle.fax_undelivered.specs.declared.keeping.KeepingStore.{KeepingStore}
+use Rattle.fax_undelivered.specs.declared.undelivered.Undelivered.{Undelivered}
 
 abbrev pub leg_seen : LegState → LegView
 leg_seen leg = record { has_peer = leg.has_peer; is_fixed = leg.is_fixed; is_heard = leg.is_heard }
@@ -60,6 +63,15 @@ first_if (Some store) first = first store
 abbrev pub failed_if : {K : Type 0} → Option K → (K → Bool) → Bool
 failed_if None failed = false
 failed_if (Some store) failed = failed store
+
+-- whether the disk of the pages that could not be delivered has failed, where there is one
+abbrev pub undelivered_fails : {U : Type 0} → Option (Undelivered U) → Bool
+undelivered_fails None = false
+undelivered_fails (Some kept) = refuses_now kept.spool
+
+-- whether a disk of a store has failed, the spool's or that one
+abbrev pub store_fails : {D U : Type 0} → KeepingStore D U → Bool
+store_fails store = refuses_now store.storage.spool || undelivered_fails store.undelivered
 
 -- line i, counted from 0
 abbrev pub line_at : List PlaceValue → (has_failed : Bool) → (ℕ → FirstJob) → ℕ → Option LineView

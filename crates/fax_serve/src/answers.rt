@@ -72,11 +72,11 @@ fn reports_kept<W: LineWire + Drop>(line: &Line<W>) -> usize {
 
 /// What is damaged in the spool, and that it has failed, the pages that are not sent, of which these lines of events tell, each call that
 /// is on, and each job whose call is on or is asked for, as events of this moment, and `ok`: for a client that wants events from now on.
-pub(crate) fn state_text<W: LineWire + Drop, D: Disk>(
+pub(crate) fn state_text<W: LineWire + Drop, D: Disk, U: Disk>(
     alloc: Global,
     aside: &[Vec<u8>],
     desk: &Desk,
-    seen: &Seen<'_, W, D>,
+    seen: &Seen<'_, W, D, U>,
     at: u64,
 ) -> Result<Vec<u8>, NoMemory> {
     let mut text = Vec::new(alloc);
@@ -104,10 +104,10 @@ fn put_spool(alloc: Global, desk: &Desk, at: u64, text: &mut Vec<u8>) -> Result<
 }
 
 /// Adds the lines that tell what is on on line i.
-fn put_state<W: LineWire + Drop, D: Disk>(
+fn put_state<W: LineWire + Drop, D: Disk, U: Disk>(
     alloc: Global,
     desk: &Desk,
-    seen: &Seen<'_, W, D>,
+    seen: &Seen<'_, W, D, U>,
     i: usize,
     at: u64,
     text: &mut Vec<u8>,
@@ -152,11 +152,11 @@ fn put_event(
 }
 
 /// A line for each line of the configuration, one for the spool, where there is one, and `ok`.
-pub(crate) fn status_text<W: SocketLegs + Drop, D: Disk>(
+pub(crate) fn status_text<W: SocketLegs + Drop, D: Disk, U: Disk>(
     alloc: Global,
     desk: &Desk,
     counters: &Counters,
-    seen: &Seen<'_, W, D>,
+    seen: &Seen<'_, W, D, U>,
 ) -> Result<Vec<u8>, NoMemory> {
     let mut text = Vec::new(alloc);
     for i in 0..seen.lines.len() {

@@ -23,6 +23,12 @@ impl<'a, C: Clock> Stopwatch<'a, C> {
         u64::try_from(passed.as_micros()).ok()
     }
 
+    /// The seconds since 1970, by the clock of the day. None: it does not tell.
+    pub(crate) fn day(&self) -> Option<u64> {
+        let day = self.clock.since_1970().ok()?;
+        Some(day.as_secs())
+    }
+
     /// How many milliseconds passed. None: the clock does not tell.
     pub(crate) fn now(&self) -> Option<u64> {
         let passed = self.start.elapsed(self.clock).ok()?;

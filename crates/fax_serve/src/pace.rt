@@ -4,6 +4,7 @@ ghost use Rattle.fax_serve.specs.Desking.{GivesOrder, given_by};
 ghost use Rattle.fax_queue.specs.SpoolStorage.{IsUnchanged};
 
 mod telling;
+mod undelivered;
 mod visiting;
 mod words;
 
@@ -11,14 +12,16 @@ use crate::answers::{is_calm, is_idle};
 use crate::clock::Stopwatch;
 use crate::schedule::Schedule;
 use crate::sockets::SocketLegs;
-use crate::store::SpoolStore;
+use crate::store::KeepingStore;
 use crate::telling::Teller;
+use crate::undelivered::Discard;
 use crate::view::has_failed;
 use crate::watch::Watch;
 use fax_clients::Clients;
 use fax_desk::{Desk, RunEnd, Tag};
 use fax_gateway::Kept;
 use fax_holding_wire::LineWire;
+use fax_jobs::Outcome;
 use fax_line::{LineAnswer, Lines, Order, Pace, SLOTS, SlotEnd};
 use fax_visitors::Visitors;
 use sqlite_disk::Disk;
@@ -80,6 +83,8 @@ pub struct RealPace<'a, C: Clock, I: Read + Drop, O: Write + Drop> {
     put_from: Option<u64>,
     /// The lines whose pages could not be stored in the turn that was ordered.
     not_stored: Vec<usize>,
+    /// The word `discard` that is done at the end of the next turn.
+    discard: Option<Discard>,
 }
 
 /// Contracts see what the desk waits to be told of.
@@ -126,6 +131,7 @@ impl<'a, C: Clock, I: Read + Drop, O: Write + Drop> RealPace<'a, C, I, O> {
             has_looked: false,
             put_from: None,
             not_stored,
+            discard: None,
         })
     }
 
@@ -161,7 +167,7 @@ impl<'a, C: Clock, I: Read + Drop, O: Write + Drop> RealPace<'a, C, I, O> {
     }
 
     /// Looks whether the spool has failed, and tells that once.
-    fn look_at_spool<D: Disk>(&mut self, store: Option<&SpoolStore<D>>)
+    fn look_at_spool<D: Disk, U: Disk>(&mut self, store: Option<&KeepingStore<D, U>>)
         ensures { self.new ≡ self.old }
     {
         if self.desk.see_spool(has_failed(store), self.now) {
@@ -201,10 +207,10 @@ impl<'a, C: Clock, I: Read + Drop, O: Write + Drop> RealPace<'a, C, I, O> {
     }
 
     /// What clients order until the next turn is due. It answers the first order of theirs.
-    fn hear_words<W: SocketLegs + Drop, D: Disk>(
+    fn hear_words<W: SocketLegs + Drop, D: Disk, U: Disk>(
         &mut self,
         lines: &Lines<W>,
-        store: Option<&SpoolStore<D>>,
+        store: Option<&KeepingStore<D, U>>,
     ) -> Option<Order>
         requires { self.old.waits ≡ None }
         ensures { GivesOrder result self.old self.new }
@@ -263,10 +269,10 @@ impl<'a, C: Clock, I: Read + Drop, O: Write + Drop> RealPace<'a, C, I, O> {
     }
 
     /// What is to be done next, where nothing waits at the desk.
-    fn next_order<W: SocketLegs + Drop, D: Disk>(
+    fn next_order<W: SocketLegs + Drop, D: Disk, U: Disk>(
         &mut self,
         lines: &Lines<W>,
-        store: Option<&SpoolStore<D>>,
+        store: Option<&KeepingStore<D, U>>,
     ) -> Option<Order>
         requires { self.old.waits ≡ None }
         ensures { GivesOrder result self.old self.new }
@@ -336,8 +342,8 @@ fn note_lost<W: LineWire + Drop>(
 }
 
 /// The tags of the calls in which lines of a slot confirmed pages in its last turn are noted. It answers whether one did.
-fn set_tags<W: LineWire + Drop, D: Disk>(
-    store: &mut SpoolStore<D>,
+fn set_tags<W: LineWire + Drop, D: Disk, U: Disk>(
+    store: &mut KeepingStore<D, U>,
     desk: &Desk,
     slot: usize,
     lines: &Lines<W>,
@@ -357,11 +363,54 @@ fn set_tags<W: LineWire + Drop, D: Disk>(
 }
 
 /// The tag of the call of line i is noted, where it has one.
-fn set_tag<D: Disk>(store: &mut SpoolStore<D>, i: usize, tag: Option<Tag>)
+fn set_tag<D: Disk, U: Disk>(store: &mut KeepingStore<D, U>, i: usize, tag: Option<Tag>)
     ensures { IsUnchanged store.old.storage.queues.items store.new.storage.queues.items store.old.storage.spool store.new.storage.spool }
 {
     if let Some(tag) = tag {
         store.set_tag(i, tag.text());
+    }
+}
+
+/// What is told of the jobs that ended in the last turn of a slot is noted: the second since 1970, where the clock tells it, and of each job
+/// whose call was not placed for what cause.
+fn set_causes<W: LineWire + Drop, D: Disk, U: Disk>(
+    store: &mut KeepingStore<D, U>,
+    day: Option<u64>,
+    desk: &Desk,
+    slot: usize,
+    lines: &Lines<W>,
+)
+    ensures { store.new.storage ≡ store.old.storage }
+{
+    store.set_day(day.unwrap_or(0));
+    let rounds = lines.len() / SLOTS + 1;
+    for round in 0..rounds {
+        let i = round.saturating_mul(SLOTS).saturating_add(slot);
+        if has_ended_undelivered(lines, i) {
+            set_cause(store, desk, i);
+        }
+    }
+}
+
+/// For what cause the call of the job of line i that ends now was not placed, where that was told.
+fn set_cause<D: Disk, U: Disk>(store: &mut KeepingStore<D, U>, desk: &Desk, i: usize)
+    ensures { store.new.storage ≡ store.old.storage }
+{
+    if let Some(card) = desk.cards.get(i)
+        && let Some(cause) = card.cause(card.jobs)
+    {
+        store.set_cause(i, cause.text());
+    }
+}
+
+/// Whether a job of line i ended in the last turn of its slot that was not delivered.
+fn has_ended_undelivered<W: LineWire + Drop>(lines: &Lines<W>, i: usize) -> bool {
+    match lines.line(i) {
+        Some(line) if lines.has_turned(i) => match line.turned().report {
+            Some(report) => report.outcome != Outcome::Delivered,
+            None => false,
+        },
+        Some(_) | None => false,
     }
 }
 
@@ -401,9 +450,9 @@ fn are_calm<W: LineWire + Drop>(lines: &Lines<W>) -> bool {
     true
 }
 
-impl<'a, C: Clock, I: Read + Drop, O: Write + Drop, W: SocketLegs + Drop, D: Disk> Pace<
+impl<'a, C: Clock, I: Read + Drop, O: Write + Drop, W: SocketLegs + Drop, D: Disk, U: Disk> Pace<
     W,
-    SpoolStore<D>,
+    KeepingStore<D, U>,
 > for RealPace<'a, C, I, O> {
     ghost use Rattle.std.specs.Prelude.{None};
     ghost use Rattle.fax_serve.specs.Desking.{GivesOrder, Hears, SeesNothing};
@@ -416,7 +465,7 @@ impl<'a, C: Clock, I: Read + Drop, O: Write + Drop, W: SocketLegs + Drop, D: Dis
 
     ghost sees = { λ old new. SeesNothing old new };
 
-    fn next(&mut self, lines: &Lines<W>, store: Option<&SpoolStore<D>>) -> Option<Order> {
+    fn next(&mut self, lines: &Lines<W>, store: Option<&KeepingStore<D, U>>) -> Option<Order> {
         if !self.desk.is_free() {
             self.tell_done(None);
         }
@@ -424,12 +473,14 @@ impl<'a, C: Clock, I: Read + Drop, O: Write + Drop, W: SocketLegs + Drop, D: Dis
         self.next_order(lines, store)
     }
 
-    fn before_put(&mut self, lines: &Lines<W>, store: &mut SpoolStore<D>) {
+    fn before_put(&mut self, lines: &Lines<W>, store: &mut KeepingStore<D, U>) {
         self.not_stored.clear();
         let Some(slot) = self.turned else {
             return;
         };
         store.begin_slot();
+        self.see_undelivered(store);
+        set_causes(store, self.clock.day(), &self.desk, slot, lines);
         if set_tags(store, &self.desk, slot, lines) {
             self.put_from = Some(self.clock.micros().unwrap_or(0));
         }
@@ -445,7 +496,7 @@ impl<'a, C: Clock, I: Read + Drop, O: Write + Drop, W: SocketLegs + Drop, D: Dis
         }
     }
 
-    fn turned(&mut self, lines: &Lines<W>, store: Option<&SpoolStore<D>>) {
+    fn turned(&mut self, lines: &Lines<W>, store: Option<&KeepingStore<D, U>>) {
         self.read_clock();
         self.tell_turned(lines, store);
     }

@@ -9,7 +9,7 @@ use crate::control::{close_control, open_control};
 use crate::fault::ServeFault;
 use crate::pace::RealPace;
 use crate::sockets::{ServedWire, SocketLegs, SocketWire, open_lines, open_restored_lines};
-use crate::store::SpoolStore;
+use crate::store::KeepingStore;
 use crate::watch::Watch;
 use fax_clients::Clients;
 use fax_config::{Config, LineConfig};
@@ -19,6 +19,7 @@ use fax_line::{Lines, PageToStore, RunStore, serve};
 use fax_queue::Storage;
 use fax_spool::OpenedSpool;
 use fax_spool_folder::{Folders, SpoolFolderFile};
+use fax_undelivered::Undelivered;
 use fax_visitors::Visitors;
 use sqlite_disk::{Disk, Start};
 use std::alloc::Global;
@@ -34,7 +35,13 @@ const SECOND_MS: u64 = 1_000;
 /// at the earliest: then it is to be served by another run, over a spool that is opened anew. Words come on the control socket where
 /// the configuration has one, and else on the input, whose answers and events go to the output. The spool has failed so often in runs
 /// before this one. An `Err` tells why nothing was served.
-pub fn run_serve<N: Net + Files + Clock + Folders, I: Read + Drop, O: Write + Drop, S: Start>(
+pub fn run_serve<
+    N: Net + Files + Clock + Folders,
+    I: Read + Drop,
+    O: Write + Drop,
+    S: Start,
+    T: Start,
+>(
     system: &N,
     alloc: Global,
     config: &Config,
@@ -42,39 +49,65 @@ pub fn run_serve<N: Net + Files + Clock + Folders, I: Read + Drop, O: Write + Dr
     output: O,
     spool_failures: u64,
     start: S,
+    undelivered: T,
 ) -> Result<RunEnd, ServeFault>
     ensures alone { OnOk result (ServedAlone (length config.now.lines.items) (is_some config.now.spool)) }
-    ensures kept { OnOk result (is_some config.now.spool ≡ true → ServedOver ⟦<SpoolFolderFile<S> as Disk>⟧.seen ⟦<SpoolFolderFile<S> as Disk>⟧.may_leave ⟦<SpoolFolderFile<S> as Disk>⟧.is_usable ⟦<SpoolFolderFile<S> as Disk>⟧.is_clean ⟦<SpoolStore<SpoolFolderFile<S>> as RunStore>⟧.is_same ⟦<SpoolStore<SpoolFolderFile<S>> as PageStore<PageToStore>>⟧.puts ⟦<SpoolStore<SpoolFolderFile<S>> as RunStore>⟧.notes ⟦<SpoolStore<SpoolFolderFile<S>> as RunStore>⟧.ends (λ store. store.storage.spool) (λ store. store.storage.queues.items) S.db S.log config.now.lines.items) }
+    ensures kept { OnOk result (is_some config.now.spool ≡ true → ServedOver ⟦<SpoolFolderFile<S> as Disk>⟧.seen ⟦<SpoolFolderFile<S> as Disk>⟧.may_leave ⟦<SpoolFolderFile<S> as Disk>⟧.is_usable ⟦<SpoolFolderFile<S> as Disk>⟧.is_clean ⟦<KeepingStore<SpoolFolderFile<S>, SpoolFolderFile<T>> as RunStore>⟧.is_same ⟦<KeepingStore<SpoolFolderFile<S>, SpoolFolderFile<T>> as PageStore<PageToStore>>⟧.puts ⟦<KeepingStore<SpoolFolderFile<S>, SpoolFolderFile<T>> as RunStore>⟧.notes ⟦<KeepingStore<SpoolFolderFile<S>, SpoolFolderFile<T>> as RunStore>⟧.ends (λ store. store.storage.spool) (λ store. store.storage.queues.items) S.db S.log config.now.lines.items) }
 {
     match &config.control {
         Some(path) => {
             let path = path.as_str();
             let listener = open_control(system, path)?;
             let clients: Clients<I, O> = Clients::of_socket(alloc, listener)?;
-            let served = serve_clients(system, alloc, config, clients, spool_failures, start);
+            let served = serve_clients(
+                system,
+                alloc,
+                config,
+                clients,
+                spool_failures,
+                start,
+                undelivered,
+            );
             close_control(system, path);
             served
         }
         None => {
             let clients = Clients::standard(alloc, input, output)?;
-            serve_clients(system, alloc, config, clients, spool_failures, start)
+            serve_clients(
+                system,
+                alloc,
+                config,
+                clients,
+                spool_failures,
+                start,
+                undelivered,
+            )
         }
     }
 }
 
 /// Serves the lines of a configuration until one of these clients says `stop`, or its spool has failed.
-pub fn serve_clients<N: Net + Clock + Folders, I: Read + Drop, O: Write + Drop, S: Start>(
+pub fn serve_clients<N: Net + Clock + Folders, I: Read + Drop, O: Write + Drop, S: Start, T: Start>(
     system: &N,
     alloc: Global,
     config: &Config,
     clients: Clients<I, O>,
     spool_failures: u64,
     start: S,
+    undelivered: T,
 ) -> Result<RunEnd, ServeFault>
     ensures alone { OnOk result (ServedAlone (length config.now.lines.items) (is_some config.now.spool)) }
-    ensures kept { OnOk result (is_some config.now.spool ≡ true → ServedOver ⟦<SpoolFolderFile<S> as Disk>⟧.seen ⟦<SpoolFolderFile<S> as Disk>⟧.may_leave ⟦<SpoolFolderFile<S> as Disk>⟧.is_usable ⟦<SpoolFolderFile<S> as Disk>⟧.is_clean ⟦<SpoolStore<SpoolFolderFile<S>> as RunStore>⟧.is_same ⟦<SpoolStore<SpoolFolderFile<S>> as PageStore<PageToStore>>⟧.puts ⟦<SpoolStore<SpoolFolderFile<S>> as RunStore>⟧.notes ⟦<SpoolStore<SpoolFolderFile<S>> as RunStore>⟧.ends (λ store. store.storage.spool) (λ store. store.storage.queues.items) S.db S.log config.now.lines.items) }
+    ensures kept { OnOk result (is_some config.now.spool ≡ true → ServedOver ⟦<SpoolFolderFile<S> as Disk>⟧.seen ⟦<SpoolFolderFile<S> as Disk>⟧.may_leave ⟦<SpoolFolderFile<S> as Disk>⟧.is_usable ⟦<SpoolFolderFile<S> as Disk>⟧.is_clean ⟦<KeepingStore<SpoolFolderFile<S>, SpoolFolderFile<T>> as RunStore>⟧.is_same ⟦<KeepingStore<SpoolFolderFile<S>, SpoolFolderFile<T>> as PageStore<PageToStore>>⟧.puts ⟦<KeepingStore<SpoolFolderFile<S>, SpoolFolderFile<T>> as RunStore>⟧.notes ⟦<KeepingStore<SpoolFolderFile<S>, SpoolFolderFile<T>> as RunStore>⟧.ends (λ store. store.storage.spool) (λ store. store.storage.queues.items) S.db S.log config.now.lines.items) }
 {
-    serve_over::<ServedWire, N, I, O, S>(system, alloc, config, clients, spool_failures, start)
+    serve_over::<ServedWire, N, I, O, S, T>(
+        system,
+        alloc,
+        config,
+        clients,
+        spool_failures,
+        start,
+        undelivered,
+    )
 }
 
 /// The same over wires of this type.
@@ -84,6 +117,7 @@ fn serve_over<
     I: Read + Drop,
     O: Write + Drop,
     S: Start,
+    T: Start,
 >(
     system: &N,
     alloc: Global,
@@ -91,13 +125,16 @@ fn serve_over<
     clients: Clients<I, O>,
     spool_failures: u64,
     start: S,
+    undelivered: T,
 ) -> Result<RunEnd, ServeFault>
     ensures alone { OnOk result (ServedAlone (length config.now.lines.items) (is_some config.now.spool)) }
-    ensures kept { OnOk result (is_some config.now.spool ≡ true → ServedOver ⟦<SpoolFolderFile<S> as Disk>⟧.seen ⟦<SpoolFolderFile<S> as Disk>⟧.may_leave ⟦<SpoolFolderFile<S> as Disk>⟧.is_usable ⟦<SpoolFolderFile<S> as Disk>⟧.is_clean ⟦<SpoolStore<SpoolFolderFile<S>> as RunStore>⟧.is_same ⟦<SpoolStore<SpoolFolderFile<S>> as PageStore<PageToStore>>⟧.puts ⟦<SpoolStore<SpoolFolderFile<S>> as RunStore>⟧.notes ⟦<SpoolStore<SpoolFolderFile<S>> as RunStore>⟧.ends (λ store. store.storage.spool) (λ store. store.storage.queues.items) S.db S.log config.now.lines.items) }
+    ensures kept { OnOk result (is_some config.now.spool ≡ true → ServedOver ⟦<SpoolFolderFile<S> as Disk>⟧.seen ⟦<SpoolFolderFile<S> as Disk>⟧.may_leave ⟦<SpoolFolderFile<S> as Disk>⟧.is_usable ⟦<SpoolFolderFile<S> as Disk>⟧.is_clean ⟦<KeepingStore<SpoolFolderFile<S>, SpoolFolderFile<T>> as RunStore>⟧.is_same ⟦<KeepingStore<SpoolFolderFile<S>, SpoolFolderFile<T>> as PageStore<PageToStore>>⟧.puts ⟦<KeepingStore<SpoolFolderFile<S>, SpoolFolderFile<T>> as RunStore>⟧.notes ⟦<KeepingStore<SpoolFolderFile<S>, SpoolFolderFile<T>> as RunStore>⟧.ends (λ store. store.storage.spool) (λ store. store.storage.queues.items) S.db S.log config.now.lines.items) }
 {
     match &config.spool {
-        None => serve_in_memory::<W, N, I, O, SpoolFolderFile<S>>(system, alloc, config, clients),
-        Some(folder) => serve_spooled::<W, N, I, O, S>(
+        None => serve_in_memory::<W, N, I, O, SpoolFolderFile<S>, SpoolFolderFile<T>>(
+            system, alloc, config, clients,
+        ),
+        Some(folder) => serve_spooled::<W, N, I, O, S, T>(
             system,
             alloc,
             config,
@@ -105,6 +142,7 @@ fn serve_over<
             folder.as_str(),
             spool_failures,
             start,
+            undelivered,
         ),
     }
 }
@@ -116,12 +154,13 @@ fn serve_in_memory<
     I: Read + Drop,
     O: Write + Drop,
     D: Disk + Drop,
+    U: Disk + Drop,
 >(system: &N, alloc: Global, config: &Config, clients: Clients<I, O>) -> Result<RunEnd, ServeFault>
     ensures { OnOk result (ServedAlone (length config.now.lines.items) false) }
 {
     let lines: Lines<HoldingWire<W>> = open_lines(system, alloc, config.lines.as_slice())?;
     let mut pace = pace_of(system, alloc, config, clients, &lines, 0)?;
-    serve_new::<W, N, I, O, D>(lines, &mut pace);
+    serve_new::<W, N, I, O, D, U>(lines, &mut pace);
     Ok(pace.finish())
 }
 
@@ -133,6 +172,7 @@ fn serve_spooled<
     I: Read + Drop,
     O: Write + Drop,
     S: Start,
+    T: Start,
 >(
     system: &N,
     alloc: Global,
@@ -141,17 +181,20 @@ fn serve_spooled<
     folder: &str,
     spool_failures: u64,
     start: S,
+    undelivered: T,
 ) -> Result<RunEnd, ServeFault>
     ensures alone { OnOk result (ServedAlone (length config.now.lines.items) true) }
-    ensures kept { OnOk result (ServedOver ⟦<SpoolFolderFile<S> as Disk>⟧.seen ⟦<SpoolFolderFile<S> as Disk>⟧.may_leave ⟦<SpoolFolderFile<S> as Disk>⟧.is_usable ⟦<SpoolFolderFile<S> as Disk>⟧.is_clean ⟦<SpoolStore<SpoolFolderFile<S>> as RunStore>⟧.is_same ⟦<SpoolStore<SpoolFolderFile<S>> as PageStore<PageToStore>>⟧.puts ⟦<SpoolStore<SpoolFolderFile<S>> as RunStore>⟧.notes ⟦<SpoolStore<SpoolFolderFile<S>> as RunStore>⟧.ends (λ store. store.storage.spool) (λ store. store.storage.queues.items) S.db S.log config.now.lines.items) }
+    ensures kept { OnOk result (ServedOver ⟦<SpoolFolderFile<S> as Disk>⟧.seen ⟦<SpoolFolderFile<S> as Disk>⟧.may_leave ⟦<SpoolFolderFile<S> as Disk>⟧.is_usable ⟦<SpoolFolderFile<S> as Disk>⟧.is_clean ⟦<KeepingStore<SpoolFolderFile<S>, SpoolFolderFile<T>> as RunStore>⟧.is_same ⟦<KeepingStore<SpoolFolderFile<S>, SpoolFolderFile<T>> as PageStore<PageToStore>>⟧.puts ⟦<KeepingStore<SpoolFolderFile<S>, SpoolFolderFile<T>> as RunStore>⟧.notes ⟦<KeepingStore<SpoolFolderFile<S>, SpoolFolderFile<T>> as RunStore>⟧.ends (λ store. store.storage.spool) (λ store. store.storage.queues.items) S.db S.log config.now.lines.items) }
 {
     let opened = system.open_spool(folder, start)?;
-    serve_opened::<W, N, I, O, SpoolFolderFile<S>>(
+    let kept = system.open_undelivered(folder, undelivered)?;
+    serve_opened::<W, N, I, O, SpoolFolderFile<S>, SpoolFolderFile<T>>(
         system,
         alloc,
         config,
         clients,
         opened,
+        kept,
         spool_failures,
     )
 }
@@ -163,16 +206,18 @@ fn serve_opened<
     I: Read + Drop,
     O: Write + Drop,
     D: Disk + Drop,
+    U: Disk + Drop,
 >(
     system: &N,
     alloc: Global,
     config: &Config,
     clients: Clients<I, O>,
     opened: OpenedSpool<D>,
+    kept: OpenedSpool<U>,
     spool_failures: u64,
 ) -> Result<RunEnd, ServeFault>
     ensures alone { OnOk result (ServedAlone (length config.now.lines.items) true) }
-    ensures kept { OnOk result (ServedWith ⟦<SpoolStore<D> as RunStore>⟧.is_same ⟦<SpoolStore<D> as PageStore<PageToStore>>⟧.puts ⟦<SpoolStore<D> as RunStore>⟧.notes ⟦<SpoolStore<D> as RunStore>⟧.ends (λ store. store.storage.spool) (λ store. store.storage.queues.items) config.now.lines.items opened) }
+    ensures kept { OnOk result (ServedWith ⟦<KeepingStore<D, U> as RunStore>⟧.is_same ⟦<KeepingStore<D, U> as PageStore<PageToStore>>⟧.puts ⟦<KeepingStore<D, U> as RunStore>⟧.notes ⟦<KeepingStore<D, U> as RunStore>⟧.ends (λ store. store.storage.spool) (λ store. store.storage.queues.items) config.now.lines.items opened) }
 {
     let OpenedSpool {
         spool,
@@ -198,9 +243,9 @@ fn serve_opened<
         octets: older_passed_over.saturating_add(newer_passed_over) as u64,
     };
     pace.tell_aside(damage, pages.as_slice(), torn.as_slice(), queues.as_slice());
-    let store = SpoolStore {
-        storage: Storage::new(alloc, spool, queues),
-    };
+    let undelivered = Undelivered::new(alloc, kept)?;
+    let storage = Storage::new(alloc, spool, queues);
+    let store = KeepingStore::new(alloc, storage, Some(undelivered));
     serve_restored(lines, store, &mut pace);
     Ok(pace.finish())
 }
@@ -252,29 +297,36 @@ fn open_visitors<N: Net>(
 }
 
 /// Serves lines that are new.
-fn serve_new<W: SocketWire + Drop, C: Clock, I: Read + Drop, O: Write + Drop, D: Disk + Drop>(
-    mut lines: Lines<HoldingWire<W>>,
-    pace: &mut RealPace<'_, C, I, O>,
-)
+fn serve_new<
+    W: SocketWire + Drop,
+    C: Clock,
+    I: Read + Drop,
+    O: Write + Drop,
+    D: Disk + Drop,
+    U: Disk + Drop,
+>(mut lines: Lines<HoldingWire<W>>, pace: &mut RealPace<'_, C, I, O>)
     requires new { AreNew lines.lines }
     requires idle { pace.old.waits ≡ None }
     ensures { ServedAlone (length lines.lines) false }
 {
-    let mut store: Option<SpoolStore<D>> = None;
+    let mut store: Option<KeepingStore<D, U>> = None;
     serve(&mut lines, &mut store, pace);
 }
 
 /// Serves lines that begin with the pages that wait.
-fn serve_restored<W: SocketWire + Drop, C: Clock, I: Read + Drop, O: Write + Drop, D: Disk + Drop>(
-    mut lines: Lines<HoldingWire<W>>,
-    store: SpoolStore<D>,
-    pace: &mut RealPace<'_, C, I, O>,
-)
+fn serve_restored<
+    W: SocketWire + Drop,
+    C: Clock,
+    I: Read + Drop,
+    O: Write + Drop,
+    D: Disk + Drop,
+    U: Disk + Drop,
+>(mut lines: Lines<HoldingWire<W>>, store: KeepingStore<D, U>, pace: &mut RealPace<'_, C, I, O>)
     requires begun { AreBegun lines.lines }
     requires first { lines.slot ≡ 0 }
     requires idle { pace.old.waits ≡ None }
     ensures alone { ServedAlone (length lines.lines) true }
-    ensures kept { RunIsStored ⟦<SpoolStore<D> as RunStore>⟧.is_same ⟦<SpoolStore<D> as PageStore<PageToStore>>⟧.puts ⟦<SpoolStore<D> as RunStore>⟧.notes ⟦<SpoolStore<D> as RunStore>⟧.ends lines.lines store }
+    ensures kept { RunIsStored ⟦<KeepingStore<D, U> as RunStore>⟧.is_same ⟦<KeepingStore<D, U> as PageStore<PageToStore>>⟧.puts ⟦<KeepingStore<D, U> as RunStore>⟧.notes ⟦<KeepingStore<D, U> as RunStore>⟧.ends lines.lines store }
 {
     let mut store = Some(store);
     serve(&mut lines, &mut store, pace);

@@ -1,3 +1,3 @@
 //! What keeps the pages of a server on a disk.
 
-pub use fax_queue::SpoolStore;
+pub use fax_undelivered::KeepingStore;

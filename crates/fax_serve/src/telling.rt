@@ -2,7 +2,7 @@
 use crate::answers::failures_of;
 use crate::failures::Failures;
 use crate::sockets::SocketLegs;
-use crate::visits::{EndedJob, words_of};
+use crate::visits::{EndedJob, words_with};
 use fax_clients::Clients;
 use fax_desk::{Cause, Damage, LineEvent, Listener, Tag};
 use fax_events::{Counters, Event, PageAside, What, write_event};
@@ -153,13 +153,9 @@ impl<I: Read + Drop, O: Write + Drop> Teller<I, O> {
         tag: Option<Tag>,
         cause: Option<Cause>,
     ) -> Result<(), AllocError> {
-        let words = words_of(report.outcome);
-        let words = match cause {
-            Some(cause) => {
-                let cause = cause.text();
-                format!(in self.alloc; "{words}: {cause}")?
-            }
-            None => String::from_str(self.alloc, words)?,
+        let words = match &cause {
+            Some(cause) => words_with(self.alloc, report.outcome, Some(cause.text()))?,
+            None => words_with(self.alloc, report.outcome, None)?,
         };
         let line = String::from_str(self.alloc, line)?;
         self.jobs.truncate(MOST_JOBS - 1);

@@ -1,32 +1,32 @@
 //! The lines, as the desk sees them.
-ghost use Rattle.std.specs.Prelude.{◌≡◌, option_map, slice_get};
+ghost use Rattle.std.specs.Prelude.{◌≡◌, MatchOption, false, option_map, slice_get};
 ghost use Rattle.fax_gateway.specs.BothLegs.{job_asked};
 ghost use Rattle.fax_repeat.specs.Peers.{peer_on, state_of};
-ghost use Rattle.fax_serve.specs.Views.{asked_seen, failed_if, first_if, first_on, job_seen, leg_seen, line_seen, tag_if};
+ghost use Rattle.fax_serve.specs.Views.{asked_seen, failed_if, first_if, first_on, job_seen, leg_seen, line_seen, store_fails, tag_if};
 ghost use Rattle.fax_spool.specs.Calls.{refuses_now};
 
-use crate::store::SpoolStore;
+use crate::store::KeepingStore;
 use fax_desk::{AskedView, FirstJob, LegView, LineView, Tag, View};
 use fax_gateway::Leg;
 use fax_holding_wire::LineWire;
 use fax_line::{Line, Lines};
+use fax_undelivered::Undelivered;
 use sqlite_disk::Disk;
 
 /// The lines, and what keeps their pages.
 #[derive(Drop)]
-pub(crate) struct Seen<'a, W: LineWire + Drop, D: Disk> {
+pub(crate) struct Seen<'a, W: LineWire + Drop, D: Disk, U: Disk> {
     pub lines: &'a Lines<W>,
-    pub store: Option<&'a SpoolStore<D>>,
+    pub store: Option<&'a KeepingStore<D, U>>,
 }
 
-impl<'a, W: LineWire + Drop, D: Disk> View for Seen<'a, W, D> {
+impl<'a, W: LineWire + Drop, D: Disk, U: Disk> View for Seen<'a, W, D, U> {
     ghost use Rattle.std.specs.Prelude.{slice_get};
-    ghost use Rattle.fax_spool.specs.Calls.{refuses_now};
-    ghost use Rattle.fax_serve.specs.Views.{failed_if, first_if, first_on, line_at};
+    ghost use Rattle.fax_serve.specs.Views.{failed_if, first_if, first_on, line_at, store_fails};
 
-    ghost line = { λ seen i. line_at seen.lines.now.lines (failed_if seen.store (λ store. refuses_now store.now.storage.spool)) (λ i. first_if seen.store (λ store. first_on store.now.storage.life (slice_get store.now.storage.queues.items i))) i };
+    ghost line = { λ seen i. line_at seen.lines.now.lines (failed_if seen.store (λ store. store_fails store.now)) (λ i. first_if seen.store (λ store. first_on store.now.storage.life (slice_get store.now.storage.queues.items i))) i };
 
-    ghost failed = { λ seen. failed_if seen.store (λ store. refuses_now store.now.storage.spool) };
+    ghost failed = { λ seen. failed_if seen.store (λ store. store_fails store.now) };
 
     fn line(&self, i: usize) -> Option<LineView> {
         let line = self.lines.line(i)?;
@@ -38,12 +38,22 @@ impl<'a, W: LineWire + Drop, D: Disk> View for Seen<'a, W, D> {
     }
 }
 
-/// Whether the spool's disk has failed; none has where pages are stored in memory alone.
-pub(crate) fn has_failed<D: Disk>(store: Option<&SpoolStore<D>>) -> bool
-    ensures { result ≡ failed_if store.entry (λ store. refuses_now store.now.storage.spool) }
+/// Whether a disk of the spool has failed; none has where pages are stored in memory alone.
+pub(crate) fn has_failed<D: Disk, U: Disk>(store: Option<&KeepingStore<D, U>>) -> bool
+    ensures { result ≡ failed_if store.entry (λ store. store_fails store.now) }
 {
     match store {
-        Some(store) => store.storage.refuses(),
+        Some(store) => store.storage.refuses() || has_failed_too(store.undelivered.as_ref()),
+        None => false,
+    }
+}
+
+/// Whether the disk of the pages that could not be delivered has failed, where there is one.
+fn has_failed_too<U: Disk>(kept: Option<&Undelivered<U>>) -> bool
+    ensures { MatchOption kept.entry (result ≡ false) (λ kept. result ≡ refuses_now kept.now.spool) }
+{
+    match kept {
+        Some(kept) => kept.refuses(),
         None => false,
     }
 }
@@ -101,7 +111,7 @@ fn leg_view<W: LineWire + Drop>(line: &Line<W>, leg: Leg) -> LegView
 }
 
 /// The job of line i that is first in turn: whether it was confirmed in an earlier life, and the tag that it has then.
-pub(crate) fn first_job<D: Disk>(store: Option<&SpoolStore<D>>, i: usize) -> FirstJob
+pub(crate) fn first_job<D: Disk, U: Disk>(store: Option<&KeepingStore<D, U>>, i: usize) -> FirstJob
     ensures { result ≡ first_if store.entry (λ store. first_on store.now.storage.life (slice_get store.now.storage.queues.items i)) }
 {
     match store {

@@ -1,17 +1,25 @@
 //! The page that an operator looks at.
 use crate::answers::is_idle;
 use crate::sockets::SocketLegs;
+use crate::undelivered::{calls_of, shown_text};
 use crate::view::Seen;
 use fax_bits::NoMemory;
 use fax_desk::{Desk, LineView as LineSeen, Tag, TagsOn, View};
 use fax_events::Counters;
-use fax_http::{CallView, CalledView, CountView, Health, JobView, LineView, PageView, write_page};
+use fax_http::{
+    CallView, CalledView, CountView, Health, JobView, LineView, PageView, UndeliveredView,
+    write_page,
+};
 use fax_jobs::{Outcome, Report};
+use fax_undelivered::UndeliveredCall;
 use sqlite_disk::Disk;
 use std::alloc::{AllocError, Global};
 
 /// The most lines of a page.
 const MOST_LINES: usize = 100;
+
+/// The most calls of which pages could not be delivered.
+const MOST_UNDELIVERED: usize = 50;
 
 /// A job that ended: the name of its line, its report, its tag, and how it ended, in words.
 #[derive(Drop)]
@@ -31,13 +39,24 @@ struct LineOn {
     waiting: u64,
 }
 
+/// A call of which pages could not be delivered, and how its job ended, in words.
+#[derive(Drop)]
+struct KeptCall {
+    line: String,
+    life: u32,
+    call: u32,
+    tag: Option<String>,
+    pages: u32,
+    words: String,
+}
+
 /// The page of a server that is so, of which these jobs ended last.
-pub(crate) fn page_text<W: SocketLegs + Drop, D: Disk>(
+pub(crate) fn page_text<W: SocketLegs + Drop, D: Disk, U: Disk>(
     alloc: Global,
     desk: &Desk,
     counters: &Counters,
     health: Health,
-    seen: &Seen<'_, W, D>,
+    seen: &Seen<'_, W, D, U>,
     ended: &[EndedJob],
 ) -> Result<Vec<u8>, NoMemory> {
     let on = lines_on(alloc, desk, seen)?;
@@ -49,6 +68,11 @@ pub(crate) fn page_text<W: SocketLegs + Drop, D: Disk>(
     for job in ended {
         jobs.push(job_view(job))?;
     }
+    let kept = kept_calls(alloc, calls_of(seen.store))?;
+    let mut undelivered = Vec::new(alloc);
+    for call in kept.as_slice() {
+        undelivered.push(undelivered_view(call))?;
+    }
     let others = seen.lines.len().saturating_sub(on.len()) as u64;
     let counts = counts_of(counters);
     let view = PageView {
@@ -56,16 +80,17 @@ pub(crate) fn page_text<W: SocketLegs + Drop, D: Disk>(
         lines: lines.as_slice(),
         others,
         jobs: jobs.as_slice(),
+        undelivered: undelivered.as_slice(),
         counts: &counts,
     };
     Ok(write_page(alloc, &view)?)
 }
 
 /// The first lines on which something is under way.
-fn lines_on<W: SocketLegs + Drop, D: Disk>(
+fn lines_on<W: SocketLegs + Drop, D: Disk, U: Disk>(
     alloc: Global,
     desk: &Desk,
-    seen: &Seen<'_, W, D>,
+    seen: &Seen<'_, W, D, U>,
 ) -> Result<Vec<LineOn>, AllocError> {
     let mut on = Vec::new(alloc);
     for i in 0..seen.lines.len() {
@@ -79,10 +104,10 @@ fn lines_on<W: SocketLegs + Drop, D: Disk>(
 }
 
 /// Line i, where something is under way there.
-fn line_on<W: SocketLegs + Drop, D: Disk>(
+fn line_on<W: SocketLegs + Drop, D: Disk, U: Disk>(
     alloc: Global,
     desk: &Desk,
-    seen: &Seen<'_, W, D>,
+    seen: &Seen<'_, W, D, U>,
     i: usize,
 ) -> Result<Option<LineOn>, AllocError> {
     let (Some(line), Some(view), Some(name)) = (seen.lines.line(i), seen.line(i), desk.name(i))
@@ -132,6 +157,64 @@ fn called_view(line: &LineOn) -> CalledView<'_> {
     }
 }
 
+/// The first calls of which pages could not be delivered.
+fn kept_calls(alloc: Global, calls: &[UndeliveredCall]) -> Result<Vec<KeptCall>, AllocError> {
+    let mut kept = Vec::new(alloc);
+    for call in calls.iter().take(MOST_UNDELIVERED) {
+        kept.push(kept_call(alloc, call)?)?;
+    }
+    Ok(kept)
+}
+
+/// A call of which pages could not be delivered.
+fn kept_call(alloc: Global, call: &UndeliveredCall) -> Result<KeptCall, AllocError> {
+    let card = &call.card;
+    let tag = match shown_text(call.tag.as_slice()) {
+        Some(tag) => Some(String::from_str(alloc, tag)?),
+        None => None,
+    };
+    let line = shown_text(call.line.as_slice()).unwrap_or("");
+    Ok(KeptCall {
+        line: String::from_str(alloc, line)?,
+        life: call.life,
+        call: call.call,
+        tag,
+        pages: call.pages,
+        words: words_with(alloc, card.outcome, shown_text(card.cause.as_slice()))?,
+    })
+}
+
+/// The same as it is shown.
+fn undelivered_view(kept: &KeptCall) -> UndeliveredView<'_> {
+    let tag = match &kept.tag {
+        Some(tag) => Some(tag.as_str()),
+        None => None,
+    };
+    UndeliveredView {
+        line: kept.line.as_str(),
+        life: u64::from(kept.life),
+        call: CallView {
+            call: kept.call,
+            tag,
+        },
+        pages: u64::from(kept.pages),
+        outcome: kept.words.as_str(),
+    }
+}
+
+/// How a job ended, in words, and for what cause its call was not placed, where that was said.
+pub(crate) fn words_with(
+    alloc: Global,
+    outcome: Outcome,
+    cause: Option<&str>,
+) -> Result<String, AllocError> {
+    let words = words_of(outcome);
+    match cause {
+        Some(cause) => Ok(format!(in alloc; "{words}: {cause}")?),
+        None => String::from_str(alloc, words),
+    }
+}
+
 /// The text of a tag.
 fn text_of(tag: &Option<Tag>) -> Option<&str> {
     match tag {
@@ -171,7 +254,7 @@ pub(crate) fn words_of(outcome: Outcome) -> &'static str {
 }
 
 /// The counts that a page has, in words.
-fn counts_of(counters: &Counters) -> [CountView<'static>; 9] {
+fn counts_of(counters: &Counters) -> [CountView<'static>; 10] {
     [
         count("Lines", counters.lines),
         count("Calls that were rung", counters.calls),
@@ -181,6 +264,10 @@ fn counts_of(counters: &Counters) -> [CountView<'static>; 9] {
         count("Jobs that ended otherwise", counters.jobs_failed),
         count("Jobs that wait or are sent", counters.jobs_waiting),
         count("Pages on the disk", counters.pages_kept),
+        count(
+            "Pages that could not be delivered",
+            counters.pages_undelivered,
+        ),
         count("Turns that were late", counters.turns_late),
     ]
 }

@@ -14,8 +14,8 @@ fn main(rt: HostRuntime) -> ExitCode {
         RunOutcome::Serves(service) => service,
     };
     for _ in 0..u64::MAX {
-        // Each run opens its spool with a value of its own.
-        if let Some(status) = service.run(&rt, &rt, Unknown) {
+        // Each run opens its spool with values of its own.
+        if let Some(status) = service.run(&rt, &rt, Unknown, Unknown) {
             return ExitCode::from(status);
         }
     }

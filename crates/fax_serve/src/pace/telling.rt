@@ -3,7 +3,7 @@ ghost use Rattle.std.specs.Prelude.{◌≡◌};
 
 use super::{BETWEEN_LATE_MS, RealPace};
 use crate::sockets::SocketLegs;
-use crate::store::SpoolStore;
+use crate::store::KeepingStore;
 use crate::telling::Teller;
 use crate::view::first_job;
 use crate::watch::{asks, wake_legs};
@@ -35,10 +35,10 @@ impl<'a, C: Clock, I: Read + Drop, O: Write + Drop> RealPace<'a, C, I, O> {
     }
 
     /// Tells what the turn that was ordered came to, of each line that was not left at rest in it.
-    pub(super) fn tell_turned<W: SocketLegs + Drop, D: Disk>(
+    pub(super) fn tell_turned<W: SocketLegs + Drop, D: Disk, U: Disk>(
         &mut self,
         lines: &Lines<W>,
-        store: Option<&SpoolStore<D>>,
+        store: Option<&KeepingStore<D, U>>,
     )
         ensures { self.new ≡ self.old }
     {
@@ -57,13 +57,13 @@ impl<'a, C: Clock, I: Read + Drop, O: Write + Drop> RealPace<'a, C, I, O> {
 
     /// Tells what the turn of line i came to, where it had one. Where something may come over its legs still, and where they are to be
     /// asked, it is to be woken; and where its question is to be looked at, that is noted.
-    fn tell_line<W: SocketLegs + Drop, D: Disk>(
+    fn tell_line<W: SocketLegs + Drop, D: Disk, U: Disk>(
         &mut self,
         i: usize,
         line: &Line<W>,
         has_turned: bool,
         looks: bool,
-        store: Option<&SpoolStore<D>>,
+        store: Option<&KeepingStore<D, U>>,
     )
         ensures { self.new ≡ self.old }
     {
@@ -83,11 +83,11 @@ impl<'a, C: Clock, I: Read + Drop, O: Write + Drop> RealPace<'a, C, I, O> {
     }
 
     /// Tells what the turn of line i came to.
-    fn tell_turn<W: SocketLegs + Drop, D: Disk>(
+    fn tell_turn<W: SocketLegs + Drop, D: Disk, U: Disk>(
         &mut self,
         i: usize,
         line: &Line<W>,
-        store: Option<&SpoolStore<D>>,
+        store: Option<&KeepingStore<D, U>>,
     )
         ensures { self.new ≡ self.old }
     {

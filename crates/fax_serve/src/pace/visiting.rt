@@ -4,7 +4,8 @@ ghost use Rattle.std.specs.Prelude.{◌≡◌};
 use super::{BETWEEN_LATE_MS, RealPace};
 use crate::answers::counters_of;
 use crate::sockets::SocketLegs;
-use crate::store::SpoolStore;
+use crate::store::KeepingStore;
+use crate::undelivered::pages_undelivered;
 use crate::view::{Seen, has_failed};
 use crate::visits::page_text;
 use fax_bits::NoMemory;
@@ -45,10 +46,10 @@ impl<'a, C: Clock, I: Read + Drop, O: Write + Drop> RealPace<'a, C, I, O> {
     }
 
     /// Goes on with who looks over HTTP, without waiting: one request is answered.
-    pub(super) fn serve_visitors<W: SocketLegs + Drop, D: Disk>(
+    pub(super) fn serve_visitors<W: SocketLegs + Drop, D: Disk, U: Disk>(
         &mut self,
         lines: &Lines<W>,
-        store: Option<&SpoolStore<D>>,
+        store: Option<&KeepingStore<D, U>>,
     )
         ensures { self.new ≡ self.old }
     {
@@ -90,11 +91,11 @@ impl<'a, C: Clock, I: Read + Drop, O: Write + Drop> RealPace<'a, C, I, O> {
     }
 
     /// What is told.
-    fn told<W: SocketLegs + Drop, D: Disk>(
+    fn told<W: SocketLegs + Drop, D: Disk, U: Disk>(
         &self,
         resource: Resource,
         lines: &Lines<W>,
-        store: Option<&SpoolStore<D>>,
+        store: Option<&KeepingStore<D, U>>,
     ) -> Result<Told, NoMemory> {
         let health = self.health(has_failed(store));
         match resource {
@@ -145,15 +146,16 @@ impl<'a, C: Clock, I: Read + Drop, O: Write + Drop> RealPace<'a, C, I, O> {
     }
 
     /// The counts, with what the lines and the spool count.
-    pub(super) fn counts<W: SocketLegs + Drop, D: Disk>(
+    pub(super) fn counts<W: SocketLegs + Drop, D: Disk, U: Disk>(
         &self,
         lines: &Lines<W>,
-        store: Option<&SpoolStore<D>>,
+        store: Option<&KeepingStore<D, U>>,
     ) -> Counters {
         let mut counters = counters_of(self.teller.counters(), lines);
         if let Some(store) = store {
             counters.pages_kept = store.storage.kept();
         }
+        counters.pages_undelivered = pages_undelivered(store);
         counters
     }
 }

@@ -5,7 +5,7 @@ ghost use Rattle.fax_serve.specs.Desking.{GivesOrder, Hears, asked_by, given_by}
 use super::RealPace;
 use crate::answers::{answer_text, report_text, state_text, status_text};
 use crate::sockets::SocketLegs;
-use crate::store::SpoolStore;
+use crate::store::KeepingStore;
 use crate::view::Seen;
 use fax_bits::NoMemory;
 use fax_clients::Asker;
@@ -21,11 +21,11 @@ use std::rt::Clock;
 
 impl<'a, C: Clock, I: Read + Drop, O: Write + Drop> RealPace<'a, C, I, O> {
     /// Waits for a word, for so many milliseconds at most. It answers what the word orders of a line.
-    pub(super) fn wait<W: SocketLegs + Drop, D: Disk>(
+    pub(super) fn wait<W: SocketLegs + Drop, D: Disk, U: Disk>(
         &mut self,
         most: u64,
         lines: &Lines<W>,
-        store: Option<&SpoolStore<D>>,
+        store: Option<&KeepingStore<D, U>>,
     ) -> Option<Order>
         requires { self.old.waits ≡ None }
         ensures { GivesOrder result self.old self.new }
@@ -34,6 +34,9 @@ impl<'a, C: Clock, I: Read + Drop, O: Write + Drop> RealPace<'a, C, I, O> {
         self.teller.clients.wait(most.min(1_000) as i32);
         self.read_clock();
         self.serve_visitors(lines, store);
+        if self.discard.is_some() {
+            return None;
+        }
         let (asker, heard) = self.teller.clients.hear()?;
         match heard {
             HeardLine::TooLong => {
@@ -51,12 +54,12 @@ impl<'a, C: Clock, I: Read + Drop, O: Write + Drop> RealPace<'a, C, I, O> {
     }
 
     /// Does what a word says. It answers what the word orders of a line.
-    fn obey<W: SocketLegs + Drop, D: Disk>(
+    fn obey<W: SocketLegs + Drop, D: Disk, U: Disk>(
         &mut self,
         asker: Asker,
         word: Word<'_>,
         lines: &Lines<W>,
-        store: Option<&SpoolStore<D>>,
+        store: Option<&KeepingStore<D, U>>,
     ) -> Option<Order>
         requires { self.old.waits ≡ None }
         ensures { GivesOrder result self.old self.new }
@@ -75,9 +78,28 @@ impl<'a, C: Clock, I: Read + Drop, O: Write + Drop> RealPace<'a, C, I, O> {
                 self.put(asker, text);
             }
             Next::Metrics => self.tell_metrics(asker, lines, store),
+            Next::Undelivered => self.see_call_word(asker, word, store),
+            Next::Discards => self.see_call_word(asker, word, store),
+            Next::Retries => self.see_call_word(asker, word, store),
             Next::Events => self.want_events(asker, &seen),
         }
         None
+    }
+
+    /// A word about calls of which pages could not be delivered. No line tries one again.
+    fn see_call_word<D: Disk, U: Disk>(
+        &mut self,
+        asker: Asker,
+        word: Word<'_>,
+        store: Option<&KeepingStore<D, U>>,
+    )
+        ensures { self.new ≡ self.old }
+    {
+        match word {
+            Word::Undelivered(line) => self.list_undelivered(asker, line, store),
+            Word::Discard(call) => self.note_discard(asker, call, store),
+            _ => self.answer(asker, Answer::Refused(Refusal::NoLine)),
+        }
     }
 
     /// The last reports of line i are told.
@@ -93,11 +115,11 @@ impl<'a, C: Clock, I: Read + Drop, O: Write + Drop> RealPace<'a, C, I, O> {
     }
 
     /// The counts are told.
-    fn tell_metrics<W: SocketLegs + Drop, D: Disk>(
+    fn tell_metrics<W: SocketLegs + Drop, D: Disk, U: Disk>(
         &mut self,
         asker: Asker,
         lines: &Lines<W>,
-        store: Option<&SpoolStore<D>>,
+        store: Option<&KeepingStore<D, U>>,
     )
         ensures { self.new ≡ self.old }
     {
@@ -110,7 +132,11 @@ impl<'a, C: Clock, I: Read + Drop, O: Write + Drop> RealPace<'a, C, I, O> {
     }
 
     /// From now on a client is told events, after how the lines are. The calls that lines ask for are asked of it.
-    fn want_events<W: LineWire + Drop, D: Disk>(&mut self, asker: Asker, seen: &Seen<'_, W, D>)
+    fn want_events<W: LineWire + Drop, D: Disk, U: Disk>(
+        &mut self,
+        asker: Asker,
+        seen: &Seen<'_, W, D, U>,
+    )
         ensures { self.new ≡ self.old }
     {
         let text = match self.teller.clients.want_events(asker) {
@@ -125,10 +151,10 @@ impl<'a, C: Clock, I: Read + Drop, O: Write + Drop> RealPace<'a, C, I, O> {
 
     /// Looks at the questions that are to be looked at, and asks those that are not open. It answers the order for one whose time is
     /// over: the call could not be placed.
-    pub(super) fn look_at_questions<W: LineWire + Drop, D: Disk>(
+    pub(super) fn look_at_questions<W: LineWire + Drop, D: Disk, U: Disk>(
         &mut self,
         lines: &Lines<W>,
-        store: Option<&SpoolStore<D>>,
+        store: Option<&KeepingStore<D, U>>,
     ) -> Option<Order>
         requires { self.old.waits ≡ None }
         ensures { GivesOrder result self.old self.new }
@@ -183,7 +209,7 @@ impl<'a, C: Clock, I: Read + Drop, O: Write + Drop> RealPace<'a, C, I, O> {
     }
 
     /// A client is answered by a line. Without memory for it there is no answer.
-    fn answer(&mut self, asker: Asker, answer: Answer<'_>)
+    pub(super) fn answer(&mut self, asker: Asker, answer: Answer<'_>)
         ensures { self.new ≡ self.old }
     {
         let text = answer_text(self.alloc, answer);
@@ -200,7 +226,7 @@ impl<'a, C: Clock, I: Read + Drop, O: Write + Drop> RealPace<'a, C, I, O> {
     }
 
     /// A client is answered by a text, or told that memory lacks for it.
-    fn put(&mut self, asker: Asker, text: Result<Vec<u8>, NoMemory>)
+    pub(super) fn put(&mut self, asker: Asker, text: Result<Vec<u8>, NoMemory>)
         ensures { self.new ≡ self.old }
     {
         match text {
@@ -211,7 +237,7 @@ impl<'a, C: Clock, I: Read + Drop, O: Write + Drop> RealPace<'a, C, I, O> {
 }
 
 /// The question of each line that asks for a call is open from now on, since a client is told of it.
-fn ask_all<W: LineWire + Drop, D: Disk>(desk: &mut Desk, seen: &Seen<'_, W, D>)
+fn ask_all<W: LineWire + Drop, D: Disk, U: Disk>(desk: &mut Desk, seen: &Seen<'_, W, D, U>)
     ensures { desk.new.waits ≡ desk.old.waits }
 {
     for i in 0..seen.lines.len() {

@@ -1,0 +1,122 @@
+//! The pages that could not be delivered: what is told of them, and the word that drops them.
+ghost use Rattle.std.specs.Prelude.{◌≡◌};
+
+use super::RealPace;
+use crate::store::KeepingStore;
+use crate::undelivered::{
+    Discard, calls_of, drop_call, event_of, place_of, tell_discarded, undelivered_text,
+};
+use fax_clients::Asker;
+use fax_control::{Answer, CallWord, Refusal};
+use fax_spool::CallName;
+use fax_undelivered::UndeliveredCall;
+use sqlite_disk::Disk;
+use std::io::{Read, Write};
+use std::rt::Clock;
+
+impl<'a, C: Clock, I: Read + Drop, O: Write + Drop> RealPace<'a, C, I, O> {
+    /// The calls of which pages could not be delivered are told, of the line of this name or of all lines.
+    pub(super) fn list_undelivered<D: Disk, U: Disk>(
+        &mut self,
+        asker: Asker,
+        line: Option<&str>,
+        store: Option<&KeepingStore<D, U>>,
+    )
+        ensures { self.new ≡ self.old }
+    {
+        let text = undelivered_text(self.alloc, line, store, self.now);
+        self.put(asker, text);
+    }
+
+    /// The pages of a call are to be dropped, at the end of the next turn. No other word is heard before that.
+    pub(super) fn note_discard<D: Disk, U: Disk>(
+        &mut self,
+        asker: Asker,
+        call: CallWord<'_>,
+        store: Option<&KeepingStore<D, U>>,
+    )
+        ensures { self.new ≡ self.old }
+    {
+        if store.is_none() {
+            self.answer(asker, Answer::Refused(Refusal::NoCall));
+            return;
+        }
+        match Discard::new(self.alloc, asker, call) {
+            Ok(discard) => self.discard = Some(discard),
+            Err(_) => self.answer(asker, Answer::Refused(Refusal::NoMemory)),
+        }
+    }
+
+    /// Tells what could not be delivered since that was told last, and drops what words named.
+    pub(super) fn see_undelivered<D: Disk, U: Disk>(&mut self, store: &mut KeepingStore<D, U>)
+        ensures same { self.new ≡ self.old }
+        ensures storage { store.new.storage ≡ store.old.storage }
+    {
+        if let Some(kept) = &mut store.undelivered {
+            let news = kept.take_news(self.alloc);
+            self.tell_news(news.as_slice(), kept.calls());
+        }
+        if let Some(discard) = self.discard.take() {
+            self.do_discard(discard, store);
+        }
+    }
+
+    /// Tells that pages of these calls are kept, each of which is one of those.
+    fn tell_news(&mut self, news: &[CallName], calls: &[UndeliveredCall])
+        ensures { self.new ≡ self.old }
+    {
+        for name in news {
+            if let Some(k) = place_of(calls, name.line.as_slice(), name.life, name.call)
+                && let Some(call) = calls.get(k)
+            {
+                self.tell_call(call);
+            }
+        }
+    }
+
+    /// Tells that pages of a call are kept, since its job failed.
+    fn tell_call(&mut self, call: &UndeliveredCall)
+        ensures { self.new ≡ self.old }
+    {
+        let counters = &mut self.teller.counters;
+        counters.jobs_undelivered = counters.jobs_undelivered.saturating_add(1);
+        let line = std::str::from_utf8(call.line.as_slice()).ok();
+        self.teller.tell_event(line, self.now, event_of(call));
+    }
+
+    /// Drops the pages of a call, and answers who said so.
+    fn do_discard<D: Disk, U: Disk>(&mut self, discard: Discard, store: &mut KeepingStore<D, U>)
+        ensures same { self.new ≡ self.old }
+        ensures storage { store.new.storage ≡ store.old.storage }
+    {
+        let Discard {
+            asker,
+            line,
+            life,
+            call,
+        } = discard;
+        let calls = calls_of(Some(&*store));
+        let Some(k) = place_of(calls, line.as_bytes(), life, call) else {
+            self.answer(asker, Answer::Refused(Refusal::NoCall));
+            return;
+        };
+        let tag = match calls.get(k) {
+            Some(found) => found.tag.as_slice().to_vec(self.alloc).ok(),
+            None => None,
+        };
+        let answer = drop_call(self.alloc, store, line.as_str(), life, call);
+        if answer == Answer::Done {
+            let counters = &mut self.teller.counters;
+            counters.jobs_discarded = counters.jobs_discarded.saturating_add(1);
+            tell_discarded(
+                &mut self.teller,
+                line.as_str(),
+                self.now,
+                life,
+                call,
+                tag.as_ref(),
+            );
+        }
+        self.answer(asker, answer);
+    }
+}

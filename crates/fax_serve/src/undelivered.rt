@@ -1,0 +1,163 @@
+//! What is told of pages that could not be delivered.
+ghost use Rattle.std.specs.Prelude.{◌≡◌};
+
+use crate::store::KeepingStore;
+use crate::telling::Teller;
+use fax_bits::NoMemory;
+use fax_clients::Asker;
+use fax_control::{Answer, CallWord, Refusal};
+use fax_events::{Event, UndeliveredJob, What, write_event};
+use fax_undelivered::UndeliveredCall;
+use sqlite_disk::Disk;
+use std::alloc::{AllocError, Global};
+use std::io::{Read, Write};
+
+/// A word `discard`, and who said it.
+#[derive(Drop)]
+pub(crate) struct Discard {
+    pub asker: Asker,
+    pub line: String,
+    pub life: u32,
+    pub call: u32,
+}
+
+impl Discard {
+    /// This word.
+    pub(crate) fn new(alloc: Global, asker: Asker, call: CallWord<'_>) -> Result<Self, AllocError> {
+        Ok(Discard {
+            asker,
+            line: String::from_str(alloc, call.line)?,
+            life: call.life,
+            call: call.call,
+        })
+    }
+}
+
+/// The calls of which pages could not be delivered.
+pub(crate) fn calls_of<D: Disk, U: Disk>(store: Option<&KeepingStore<D, U>>) -> &[UndeliveredCall] {
+    match store {
+        Some(store) => match &store.undelivered {
+            Some(undelivered) => undelivered.calls(),
+            None => &[],
+        },
+        None => &[],
+    }
+}
+
+/// The place of the call of these names.
+pub(crate) fn place_of(
+    calls: &[UndeliveredCall],
+    line: &[u8],
+    life: u32,
+    call: u32,
+) -> Option<usize> {
+    calls.iter().position(|it| it.life == life && it.call == call && it.line.as_slice() == line)
+}
+
+/// Drops the pages of a call, and says how the word is answered.
+pub(crate) fn drop_call<D: Disk, U: Disk>(
+    alloc: Global,
+    store: &mut KeepingStore<D, U>,
+    line: &str,
+    life: u32,
+    call: u32,
+) -> Answer<'static>
+    ensures { store.new.storage ≡ store.old.storage }
+{
+    let Some(kept) = &mut store.undelivered else {
+        return Answer::Refused(Refusal::NoCall);
+    };
+    match kept.discard(alloc, line.as_bytes(), life, call) {
+        Ok(true) => Answer::Done,
+        Ok(false) => Answer::Refused(Refusal::NoCall),
+        Err(_) => Answer::Refused(Refusal::NoSpool),
+    }
+}
+
+/// How many pages could not be delivered.
+pub(crate) fn pages_undelivered<D: Disk, U: Disk>(store: Option<&KeepingStore<D, U>>) -> u64 {
+    let mut pages: u64 = 0;
+    for call in calls_of(store) {
+        pages = pages.saturating_add(u64::from(call.pages));
+    }
+    pages
+}
+
+/// What is told of a call of which pages could not be delivered.
+pub(crate) fn event_of(call: &UndeliveredCall) -> What<'_> {
+    What::Undelivered(
+        UndeliveredJob {
+            life: call.life,
+            call: call.call,
+            pages: call.pages,
+            outcome: call.card.outcome,
+            tries: call.card.tries,
+            at: call.card.at,
+        },
+        shown_text(call.tag.as_slice()),
+        shown_text(call.card.cause.as_slice()),
+    )
+}
+
+/// Octets as text. `None`: there are none, or they are no text.
+pub(crate) fn shown_text(octets: &[u8]) -> Option<&str> {
+    match std::str::from_utf8(octets) {
+        Ok(text) if !text.is_empty() => Some(text),
+        Ok(_) | Err(_) => None,
+    }
+}
+
+/// The calls of which pages could not be delivered, of the line of this name or of all lines, as events of this moment, and `ok`.
+pub(crate) fn undelivered_text<D: Disk, U: Disk>(
+    alloc: Global,
+    line: Option<&str>,
+    store: Option<&KeepingStore<D, U>>,
+    at: u64,
+) -> Result<Vec<u8>, NoMemory> {
+    let mut text = Vec::new(alloc);
+    for call in calls_of(store) {
+        put_call(alloc, line, call, at, &mut text)?;
+    }
+    text.extend_from_slice(b"ok\n")?;
+    Ok(text)
+}
+
+/// Adds the line of a call, where it is of the line of this name, or all are told.
+fn put_call(
+    alloc: Global,
+    line: Option<&str>,
+    call: &UndeliveredCall,
+    at: u64,
+    text: &mut Vec<u8>,
+) -> Result<(), NoMemory> {
+    let Ok(name) = std::str::from_utf8(call.line.as_slice()) else {
+        return Ok(());
+    };
+    if line.is_some_and(|line| line != name) {
+        return Ok(());
+    }
+    let event = Event {
+        line: Some(name),
+        at,
+        what: event_of(call),
+    };
+    let told = write_event(alloc, &event)?;
+    text.extend_from_slice(told.as_slice())?;
+    Ok(())
+}
+
+/// Tells that a word dropped the pages of a call of this tag.
+pub(crate) fn tell_discarded<I: Read + Drop, O: Write + Drop>(
+    teller: &mut Teller<I, O>,
+    line: &str,
+    at: u64,
+    life: u32,
+    call: u32,
+    tag: Option<&Vec<u8>>,
+) {
+    let tag = match tag {
+        Some(tag) => shown_text(tag.as_slice()),
+        None => None,
+    };
+    teller.tell_event(Some(line), at, What::Discarded(life, call, tag));
+}

@@ -1,0 +1,139 @@
+"""Pages whose job failed: they are kept in files of their own, told by words and events, found again by each start, until a word drops them."""
+import json
+import os
+import time
+
+from asked import Asked
+from server import LONGEST, event_line, until
+from spooled import GATE, HEAD
+
+NO_CALL = ["refused 11 NoCall"]
+
+
+class Undelivered(Asked):
+    """A line whose called leg has no peer, over a spool."""
+
+    def refuse(self, tag, cause="busy"):
+        """The call of the job of this tag, of one page, cannot be placed."""
+        self.asked(tag)
+        self.assertEqual(self.client.say(f"refuse a1 {cause}"), ["ok"])
+        self.client.event("job", tag=tag, outcome="NotPlaced", pages=1, delivered=0, cause=cause)
+
+    def told(self, word="undelivered"):
+        """What the word tells, an event for each call."""
+        *lines, last = self.server.say(word)
+        self.assertEqual(last, "ok")
+        return [json.loads(line) for line in lines]
+
+    def test_a_page_that_was_refused_is_kept(self):
+        """It is told, counted, found by the next start, and dropped by a word alone."""
+        self.begin(spool=True)
+        began = int(time.time())
+        self.confirm(2, "49/1")
+        self.refuse("49/1")
+        event = self.client.event("undelivered", tag="49/1")
+        self.assertLessEqual(began, event["last"])
+        self.assertLessEqual(event["last"], time.time() + 1)
+        event["last"] = 0
+        self.assertEqual(
+            event_line(event),
+            '{"event":"undelivered","line":"a1","at":N,"life":1,"call":0,"tag":"49/1","pages":1,"outcome":"NotPlaced","cause":"busy","tries":1,"last":0}',
+        )
+        self.assert_kept(1, 1)
+        self.server.kill()
+        self.server.start()
+        self.client = self.server.events()
+        self.assert_kept(1, 0)
+        (told,) = self.told()
+        self.assertEqual((told["line"], told["life"], told["call"], told["pages"]), ("a1", 1, 0, 1))
+        self.assertEqual((told["tag"], told["outcome"], told["cause"], told["tries"]), ("49/1", "NotPlaced", "busy", 1))
+        self.assertEqual(len(self.told("undelivered a1")), 1)
+        self.assertEqual(self.told("undelivered a2"), [])
+        for word in ("discard a1 1 1", "discard a1 2 0", "discard a2 1 0"):
+            self.assertEqual(self.server.say(word), NO_CALL)
+        self.assertEqual(len(self.told()), 1)
+        self.assertEqual(self.server.say("discard a1 1 0"), ["ok"])
+        event = self.client.event("discarded", tag="49/1")
+        self.assertEqual(event_line(event), '{"event":"discarded","line":"a1","at":N,"life":1,"call":0,"tag":"49/1"}')
+        self.assertEqual(self.told(), [])
+        self.assertEqual(self.server.say("discard a1 1 0"), NO_CALL)
+        self.assertEqual(self.server.metrics()["faxgate_jobs_discarded_total"], 1)
+        self.assert_kept(0, 0)
+        self.server.kill()
+        self.server.start()
+        self.assertEqual(self.told(), [])
+
+    def assert_kept(self, pages, jobs):
+        """So many pages are undelivered, and so many jobs became so in this life; nothing else waits."""
+        until(lambda: self.server.metrics()["faxgate_pages_undelivered"] == pages, what="pages that are undelivered")
+        counts = self.server.metrics()
+        self.assertEqual(counts["faxgate_jobs_undelivered_total"], jobs)
+        self.assertEqual((counts["faxgate_jobs_waiting"], counts["faxgate_pages_kept"]), (0, 0))
+
+    def test_a_page_that_came_is_not_kept(self):
+        """A job that was delivered leaves nothing, before one that was not and after it."""
+        self.begin(spool=True)
+        self.confirm(1, "first")
+        self.deliver("first", self.machine(), 1)
+        self.confirm(2, "second")
+        self.refuse("second", "486")
+        self.client.event("undelivered", tag="second", cause="486")
+        self.confirm(3, "third")
+        self.deliver("third", self.machine(), 3)
+        self.assertEqual([told["tag"] for told in self.told()], ["second"])
+
+    def test_pages_of_three_jobs(self):
+        """Each is told with its own call, in the order in which they failed, and a word drops just the one that it names."""
+        self.begin(spool=True)
+        for number, tag in enumerate(("one", "two", "three")):
+            self.confirm(1, tag)
+            self.refuse(tag, f"cause-{number}")
+            self.client.event("undelivered", tag=tag)
+        self.assertEqual([(told["call"], told["cause"]) for told in self.told()], [(0, "cause-0"), (1, "cause-1"), (2, "cause-2")])
+        self.assertEqual(self.server.say("discard a1 1 1"), ["ok"])
+        self.assertEqual([told["tag"] for told in self.told()], ["one", "three"])
+        self.server.kill()
+        self.server.start()
+        self.assertEqual([told["tag"] for told in self.told()], ["one", "three"])
+
+    def test_the_end_is_noted_after_the_pages_are_kept(self):
+        """The files of undelivered pages have the page, and those of what waits have its end."""
+        self.begin(spool=True)
+        self.confirm(1, "tag")
+        self.refuse("tag")
+        self.client.event("undelivered", tag="tag")
+        self.server.kill()
+        sizes = {name: os.path.getsize(os.path.join(self.server.spool, name)) for name in os.listdir(self.server.spool)}
+        kept = sum(size for name, size in sizes.items() if name.startswith("undelivered"))
+        self.assertGreater(kept, 2 * (GATE + HEAD))
+
+    def spool(self, *words):
+        """What `faxgate spool` tells of the server's folder, and how it ends."""
+        process = self.server.run("spool", self.server.spool, *words)
+        output, errors = process.communicate(timeout=LONGEST)
+        return [json.loads(line) for line in output.splitlines()], errors, process.returncode
+
+    def test_its_pages_are_fetched_beside_the_server(self):
+        """The job is listed as undelivered, the page is written as a picture, and after `discard` there is none."""
+        self.begin(spool=True)
+        self.confirm(2, "49/1")
+        self.refuse("49/1")
+        self.client.event("undelivered", tag="49/1")
+        told = {"state": "undelivered", "line": "a1", "life": 1, "call": 0, "tag": "49/1", "first": 1, "pages": 1}
+        (job,), errors, status = self.spool()
+        self.assertEqual(({name: job[name] for name in told}, errors, status), (told, "", 0))
+        prefix = self.server.path("kept")
+        self.assertEqual(len(self.spool("a1", "1", "0", "--pages", prefix)[0]), 1)
+        with open(f"{prefix}-a1-1-0-1.pbm", "rb") as file:
+            self.assertEqual(file.read(), b"P4\n1728 2\n" + bytes(2 * 1728 // 8))
+        self.assertEqual(self.server.say("discard a1 1 0"), ["ok"])
+        self.assertEqual(self.spool(), ([], "", 0))
+        self.assertEqual(self.spool("a1", "1", "0")[2], 1)
+
+    def test_without_a_spool_nothing_is_kept(self):
+        """The words are there, and find nothing."""
+        self.begin()
+        self.confirm(1, "tag")
+        self.refuse("tag")
+        self.assertEqual(self.told(), [])
+        self.assertEqual(self.server.say("discard a1 1 0"), NO_CALL)
