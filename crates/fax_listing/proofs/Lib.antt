@@ -5,4 +5,5 @@ pub mod Names
 pub mod PictureLemmas
 pub mod Tags
 pub mod TextLemmas
+pub mod TiffFileLemmas
 pub mod Visible

@@ -5,3 +5,5 @@ pub mod Looks
 pub mod Pictures
 pub mod Shown
 pub mod Telling
+pub mod Tiffs
+pub mod Wanted

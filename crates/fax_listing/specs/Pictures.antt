@@ -87,8 +87,3 @@ pub record KeepsPictures (prefix : List ℕ) (pages : List PageValue) (is_whole 
   pub whole : is_whole ≡ list_all is_made pictured
   pub told_is : told ≡ old_told ++ flat_map (told_of prefix) pictured
   pub files_are : IfSome before (λ files. after ≡ Some (files ++ flat_map (λ (p : Pictured). file_list p.file) pictured))
-
--- the same where pictures are wanted, and else nothing is made
-abbrev pub KeepsWanted : (prefix : Option (List ℕ)) → List PageValue → (is_whole : Bool) → (old_told told : List ℕ) → (before after : Option (List FileValue)) → Type 0
-KeepsWanted None pages is_whole old_told told before after = (is_whole ≡ true) × (told ≡ old_told) × (after ≡ before)
-KeepsWanted (Some prefix) pages is_whole old_told told before after = KeepsPictures prefix pages is_whole old_told told before after

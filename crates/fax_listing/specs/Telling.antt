@@ -13,3 +13,6 @@ no_job_text folder = codes "faxgate: " ++ folder ++ codes ": no such job\n"
 
 abbrev pub no_page_text : (name : List ℕ) → List ℕ
 no_page_text name = codes "faxgate: " ++ name ++ codes ": the text of this page means none\n"
+
+abbrev pub too_long_text : (name : List ℕ) → List ℕ
+too_long_text name = codes "faxgate: " ++ name ++ codes ": the pages are too long for a TIFF\n"

@@ -7,7 +7,7 @@ use std::alloc::AllocError;
 #[derive(Clone, Copy, Debug)]
 pub enum LookFault {
     NoMemory,
-    /// A read failed, or a picture could not be written.
+    /// A read failed, or a picture or a TIFF could not be written.
     Stream,
 }
 

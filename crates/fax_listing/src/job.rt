@@ -2,7 +2,7 @@
 ghost use Rattle.std.specs.Prelude.{◌≡◌, ◌++◌, IfOk, OnOk};
 ghost use Rattle.std.specs.List.{count_by, filter};
 ghost use Rattle.fax_spool.specs.Torn.{same_call};
-ghost use Rattle.fax_listing.specs.Jobs.{is_chosen, is_first, job_of, jobs_by, jobs_of, state_name, state_of};
+ghost use Rattle.fax_listing.specs.Jobs.{is_chosen, is_first, job_of, jobs_by, jobs_of, state_name, state_of, without_cards};
 
 use fax_spool::{CallName, WaitingPage, is_torn};
 use std::alloc::{AllocError, Global};
@@ -15,6 +15,8 @@ pub enum JobState {
     Waits,
     /// A page of its call is lost, so that it is not sent.
     Torn,
+    /// Its call ended otherwise than delivered: its pages are kept until a word drops them.
+    Undelivered,
 }
 
 impl JobState {
@@ -25,6 +27,7 @@ impl JobState {
         match self {
             JobState::Waits => "waits",
             JobState::Torn => "torn",
+            JobState::Undelivered => "undelivered",
         }
     }
 }
@@ -66,6 +69,13 @@ pub fn choose(pages: &mut Vec<WaitingPage>, choice: Option<Choice<'_>>)
     pages.retain(|page| is_chosen(choice, page));
 }
 
+/// Drops the cards of calls, which stand among the pages of those that were not delivered: they have the number 0.
+pub fn drop_cards(pages: &mut Vec<WaitingPage>)
+    ensures { pages.new.items ≡ without_cards pages.old.items }
+{
+    pages.retain(|page| page.number != 0);
+}
+
 /// Whether a page is chosen.
 fn is_chosen(choice: Option<Choice<'_>>, page: &WaitingPage) -> bool
     ensures { result ≡ is_chosen choice.entry page.now }
@@ -80,17 +90,18 @@ fn is_chosen(choice: Option<Choice<'_>>, page: &WaitingPage) -> bool
     }
 }
 
-/// The jobs whose pages wait, in the order of their first ones, where these calls lack a page.
+/// The jobs of these pages, in the order of their first ones: in this state, but where these calls lack a page.
 pub fn jobs_of<'a>(
     alloc: Global,
     pages: &'a [WaitingPage],
     torn: &[CallName],
+    whole: JobState,
 ) -> Result<Vec<SpooledJob<'a>>, AllocError>
-    ensures { IfOk result (λ jobs. jobs.items ≡ jobs_of torn.now pages.now) }
+    ensures { IfOk result (λ jobs. jobs.items ≡ jobs_of torn.now whole pages.now) }
 {
     let mut jobs = Vec::new(alloc);
     for (i, page) in pages.iter().enumerate() {
-        push_if_first(&mut jobs, torn, pages, &pages[..i], page)?;
+        push_if_first(&mut jobs, torn, whole, pages, &pages[..i], page)?;
     }
     Ok(jobs)
 }
@@ -99,14 +110,15 @@ pub fn jobs_of<'a>(
 fn push_if_first<'a>(
     jobs: &mut Vec<SpooledJob<'a>>,
     torn: &[CallName],
+    whole: JobState,
     pages: &[WaitingPage],
     before: &[WaitingPage],
     page: &'a WaitingPage,
 ) -> Result<(), AllocError>
-    ensures { OnOk result (jobs.new.items ≡ jobs.old.items ++ jobs_by torn.now pages.now before.now page.now) }
+    ensures { OnOk result (jobs.new.items ≡ jobs.old.items ++ jobs_by torn.now whole pages.now before.now page.now) }
 {
     if is_first(before, page) {
-        jobs.push(job_of(page, pages, torn))?;
+        jobs.push(job_of(page, pages, torn, whole))?;
     }
     Ok(())
 }
@@ -124,24 +136,29 @@ fn is_first(before: &[WaitingPage], page: &WaitingPage) -> bool
 }
 
 /// The job of a page that is the first one of it, where these pages wait.
-fn job_of<'a>(page: &'a WaitingPage, pages: &[WaitingPage], torn: &[CallName]) -> SpooledJob<'a>
-    ensures { result ≡ job_of torn.now pages.now page.now }
+fn job_of<'a>(
+    page: &'a WaitingPage,
+    pages: &[WaitingPage],
+    torn: &[CallName],
+    whole: JobState,
+) -> SpooledJob<'a>
+    ensures { result ≡ job_of torn.now whole pages.now page.now }
 {
     SpooledJob {
-        state: state_of(torn, page),
+        state: state_of(torn, whole, page),
         first: page,
         pages: pages_of_call(pages, page),
     }
 }
 
-/// The state of the job of a page, where these calls lack a page.
-fn state_of(torn: &[CallName], page: &WaitingPage) -> JobState
-    ensures { result ≡ state_of torn.now page.now }
+/// The state of the job of a page: this one, but where these calls lack a page.
+fn state_of(torn: &[CallName], whole: JobState, page: &WaitingPage) -> JobState
+    ensures { result ≡ state_of torn.now whole page.now }
 {
     if is_torn(torn, page) {
         JobState::Torn
     } else {
-        JobState::Waits
+        whole
     }
 }
 

@@ -1,16 +1,21 @@
 //! What the octets of a spool's files tell.
-ghost use Rattle.std.specs.Prelude.{◌≡◌, ◌++◌, option_map, IfOk, OnOk, string_bytes};
+ghost use Rattle.std.specs.Prelude.{◌≡◌, ◌++◌, IfOk, OnOk, flat_map, string_bytes};
+ghost use Rattle.fax_listing.specs.Jobs.{chosen, jobs_of, without_cards};
+ghost use Rattle.fax_listing.specs.Lines.{job_line};
 ghost use Rattle.fax_listing.specs.Looks.{Looks, LooksAt, damage_told, is_found, none_told, status_of};
-ghost use Rattle.fax_listing.specs.Pictures.{KeepsWanted, failed_after_look};
+ghost use Rattle.fax_listing.specs.Pictures.{failed_after_look};
+ghost use Rattle.fax_listing.specs.Wanted.{KeepsWanted};
 
 use crate::fault::LookFault;
-use crate::job::{Choice, choose, jobs_of};
+use crate::job::{Choice, JobState, choose, drop_cards, jobs_of};
 use crate::job_line::write_jobs;
 use crate::picture_files::PictureFiles;
 use crate::pictures::keep_pictures;
 use crate::telling::{tell_damage, tell_no_job};
+use crate::tiffs::keep_tiff;
+use crate::wanted_files::WantedFiles;
 use fax_command::Status;
-use fax_spool::{CallName, Harm, Listing, WaitingPage, list_spool};
+use fax_spool::{CallName, Listing, WaitingPage, list_spool};
 use std::alloc::{AllocError, Global};
 
 /// What is asked of a spool.
@@ -18,8 +23,8 @@ use std::alloc::{AllocError, Global};
 pub struct SpoolOptions<'a> {
     /// Its folder.
     pub folder: &'a str,
-    /// What the names of pictures begin with, where pages are to become pictures.
-    pub pages: Option<&'a str>,
+    /// What is made of pages.
+    pub wanted: WantedFiles<'a>,
     /// The job that is looked at alone, where one is chosen.
     pub choice: Option<Choice<'a>>,
 }
@@ -34,68 +39,95 @@ pub struct Seen {
     pub status: Status,
 }
 
-/// What the octets of the files `pages` and `pages-wal` tell; and pictures of the pages that are chosen, where they are wanted.
+/// What the octets tell of the files `pages` and `pages-wal`, and of `undelivered` and `undelivered-wal`; and the pages that are chosen as
+/// pictures, or as one TIFF, where they are wanted.
 pub fn look<F: PictureFiles>(
     alloc: Global,
     one: &[u8],
     other: &[u8],
+    kept_one: &[u8],
+    kept_other: &[u8],
     files: &mut F,
     options: SpoolOptions<'_>,
 ) -> Result<Seen, LookFault>
-    ensures seen { IfOk result (Looks options.entry one.now other.now (F.made files.old) (F.made files.new)) }
+    ensures seen { IfOk result (Looks options.entry one.now other.now kept_one.now kept_other.now (F.made files.old) (F.made files.new)) }
     ensures failed { F.failed files.new ≡ failed_after_look (F.failed files.old) result }
 {
-    let listing = list_spool(alloc, one, other)?;
-    let Listing {
-        mut pages,
-        torn,
-        one,
-        other,
-    } = listing;
-    let told = tell_harms(alloc, options.folder, one, other)?;
-    choose(&mut pages, options.choice);
-    look_at(
-        alloc,
-        pages.as_slice(),
-        torn.as_slice(),
-        files,
-        options,
-        told,
-    )
+    let waiting = list_spool(alloc, one, other)?;
+    let kept = list_spool(alloc, kept_one, kept_other)?;
+    let told = tell_harms(alloc, options.folder, &waiting, &kept)?;
+    look_at(alloc, waiting, kept, files, options, told)
 }
 
-/// Tells what is harmed of both files.
-fn tell_harms(alloc: Global, folder: &str, one: Harm, other: Harm) -> Result<String, AllocError>
-    ensures { IfOk result (λ told. string_bytes told ≡ damage_told folder.now one other) }
+/// Tells what is harmed of all files.
+fn tell_harms(
+    alloc: Global,
+    folder: &str,
+    waiting: &Listing,
+    kept: &Listing,
+) -> Result<String, AllocError>
+    ensures { IfOk result (λ told. string_bytes told ≡ damage_told folder.now waiting.now kept.now) }
 {
     let mut told = String::new(alloc);
-    tell_damage(&mut told, folder, "pages", one)?;
-    tell_damage(&mut told, folder, "pages-wal", other)?;
+    tell_damage(&mut told, folder, "pages", waiting.one)?;
+    tell_damage(&mut told, folder, "pages-wal", waiting.other)?;
+    tell_damage(&mut told, folder, "undelivered", kept.one)?;
+    tell_damage(&mut told, folder, "undelivered-wal", kept.other)?;
     Ok(told)
 }
 
-/// What is seen of these pages, where these calls lack a page, and this was told before.
+/// What is seen of those of these pages that are chosen, where this was told before.
 fn look_at<F: PictureFiles>(
     alloc: Global,
-    pages: &[WaitingPage],
-    torn: &[CallName],
+    waiting: Listing,
+    kept: Listing,
     files: &mut F,
     options: SpoolOptions<'_>,
     told: String,
 ) -> Result<Seen, LookFault>
-    ensures seen { IfOk result (LooksAt options.entry pages.now torn.now (string_bytes told) (F.made files.old) (F.made files.new)) }
+    ensures seen { IfOk result (LooksAt options.entry (chosen options.entry.choice waiting.pages.items) (chosen options.entry.choice (without_cards kept.pages.items)) waiting.torn.items kept.torn.items (string_bytes told) (F.made files.old) (F.made files.new)) }
     ensures failed { F.failed files.new ≡ failed_after_look (F.failed files.old) result }
 {
+    let mut pages = waiting.pages;
+    let mut others = kept.pages;
+    choose(&mut pages, options.choice);
+    drop_cards(&mut others);
+    choose(&mut others, options.choice);
+    let mut text = lines_of(
+        alloc,
+        pages.as_slice(),
+        waiting.torn.as_slice(),
+        JobState::Waits,
+    )?;
+    let more = lines_of(
+        alloc,
+        others.as_slice(),
+        kept.torn.as_slice(),
+        JobState::Undelivered,
+    )?;
+    text.extend_from_slice(more.as_slice())?;
+    pages.append(&mut others)?;
     let mut told = told;
-    let is_found = tell_if_none(&mut told, options, pages)?;
-    let jobs = jobs_of(alloc, pages, torn)?;
-    let text = write_jobs(alloc, jobs.as_slice())?;
-    let is_whole = keep_wanted(alloc, files, options.pages, pages, &mut told)?;
+    let is_found = tell_if_none(&mut told, options, pages.as_slice())?;
+    let is_whole = keep_wanted(alloc, files, options.wanted, pages.as_slice(), &mut told)?;
     Ok(Seen {
         text,
         told,
         status: status_of(is_found && is_whole),
     })
+}
+
+/// The lines of the jobs of these pages: in this state, but where these calls lack a page.
+fn lines_of(
+    alloc: Global,
+    pages: &[WaitingPage],
+    torn: &[CallName],
+    whole: JobState,
+) -> Result<Vec<u8>, AllocError>
+    ensures { IfOk result (λ text. text.items ≡ flat_map job_line (jobs_of torn.now whole pages.now)) }
+{
+    let jobs = jobs_of(alloc, pages, torn, whole)?;
+    write_jobs(alloc, jobs.as_slice())
 }
 
 /// Says whether the job that is chosen has a page that waits, and tells where it has none.
@@ -114,20 +146,21 @@ fn tell_if_none(
     Ok(is_found)
 }
 
-/// Makes pictures of pages, where they are wanted, and says whether each page has one.
+/// Makes pictures of pages, or one TIFF, where they are wanted, and says whether each page has one, or is in it.
 fn keep_wanted<F: PictureFiles>(
     alloc: Global,
     files: &mut F,
-    prefix: Option<&str>,
+    wanted: WantedFiles<'_>,
     pages: &[WaitingPage],
     told: &mut String,
 ) -> Result<bool, LookFault>
-    ensures kept { IfOk result (λ is_whole. KeepsWanted (option_map (λ text. text.now) prefix.entry) pages.now is_whole (string_bytes told.old) (string_bytes told.new) (F.made files.old) (F.made files.new)) }
+    ensures kept { IfOk result (λ is_whole. KeepsWanted wanted.entry pages.now is_whole (string_bytes told.old) (string_bytes told.new) (F.made files.old) (F.made files.new)) }
     ensures failed { F.failed files.new ≡ failed_after_look (F.failed files.old) result }
 {
-    match prefix {
-        Some(prefix) => keep_pictures(alloc, files, prefix, pages, told),
-        None => Ok(true),
+    match wanted {
+        WantedFiles::Nothing => Ok(true),
+        WantedFiles::Pictures(prefix) => keep_pictures(alloc, files, prefix, pages, told),
+        WantedFiles::Tiff(name) => keep_tiff(alloc, files, name, pages, told),
     }
 }
 

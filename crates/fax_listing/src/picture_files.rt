@@ -1,4 +1,4 @@
-//! Where pictures are written.
+//! Where pictures and TIFFs are written.
 ghost use Rattle.std.specs.Prelude.{◌≡◌, Bool, List, Option, OnErr, OnOk};
 ghost use Rattle.fax_command.specs.Streams.{failed_after_write};
 ghost use Rattle.fax_listing.specs.Pictures.{FileValue, IsAdded};

@@ -64,7 +64,10 @@ fn keep_picture<F: PictureFiles>(
 }
 
 /// The page that the text of a record means, where it means one.
-fn page_meant(alloc: Global, page: &WaitingPage) -> Result<Option<Page<PackedRows>>, NoMemory>
+pub(crate) fn page_meant(
+    alloc: Global,
+    page: &WaitingPage,
+) -> Result<Option<Page<PackedRows>>, NoMemory>
     ensures { IfOk result (λ meant. MatchOption meant (MeansNone page.now)
         (λ shown. MeansPage page.now.format Mr page.now.text shown)) }
 {

@@ -1,6 +1,6 @@
 //! What is told beside the lines of jobs.
 ghost use Rattle.std.specs.Prelude.{◌≡◌, ◌++◌, OnOk, string_bytes};
-ghost use Rattle.fax_listing.specs.Telling.{damage_text, no_job_text, no_page_text};
+ghost use Rattle.fax_listing.specs.Telling.{damage_text, no_job_text, no_page_text, too_long_text};
 
 use fax_spool::Harm;
 use std::alloc::AllocError;
@@ -39,4 +39,11 @@ pub(crate) fn tell_no_page(told: &mut String, name: &str) -> Result<(), AllocErr
     ensures { OnOk result (string_bytes told.new ≡ string_bytes told.old ++ no_page_text name.now) }
 {
     write!(told, "faxgate: {name}: the text of this page means none\n")
+}
+
+/// Tells that the TIFF of this name was not made, since its pages are too long for one, in one line.
+pub(crate) fn tell_too_long(told: &mut String, name: &str) -> Result<(), AllocError>
+    ensures { OnOk result (string_bytes told.new ≡ string_bytes told.old ++ too_long_text name.now) }
+{
+    write!(told, "faxgate: {name}: the pages are too long for a TIFF\n")
 }
