@@ -39,8 +39,8 @@ def call(sample, seconds):
 
 
 class Calls(unittest.TestCase):
-    """The call of samples/call.pcap three times, ten seconds apart: each rings. Its caller speaks 80 ms after the gateway's first datagram,
-    sooner than a machine does, and a call that begins anew is answered a tick after that: so by themselves alone all have their pages."""
+    """The call of samples/call.pcap three times, ten seconds apart: each rings before the tick of the gateway's first datagram of it, so
+    that the gateway answers as it did, and each has its page, as by itself alone."""
 
     @classmethod
     def setUpClass(cls):
@@ -56,7 +56,7 @@ class Calls(unittest.TestCase):
     def test_each(self):
         told, errors = self.play([])
         self.assertEqual([line for line in told if line.startswith("ring")], ["ring 0", "ring 1", "ring 2"])
-        self.assertEqual([line for line in told if line.startswith("job")], ["job 0 1728 standard 1 1 Delivered"])
+        self.assertEqual([line for line in told if line.startswith("job")], [f"job {call} 1728 standard 1 1 Delivered" for call in range(3)])
         self.assertEqual(errors, "faxgate: the caller made 3 calls\n")
 
     def test_one(self):

@@ -22,9 +22,8 @@ fn caller_option<'a>(alloc: Global) -> Arg<'a> {
         alloc,
         "caller",
         "ADDRESS",
-        "Where the calling machine sends from: 192.0.2.10, 192.0.2.10:6000, 2001:db8::1 or [2001:db8::1]:6000; ::ffff:192.0.2.10 is 192.0.2.10",
+        "Where the calling machine sends from: 192.0.2.10, 192.0.2.10:6000, 2001:db8::1 or [2001:db8::1]:6000; ::ffff:192.0.2.10 is 192.0.2.10 [default: who sends the first CNG, or is sent the first CED]",
     )
-    .required(true)
 }
 
 /// The option of the called machine.
@@ -33,9 +32,8 @@ fn called_option<'a>(alloc: Global) -> Arg<'a> {
         alloc,
         "called",
         "ADDRESS",
-        "Where the called machine sends from",
+        "Where the called machine sends from [default: whom the caller's gateway calls first]",
     )
-    .required(true)
 }
 
 /// The option of one call.
@@ -87,6 +85,26 @@ fn machines_error(alloc: Global) -> Result<Error, Error>
     let mut command = capture_command(alloc)?.bin_name("faxgate capture")?;
     Ok(command.error(ErrorKind::ValueValidation, ONE_MACHINE)?)
 }
+
+/// The error of one address of `faxgate capture` without the other one.
+pub fn refused_half(alloc: Global) -> Error
+    ensures { (kind_of result ≡ ErrorKind.ValueValidation) ⊎ (kind_of result ≡ ErrorKind.OutOfMemory) }
+{
+    match half_error(alloc) {
+        Ok(error) | Err(error) => error,
+    }
+}
+
+/// That error. An `Err` says that memory was wanted.
+fn half_error(alloc: Global) -> Result<Error, Error>
+    ensures ok { IfOk result (λ error. kind_of error ≡ ErrorKind.ValueValidation) }
+    ensures err { IfErr result (λ error. kind_of error ≡ ErrorKind.OutOfMemory) }
+{
+    let mut command = capture_command(alloc)?.bin_name("faxgate capture")?;
+    Ok(command.error(ErrorKind::ValueValidation, HALF)?)
+}
+
+const HALF: &str = "say both '--caller <ADDRESS>' and '--called <ADDRESS>', or neither";
 
 const ONE_MACHINE: &str =
     "'--caller <ADDRESS>' and '--called <ADDRESS>' mean one machine: of one host, say both ports";

@@ -12,10 +12,11 @@ pub(crate) fn spool_command<'a>(alloc: Global) -> Result<Command<'a>, AllocError
     command(
         alloc,
         "spool",
-        "List the jobs whose pages wait in the spool of a faxgate serve, beside it, and write pages that wait as pictures; nothing in the folder is changed",
+        "List the jobs whose pages wait in the spool of a faxgate serve, beside it, and write pages that wait as pictures, or as one TIFF; nothing in the folder is changed",
         LINES_AND_STATUSES,
     )
     .arg(pages_option(alloc))?
+    .arg(tiff_option(alloc)?)?
     .arg(folder_word(alloc))?
     .arg(line_word(alloc)?)?
     .arg(number_word(
@@ -35,6 +36,17 @@ fn pages_option<'a>(alloc: Global) -> Arg<'a> {
         "PREFIX",
         "Write each page as a picture, PREFIX-LINE-LIFE-CALL-NUMBER.pbm, into a file that was not there",
     )
+}
+
+/// The option of one TIFF.
+fn tiff_option<'a>(alloc: Global) -> Result<Arg<'a>, AllocError> {
+    option(
+        alloc,
+        "tiff",
+        "FILE",
+        "Write the pages as one TIFF of class F, into a file that was not there",
+    )
+    .conflicts_with("pages")
 }
 
 /// The word that names the folder.
@@ -76,10 +88,14 @@ Pictures:
   Letters, digits, -, . and _ of a line's name stand in the name of a file as they are, other octets as %XX. Where a page means
   none, there is no picture, and the standard error tells it.
 
+TIFF:
+  Class F (RFC 2306): Group 3 in one dimension, a strip a page, the pages in the order in which they wait. A page that means none
+  is left out, and the standard error tells it as page-LINE-LIFE-CALL-NUMBER.pbm; where none is left, there is no file.
+
 Statuses:
   0  the spool was listed
-  1  there is no such job, or a page has no picture
+  1  there is no such job, a page means none, or the pages are too long for a TIFF
   2  the command line was refused
   3  memory was wanted and refused: fault memory
-  4  both files are missing, a read or a write failed, or a picture could not be written or was there: the standard error tells
-     which";
+  4  both files are missing, a read or a write failed, or a picture or the TIFF could not be written or was there: the standard
+     error tells which";

@@ -1,20 +1,20 @@
 -- Records that are read and told piece by piece.
-use Rattle.std.proofs.Common.{◌≡◌, ◌≢◌, inl, inr, ◌⊎◌, ℕ, ◌<◌, ◌≤◌, ◌^◌, List, [], ◌∷◌, ◌++◌, length, Option, None, Some, Result, Ok, Err, IfOk, IfErr, OnOk, refl, sym, ◌∙◌, ap, subst}
+use Rattle.std.proofs.Common.{◌≡◌, ◌≢◌, inl, inr, ℕ, ◌≤◌, ◌^◌, List, [], ◌∷◌, ◌++◌, Option, None, Some, Result, Ok, Err, IfOk, IfErr, OnOk, refl, sym, subst}
 use Rattle.fax_command.proofs.TellLemmas.{text_of_lines-append}
 use Rattle.fax_command.specs.RowLines.{text_of_lines}
 use Rattle.fax_pcap.specs.declared.fault.CaptureFault.{CaptureFault}
 use Rattle.fax_pcap.specs.declared.fault.CaptureFault.TheVariants as capture
-use Rattle.fax_pcap.specs.Captures.{TimedDatagram, HeadValue, FailsAs, Follow, ReadsAs, fault_of_end, head_record, read_of, record_at, record_of_kind, untold_head}
+use Rattle.fax_pcap.specs.Captures.{TimedDatagram, HeadValue, FailsAs, ReadsAs, fault_of_end, head_record, read_of, record_at, record_of_kind, untold_head}
 use Rattle.fax_pcap.specs.Fields.{front_of}
 use Rattle.fax_pcap.proofs.PieceLemmas.{Follow-append, Follow-more, Follow-push, ReadsAs-more, refused-more}
 use Rattle.fax_capture.specs.declared.options.CaptureOptions.{CaptureOptions}
 use Rattle.fax_capture.specs.declared.script.Script.{Script}
 use Rattle.fax_capture.specs.declared.script_fault.ScriptFault.{ScriptFault}
 use Rattle.fax_capture.specs.declared.script_fault.ScriptFault.TheVariants.{Capture, NoAddress, NoCall, TooLong}
-use Rattle.fax_capture.specs.Answers.{Allows, Ends, Fails, FailsCapture, FailsReading, LacksAt, Refuses, ToldSoFar, ToldWhole, most_octets}
+use Rattle.fax_capture.specs.Answers.{Fails, FailsCapture, FailsReading, Refuses, ToldSoFar, ToldWhole}
 use Rattle.fax_capture.specs.Growing.{Stops}
 use Rattle.fax_capture.specs.Rep.{Breaks, BreaksAt, HasRead, Holds, TakesAllRecords, TakesRecords, Untold}
-use Rattle.fax_capture.specs.Scripts.{ScriptSoFar, Tells, TellsAll, TellsFound, only_ring, script_lines, tick_lines}
+use Rattle.fax_capture.specs.Scripts.{ScriptSoFar, TellsFound, only_ring, script_lines, tick_lines}
 use Rattle.fax_capture.proofs.FollowLemmas.{TellsAll-append, TellsAll-push}
 use Rattle.fax_capture.proofs.StopLemmas.{Stops-more, Stops-same}
 
@@ -33,34 +33,34 @@ TakesRecords-found options old octets told mid rest new after script grown found
 
 -- ---- faults
 
-refused : (options : CaptureOptions) (head : HeadValue) (octets : List ℕ) (told : ScriptSoFar) (fault : CaptureFault)
-    → FailsAs (record_at head octets) fault → fault ≢ capture.Cut → BreaksAt options head octets told (Capture fault)
-refused options head octets told capture.NoMemory fails other = tt
-refused options head octets told capture.Cut fails other = absurd (other refl)
-refused options head octets told capture.Snapped (inl memory) other = let wrong : capture.Snapped ≡ capture.NoMemory = memory in cc
-refused options head octets told capture.Snapped (inr is) other = inl is
-refused options head octets told capture.NoCapture (inl memory) other = let wrong : capture.NoCapture ≡ capture.NoMemory = memory in cc
-refused options head octets told capture.NoCapture (inr is) other = is
-refused options head octets told capture.Damaged (inl memory) other = let wrong : capture.Damaged ≡ capture.NoMemory = memory in cc
-refused options head octets told capture.Damaged (inr is) other = is
+refused : (head : HeadValue) (octets : List ℕ) (told : ScriptSoFar) (fault : CaptureFault)
+    → FailsAs (record_at head octets) fault → fault ≢ capture.Cut → BreaksAt head octets told (Capture fault)
+refused head octets told capture.NoMemory fails other = tt
+refused head octets told capture.Cut fails other = absurd (other refl)
+refused head octets told capture.Snapped (inl memory) other = let wrong : capture.Snapped ≡ capture.NoMemory = memory in cc
+refused head octets told capture.Snapped (inr is) other = inl is
+refused head octets told capture.NoCapture (inl memory) other = let wrong : capture.NoCapture ≡ capture.NoMemory = memory in cc
+refused head octets told capture.NoCapture (inr is) other = is
+refused head octets told capture.Damaged (inl memory) other = let wrong : capture.Damaged ≡ capture.NoMemory = memory in cc
+refused head octets told capture.Damaged (inr is) other = is
 
 pub Breaks-refused : (options : CaptureOptions) (old : HeadValue) (octets : List ℕ) (told : ScriptSoFar) (mid : HeadValue) (rest : List ℕ) (script : Script) (fault : CaptureFault)
     → TakesRecords options old octets told mid rest script → FailsAs (record_at mid rest) fault → fault ≢ capture.Cut → Breaks options old octets told (Capture fault)
 Breaks-refused options old octets told mid rest script fault took fails other =
-    (took.found, mid, rest, took.next, took.follow, took.tells, refused options mid rest took.next fault fails other)
+    (took.found, mid, rest, took.next, took.follow, took.tells, refused mid rest took.next fault fails other)
 
 -- a text that stops to grow
-stopped : (options : CaptureOptions) (head : HeadValue) (octets : List ℕ) (told : ScriptSoFar) (fault : ScriptFault)
-    → Stops fault (text_of_lines told.lines) → BreaksAt options head octets told fault
-stopped options head octets told TooLong stops =
+stopped : (head : HeadValue) (octets : List ℕ) (told : ScriptSoFar) (fault : ScriptFault)
+    → Stops fault (text_of_lines told.lines) → BreaksAt head octets told fault
+stopped head octets told TooLong stops =
     Stops-same TooLong _ _ (sym (text_of_lines-append told.lines (tick_lines told.ticks 1000))) (Stops-more TooLong (text_of_lines told.lines) (text_of_lines (tick_lines told.ticks 1000)) stops)
-stopped options head octets told (NoAddress counts) stops = absurd stops
-stopped options head octets told (NoCall counts) stops = absurd stops
-stopped options head octets told (Capture capture.NoMemory) stops = tt
-stopped options head octets told (Capture capture.NoCapture) stops = absurd stops
-stopped options head octets told (Capture capture.Cut) stops = absurd stops
-stopped options head octets told (Capture capture.Snapped) stops = absurd stops
-stopped options head octets told (Capture capture.Damaged) stops = absurd stops
+stopped head octets told (NoAddress counts) stops = absurd stops
+stopped head octets told (NoCall counts) stops = absurd stops
+stopped head octets told (Capture capture.NoMemory) stops = tt
+stopped head octets told (Capture capture.NoCapture) stops = absurd stops
+stopped head octets told (Capture capture.Cut) stops = absurd stops
+stopped head octets told (Capture capture.Snapped) stops = absurd stops
+stopped head octets told (Capture capture.Damaged) stops = absurd stops
 
 untold : (options : CaptureOptions) (old : HeadValue) (octets : List ℕ) (told : ScriptSoFar) (mid : HeadValue) (rest : List ℕ) (new : HeadValue) (after : List ℕ) (script : Script) (captured : TimedDatagram) (fault : ScriptFault)
     → (took : TakesRecords options old octets told mid rest script) → ReadsAs (record_at mid rest) (Some captured) new after
@@ -75,7 +75,7 @@ untold options old octets told mid rest new after script captured fault took rea
   stops.0,
   Follow-push old octets took.found (Some captured) mid rest new after took.follow reads,
   TellsAll-push options told took.found (Some captured) took.next stops.0 took.tells stops.1,
-  stopped options new after stops.0 fault stops.2,
+  stopped new after stops.0 fault stops.2,
 )
 
 pub Breaks-untold : (options : CaptureOptions) (old : HeadValue) (octets : List ℕ) (told : ScriptSoFar) (mid : HeadValue) (rest : List ℕ) (new : HeadValue) (after : List ℕ) (script : Script) (found : Option TimedDatagram) (fault : ScriptFault)
@@ -96,10 +96,10 @@ nothing : read_of (record_at untold_head []) ≡ Err capture.Cut
 unfolding read_of record_of_kind head_record front_of
 nothing = refl
 
-pub HasRead-nothing : (options : CaptureOptions) (script : Script) → script.ticks ≤ 2 ^ 103 → Holds script only_ring → HasRead options [] untold_head script []
+pub HasRead-nothing : (options : CaptureOptions) (script : Script) → script.ticks ≤ 2 ^ 103 → Holds script (only_ring options) → HasRead options [] untold_head script []
 HasRead-nothing options script few holds = record {
   few = few;
-  took = record { found = []; next = only_ring; follow = (refl, refl); tells = refl; holds = holds };
+  took = record { found = []; next = only_ring options; follow = (refl, refl); tells = refl; holds = holds };
   waits = nothing;
 }
 
@@ -113,13 +113,13 @@ HasRead-take options read piece head script left new grown still has all few = r
     next = all.took.next;
     follow = Follow-append untold_head (read ++ piece) has.took.found all.took.found head (left ++ piece) new still
         (Follow-more untold_head read has.took.found head left piece has.took.follow) all.took.follow;
-    tells = TellsAll-append options only_ring has.took.found all.took.found has.took.next all.took.next has.took.tells all.took.tells;
+    tells = TellsAll-append options (only_ring options) has.took.found all.took.found has.took.next all.took.next has.took.tells all.took.tells;
     holds = all.took.holds;
   };
   waits = all.waits;
 }
 
-pub HasRead-start : (options : CaptureOptions) (head : HeadValue) (script : Script) (left : List ℕ) → head ≡ untold_head → left ≡ [] → script.ticks ≤ 2 ^ 103 → Holds script only_ring
+pub HasRead-start : (options : CaptureOptions) (head : HeadValue) (script : Script) (left : List ℕ) → head ≡ untold_head → left ≡ [] → script.ticks ≤ 2 ^ 103 → Holds script (only_ring options)
     → HasRead options [] head script left
 HasRead-start options head script left head_is left_is few holds =
     subst (λ (h : HeadValue). HasRead options [] h script left) (sym head_is)
@@ -144,29 +144,29 @@ take_ok options read piece head script left octets new grown (Ok still) items ha
 take_ok options read piece head script left octets new grown (Err fault) items has is took few = tt
 
 -- a fault is met whatever follows
-Refuses-more : (options : CaptureOptions) (head : HeadValue) (octets more : List ℕ) (fault : CaptureFault) → Refuses options head octets fault → Refuses options head (octets ++ more) fault
-Refuses-more options head octets more capture.Cut r = absurd r
-Refuses-more options head octets more capture.Snapped (inl is) =
+Refuses-more : (told : ScriptSoFar) (head : HeadValue) (octets more : List ℕ) (fault : CaptureFault) → Refuses told head octets fault → Refuses told head (octets ++ more) fault
+Refuses-more told head octets more capture.Cut r = absurd r
+Refuses-more told head octets more capture.Snapped (inl is) =
     inl (refused-more head octets more capture.Snapped (λ (e : capture.Snapped ≡ capture.Cut). cc) is)
-Refuses-more options head octets more capture.Snapped (inr lacks) =
+Refuses-more told head octets more capture.Snapped (inr lacks) =
     inr (lacks.0, lacks.1, lacks.2 ++ more, ReadsAs-more head octets (Some lacks.0) lacks.1 lacks.2 more lacks.3, lacks.4)
-Refuses-more options head octets more capture.NoCapture is = refused-more head octets more capture.NoCapture (λ (e : capture.NoCapture ≡ capture.Cut). cc) is
-Refuses-more options head octets more capture.Damaged is = refused-more head octets more capture.Damaged (λ (e : capture.Damaged ≡ capture.Cut). cc) is
-Refuses-more options head octets more capture.NoMemory is = refused-more head octets more capture.NoMemory (λ (e : capture.NoMemory ≡ capture.Cut). cc) is
+Refuses-more told head octets more capture.NoCapture is = refused-more head octets more capture.NoCapture (λ (e : capture.NoCapture ≡ capture.Cut). cc) is
+Refuses-more told head octets more capture.Damaged is = refused-more head octets more capture.Damaged (λ (e : capture.Damaged ≡ capture.Cut). cc) is
+Refuses-more told head octets more capture.NoMemory is = refused-more head octets more capture.NoMemory (λ (e : capture.NoMemory ≡ capture.Cut). cc) is
 
 fails_by : (options : CaptureOptions) (input : List ℕ) (head : HeadValue) (rest more : List ℕ) (told : ScriptSoFar) (fault : ScriptFault)
-    → ToldSoFar options input head (rest ++ more) told → BreaksAt options head rest told fault → Fails options input fault
+    → ToldSoFar options input head (rest ++ more) told → BreaksAt head rest told fault → Fails options input fault
 fails_by options input head rest more told TooLong so_far breaks = (head, rest ++ more, told, so_far, breaks)
 fails_by options input head rest more told (NoAddress counts) so_far breaks = absurd breaks
 fails_by options input head rest more told (NoCall counts) so_far breaks = absurd breaks
 fails_by options input head rest more told (Capture capture.NoMemory) so_far breaks = tt
 fails_by options input head rest more told (Capture capture.Cut) so_far breaks = absurd breaks
 fails_by options input head rest more told (Capture capture.Snapped) so_far breaks =
-    (head, rest ++ more, told, so_far, inl (Refuses-more options head rest more capture.Snapped breaks))
+    (head, rest ++ more, told, so_far, inl (Refuses-more told head rest more capture.Snapped breaks))
 fails_by options input head rest more told (Capture capture.NoCapture) so_far breaks =
-    (head, rest ++ more, told, so_far, inl (Refuses-more options head rest more capture.NoCapture breaks))
+    (head, rest ++ more, told, so_far, inl (Refuses-more told head rest more capture.NoCapture breaks))
 fails_by options input head rest more told (Capture capture.Damaged) so_far breaks =
-    (head, rest ++ more, told, so_far, inl (Refuses-more options head rest more capture.Damaged breaks))
+    (head, rest ++ more, told, so_far, inl (Refuses-more told head rest more capture.Damaged breaks))
 
 pub Breaks-fails : (options : CaptureOptions) (read piece more : List ℕ) (head : HeadValue) (script : Script) (left : List ℕ) (fault : ScriptFault)
     → (has : HasRead options read head script left) → Breaks options head (left ++ piece) has.took.next fault
@@ -179,7 +179,7 @@ Breaks-fails options read piece more head script left fault has breaks =
     (record {
       found = has.took.found ++ breaks.0;
       follow = Follow-append untold_head ((read ++ piece) ++ more) has.took.found breaks.0 head ((left ++ piece) ++ more) breaks.1 (breaks.2 ++ more) ahead here;
-      tells = TellsAll-append options only_ring has.took.found breaks.0 has.took.next breaks.3 has.took.tells breaks.5;
+      tells = TellsAll-append options (only_ring options) has.took.found breaks.0 has.took.next breaks.3 has.took.tells breaks.5;
     })
     breaks.6
 

@@ -23,7 +23,7 @@ most_octets = 16777216
 pub record ToldSoFar (options : CaptureOptions) (input : List ℕ) (head : HeadValue) (after : List ℕ) (told : ScriptSoFar) : Type 0 where
   pub found : List (Option TimedDatagram)
   pub follow : Follow untold_head input found head after
-  pub tells : TellsAll options only_ring found told
+  pub tells : TellsAll options (only_ring options) found told
 
 -- A capture was read to its end, where nothing is wrong.
 pub record ToldWhole (options : CaptureOptions) (input : List ℕ) (told : ScriptSoFar) : Type 0 where
@@ -33,15 +33,15 @@ pub record ToldWhole (options : CaptureOptions) (input : List ℕ) (told : Scrip
   pub at_end : fault_of_end head.kind left ≡ None
 
 -- some is lacking of a datagram that is read at the front of octets
-abbrev pub LacksAt : CaptureOptions → HeadValue → List ℕ → Type 0
-LacksAt options head octets = (captured : TimedDatagram) × (next : HeadValue) × (after : List ℕ)
-    × ReadsAs (record_at head octets) (Some captured) next after × IsLacking options captured
+abbrev pub LacksAt : ScriptSoFar → HeadValue → List ℕ → Type 0
+LacksAt told head octets = (captured : TimedDatagram) × (next : HeadValue) × (after : List ℕ)
+    × ReadsAs (record_at head octets) (Some captured) next after × IsLacking told captured
 
 -- The record at the front of octets is refused, or some of its datagram is lacking; that octets lack at the end is another fault.
-abbrev pub Refuses : CaptureOptions → HeadValue → List ℕ → CaptureFault → Type 0
-Refuses options head octets capture.Cut = ⊥
-Refuses options head octets capture.Snapped = (read_of (record_at head octets) ≡ Err capture.Snapped) ⊎ LacksAt options head octets
-Refuses options head octets fault = read_of (record_at head octets) ≡ Err fault
+abbrev pub Refuses : ScriptSoFar → HeadValue → List ℕ → CaptureFault → Type 0
+Refuses told head octets capture.Cut = ⊥
+Refuses told head octets capture.Snapped = (read_of (record_at head octets) ≡ Err capture.Snapped) ⊎ LacksAt told head octets
+Refuses told head octets fault = read_of (record_at head octets) ≡ Err fault
 
 -- the capture ends inside a record, or before it begins
 abbrev pub Ends : HeadValue → List ℕ → CaptureFault → Type 0
@@ -50,7 +50,7 @@ Ends head left fault = (read_of (record_at head left) ≡ Err capture.Cut) × (f
 -- a fault of the capture is met after the records that were read
 abbrev pub FailsCapture : CaptureOptions → List ℕ → CaptureFault → Type 0
 FailsCapture options input fault = (head : HeadValue) × (after : List ℕ) × (told : ScriptSoFar)
-    × ToldSoFar options input head after told × (Refuses options head after fault ⊎ Ends head after fault)
+    × ToldSoFar options input head after told × (Refuses told head after fault ⊎ Ends head after fault)
 
 -- Memory may be wanting at any input.
 abbrev pub FailsReading : CaptureOptions → List ℕ → CaptureFault → Type 0

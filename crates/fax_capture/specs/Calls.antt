@@ -1,11 +1,11 @@
 -- CALLS of the caller, one after the other in a capture, by the datagrams of its leg. (ITU-T T.38, UDPTL: a machine numbers the
 -- datagrams of a call up from 0, in 16 bits. ITU-T T.30: no timer is longer than T5, of 60 s. That a datagram comes at most eight
 -- numbers late, and that of number 0 not at all, is this project's profile.)
-use Rattle.std.specs.Prelude.{ℕ, ◌+◌, ◌-◌, ◌==◌, ◌&&◌, ◌||◌, nat_lt, Bool, true, false, List, [], ◌∷◌, Option, Some, None, Result, Ok, Err, if◌then◌else◌}
+use Rattle.std.specs.Prelude.{ℕ, ◌+◌, ◌-◌, ◌==◌, ◌&&◌, ◌||◌, nat_lt, Bool, true, false, List, Option, Some, None, Result, Ok, Err, if◌then◌else◌}
 use Rattle.fax_udptl.specs.declared.fault.UdptlFault.{UdptlFault}
 use Rattle.fax_udptl.specs.Datagrams.{DatagramValue, datagram_of}
 use Rattle.fax_capture.specs.declared.address.Role.{Role}
-use Rattle.fax_capture.specs.declared.address.Role.TheVariants.{FromCaller, FromCalled, ToCaller}
+use Rattle.fax_capture.specs.declared.address.Role.TheVariants.{FromCaller, ToCaller}
 use Rattle.fax_capture.specs.declared.leg.CallingLeg.{CallingLeg}
 
 -- the number of a datagram that reads as UDPTL
@@ -56,18 +56,3 @@ leg_with leg role number time begins = leg
 abbrev pub is_asked : Option ℕ → ℕ → Bool
 is_asked None call = true
 is_asked (Some asked) call = asked == call
-
--- a packet of one octet alone
-abbrev pub is_alone : ℕ → List ℕ → Bool
-is_alone octet (only ∷ []) = only == octet
-is_alone octet packet = false
-
-abbrev pub is_primary : ℕ → Result DatagramValue UdptlFault → Bool
-is_primary octet (Ok datagram) = is_alone octet datagram.primary
-is_primary octet (Err fault) = false
-
--- The caller answers a call, by the indicator CED (4), or the called machine makes one, by CNG (2): their addresses may be exchanged.
-abbrev pub seems_exchanged : Role → List ℕ → Bool
-seems_exchanged FromCaller octets = is_primary 4 (datagram_of octets)
-seems_exchanged FromCalled octets = is_primary 2 (datagram_of octets)
-seems_exchanged role octets = false

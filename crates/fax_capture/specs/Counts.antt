@@ -3,11 +3,12 @@ use Rattle.std.specs.Prelude.{ℕ, ◌+◌, min, Bool, true, false, List}
 use Rattle.fax_capture.specs.declared.address.Role.{Role}
 use Rattle.fax_capture.specs.declared.address.Role.TheVariants.{FromCaller, FromCalled, ToCaller, ToCalled, InFragments, Unrelated}
 use Rattle.fax_capture.specs.declared.counts.Counts.{Counts}
-use Rattle.fax_capture.specs.Calls.{seems_exchanged}
+use Rattle.fax_capture.specs.declared.machines.Machines.{Machines}
+use Rattle.fax_capture.specs.Signals.{seems_exchanged}
 
 -- A capture begins with its first call.
-abbrev pub no_counts : Counts
-no_counts = record { from_caller = 0; from_called = 0; in_fragments = 0; passed_over = 0; calls = 1; of_other_calls = 0; exchanged = 0 }
+abbrev pub no_counts : Machines → Counts
+no_counts machines = record { machines = machines; from_caller = 0; from_called = 0; in_fragments = 0; passed_over = 0; calls = 1; of_other_calls = 0; exchanged = 0 }
 
 -- one more, of as many as 64 bits count
 abbrev pub one_more : ℕ → ℕ

@@ -4,7 +4,9 @@ pub mod Calls
 pub mod Counts
 pub mod Faults
 pub mod Growing
+pub mod Machines
 pub mod Rep
 pub mod Reading
 pub mod Runs
 pub mod Scripts
+pub mod Signals

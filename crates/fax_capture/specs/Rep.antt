@@ -35,27 +35,27 @@ pub record TakesAllRecords (options : CaptureOptions) (old : HeadValue) (octets 
   pub waits : read_of (record_at new left) ≡ Err Cut
 
 -- A fault is met after records that were read and told, whatever follows these octets.
-abbrev pub BreaksAt : CaptureOptions → HeadValue → List ℕ → ScriptSoFar → ScriptFault → Type 0
-BreaksAt options head octets told (Capture NoMemory) = Unit {0}
-BreaksAt options head octets told (Capture fault) = Refuses options head octets fault
-BreaksAt options head octets told (NoAddress counts) = ⊥
-BreaksAt options head octets told (NoCall counts) = ⊥
-BreaksAt options head octets told TooLong = most_octets < length (text_of_lines (script_lines told))
+abbrev pub BreaksAt : HeadValue → List ℕ → ScriptSoFar → ScriptFault → Type 0
+BreaksAt head octets told (Capture NoMemory) = Unit {0}
+BreaksAt head octets told (Capture fault) = Refuses told head octets fault
+BreaksAt head octets told (NoAddress counts) = ⊥
+BreaksAt head octets told (NoCall counts) = ⊥
+BreaksAt head octets told TooLong = most_octets < length (text_of_lines (script_lines told))
 
 abbrev pub Breaks : CaptureOptions → HeadValue → List ℕ → ScriptSoFar → ScriptFault → Type 0
 Breaks options old octets told fault = (found : List (Option TimedDatagram)) × (head : HeadValue) × (after : List ℕ) × (next : ScriptSoFar)
-    × Follow old octets found head after × TellsAll options told found next × BreaksAt options head after next fault
+    × Follow old octets found head after × TellsAll options told found next × BreaksAt head after next fault
 
 -- a datagram is not told: some of it is lacking, or with it the text stops to grow
 abbrev pub Untold : CaptureOptions → ScriptSoFar → Option TimedDatagram → ScriptFault → Type 0
 Untold options told None fault = ⊥
-Untold options told (Some captured) fault = (IsLacking options captured × (fault ≡ Capture Snapped))
+Untold options told (Some captured) fault = (IsLacking told captured × (fault ≡ Capture Snapped))
     ⊎ ((next : ScriptSoFar) × Tells options told captured next × Stops fault (text_of_lines next.lines))
 
 -- All whole records of what was read of a capture were told: what is told of the capture, the script, and the octets that are left.
 pub record HasRead (options : CaptureOptions) (read : List ℕ) (head : HeadValue) (script : Script) (left : List ℕ) : Type 0 where
   pub few : script.ticks ≤ 2 ^ 103
-  pub took : TakesRecords options untold_head read only_ring head left script
+  pub took : TakesRecords options untold_head read (only_ring options) head left script
   pub waits : read_of (record_at head left) ≡ Err Cut
 
 -- the text, the exit status and the counts of a script, or of what is wrong

@@ -7,8 +7,9 @@ use Rattle.fax_capture.specs.declared.address.Role.{Role}
 use Rattle.fax_capture.specs.declared.address.Role.TheVariants.{FromCaller, FromCalled}
 use Rattle.fax_capture.specs.declared.counts.Counts.{Counts}
 use Rattle.fax_capture.specs.declared.leg.CallingLeg.{CallingLeg}
-use Rattle.fax_capture.specs.Addresses.{IsRole, is_passed_over, lacks}
+use Rattle.fax_capture.specs.Addresses.{IsRole, called_of, caller_of, is_passed_over, lacks}
 use Rattle.fax_capture.specs.Calls.{begins_anew, is_asked, leg_with, number_of, silent_leg}
+use Rattle.fax_capture.specs.Machines.{machines_with}
 use Rattle.fax_capture.specs.Counts.{counts_of_call, counts_of_other, counts_told, counts_with, no_counts}
 
 -- tick k is the moment 40 k, in milliseconds
@@ -33,8 +34,8 @@ ring_lines None true = codes "R" ∷ []
 ring_lines asked begins = []
 
 -- What was told: when the first of the datagrams was captured that one of the two sent or was sent, where that is known;
--- how many ticks were told, from 0 on; the lines; what was heard last on the calling leg; and how many datagrams came from whom, in
--- how many calls.
+-- how many ticks were told, from 0 on; the lines; what was heard last on the calling leg; the machines that are known, and how many
+-- datagrams came from whom, in how many calls.
 pub record ScriptSoFar : Type 0 where
   pub start : Option ℕ
   pub ticks : ℕ
@@ -43,8 +44,8 @@ pub record ScriptSoFar : Type 0 where
   pub counts : Counts
 
 -- it rings
-abbrev pub only_ring : ScriptSoFar
-only_ring = record { start = None; ticks = 0; lines = codes "R" ∷ []; leg = silent_leg; counts = no_counts }
+abbrev pub only_ring : CaptureOptions → ScriptSoFar
+only_ring options = record { start = None; ticks = 0; lines = codes "R" ∷ []; leg = silent_leg; counts = no_counts options.machines }
 
 abbrev pub start_of : Option ℕ → Option ℕ → Option ℕ
 start_of None time = time
@@ -57,14 +58,23 @@ tick_of (Some start) None = 0
 tick_of (Some start) (Some time) = (time - start) / 40000000
 
 -- Ticks are told up to that of a datagram, and then the datagram. None is told again.
+abbrev pub ticks_before : ScriptSoFar → Option ℕ → ℕ
+ticks_before told time = max told.ticks (tick_of (start_of told.start time) time)
+
 abbrev pub ticks_to : ScriptSoFar → Option ℕ → ℕ
 ticks_to told time = max told.ticks (tick_of (start_of told.start time) time + 1)
+
+-- It rings before the tick of the datagram with which a call begins anew, as before that of the first one, so that the gateway's
+-- first answer comes at that tick.
+abbrev pub lines_to : ScriptSoFar → Option ℕ → List (List ℕ) → List (List ℕ)
+lines_to told time rings =
+    ((told.lines ++ tick_lines told.ticks (ticks_before told time - told.ticks)) ++ rings) ++ tick_lines (ticks_before told time) (ticks_to told time - ticks_before told time)
 
 abbrev pub told_with : ScriptSoFar → TimedDatagram → Role → List (List ℕ) → ScriptSoFar
 told_with told captured role rings = record told {
   start = start_of told.start captured.time;
   ticks = ticks_to told captured.time;
-  lines = ((told.lines ++ tick_lines told.ticks (ticks_to told captured.time - told.ticks)) ++ rings) ++ role_lines role captured.datagram.octets;
+  lines = lines_to told captured.time rings ++ role_lines role captured.datagram.octets;
   counts = counts_told told.counts role captured.datagram.octets;
 }
 
@@ -91,13 +101,21 @@ told_of asked told captured role =
     if is_passed_over role then record told { counts = counts_with told.counts role }
     else told_in asked (heard_with told captured role) captured role (begins_with told captured role)
 
+-- Machines may be found by a datagram.
+abbrev pub found_with : ScriptSoFar → TimedDatagram → ScriptSoFar
+found_with told captured = record told { counts = record told.counts { machines = machines_with told.counts.machines captured.datagram } }
+
+-- what a datagram is to the machines that are known
+abbrev pub IsRoleIn : ScriptSoFar → TimedDatagram → Role → Type 0
+IsRoleIn told captured role = IsRole (caller_of told.counts.machines) (called_of told.counts.machines) captured.datagram role
+
 abbrev pub Tells : CaptureOptions → ScriptSoFar → TimedDatagram → ScriptSoFar → Type 0
-Tells options old captured new = (role : Role) × IsRole options.caller options.called captured.datagram role
-    × (lacks role captured.datagram.is_whole ≡ false) × (new ≡ told_of options.call old captured role)
+Tells options old captured new = (role : Role) × IsRoleIn (found_with old captured) captured role
+    × (lacks role captured.datagram.is_whole ≡ false) × (new ≡ told_of options.call (found_with old captured) captured role)
 
 -- some is lacking of a datagram that one of the two sent, so that it is not told
-abbrev pub IsLacking : CaptureOptions → TimedDatagram → Type 0
-IsLacking options captured = (role : Role) × IsRole options.caller options.called captured.datagram role × (lacks role captured.datagram.is_whole ≡ true)
+abbrev pub IsLacking : ScriptSoFar → TimedDatagram → Type 0
+IsLacking told captured = (role : Role) × IsRoleIn (found_with told captured) captured role × (lacks role captured.datagram.is_whole ≡ true)
 
 -- what was found in the records of a capture, one by one
 abbrev pub TellsFound : CaptureOptions → ScriptSoFar → Option TimedDatagram → ScriptSoFar → Type 0

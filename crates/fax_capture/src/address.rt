@@ -1,8 +1,8 @@
 //! The addresses of the two machines of a call.
-ghost use Rattle.std.specs.Prelude.{◌≡◌, ◌↔◌, IsTrue, true, false};
-ghost use Rattle.fax_capture.specs.Addresses.{AreApart, HasPort, IsAt, IsRole, ShareAPort, host_octets, is_in_fragments, is_passed_over};
+ghost use Rattle.std.specs.Prelude.{◌≡◌, ◌↔◌, IsTrue, bytes_eq, true, false};
+ghost use Rattle.fax_capture.specs.Addresses.{AreApart, HasPort, IsAt, IsAtKnown, IsRole, ShareAPort, called_of, caller_of, has_port, host_octets, is_at, is_in_fragments, is_passed_over};
 
-use crate::options::CaptureOptions;
+use crate::machines::Machines;
 use fax_pcap::{Datagram, Endpoint};
 
 /// The address of a host.
@@ -10,6 +10,26 @@ use fax_pcap::{Datagram, Endpoint};
 pub enum Host {
     V4([u8; 4]),
     V6([u8; 16]),
+}
+
+impl Host {
+    /// The octets of its address.
+    fn octets(&self) -> &[u8]
+        ensures { result.now ≡ host_octets self.now }
+    {
+        match self {
+            Host::V4(host) => host.as_slice(),
+            Host::V6(host) => host.as_slice(),
+        }
+    }
+
+    /// Whether its address has these octets.
+    pub(crate) fn has(&self, octets: &[u8]) -> bool
+        ensures means { IsTrue result ↔ (host_octets self.now ≡ octets.now) }
+        ensures is { result ≡ bytes_eq (host_octets self.now) octets.now }
+    {
+        self.octets() == octets
+    }
 }
 
 /// Where a machine is: its host, and its port, where not every port of the host is meant.
@@ -24,17 +44,7 @@ impl Address {
     pub fn is_apart_from(&self, other: &Address) -> bool
         ensures { IsTrue result ↔ AreApart self.now other.now }
     {
-        !self.has_host(other.octets()) || !self.shares_a_port(other.port)
-    }
-
-    /// The octets of the host's address.
-    fn octets(&self) -> &[u8]
-        ensures { result.now ≡ host_octets self.now.host }
-    {
-        match &self.host {
-            Host::V4(host) => host.as_slice(),
-            Host::V6(host) => host.as_slice(),
-        }
+        !self.has_host(other.host.octets()) || !self.shares_a_port(other.port)
     }
 
     /// Whether both mean a port.
@@ -48,22 +58,25 @@ impl Address {
     }
 
     /// Whether this is where an endpoint is.
-    fn is_at(&self, endpoint: &Endpoint<'_>) -> bool
-        ensures { IsTrue result ↔ IsAt self.now endpoint.now }
+    pub(crate) fn is_at(&self, endpoint: &Endpoint<'_>) -> bool
+        ensures means { IsTrue result ↔ IsAt self.now endpoint.now }
+        ensures is { result ≡ is_at self.now endpoint.now }
     {
         self.has_host(endpoint.host()) && self.has_port(endpoint.port())
     }
 
     /// Whether the host has these octets.
     fn has_host(&self, octets: &[u8]) -> bool
-        ensures { IsTrue result ↔ (host_octets self.now.host ≡ octets.now) }
+        ensures means { IsTrue result ↔ (host_octets self.now.host ≡ octets.now) }
+        ensures is { result ≡ bytes_eq (host_octets self.now.host) octets.now }
     {
-        self.octets() == octets
+        self.host.has(octets)
     }
 
     /// Whether this port is meant.
     fn has_port(&self, port: u16) -> bool
-        ensures { IsTrue result ↔ HasPort self.now.port port }
+        ensures means { IsTrue result ↔ HasPort self.now.port port }
+        ensures is { result ≡ has_port self.now.port port }
     {
         match self.port {
             Some(wanted) => wanted == port,
@@ -96,21 +109,32 @@ impl Role {
     }
 }
 
-/// What a datagram is to the caller and the called machine.
-pub(crate) fn role_of(options: &CaptureOptions, datagram: &Datagram<'_>) -> Role
-    ensures { IsRole options.now.caller options.now.called datagram.now result }
+/// What a datagram is to the caller and the called machine, as far as they are known.
+pub(crate) fn role_of(machines: &Machines, datagram: &Datagram<'_>) -> Role
+    ensures { IsRole (caller_of machines.now) (called_of machines.now) datagram.now result }
 {
-    let CaptureOptions { caller, called, .. } = options;
-    if caller.is_at(datagram.source()) {
+    let caller = machines.caller();
+    let called = machines.called();
+    if is_at_known(caller, datagram.source()) {
         role_of_sent(Role::FromCaller, datagram)
-    } else if called.is_at(datagram.source()) {
+    } else if is_at_known(called, datagram.source()) {
         role_of_sent(Role::FromCalled, datagram)
-    } else if caller.is_at(datagram.destination()) {
+    } else if is_at_known(caller, datagram.destination()) {
         Role::ToCaller
-    } else if called.is_at(datagram.destination()) {
+    } else if is_at_known(called, datagram.destination()) {
         Role::ToCalled
     } else {
         Role::Unrelated
+    }
+}
+
+/// Whether an address is known, and is where an endpoint is.
+fn is_at_known(address: Option<Address>, endpoint: &Endpoint<'_>) -> bool
+    ensures { IsTrue result ↔ IsAtKnown address endpoint.now }
+{
+    match address {
+        Some(address) => address.is_at(endpoint),
+        None => false,
     }
 }
 

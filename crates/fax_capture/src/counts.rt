@@ -3,11 +3,14 @@ ghost use Rattle.std.specs.Prelude.{◌≡◌};
 ghost use Rattle.fax_capture.specs.Counts.{counts_of_call, counts_of_other, counts_told, counts_with, no_counts, one_more, one_more_if};
 
 use crate::address::Role;
-use crate::leg::seems_exchanged;
+use crate::machines::Machines;
+use crate::signal::seems_exchanged;
 
 /// How many datagrams of a capture came from whom. 2^64 - 1 says that there are as many, or more.
 #[derive(Clone, Copy, PartialEq, Eq, Debug)]
 pub struct Counts {
+    /// The two machines, as far as they are known at the end.
+    pub machines: Machines,
     pub from_caller: u64,
     pub from_called: u64,
     /// One of the two machines sent these, in fragments: they were passed over.
@@ -23,11 +26,12 @@ pub struct Counts {
 }
 
 impl Counts {
-    /// Of a capture of which nothing was read.
-    pub(crate) fn new() -> Counts
-        ensures { result ≡ no_counts }
+    /// Of a capture of which nothing was read, where these machines are known.
+    pub(crate) fn new(machines: Machines) -> Counts
+        ensures { result ≡ no_counts machines }
     {
         Counts {
+            machines,
             from_caller: 0,
             from_called: 0,
             in_fragments: 0,

@@ -1,7 +1,6 @@
 //! The leg of the caller, and which of its calls is on.
 ghost use Rattle.std.specs.Prelude.{◌≡◌};
-ghost use Rattle.fax_udptl.specs.Datagrams.{datagram_of};
-ghost use Rattle.fax_capture.specs.Calls.{begins_anew, is_alone, is_asked, is_primary, is_silence, kept, lateness, leg_with, number_of, seems_exchanged, silent_leg, starts_over};
+ghost use Rattle.fax_capture.specs.Calls.{begins_anew, is_asked, is_silence, kept, lateness, leg_with, number_of, silent_leg, starts_over};
 
 use crate::address::Role;
 
@@ -13,11 +12,6 @@ const NUMBERS: u32 = 65_536;
 
 /// How long a machine waits at most in a call, in nanoseconds: 60 s (ITU-T T.30, T5).
 const LONGEST_WAIT: u128 = 60_000_000_000;
-
-/// The packets of the indicators CNG and CED (ITU-T T.38).
-const CNG: u8 = 0x02;
-
-const CED: u8 = 0x04;
 
 /// What was heard last on the calling leg: the UDPTL numbers of a datagram from the caller, and of one to it, in the call that is
 /// on; and when one was captured, in nanoseconds since 1970, where that is known.
@@ -134,36 +128,5 @@ pub(crate) fn is_asked(asked: Option<u64>, call: u64) -> bool
     match asked {
         Some(asked) => asked == call,
         None => true,
-    }
-}
-
-/// Whether the caller answers a call with a datagram, or the called machine makes one.
-pub(crate) fn seems_exchanged(role: Role, octets: &[u8]) -> bool
-    ensures { result ≡ seems_exchanged role octets.now }
-{
-    match role {
-        Role::FromCaller => is_primary(CED, octets),
-        Role::FromCalled => is_primary(CNG, octets),
-        _ => false,
-    }
-}
-
-/// Whether the primary packet of a datagram is this octet alone.
-fn is_primary(octet: u8, octets: &[u8]) -> bool
-    ensures { result ≡ is_primary octet (datagram_of octets.now) }
-{
-    match fax_udptl::read(octets) {
-        Ok(datagram) => is_alone(octet, datagram.primary()),
-        Err(_) => false,
-    }
-}
-
-/// Whether a packet is this octet alone.
-fn is_alone(octet: u8, packet: &[u8]) -> bool
-    ensures { result ≡ is_alone octet packet.now }
-{
-    match packet {
-        [only] => *only == octet,
-        _ => false,
     }
 }

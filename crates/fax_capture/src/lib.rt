@@ -5,14 +5,17 @@ mod address;
 mod answer;
 mod counts;
 mod leg;
+mod machines;
 mod options;
 mod reading;
 mod reading_fault;
 mod run;
 mod script;
 mod script_fault;
+mod signal;
 
 pub use address::{Address, Host};
 pub use counts::Counts;
+pub use machines::Machines;
 pub use options::CaptureOptions;
 pub use run::{CaptureRun, run_capture};

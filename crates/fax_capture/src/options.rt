@@ -1,10 +1,10 @@
 //! What is asked of a capture.
-use crate::address::Address;
+use crate::machines::Machines;
 
-/// Where the two machines of a capture send from, and which call of the caller is asked for, counted from 1, where not each is.
+/// The two machines of a capture, or that they are to be found; and which call of the caller is asked for, counted from 1, where
+/// not each is.
 #[derive(Clone, Copy, PartialEq, Eq, Debug)]
 pub struct CaptureOptions {
-    pub caller: Address,
-    pub called: Address,
+    pub machines: Machines,
     pub call: Option<u64>,
 }

@@ -33,7 +33,7 @@ pub(crate) fn script_of<I: Source>(
     ensures unfailed { result ≢ Err ReadingFault.Stream → I.failed source.new ≡ I.failed source.old }
 {
     let mut capture = Capture::new(alloc);
-    let mut script = Script::new(alloc)?;
+    let mut script = Script::new(alloc, options.machines)?;
     let mut left = Vec::new(alloc);
     let mut buffer = new_buffer(alloc)?;
     for _ in 0..u64::MAX {
@@ -121,7 +121,8 @@ fn tell(
     let Some(captured) = found else {
         return Ok(());
     };
-    let role = role_of(options, captured.datagram());
+    script.find(&captured);
+    let role = role_of(&script.machines(), captured.datagram());
     if is_lacking(role, captured.datagram().is_whole()) {
         return Err(ScriptFault::Capture(CaptureFault::Snapped));
     }

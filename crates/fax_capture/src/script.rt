@@ -2,13 +2,15 @@
 ghost use Rattle.std.specs.Prelude.{ℕ, List, ◌≡◌, ◌+◌, ◌-◌, ◌<◌, ◌^◌, ◌==◌, ◌++◌, ◌∷◌, [], max, length, IfOk, IfErr, Err, OnOk, ◌≤◌};
 ghost use Rattle.hex.specs.Hex.{encode_lower};
 ghost use Rattle.fax_command.specs.RowLines.{text_of_lines};
+ghost use Rattle.fax_capture.specs.declared.options.CaptureOptions.{CaptureOptions};
 ghost use Rattle.fax_capture.specs.Growing.{Stops};
 ghost use Rattle.fax_capture.specs.Rep.{Holds};
-ghost use Rattle.fax_capture.specs.Scripts.{ScriptSoFar, begins_with, heard_with, only_ring, ring_lines, role_lines, script_lines, start_of, tick_line, tick_lines, tick_of, told_in, told_of, told_with, ticks_to};
+ghost use Rattle.fax_capture.specs.Scripts.{ScriptSoFar, begins_with, found_with, heard_with, only_ring, ring_lines, role_lines, script_lines, start_of, tick_line, tick_lines, tick_of, ticks_before, ticks_to, told_in, told_of, told_with};
 
 use crate::address::Role;
 use crate::counts::Counts;
 use crate::leg::{CallingLeg, is_asked, number_of};
+use crate::machines::Machines;
 use crate::script_fault::ScriptFault;
 use fax_bits::NoMemory;
 use fax_command::MOST_OCTETS;
@@ -48,16 +50,16 @@ pub(crate) struct Made {
 
 impl Script {
     /// It rings.
-    pub fn new(alloc: Global) -> Result<Script, NoMemory>
+    pub fn new(alloc: Global, machines: Machines) -> Result<Script, NoMemory>
         ensures few { IfOk result (λ script. script.ticks ≤ 2 ^ 103) }
-        ensures ring { IfOk result (λ script. Holds script only_ring) }
+        ensures ring { (options : CaptureOptions) → options.machines ≡ machines → IfOk result (λ script. Holds script (only_ring options)) }
     {
         Ok(Script {
             start: None,
             ticks: 0,
             text: Vec::from_slice(alloc, RING)?,
             leg: CallingLeg::new(),
-            counts: Counts::new(),
+            counts: Counts::new(machines),
         })
     }
 
@@ -73,6 +75,21 @@ impl Script {
         ensures { result ≡ self.now.counts }
     {
         self.counts
+    }
+
+    /// The machines that are known.
+    pub fn machines(&self) -> Machines
+        ensures { result ≡ self.now.counts.machines }
+    {
+        self.counts.machines
+    }
+
+    /// Finds machines by a datagram, where they are not known.
+    pub fn find(&mut self, captured: &CapturedPacket<'_>)
+        ensures ticks { self.new.ticks ≡ self.old.ticks }
+        ensures holds { (told : ScriptSoFar) → Holds self.old told → Holds self.new (found_with told captured.now) }
+    {
+        self.counts.machines = self.counts.machines.with(captured.datagram());
     }
 
     /// Tells a datagram, after the ticks up to its own, and counts it. One that is unrelated, in fragments, or in another call than
@@ -133,7 +150,7 @@ impl Script {
         }
     }
 
-    /// Tells a datagram, after the ticks up to its own and the ring, where it rings.
+    /// Tells a datagram, after the ticks up to its own, before which it rings, where it does.
     fn push_told(
         &mut self,
         alloc: Global,
@@ -151,9 +168,12 @@ impl Script {
         let time = captured.time();
         let octets = captured.datagram().octets();
         let start = start_at(self.start, time);
-        let ticks = self.ticks.max(tick_at(start, time) + 1);
-        push_ticks(alloc, &mut self.text, self.ticks, ticks)?;
+        let tick = tick_at(start, time);
+        let before = self.ticks.max(tick);
+        let ticks = self.ticks.max(tick + 1);
+        push_ticks(alloc, &mut self.text, self.ticks, before)?;
         push(&mut self.text, rings)?;
+        push_ticks(alloc, &mut self.text, before, ticks)?;
         push_datagram(alloc, &mut self.text, role, octets)?;
         self.start = start;
         self.ticks = ticks;

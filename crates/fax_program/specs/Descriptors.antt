@@ -12,10 +12,10 @@ abbrev pub of_http : {Address : Type 0} → Option Address → ℕ
 of_http None = 0
 of_http (Some address) = 1 + 16
 
--- the files of a spool
+-- the files of a spool, and those of what could not be delivered
 abbrev pub of_spool : {Path : Type 0} → Option Path → ℕ
 of_spool None = 0
-of_spool (Some folder) = 2
+of_spool (Some folder) = 4
 
 -- two sockets a line, and beside those the standard streams, what sockets are waited for by, and one to spare
 abbrev pub most_descriptors : Config → ℕ

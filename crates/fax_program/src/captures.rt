@@ -1,16 +1,19 @@
 //! What is told of the datagrams of a capture.
 use crate::failures::tell;
-use fax_capture::{Address, CaptureOptions, Counts, Host};
+use fax_capture::{Address, CaptureOptions, Counts, Host, Machines};
 use std::net::{IpAddr, SocketAddr};
 
-/// Tells each of the two addresses of which nothing came, how many calls there are, where it is not one, what was passed over, where
+/// Tells which machines were found, or each of the two addresses of which nothing came, how many calls there are, where it is not one, what was passed over, where
 /// anything was, and that the addresses seem to be exchanged.
 pub(crate) fn tell_counts<E: Eprint>(rt: &E, options: CaptureOptions, counts: Counts) {
-    if counts.from_caller == 0 {
-        tell_silence(rt, "caller", options.caller);
+    if options.machines == Machines::Unknown {
+        tell_found(rt, counts.machines);
     }
-    if counts.from_called == 0 {
-        tell_silence(rt, "called", options.called);
+    if let Some(caller) = options.machines.caller() {
+        tell_machine(rt, "caller", caller, counts.from_caller);
+    }
+    if let Some(called) = options.machines.called() {
+        tell_machine(rt, "called", called, counts.from_called);
     }
     tell_calls(rt, counts);
     tell_passed_over(
@@ -25,6 +28,40 @@ pub(crate) fn tell_counts<E: Eprint>(rt: &E, options: CaptureOptions, counts: Co
             "the caller answers calls (CED), or the called machine makes them (CNG): are both addresses exchanged?",
         );
     }
+}
+
+/// Tells which machines were found.
+fn tell_found<E: Eprint>(rt: &E, machines: Machines) {
+    match machines {
+        Machines::Known(caller, called) => {
+            let caller = socket_of(caller);
+            let called = socket_of(called);
+            tell(
+                rt,
+                format_args!("found --caller {caller} --called {called}"),
+            )
+        }
+        Machines::CallerKnown(caller, _) => {
+            let caller = socket_of(caller);
+            tell(
+                rt,
+                format_args!("found --caller {caller}, and no called machine"),
+            )
+        }
+        Machines::Unknown => tell(rt, "no machine was found: none sent CNG or CED"),
+    }
+}
+
+/// Tells an address of which no datagram came.
+fn tell_machine<E: Eprint>(rt: &E, option: &str, address: Address, count: u64) {
+    if count == 0 {
+        tell_silence(rt, option, address);
+    }
+}
+
+/// The address of a machine that was found, which has a port.
+fn socket_of(address: Address) -> SocketAddr {
+    SocketAddr::new(ip_of(address.host), address.port.unwrap_or(0))
 }
 
 /// Tells how many calls the caller made, where it is not one, and what was passed over of others than the one that is asked for.

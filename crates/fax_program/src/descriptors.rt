@@ -12,8 +12,8 @@ use libc::{RLIMIT_NOFILE, getrlimit};
 /// comes.
 const ALWAYS_OPEN: usize = 5;
 
-/// The files of a spool.
-const SPOOL_FILES: usize = 2;
+/// The files of a spool, and those of what could not be delivered.
+const SPOOL_FILES: usize = 4;
 
 /// How many descriptors a server of this configuration has open at one time, at most.
 pub fn most_descriptors(config: &Config) -> usize

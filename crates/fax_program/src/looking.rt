@@ -3,47 +3,77 @@ use crate::failures::tell;
 use crate::refusals::tell_no_memory;
 use fax_command::{Status, StdSink, StdSource, StreamFault, fault_of_streams};
 use fax_listing::{FileFault, PictureFiles, SpoolOptions, run_spool};
+use std::alloc::AllocError;
 use std::fs::OpenOptions;
 use std::io::{Read, Write};
 use std::rt::Files;
 use std::{fs, io};
 
-/// Lists what waits in a spool, and makes pictures of its pages where they are wanted. What is harmed, and what failed, is told on the
-/// standard error.
+/// Lists what waits in a spool, and makes pictures of its pages, or one TIFF, where they are wanted. What is harmed, and what failed,
+/// is told on the standard error.
 pub(crate) fn look_into_spool<R: Print + Eprint + AllocGlobal, H: Files>(
     rt: &R,
     host: &H,
     options: SpoolOptions<'_>,
 ) -> Status {
-    let folder = options.folder;
-    let Ok(path) = format!(in rt.alloc(); "{folder}/pages") else {
+    let Ok(paths) = Paths::of(rt, options.folder) else {
         return tell_no_memory(rt);
     };
-    let Ok(other_path) = format!(in rt.alloc(); "{folder}/pages-wal") else {
-        return tell_no_memory(rt);
+    let Some((one, other)) = open_both(rt, host, paths.one.as_str(), paths.other.as_str()) else {
+        return Status::Stream;
     };
-    let Some((one, other)) = open_both(rt, host, path.as_str(), other_path.as_str()) else {
+    let Some(kept_one) = open_if_there(rt, host, paths.kept_one.as_str()) else {
+        return Status::Stream;
+    };
+    let Some(kept_other) = open_if_there(rt, host, paths.kept_other.as_str()) else {
         return Status::Stream;
     };
     let mut one = StdSource::new(one);
     let mut other = StdSource::new(other);
+    let mut kept_one = StdSource::new(kept_one);
+    let mut kept_other = StdSource::new(kept_other);
     let mut sink = StdSink::new(io::writer(rt));
     let mut pictures = NewPictures::new(rt, host);
     let looked = run_spool(
         rt.alloc(),
         &mut one,
         &mut other,
+        &mut kept_one,
+        &mut kept_other,
         &mut sink,
         &mut pictures,
         options,
     );
     let _ = rt.eprint(looked.told.as_str());
     if looked.status == Status::Stream {
-        tell_unread(rt, path.as_str(), &one, &sink);
-        tell_unread(rt, other_path.as_str(), &other, &sink);
+        tell_unread(rt, paths.one.as_str(), &one, &sink);
+        tell_unread(rt, paths.other.as_str(), &other, &sink);
+        tell_unread(rt, paths.kept_one.as_str(), &kept_one, &sink);
+        tell_unread(rt, paths.kept_other.as_str(), &kept_other, &sink);
         tell_unwritten(rt, &one, &sink);
     }
     looked.status
+}
+
+/// The paths of the files of a spool: those of what waits, and those of what could not be delivered.
+#[derive(Drop)]
+struct Paths {
+    one: String,
+    other: String,
+    kept_one: String,
+    kept_other: String,
+}
+
+impl Paths {
+    /// Of the spool of this folder.
+    fn of<R: AllocGlobal>(rt: &R, folder: &str) -> Result<Self, AllocError> {
+        Ok(Paths {
+            one: format!(in rt.alloc(); "{folder}/pages")?,
+            other: format!(in rt.alloc(); "{folder}/pages-wal")?,
+            kept_one: format!(in rt.alloc(); "{folder}/undelivered")?,
+            kept_other: format!(in rt.alloc(); "{folder}/undelivered-wal")?,
+        })
+    }
 }
 
 /// A file of a spool, or none.

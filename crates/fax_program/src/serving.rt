@@ -32,14 +32,15 @@ pub struct Service {
 
 impl Service {
     /// Serves the lines until one says `stop`, or the spool has failed and no line has a call. It answers with which status the process
-    /// ends. `None`: the lines are to be served once more, by another run, over files of its own (`S` stands for what they hold). Faults
+    /// ends. `None`: the lines are to be served once more, by another run, over files of its own (`S` stands for what those of its spool hold, and
+    /// `T` for what those of the pages hold that could not be delivered). Faults
     /// are told in one line on the standard error.
-    pub fn run<R: Print + Eprint + Input + AllocGlobal, N: Net + Files + Clock + Folders, S: Start>(
-        &mut self,
-        rt: &R,
-        system: &N,
-        start: S,
-    ) -> Option<u8> {
+    pub fn run<
+        R: Print + Eprint + Input + AllocGlobal,
+        N: Net + Files + Clock + Folders,
+        S: Start,
+        T: Start,
+    >(&mut self, rt: &R, system: &N, start: S, undelivered: T) -> Option<u8> {
         let ran = run_serve(
             system,
             rt.alloc(),
@@ -48,6 +49,7 @@ impl Service {
             io::writer(rt),
             self.failures,
             start,
+            undelivered,
         );
         let ended = match ran {
             Ok(end) => self.end(rt, end),

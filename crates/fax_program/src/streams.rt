@@ -8,7 +8,7 @@ use fax_capture::{CaptureOptions, run_capture};
 use fax_command::{PageOptions, Sink, Source, StdSink, StdSource, run_page};
 use fax_explain::{NoPages, run_explain};
 use fax_gateway::Settings;
-use fax_loop::play_loop;
+use fax_loop::{Loopback, SocketLines, play_loop};
 use fax_request::ExplainOptions;
 use fax_trace::run_trace;
 use std::io;
@@ -96,6 +96,7 @@ pub(crate) fn answer_loop<R: Print + Eprint + Input + AllocGlobal, N: Net>(
 {
     let mut source = StdSource::new(rt.reader());
     let mut sink = StdSink::new(io::writer(rt));
-    let ending = play_loop(net, rt.alloc(), &mut source, &mut sink, settings);
+    let lines = SocketLines::over(Loopback::of(net));
+    let ending = play_loop(&lines, rt.alloc(), &mut source, &mut sink, settings);
     tell_loop(rt, ending, &source, &sink)
 }

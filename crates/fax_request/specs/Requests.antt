@@ -15,6 +15,8 @@ use Rattle.fax_gateway.specs.Setups.{AreAllowed}
 use Rattle.fax_capture.specs.declared.address.Host.{Host}
 use Rattle.fax_capture.specs.declared.address.Host.TheVariants as host
 use Rattle.fax_capture.specs.declared.address.Address.{Address}
+use Rattle.fax_capture.specs.declared.machines.Machines.{Machines}
+use Rattle.fax_capture.specs.declared.machines.Machines.TheVariants.{Known, Unknown}
 use Rattle.fax_capture.specs.declared.options.CaptureOptions.{CaptureOptions}
 use Rattle.fax_capture.specs.Addresses.{AreApart}
 use Rattle.fax_send_receive.specs.declared.sending.SendOptions.{SendOptions}
@@ -69,11 +71,22 @@ abbrev pub IsCallOf : List Row → Option ℕ → Type 0
 IsCallOf given None = IsNumberOf (one_of (codes "call") given) 0 (2 ^ 64 - 1) 0 0
 IsCallOf given (Some call) = IsNumberOf (one_of (codes "call") given) 0 (2 ^ 64 - 1) 0 call × (0 < call)
 
--- the machines of a call are apart: no endpoint is at both addresses
+-- the machines at the addresses that two texts say, which are apart: no endpoint is at both
+abbrev pub AreMachinesAt : Text → Text → Machines → Type 0
+AreMachinesAt caller called (Known one other) = SaysAddress caller one × SaysAddress called other × AreApart one other
+AreMachinesAt caller called machines = ⊥
+
+-- Both addresses are given, or neither is: then the machines are to be found.
+abbrev pub AreMachinesBy : Option Text → Option Text → Machines → Type 0
+AreMachinesBy (Some caller) (Some called) machines = AreMachinesAt caller called machines
+AreMachinesBy None None machines = machines ≡ Unknown
+AreMachinesBy caller called machines = ⊥
+
+abbrev pub AreMachinesOf : List Row → Machines → Type 0
+AreMachinesOf given machines = AreMachinesBy (first_of (codes "caller") given) (first_of (codes "called") given) machines
+
 pub record AreCaptureOptionsOf (given : List Row) (options : CaptureOptions) : Type 0 where
-  pub caller : SaysAddress (text_given (codes "caller") given) options.caller
-  pub called : SaysAddress (text_given (codes "called") given) options.called
-  pub apart : AreApart options.caller options.called
+  pub machines : AreMachinesOf given options.machines
   pub call : IsCallOf given options.call
 
 -- the words that are said, with one space between

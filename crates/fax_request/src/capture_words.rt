@@ -1,12 +1,12 @@
 //! What `faxgate capture` is asked for.
-ghost use Rattle.std.specs.Prelude.{IfOk, IfSome, codes};
+ghost use Rattle.std.specs.Prelude.{IfOk, IfSome};
 ghost use Rattle.clap.specs.Words.{found_of, rows_of};
-ghost use Rattle.fax_request.specs.Requests.{AreCaptureOptionsOf, HasOctets, IsCallOf, IsHostOf, SaysAddress, text_given};
+ghost use Rattle.fax_request.specs.Requests.{AreCaptureOptionsOf, AreMachinesAt, AreMachinesOf, HasOctets, IsCallOf, IsHostOf, SaysAddress};
 
 use crate::given::{number_of, text_of};
 use clap::{ArgMatches, Error};
-use fax_arguments::{refused_address, refused_machines};
-use fax_capture::{Address, CaptureOptions, Host};
+use fax_arguments::{refused_address, refused_half, refused_machines};
+use fax_capture::{Address, CaptureOptions, Host, Machines};
 use std::alloc::Global;
 use std::net::{IpAddr, SocketAddr};
 
@@ -17,16 +17,33 @@ pub(crate) fn capture_options_of(
 ) -> Result<CaptureOptions, Error>
     ensures { IfOk result (AreCaptureOptionsOf (rows_of (found_of given.now))) }
 {
-    let caller = address_of(alloc, "caller", given)?;
-    let called = address_of(alloc, "called", given)?;
+    Ok(CaptureOptions {
+        machines: machines_of(alloc, given)?,
+        call: call_of(given),
+    })
+}
+
+/// The machines that were given; where neither was, they are to be found.
+fn machines_of(alloc: Global, given: &ArgMatches<'_>) -> Result<Machines, Error>
+    ensures { IfOk result (AreMachinesOf (rows_of (found_of given.now))) }
+{
+    match (text_of(given, "caller"), text_of(given, "called")) {
+        (Some(caller), Some(called)) => machines_in(alloc, caller, called),
+        (None, None) => Ok(Machines::Unknown),
+        _ => Err(refused_half(alloc)),
+    }
+}
+
+/// The machines at the addresses that two texts say.
+fn machines_in(alloc: Global, caller: &str, called: &str) -> Result<Machines, Error>
+    ensures { IfOk result (AreMachinesAt caller.now called.now) }
+{
+    let caller = address_in(alloc, "caller", caller)?;
+    let called = address_in(alloc, "called", called)?;
     if !caller.is_apart_from(&called) {
         return Err(refused_machines(alloc));
     }
-    Ok(CaptureOptions {
-        caller,
-        called,
-        call: call_of(given),
-    })
+    Ok(Machines::Known(caller, called))
 }
 
 /// The call that is asked for, where one is.
@@ -39,11 +56,10 @@ fn call_of(given: &ArgMatches<'_>) -> Option<u64>
     }
 }
 
-/// The address that was given with an option.
-fn address_of(alloc: Global, option: &str, given: &ArgMatches<'_>) -> Result<Address, Error>
-    ensures { IfOk result (SaysAddress (text_given option.now (rows_of (found_of given.now)))) }
+/// The address that the text of an option says.
+fn address_in(alloc: Global, option: &str, text: &str) -> Result<Address, Error>
+    ensures { IfOk result (SaysAddress text.now) }
 {
-    let text = text_of(given, option).unwrap_or("");
     match read_address(text) {
         Some(address) => Ok(address),
         None => Err(refused_address(alloc, option, text)),

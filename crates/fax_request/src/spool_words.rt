@@ -1,10 +1,10 @@
 //! What `faxgate spool` is asked for.
 ghost use Rattle.clap.specs.Words.{found_of, rows_of};
-ghost use Rattle.fax_request.specs.SpoolWords.{AreSpoolOptionsOf, IsChoiceOf};
+ghost use Rattle.fax_request.specs.SpoolWords.{AreSpoolOptionsOf, IsChoiceOf, IsWantedOf};
 
 use crate::given::{number_of, text_of};
 use clap::ArgMatches;
-use fax_listing::{Choice, SpoolOptions};
+use fax_listing::{Choice, SpoolOptions, WantedFiles};
 
 /// The options that were given to `faxgate spool`.
 pub(crate) fn spool_options_of<'a>(given: &ArgMatches<'a>) -> SpoolOptions<'a>
@@ -12,8 +12,21 @@ pub(crate) fn spool_options_of<'a>(given: &ArgMatches<'a>) -> SpoolOptions<'a>
 {
     SpoolOptions {
         folder: text_of(given, "folder").unwrap_or(""),
-        pages: text_of(given, "pages"),
+        wanted: wanted_of(given),
         choice: choice_of(given),
+    }
+}
+
+/// What is made of pages: one TIFF where its file was given, else pictures where what their names begin with was.
+fn wanted_of<'a>(given: &ArgMatches<'a>) -> WantedFiles<'a>
+    ensures { IsWantedOf (rows_of (found_of given.now)) result }
+{
+    if let Some(name) = text_of(given, "tiff") {
+        return WantedFiles::Tiff(name);
+    }
+    match text_of(given, "pages") {
+        Some(prefix) => WantedFiles::Pictures(prefix),
+        None => WantedFiles::Nothing,
     }
 }
 

@@ -1,4 +1,4 @@
-use Rattle.std.proofs.Common.{◌≡◌, ◌<◌, ◌+◌, ◌++◌, List, ℕ, [], Ok, refl, sym, ◌∙◌, ap, rules, arith, length, take}
+use Rattle.std.proofs.Common.{◌≡◌, ◌<◌, ◌++◌, List, ℕ, [], Ok, refl, ap, rules, arith, length, take}
 use Rattle.std.proofs.lemmas.Grind.{common_steps}
 use Rattle.std.proofs.lemmas.Result.{err_from_is_err_and}
 use Rattle.std.proofs.KnownBytes.{Consumes-kept, Consumes-nil, Consumes-trans}
@@ -15,7 +15,7 @@ loop-init g c = record {
   room = c.in_ok-buffer.ensures;
   read = [];
   consumed = Consumes-nil (g.I.Source.remaining c.args.source.now);
-  has = HasRead-start c.args.options.now _ _ _ c.new-capture.ensures c.new-left.ensures.items c.in_ok-script.ensures.few c.in_ok-script.ensures.ring;
+  has = HasRead-start c.args.options.now _ _ _ c.new-capture.ensures c.new-left.ensures.items c.in_ok-script.ensures.few (c.in_ok-script.ensures.ring c.args.options.now refl);
 }
 
 pub returns-in_err-finish-in-Ok-eq0-clause-err : goal.returns-in_err-finish-in-Ok-eq0-clause-err

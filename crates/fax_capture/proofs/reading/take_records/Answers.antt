@@ -1,4 +1,3 @@
-use Rattle.std.proofs.Common.{[], refl}
 use Rattle.std.proofs.lemmas.Result.{err_from_is_err_and}
 use Rattle.fax_capture.proofs.ReadingLemmas.{Breaks-untold, TakesRecords-found}
 use Rattle.fax_capture.proofs.reading.take_records.Goals as goal
