@@ -1,7 +1,7 @@
 //! A page and a wire over sockets of the loopback interface, and a page of text for lines over such sockets.
 use fax_command::{Output, PageOptions, StdSink, StdSource, run_page};
 use fax_gateway::{Leg, Settings, Wire, WireFault};
-use fax_loop::{UdpWire, run_loop};
+use fax_loop::{Loopback, SocketLines, UdpWire, run_loop};
 use fax_pagestore::{Coding, Format};
 use fax_runcodes::Width;
 use std::alloc::{AllocError, Global};
@@ -15,7 +15,14 @@ fn a_page_over_sockets(rt: HostRuntime) {
     let mut text = Vec::new(rt.alloc());
     let mut source = StdSource::new(page);
     let mut sink = StdSink::new(&mut text);
-    let status = run_loop(&rt, rt.alloc(), &mut source, &mut sink, Settings::default());
+    let lines = SocketLines::over(Loopback::of(&rt));
+    let status = run_loop(
+        &lines,
+        rt.alloc(),
+        &mut source,
+        &mut sink,
+        Settings::default(),
+    );
     let wanted = b"job 0 1728 standard 1 1 Delivered\n1728\n".as_slice();
     assert!(rt; status == 0 && text.as_slice() == wanted);
 }
@@ -77,7 +84,7 @@ pub(crate) fn socket_pair<R: Net>(net: &R) -> io::Result<(UdpSocket, UdpSocket)>
 }
 
 /// Whether the next receive on a leg brings these octets.
-fn gives(wire: &mut UdpWire, leg: Leg, octets: &[u8]) -> bool {
+fn gives(wire: &mut UdpWire<UdpSocket>, leg: Leg, octets: &[u8]) -> bool {
     let mut buffer = [0; 100];
     match wire.receive(leg, &mut buffer) {
         Ok(Some(count)) => is_in_front(&buffer, count, octets),
@@ -86,7 +93,7 @@ fn gives(wire: &mut UdpWire, leg: Leg, octets: &[u8]) -> bool {
 }
 
 /// Whether it brings none.
-fn gives_none(wire: &mut UdpWire, leg: Leg) -> bool {
+fn gives_none(wire: &mut UdpWire<UdpSocket>, leg: Leg) -> bool {
     wire.receive(leg, &mut [0; 100]) == Ok(None)
 }
 
@@ -107,7 +114,7 @@ fn is_in_front(all: &[u8], count: usize, octets: &[u8]) -> bool {
 
 /// Whether datagrams go over a wire on their legs, to these peers and from them.
 fn goes_both_ways(
-    wire: &mut UdpWire,
+    wire: &mut UdpWire<UdpSocket>,
     caller: &UdpSocket,
     answerer: &UdpSocket,
 ) -> io::Result<bool> {
@@ -124,7 +131,7 @@ fn goes_both_ways(
 }
 
 /// Whether a datagram of the called leg is sent, and the system tells of it at the next receive.
-fn is_told_of_a_loss(wire: &mut UdpWire) -> bool {
+fn is_told_of_a_loss(wire: &mut UdpWire<UdpSocket>) -> bool {
     wire.send(Leg::Called, b"lost") == Ok(())
         && wire.receive(Leg::Called, &mut [0; 100]) == Err(WireFault)
 }
@@ -134,7 +141,7 @@ fn is_told_of_a_loss(wire: &mut UdpWire) -> bool {
 fn a_wire_over_sockets(rt: HostRuntime) -> Result<(), Fail> {
     let (calling, caller) = socket_pair(&rt)?;
     let (called, answerer) = socket_pair(&rt)?;
-    let mut wire = UdpWire::new(calling, called)?;
+    let mut wire = UdpWire::new(calling, called);
     let goes = goes_both_ways(&mut wire, &caller, &answerer);
     // where the peer is gone, the system tells it of the next datagram
     drop(answerer);

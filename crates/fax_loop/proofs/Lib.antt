@@ -23,3 +23,4 @@ pub mod OnePage
 pub mod ReadUnder
 pub mod Relayed
 pub mod ShortPackets
+pub mod SocketLemmas

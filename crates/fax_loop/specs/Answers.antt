@@ -6,19 +6,16 @@ use Rattle.fax_runcodes.specs.declared.Width.TheVariants as width
 use Rattle.fax_runcodes.specs.declared.format.Coding.TheVariants as coding
 use Rattle.fax_pagestore.specs.Pages.{PageValue}
 use Rattle.fax_pagestore.specs.PageTexts.{MeansRows}
-use Rattle.fax_jobs.specs.Books.{job_of}
 use Rattle.fax_jobs.specs.declared.outcome.Outcome.{Outcome as JobOutcome}
 use Rattle.fax_jobs.specs.declared.outcome.Outcome.TheVariants as job
 use Rattle.fax_jobs.specs.declared.report.Report.{Report}
 use Rattle.fax_jobs.specs.ReportTexts.{report_text}
-use Rattle.fax_gateway.specs.declared.settings.Settings.{Settings}
 use Rattle.fax_command.specs.declared.input_fault.InputFault.{InputFault}
 use Rattle.fax_command.specs.declared.input_fault.InputFault.TheVariants as faults
 use Rattle.fax_command.specs.declared.options.Output.TheVariants as output
 use Rattle.fax_command.specs.declared.options.PageOptions.{PageOptions}
 use Rattle.fax_command.specs.Answers.{IsHexOf, RefusesPage, fault_line, row_width}
 use Rattle.fax_command.specs.RowLines.{TellRows, text_of_lines}
-use Rattle.fax_loop.specs.Exchanges.{IsExchange, Lines}
 use Rattle.fax_loop.specs.declared.ending.Ending.{Ending}
 use Rattle.fax_loop.specs.declared.ending.Ending.TheVariants as endings
 
@@ -31,14 +28,9 @@ abbrev pub IsInput : PageValue → List ℕ → Type 0
 IsInput page input = (page.format ≡ page_options.format)
     × (octets : List ℕ) × IsHexOf input octets × MeansRows (row_width page_options) page_options.coding octets page.rows
 
--- A page went from a machine that calls over a gateway to another machine, all with these settings: the gateway reported so, and
--- the other machine confirmed these pages. What sockets carry is not told.
-abbrev pub IsSent : Settings → PageValue → Option Report → List PageValue → Type 0
-IsSent settings page report pages = (before : Lines) × (after : Lines) × IsExchange settings (job_of 0 page) before after report pages
-
--- the page was the one of the input
-abbrev pub Sends : Settings → List ℕ → Option Report → List PageValue → Type 0
-Sends settings input report pages = (page : PageValue) × IsInput page input × IsSent settings page report pages
+-- the page was the one of the input, and it was sent so
+abbrev pub Sends : (Sent : PageValue → Option Report → List PageValue → Type 0) → List ℕ → Option Report → List PageValue → Type 0
+Sends Sent input report pages = (page : PageValue) × IsInput page input × Sent page report pages
 
 -- the rows of pages, one after the other
 abbrev pub rows_of : List PageValue → List Elements
@@ -51,10 +43,16 @@ pub data Outcome : Type 0 where
   ReportsNone : Outcome
   Refuses : (fault : InputFault) → Outcome
 
-abbrev pub Allows : Settings → List ℕ → Outcome → Type 0
-Allows settings input (Reports report rows) = (pages : List PageValue) × Sends settings input (Some report) pages × (rows ≡ rows_of pages)
-Allows settings input ReportsNone = (pages : List PageValue) × Sends settings input None pages
-Allows settings input (Refuses fault) = RefusesPage page_options input fault
+-- what is told of a report, or of none, and of the pages that were confirmed
+abbrev pub IsOf : Option Report → List PageValue → Outcome → Type 0
+IsOf report pages (Reports told rows) = (report ≡ Some told) × (rows ≡ rows_of pages)
+IsOf report pages ReportsNone = report ≡ None
+IsOf report pages (Refuses fault) = fault ≡ faults.NoMemory
+
+abbrev pub Allows : (Sent : PageValue → Option Report → List PageValue → Type 0) → List ℕ → Outcome → Type 0
+Allows Sent input (Reports report rows) = (pages : List PageValue) × Sends Sent input (Some report) pages × (rows ≡ rows_of pages)
+Allows Sent input ReportsNone = (pages : List PageValue) × Sends Sent input None pages
+Allows Sent input (Refuses fault) = RefusesPage page_options input fault
 
 abbrev pub job_status : JobOutcome → ℕ
 job_status job.Delivered = 0
@@ -94,15 +92,22 @@ IsTextOf (Reports report rows) text = (lines : List (List ℕ)) × TellRows line
 IsTextOf ReportsNone text = text ≡ []
 IsTextOf (Refuses fault) text = text ≡ fault_line fault
 
--- how a run with these settings may end, and the text that it then answers to an input
-pub record EndsSo (settings : Settings) (input : List ℕ) (ending : Ending) (text : List ℕ) : Type 0 where
+-- how a run may end by which pages are sent so, and the text that it then answers to an input
+pub record EndsSo (Sent : PageValue → Option Report → List PageValue → Type 0) (input : List ℕ) (ending : Ending) (text : List ℕ) : Type 0 where
   pub outcome : Outcome
-  pub allowed : Allows settings input outcome
+  pub allowed : Allows Sent input outcome
   pub ending_is : ending ≡ ending_of outcome
   pub text_is : IsTextOf outcome text
 
 -- the exit status and the text that it may answer
-pub record Answers (settings : Settings) (input : List ℕ) (status : ℕ) (text : List ℕ) : Type 0 where
+pub record Answers (Sent : PageValue → Option Report → List PageValue → Type 0) (input : List ℕ) (status : ℕ) (text : List ℕ) : Type 0 where
   pub ending : Ending
-  pub ends_so : EndsSo settings input ending text
+  pub ends_so : EndsSo Sent input ending text
   pub status_is : status ≡ ending_status ending
+
+-- how what a call came to is told
+pub record EndsOf (report : Option Report) (pages : List PageValue) (ending : Ending) (text : List ℕ) : Type 0 where
+  pub outcome : Outcome
+  pub is_of : IsOf report pages outcome
+  pub ending_is : ending ≡ ending_of outcome
+  pub text_is : IsTextOf outcome text

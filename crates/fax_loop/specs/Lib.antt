@@ -6,3 +6,6 @@ pub mod GoesOn
 pub mod Rep
 pub mod Links
 pub mod Machines
+pub mod Opened
+pub mod Sockets
+pub mod Traffic

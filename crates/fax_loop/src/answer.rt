@@ -1,16 +1,17 @@
 //! What is answered to an input.
 ghost use Rattle.std.specs.Prelude.{ℕ, ◌≡◌, List, false, OnOk, IfOk};
 ghost use Rattle.std.specs.Io.KnownBytes.{Appends};
-ghost use Rattle.fax_gateway.specs.declared.settings.Settings.{Settings as GatewaySettings};
 ghost use Rattle.fax_gateway.specs.Setups.{AreAllowed};
 ghost use Rattle.fax_command.specs.RowLines.{TellRows, text_of_lines};
 ghost use Rattle.fax_command.specs.Streams.{failed_after_write};
-ghost use Rattle.fax_loop.specs.Answers.{EndsSo, IsInput, Sends, rows_of};
+ghost use Rattle.fax_loop.specs.Answers.{EndsOf, EndsSo, IsInput, rows_of};
+ghost use Rattle.fax_loop.specs.Opened.{IsSent, told_lines};
 ghost use Rattle.fax_loop.specs.Rep.{IsAnswerText, ending_of_answer};
 
 use crate::ending::Ending;
 use crate::exchange::{CallEnd, send_page};
 use crate::loop_error::LoopError;
+use crate::opens_lines::OpensLines;
 use fax_bits::NoMemory;
 use fax_command::{
     InputFault, MEMORY_LINE, Output, PageOptions, Sink, WriteFault, page_of_hex, write_rows,
@@ -22,7 +23,6 @@ use fax_pagestore::{Coding, Format, PackedRows, Page};
 use fax_runcodes::Width;
 use std::alloc::Global;
 use std::io;
-use std::net::Net;
 
 /// How the page is given: in rows of 1,728 elements, of the standard resolution, in one-dimensional lines.
 const GIVEN: PageOptions = PageOptions {
@@ -88,18 +88,18 @@ impl Answer {
     }
 }
 
-/// The answer to an input, with these settings. An `Err`: a socket could not be made.
-pub(crate) fn answer_to<R: Net>(
-    net: &R,
+/// The answer to an input, with these settings. An `Err`: no lines could be opened.
+pub(crate) fn answer_to<L: OpensLines>(
+    opener: &L,
     alloc: Global,
     input: Vec<u8>,
     settings: Settings,
 ) -> io::Result<Answer>
     requires { AreAllowed settings }
-    ensures { IfOk result (λ answer. (text : List ℕ) → IsAnswerText answer text → EndsSo settings input.items (ending_of_answer answer) text) }
+    ensures { IfOk result (λ answer. (text : List ℕ) → IsAnswerText answer text → EndsSo (IsSent (told_lines L.End.told L.Wire.known) (L.opened opener.now) settings) input.items (ending_of_answer answer) text) }
 {
     match page_of_hex(alloc, input, GIVEN) {
-        Ok(page) => answer_to_page(net, alloc, page, settings),
+        Ok(page) => answer_to_page(opener, alloc, page, settings),
         Err(InputFault::NoMemory) => Ok(Answer::NoMemory),
         Err(fault) => match fault.line(alloc) {
             Ok(line) => Ok(Answer::Fault(line)),
@@ -109,16 +109,16 @@ pub(crate) fn answer_to<R: Net>(
 }
 
 /// The answer to a page, which is sent.
-fn answer_to_page<R: Net>(
-    net: &R,
+fn answer_to_page<L: OpensLines>(
+    opener: &L,
     alloc: Global,
     page: Page<PackedRows>,
     settings: Settings,
 ) -> io::Result<Answer>
     requires { AreAllowed settings }
-    ensures { IfOk result (λ answer. (input text : List ℕ) → IsInput page input → IsAnswerText answer text → EndsSo settings input (ending_of_answer answer) text) }
+    ensures { IfOk result (λ answer. (input text : List ℕ) → IsInput page input → IsAnswerText answer text → EndsSo (IsSent (told_lines L.End.told L.Wire.known) (L.opened opener.now) settings) input (ending_of_answer answer) text) }
 {
-    match send_page(net, alloc, page, settings) {
+    match send_page(opener, alloc, page, settings) {
         Ok(ended) => Ok(answer_of(alloc, ended)),
         Err(LoopError::NoMemory) => Ok(Answer::NoMemory),
         Err(LoopError::Socket(error)) => Err(error),
@@ -127,7 +127,7 @@ fn answer_to_page<R: Net>(
 
 /// The answer where a call ended so.
 fn answer_of(alloc: Global, ended: CallEnd) -> Answer
-    ensures { (set : GatewaySettings) (input text : List ℕ) → Sends set input ended.report ended.confirmed.items → IsAnswerText result text → EndsSo set input (ending_of_answer result) text }
+    ensures { (text : List ℕ) → IsAnswerText result text → EndsOf ended.report ended.confirmed.items (ending_of_answer result) text }
 {
     let Some(report) = ended.report else {
         return Answer::Unreported;

@@ -3,9 +3,8 @@ ghost use Rattle.std.specs.Prelude.{◌≤◌, List, [], ◌∷◌, Option, leng
 ghost use Rattle.fax_gateway.specs.Wires.{Grows};
 ghost use Rattle.fax_loop.specs.Ends.{EndTraffic, brought, handed};
 
-use crate::socket::receive;
+use crate::connected_socket::ConnectedSocket;
 use fax_bits::Octets;
-use std::net::UdpSocket;
 
 /// Where the datagrams of a machine come from and go to. Nothing waits: a receive answers at once.
 pub trait End {
@@ -36,28 +35,28 @@ pub(crate) fn hand_over<E: End>(end: &mut E, datagram: Option<Octets>)
     }
 }
 
-/// A UDP socket whose peer is the gateway.
+/// A socket whose peer is the gateway.
 #[derive(Drop)]
-pub(crate) struct UdpEnd {
-    pub socket: UdpSocket,
+pub struct UdpEnd<S: ConnectedSocket + Drop> {
+    pub socket: S,
 }
 
-/// What comes and what is sent is not told of a socket. A datagram that it does not take is lost, as any may be on its way.
-impl End for UdpEnd {
-    ghost use Rattle.std.specs.Prelude.{None};
+/// What it tells is what its socket tells. A datagram that this does not take is lost, as any may be on its way.
+impl<S: ConnectedSocket + Drop> End for UdpEnd<S> {
+    ghost use Rattle.fax_loop.specs.Traffic.{end_traffic};
 
-    ghost told = { λ end. record { received = None; sent = None } };
+    ghost told = { λ end. end_traffic (S.told end.socket) };
 
     fn receive(&mut self, buffer: &mut [u8]) -> Option<usize> {
-        match receive(&self.socket, buffer) {
+        match self.socket.receive_octets(buffer) {
             Ok(came) => came,
             Err(_) => None,
         }
     }
 
     fn send(&mut self, octets: &[u8]) {
-        match self.socket.send(octets) {
-            Ok(_) | Err(_) => {}
+        match self.socket.send_octets(octets) {
+            Ok(()) | Err(_) => {}
         }
     }
 }

@@ -8,25 +8,22 @@ ghost use Rattle.fax_gateway.specs.Setups.{AreAllowed, AreSet, HasSettings, Setu
 ghost use Rattle.fax_gateway.specs.Driving.{failed_in_a_row, most_failed, receipts};
 ghost use Rattle.fax_gateway.specs.Events.{Ring};
 ghost use Rattle.fax_gateway.specs.Reached.{IsReachedBy};
-ghost use Rattle.fax_loop.specs.Answers.{IsSent};
 ghost use Rattle.fax_loop.specs.Exchanges.{IsExchange, IsPlayed, Lines as LinesShown, Round, log_after, moment_after, most_rounds, reported};
+ghost use Rattle.fax_loop.specs.Opened.{IsSent, told_lines};
 ghost use Rattle.fax_loop.specs.Rep.{HasEnded, HasGone, HasPlayed};
 ghost use Rattle.fax_loop.specs.Links.{IsFaithful};
 
 use crate::answering_machine::AnsweringMachine;
 use crate::calling_machine::CallingMachine;
-use crate::end::{End, UdpEnd};
+use crate::end::End;
 use crate::laws::confirms_the_page_over_links;
 use crate::loop_error::LoopError;
-use crate::socket::socket_pair;
-use crate::udp_wire::UdpWire;
+use crate::opens_lines::OpensLines;
 use fax_bits::NoMemory;
 use fax_gateway::{Driver, Gateway, Settings, Wire};
 use fax_jobs::{Job, Report};
 use fax_pagestore::{PackedRows, Page};
 use std::alloc::Global;
-use std::io;
-use std::net::Net;
 
 /// The most rounds of a call.
 const MOST_ROUNDS: u32 = 300_000;
@@ -64,30 +61,19 @@ struct Parties {
     answerer: AnsweringMachine<PackedRows>,
 }
 
-/// Sends a page from machine to machine over sockets of the loopback interface. All three have these settings.
-pub(crate) fn send_page<R: Net>(
-    net: &R,
+/// Sends a page from machine to machine over lines that are opened so. All three have these settings.
+pub(crate) fn send_page<L: OpensLines>(
+    opener: &L,
     alloc: Global,
     page: Page<PackedRows>,
     settings: Settings,
 ) -> Result<CallEnd, LoopError>
     requires { AreAllowed settings }
-    ensures { IfOk result (λ ended. IsSent settings page ended.report ended.confirmed.items) }
+    ensures { IfOk result (λ ended. IsSent (told_lines L.End.told L.Wire.known) (L.opened opener.now) settings page ended.report ended.confirmed.items) }
 {
-    let mut lines = open_lines(net)?;
+    let mut lines = opener.open()?;
     let ended = exchange(alloc, &mut lines, page, settings)?;
     Ok(ended)
-}
-
-/// Lines of sockets of the loopback interface.
-fn open_lines<R: Net>(net: &R) -> io::Result<Lines<UdpEnd, UdpWire>> {
-    let (caller, calling) = socket_pair(net)?;
-    let (answerer, called) = socket_pair(net)?;
-    Ok(Lines {
-        caller: UdpEnd { socket: caller },
-        wire: UdpWire::new(calling, called)?,
-        answerer: UdpEnd { socket: answerer },
-    })
 }
 
 /// Sends a page from machine to machine over these lines, in rounds, until the gateway reports the job. All three have these

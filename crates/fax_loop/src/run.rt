@@ -4,19 +4,20 @@ ghost use Rattle.std.specs.Io.KnownBytes.{Appends};
 ghost use Rattle.fax_command.specs.Runs.{RunsOver};
 ghost use Rattle.fax_gateway.specs.Setups.{AreAllowed};
 ghost use Rattle.fax_loop.specs.Answers.{Answers, EndsSo, ending_status};
+ghost use Rattle.fax_loop.specs.Opened.{IsSent, told_lines};
 
 use crate::answer::{Answer, answer_to};
 use crate::ending::Ending;
+use crate::opens_lines::OpensLines;
 use fax_command::{InputError, MOST_OCTETS, MOST_READS, Sink, Source, WriteFault, read_input};
 use fax_gateway::Settings;
 use std::alloc::Global;
-use std::net::Net;
 
-/// Reads a page as hex text, sends it from one machine over a gateway to another, over sockets of the loopback interface,
-/// writes the line of the job and the rows that the called machine confirmed, and says with which exit status the process
-/// ends. The gateway and both machines have these settings, within their limits.
-pub fn run_loop<R: Net, I: Source, O: Sink>(
-    net: &R,
+/// Reads a page as hex text, sends it from one machine over a gateway to another, over lines that are opened so, writes the
+/// line of the job and the rows that the called machine confirmed, and says with which exit status the process ends. The
+/// gateway and both machines have these settings, within their limits.
+pub fn run_loop<L: OpensLines, I: Source, O: Sink>(
+    opener: &L,
     alloc: Global,
     source: &mut I,
     sink: &mut O,
@@ -24,21 +25,21 @@ pub fn run_loop<R: Net, I: Source, O: Sink>(
 ) -> u8
     requires { AreAllowed settings }
 
-    // Where the input is known, what is written is an answer to it, unless a read or a write failed, the input went past its
-    // bound, or a socket could not be made.
+    // Where the input is known, what is written is an answer to it, of lines that were opened so, unless a read or a write failed,
+    // the input went past its bound, or no lines could be opened.
     ensures answers { result ≢ 4 → IfSome (I.remaining source.old) (λ input. (text : List ℕ)
-        × Answers settings input result text × Appends (O.contents sink.old) (O.contents sink.new) text) }
+        × Answers (IsSent (told_lines L.End.told L.Wire.known) (L.opened opener.now) settings) input result text × Appends (O.contents sink.old) (O.contents sink.new) text) }
     ensures run { RunsOver record { remaining = I.remaining; reads = I.reads; given = I.given; failed = I.failed }
         record { contents = O.contents; failed = O.failed; held_back = O.held_back } source.old source.new sink.old sink.new result }
 {
-    play_loop(net, alloc, source, sink, settings)
+    play_loop(opener, alloc, source, sink, settings)
         .status()
         .code()
 }
 
 /// What [`run_loop`] does, which says how it ended in place of the exit status.
-pub fn play_loop<R: Net, I: Source, O: Sink>(
-    net: &R,
+pub fn play_loop<L: OpensLines, I: Source, O: Sink>(
+    opener: &L,
     alloc: Global,
     source: &mut I,
     sink: &mut O,
@@ -46,10 +47,10 @@ pub fn play_loop<R: Net, I: Source, O: Sink>(
 ) -> Ending
     requires { AreAllowed settings }
 
-    // Where the input is known, what is written is an answer to it, unless a read or a write failed, the input went past its
-    // bound, or a socket could not be made.
+    // Where the input is known, what is written is an answer to it, of lines that were opened so, unless a read or a write failed,
+    // the input went past its bound, or no lines could be opened.
     ensures answers { ending_status result ≢ 4 → IfSome (I.remaining source.old) (λ input. (text : List ℕ)
-        × EndsSo settings input result text × Appends (O.contents sink.old) (O.contents sink.new) text) }
+        × EndsSo (IsSent (told_lines L.End.told L.Wire.known) (L.opened opener.now) settings) input result text × Appends (O.contents sink.old) (O.contents sink.new) text) }
     ensures run { RunsOver record { remaining = I.remaining; reads = I.reads; given = I.given; failed = I.failed }
         record { contents = O.contents; failed = O.failed; held_back = O.held_back } source.old source.new sink.old sink.new (ending_status result) }
 
@@ -58,7 +59,7 @@ pub fn play_loop<R: Net, I: Source, O: Sink>(
         ⊎ (O.failed sink.new ≡ true) ⊎ (MOST_OCTETS < I.given source.new) ⊎ (I.reads source.new ≡ MOST_READS) }
 {
     let answer = match read_input(alloc, source) {
-        Ok(input) => match answer_to(net, alloc, input, settings) {
+        Ok(input) => match answer_to(opener, alloc, input, settings) {
             Ok(answer) => answer,
             Err(error) => return Ending::Socket(error),
         },

@@ -1,75 +1,80 @@
-//! A wire of a gateway over UDP.
-ghost use Rattle.std.specs.Prelude.{◌≡◌, ◌+◌, min, IfOk};
-ghost use Rattle.fax_gateway.specs.Wires.{greatest_count};
-ghost use Rattle.fax_loop.specs.Ends.{at_leg};
+//! A wire of a gateway over two sockets.
+ghost use Rattle.std.specs.Prelude.{◌≡◌, ◌≤◌, Ok, IfOk, IfSome, is_ok, length};
+ghost use Rattle.fax_gateway.specs.Wires.{Grows, failures_after};
+ghost use Rattle.fax_loop.specs.Sockets.{Receives, socket_of};
+ghost use Rattle.fax_loop.specs.Traffic.{brought_by};
 
-use crate::socket::receive;
+use crate::connected_socket::ConnectedSocket;
 use fax_gateway::{Leg, Wire, WireFault};
 use std::io;
-use std::net::UdpSocket;
 
 /// Two sockets, one for each leg of a gateway. Each is connected to the peer of its leg, and does not wait: where nothing
 /// has come, a receive says so at once.
 #[derive(Drop)]
-pub struct UdpWire {
-    calling: UdpSocket,
-    called: UdpSocket,
+pub struct UdpWire<S: ConnectedSocket + Drop> {
+    calling: S,
+    called: S,
     /// How many receives and sends failed.
     failures: u64,
 }
 
-impl UdpWire {
-    /// A wire over the socket of the calling and that of the called leg, each of which is connected to its peer. They wait
-    /// no more. An `Err` is that of the system.
-    pub fn new(calling: UdpSocket, called: UdpSocket) -> io::Result<Self>
-        ensures failures { IfOk result (λ wire. wire.failures ≡ 0) }
-        ensures sockets { IfOk result (λ wire. (wire.calling ≡ calling) × (wire.called ≡ called)) }
+impl<S: ConnectedSocket + Drop> UdpWire<S> {
+    /// A wire over the socket of the calling and that of the called leg.
+    pub fn new(calling: S, called: S) -> Self
+        ensures failures { result.failures ≡ 0 }
+        ensures sockets { (result.calling ≡ calling) × (result.called ≡ called) }
     {
-        calling.set_nonblocking(true)?;
-        called.set_nonblocking(true)?;
-        Ok(UdpWire {
+        UdpWire {
             calling,
             called,
             failures: 0,
-        })
-    }
-
-    /// The socket of a leg.
-    fn socket(&self, leg: Leg) -> &UdpSocket
-        ensures { result.now ≡ at_leg leg self.now.calling self.now.called }
-    {
-        match leg {
-            Leg::Calling => &self.calling,
-            Leg::Called => &self.called,
         }
-    }
-
-    /// One more call failed.
-    fn fail(&mut self) -> WireFault
-        ensures { self.new.failures ≡ min (self.old.failures + 1) greatest_count }
-    {
-        self.failures = self.failures.saturating_add(1);
-        WireFault
     }
 }
 
-/// What came and what was sent is not told of sockets.
-impl Wire for UdpWire {
+/// What a socket answered to a call, which is counted where it failed.
+fn answered<T>(answer: io::Result<T>, failures: &mut u64) -> Result<T, WireFault>
+    ensures ok { IfOk answer (λ value. result ≡ Ok value) }
+    ensures is_ok { is_ok result ≡ is_ok answer }
+    ensures failures { failures.new ≡ failures_after failures.old result }
+{
+    match answer {
+        Ok(value) => Ok(value),
+        Err(_) => {
+            *failures = failures.saturating_add(1);
+            Err(WireFault)
+        }
+    }
+}
+
+/// What came and what was sent on both legs in one order is not told. What a receive brings is what the leg's socket brought, what is
+/// sent is what that was handed, and the other leg's stays as it was.
+impl<S: ConnectedSocket + Drop> Wire for UdpWire<S> {
     ghost use Rattle.std.specs.Prelude.{None};
+    ghost use Rattle.fax_loop.specs.Sockets.{Hands, Receives};
 
     ghost known = { λ wire. record { failures = wire.failures; received = None; sent = None } };
 
-    fn receive(&mut self, leg: Leg, buffer: &mut [u8]) -> Result<Option<usize>, WireFault> {
-        match receive(self.socket(leg), buffer) {
-            Ok(came) => Ok(came),
-            Err(_) => Err(self.fail()),
+    ghost receives = { Receives S.told };
+
+    ghost sends = { λ leg octets is_sent old new. Hands S.told leg octets old new };
+
+    fn receive(&mut self, leg: Leg, buffer: &mut [u8]) -> Result<Option<usize>, WireFault>
+        ensures fits { IfOk result (λ came. IfSome came (λ count. count ≤ length buffer.new)) }
+        ensures failures { self.new.failures ≡ failures_after self.old.failures result }
+        ensures brings { Grows (brought_by buffer.new result) (S.told (socket_of leg self.old)).received (S.told (socket_of leg self.new)).received }
+        ensures makes { Receives S.told leg self.old self.new }
+    {
+        match leg {
+            Leg::Calling => answered(self.calling.receive_octets(buffer), &mut self.failures),
+            Leg::Called => answered(self.called.receive_octets(buffer), &mut self.failures),
         }
     }
 
     fn send(&mut self, leg: Leg, octets: &[u8]) -> Result<(), WireFault> {
-        match self.socket(leg).send(octets) {
-            Ok(_) => Ok(()),
-            Err(_) => Err(self.fail()),
+        match leg {
+            Leg::Calling => answered(self.calling.send_octets(octets), &mut self.failures),
+            Leg::Called => answered(self.called.send_octets(octets), &mut self.failures),
         }
     }
 }

@@ -14,9 +14,9 @@ returns-in-Ok-write-clause-answers g c = λ other.
     elim c.match-read_input.branch [
       | in-Ok+in-Ok-answer_to w ↦
           let text_of : IsAnswerText w.in-Ok-answer_to.answer text = rw w.answer-is at is in
-          EndsSo-read c.args.settings told _ _ _ text old new w.in-Ok.ensures.whole (w.in-Ok-answer_to.ensures text text_of) (ending ∙ ap ending_of_answer w.answer-is) written
+          EndsSo-read _ told _ _ _ text old new w.in-Ok.ensures.whole (w.in-Ok-answer_to.ensures text text_of) (ending ∙ ap ending_of_answer w.answer-is) written
       | in-Err-NoMemory w ↦
-          EndsSo-unread c.args.settings told _ text old new (ending ∙ ap ending_of_answer w.answer-is) (rw w.answer-is at is) written
+          EndsSo-unread _ told _ text old new (ending ∙ ap ending_of_answer w.answer-is) (rw w.answer-is at is) written
     ]
 
 pub returns-in-Ok-write-clause-run : goal.returns-in-Ok-write-clause-run
