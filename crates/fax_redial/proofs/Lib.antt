@@ -1,0 +1,2 @@
+pub mod Befalling
+pub mod Trying

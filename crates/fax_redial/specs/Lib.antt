@@ -1,0 +1,5 @@
+pub mod Befalls
+pub mod Laws
+pub mod Retrying
+pub mod Totals
+pub mod Tries

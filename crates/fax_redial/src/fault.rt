@@ -1,0 +1,20 @@
+//! Why no try begins.
+use thiserror::Error;
+
+/// Why no try of a job begins (this project's profile). Where several causes hold, the first of these is told.
+#[derive(Clone, Copy, PartialEq, Eq, Debug, Error)]
+pub enum BeginFault {
+    #[error("no such redial line")]
+    NoLine,
+    /// The redial line has a try.
+    #[error("a try is on")]
+    Busy,
+    /// The job is tried already, on this redial line or another one.
+    #[error("the job is tried already")]
+    UnderWay,
+    /// No page waits on the line.
+    #[error("no page waits")]
+    NoPage,
+    #[error("out of memory")]
+    NoMemory,
+}

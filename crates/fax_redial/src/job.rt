@@ -1,0 +1,28 @@
+//! Jobs that are tried again.
+use fax_desk::{Cause, Tag};
+use fax_jobs::Outcome;
+use fax_spool::CallName;
+
+/// A job that is tried again.
+#[derive(Drop)]
+pub struct RetryJob {
+    /// The call that its pages came in, on the line on which they did.
+    pub name: CallName,
+    /// The tag of that call.
+    pub tag: Option<Tag>,
+    /// How often it was tried before.
+    pub tries: u32,
+}
+
+/// How a try ended.
+#[derive(Drop)]
+pub struct RetryEnd {
+    /// The call that the pages of its job came in.
+    pub name: CallName,
+    /// How many of its pages, from the first on, the called machine confirmed.
+    pub delivered: u32,
+    /// `Delivered`: all of them.
+    pub outcome: Outcome,
+    /// For what cause the call was not placed, where it was not.
+    pub cause: Option<Cause>,
+}

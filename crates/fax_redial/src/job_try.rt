@@ -1,0 +1,152 @@
+//! A try of a job.
+ghost use Rattle.std.specs.Prelude.{◌≡◌, ◌≤◌, ℕ, Bool, [], ◌∷◌, IfOk, MatchOption, length, slice_get};
+ghost use Rattle.fax_line.specs.Operations.{IsLineAt};
+ghost use Rattle.fax_line.specs.Runs.{Turned, Woken};
+ghost use Rattle.fax_redial.specs.Tries.{Begins, GoesOn, IsAsked, end_of, is_over, same_name, told_by, turned_of};
+ghost use Rattle.fax_redial.specs.Totals.{end_if, total_if};
+
+use crate::job::{RetryEnd, RetryJob};
+use crate::total::TryTotal;
+use fax_bits::NoMemory;
+use fax_desk::Cause;
+use fax_gateway::TurnReport;
+use fax_holding_wire::HoldingWire;
+use fax_jobs::{Outcome, Report};
+use fax_line::{Line, LineAnswer, LineRequest, Lines};
+use fax_repeat::TimedWire;
+use fax_spool::CallName;
+use std::alloc::Global;
+use std::marker::Model;
+
+/// A try of a job: a line that was restored with its pages, the only one of lines of its own, and so in slot 0 of them.
+#[derive(Drop)]
+pub struct JobTry<W: TimedWire + Drop> {
+    job: RetryJob,
+    lines: Lines<HoldingWire<W>>,
+    /// The latest moment that they were told.
+    moment: u64,
+    total: TryTotal,
+}
+
+impl<W: TimedWire + Drop> Model for JobTry<W> {
+    ghost use Rattle.fax_redial.specs.Tries.{TryValue};
+
+    ghost Value = { TryValue };
+
+    ghost view = { λ t. record { job = t.job; lines = t.lines; moment = t.moment; total = t.total } };
+}
+
+impl<W: TimedWire + Drop> JobTry<W> {
+    /// A try of this job, by a line that was restored with its pages. It takes memory for a buffer.
+    pub fn new(alloc: Global, line: Line<HoldingWire<W>>, job: RetryJob) -> Result<Self, NoMemory>
+        ensures { IfOk result (λ held. Begins job line held) }
+    {
+        let mut lines = Lines::new(alloc)?;
+        lines.add(line)?;
+        Ok(JobTry {
+            job,
+            lines,
+            moment: 0,
+            total: TryTotal::new(),
+        })
+    }
+
+    /// The job.
+    pub fn job(&self) -> &RetryJob
+        ensures { result.now ≡ self.now.job }
+    {
+        &self.job
+    }
+
+    /// The line.
+    pub fn line(&self) -> Option<&Line<HoldingWire<W>>>
+        ensures { MatchOption result (length self.now.lines.lines ≤ 0) (λ line. IsLineAt 0 self.now.lines.lines line.now) }
+    {
+        self.lines.line(0)
+    }
+
+    /// The next slot of its lines has its turn, and what that gave goes out. In the turn of slot 0, of which it answers what the line told,
+    /// that is turned, whatever came for it.
+    pub fn turn(&mut self, now: u64) -> Option<TurnReport>
+        ensures goes { (rests : ℕ → Bool) × GoesOn (Turned now rests ∷ Woken 0 ∷ []) self.old self.new }
+        ensures told { result ≡ told_by self.old self.new }
+        ensures job { self.new.job ≡ self.old.job }
+        ensures total { self.new.total ≡ self.old.total }
+    {
+        let is_first = self.lines.slot() == 0;
+        self.moment = self.moment.max(now);
+        self.lines.wake(0);
+        self.lines.turn(self.moment);
+        self.lines.let_out_slot();
+        if is_first { self.told() } else { None }
+    }
+
+    /// What the last turn of its line told.
+    fn told(&self) -> Option<TurnReport>
+        ensures { result ≡ turned_of (slice_get self.now.lines.lines 0) }
+    {
+        match self.lines.line(0) {
+            Some(line) => Some(line.turned()),
+            None => None,
+        }
+    }
+
+    /// A turn reported a job, or none, whose call was not placed for this cause, or was placed.
+    pub fn count(&mut self, report: Option<Report>, cause: Option<Cause>)
+        ensures { self.new ≡ record self.old { total = total_if report cause self.old.total } }
+    {
+        self.total = self.total.and_then(report, cause);
+    }
+
+    /// This is asked of its line.
+    pub fn ask(&mut self, what: LineRequest, now: u64) -> Option<LineAnswer>
+        ensures { IsAsked now what result self.old self.new }
+    {
+        self.moment = self.moment.max(now);
+        self.lines.ask(0, what, self.moment)
+    }
+
+    /// Whether it is over: no job of its line waits, and none is being sent.
+    pub fn is_over(&self) -> bool
+        ensures { result ≡ is_over self.now }
+    {
+        match self.lines.line(0) {
+            Some(line) => line.waiting() == 0 && line.sending().is_none(),
+            None => true,
+        }
+    }
+
+    /// Whether it is of the job whose pages came in this call.
+    pub fn is_of(&self, name: &CallName) -> bool
+        ensures { result ≡ same_name self.now.job.name name.now }
+    {
+        let own = &self.job.name;
+        own.life == name.life
+            && own.call == name.call
+            && own.line.as_slice() == name.line.as_slice()
+    }
+
+    /// How it ended.
+    pub fn into_end(self) -> RetryEnd
+        ensures { result ≡ end_of self }
+    {
+        let JobTry { job, total, .. } = self;
+        end_of(job.name, total)
+    }
+}
+
+/// How a try ended of the job of this name, whose reports came to this.
+fn end_of(name: CallName, total: TryTotal) -> RetryEnd
+    ensures { result ≡ end_if name total.delivered total.failed }
+{
+    let (outcome, cause) = match total.failed {
+        None => (Outcome::Delivered, None),
+        Some(failed) => (failed.outcome, failed.cause),
+    };
+    RetryEnd {
+        name,
+        delivered: total.delivered,
+        outcome,
+        cause,
+    }
+}
