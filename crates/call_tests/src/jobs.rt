@@ -1,92 +1,111 @@
 use fax_jobs::{Jobs, Outcome, Report};
-use fax_pagestore::{Coding, Format, Page, PlainRows, read_page};
+use fax_pagestore::{Coding, Format, Page, PlainRows, RowStore, read_page};
 use fax_runcodes::Width;
 use std::alloc::Global;
-use std::process::Abort;
 use std::test::Fail;
 
-/// Modified Huffman pages of one and two white rows of 1728 elements: an EOL, each row with an EOL after it, five
-/// more EOLs, and bits of 0 to the octet's end. (ITU-T T.4, 4.1, tables 2/T.4 and 3a/T.4.)
+/// Modified Huffman page of a white row of 1728 elements: an EOL, the row with an EOL after it, five more EOLs, and bits of 0 to
+/// the octet's end. (ITU-T T.4, 4.1, tables 2/T.4 and 3a/T.4.)
 const ONE_ROW: &[u8] = b"\x00\x14\xd9\xa8\x00\x80\x08\x00\x80\x08\x00\x80\x08";
 
-const TWO_ROWS: &[u8] = b"\x00\x14\xd9\xa8\x00\xa6\xcd\x40\x04\x00\x40\x04\x00\x40\x04\x00\x40";
-
-/// The formats of the pages.
-const STANDARD: Format = Format {
-    width: Width::W1728,
-    fine: false,
-};
-
-const FINE: Format = Format {
-    width: Width::W1728,
-    fine: true,
-};
-
-/// What happens in a call: a page of that format is confirmed, of this call, and for EOP or not; or the call ends.
+/// What happens in a call: a page of the fine resolution or not is confirmed, of this call, and for EOP or not; or the call ends.
 #[derive(Clone, Copy)]
 enum Event {
-    Confirms(u32, Format, bool),
+    Confirms(u32, bool, bool),
     CallEnds,
 }
 
 /// A job as it is told: its call, whether it is fine, and how many pages it has.
 type Told = (u32, bool, u32);
 
-/// A page of these octets.
-fn page_of(alloc: Global, octets: &[u8], format: Format) -> Result<Page<PlainRows>, Fail> {
-    Ok(read_page(alloc, octets, format, Coding::Mh)?)
+/// A book that was asked: the call of the job that is sent next and of the one that pages join, and how many jobs wait.
+type Shown = (Option<u32>, Option<u32>, usize);
+
+/// The format of pages of 1728 elements a row.
+fn format_of(fine: bool) -> Format {
+    Format {
+        width: Width::W1728,
+        fine,
+    }
 }
 
-/// A page that was handed back as an error of its own.
-fn taken<T>(answer: Result<T, Page<PlainRows>>) -> Result<T, &'static str> {
-    answer.map_err(|_| "a page was handed back")
+fn page_of(alloc: Global, fine: bool) -> Option<Page<PlainRows>> {
+    read_page(alloc, ONE_ROW, format_of(fine), Coding::Mh).ok()
 }
 
-/// How a book stands: how many jobs wait, and the call and the count of pages of the open one.
-fn shown(jobs: &Jobs<PlainRows>) -> (usize, Option<(u32, u32)>) {
-    let open_job = match jobs.open_job() {
-        Some(job) => Some((job.call(), job.page_count())),
+/// How a book stands.
+fn shown<S: RowStore>(jobs: &Jobs<S>) -> Shown {
+    let next = match jobs.first_waiting() {
+        Some(job) => Some(job.call()),
         None => None,
     };
-    (jobs.waiting(), open_job)
+    let open = match jobs.open_job() {
+        Some(job) => Some(job.call()),
+        None => None,
+    };
+    (next, open, jobs.waiting())
 }
 
 /// Confirms a page, once more where it was handed back, which changes nothing.
-fn confirm(
-    rt: &impl Abort,
-    jobs: &mut Jobs<PlainRows>,
-    call: u32,
-    page: Page<PlainRows>,
-    closes: bool,
-) -> Result<(), &'static str> {
+fn confirm<S: RowStore>(jobs: &mut Jobs<S>, call: u32, page: Page<S>, closes: bool) -> Option<()> {
     let before = shown(jobs);
-    let Err(back) = jobs.confirm(call, page, closes) else {
-        return Ok(());
-    };
-    assert!(rt; shown(jobs) == before);
-    taken(jobs.confirm(call, back, closes))
+    match jobs.confirm(call, page, closes) {
+        Ok(()) => Some(()),
+        Err(back) if shown(jobs) == before => jobs.confirm(call, back, closes).ok(),
+        Err(_) => None,
+    }
 }
 
-/// Sends the job that waits first, and ends it as delivered.
-fn send_one(jobs: &mut Jobs<PlainRows>) -> Option<Told> {
+/// Sends the job that waits first, and ends it with the first of its pages delivered.
+fn send_one<S: RowStore>(jobs: &mut Jobs<S>) -> Option<Told> {
     if jobs.sending().is_some() {
         return None;
     }
     jobs.next();
     let job = jobs.sending()?;
-    let pages = job.page_count();
-    let told = (job.call(), job.format().fine, pages);
-    jobs.end(Outcome::Delivered, pages);
+    let told = (job.call(), job.format().fine, job.page_count());
+    jobs.end(Outcome::PageRefused, 1);
     Some(told)
 }
 
-/// Fails unless these jobs wait, in their order.
-fn expect_jobs(rt: &impl Abort, jobs: &mut Jobs<PlainRows>, wanted: &[Told]) {
-    assert!(rt; jobs.waiting() == wanted.len());
-    for told in wanted {
-        assert!(rt; send_one(jobs) == Some(*told));
+/// Tells the book what happens.
+fn tell(alloc: Global, jobs: &mut Jobs<PlainRows>, event: Event) -> Option<()> {
+    match event {
+        Event::Confirms(call, fine, closes) => confirm(jobs, call, page_of(alloc, fine)?, closes),
+        Event::CallEnds => {
+            jobs.end_call();
+            Some(())
+        }
     }
-    assert!(rt; send_one(jobs).is_none());
+}
+
+/// A book to which this happened.
+fn book_of(alloc: Global, events: &[Event]) -> Option<Jobs<PlainRows>> {
+    let mut jobs = Jobs::new(alloc).ok()?;
+    for event in events {
+        tell(alloc, &mut jobs, *event)?;
+    }
+    Some(jobs)
+}
+
+/// Whether just these jobs wait in a book, in their order, and no job is open.
+fn has_jobs<S: RowStore>(jobs: &mut Jobs<S>, wanted: &[Told]) -> bool {
+    let (_, open, waiting) = shown(jobs);
+    let mut all = open.is_none() && waiting == wanted.len();
+    for told in wanted {
+        let (next, _, _) = shown(jobs);
+        let (call, _, _) = *told;
+        all = all && next == Some(call) && send_one(jobs) == Some(*told);
+    }
+    all && shown(jobs) == (None, None, 0)
+}
+
+/// What is reported of the first job, where it is the only one.
+fn report_of<S: RowStore>(jobs: &Jobs<S>) -> Option<Report> {
+    match jobs.report(1) {
+        Some(_) => None,
+        None => jobs.report(0),
+    }
 }
 
 /// Each outcome, its number and its name.
@@ -106,85 +125,43 @@ const OUTCOMES: &[(Outcome, u8, &str)] = &[
 #[test]
 fn outcomes_have_numbers_and_names(rt: HostRuntime) -> Result<(), Fail> {
     for (outcome, number, name) in OUTCOMES {
-        assert!(rt; outcome.number() == *number);
-        assert!(rt; outcome.name() == *name);
-        assert!(rt; format!(in rt.alloc(); "{outcome}")?.as_str() == *name);
+        let told = format!(in rt.alloc(); "{outcome}")?;
+        assert!(rt; (outcome.number(), outcome.name(), told.as_str()) == (*number, *name, *name));
     }
     Ok(())
 }
 
-/// A book in which a job of two pages, of call 7, waits.
-fn book_of_two_pages(rt: &impl Abort, alloc: Global) -> Result<Jobs<PlainRows>, Fail> {
-    let mut jobs = Jobs::new(alloc)?;
-    jobs.reserve()?;
-    assert!(rt; jobs.open_job().is_none());
-    let first = page_of(alloc, ONE_ROW, STANDARD)?;
-    let second = page_of(alloc, TWO_ROWS, STANDARD)?;
-    assert!(rt; second.format() == first.format());
-    assert!(rt; jobs.open(7, first).is_ok());
-    assert!(rt; jobs.add_page(second).is_ok());
-    assert!(rt; shown(&jobs) == (0, Some((7, 2))));
-    jobs.close();
-    assert!(rt; shown(&jobs) == (1, None));
-    Ok(jobs)
+/// A book in which a job of two pages, of call 7, is opened, and closed.
+fn book_of_two_pages(alloc: Global) -> Option<Jobs<PlainRows>> {
+    let mut jobs = Jobs::new(alloc).ok()?;
+    jobs.reserve().ok()?;
+    opens(&mut jobs, page_of(alloc, true)?, page_of(alloc, false)?)?;
+    Some(jobs)
 }
 
-/// Sends the job that waits first, of which no page but the first is taken: how many jobs wait then, whether nothing was
-/// reported before, its call, and whether nothing is sent after it.
-fn refuse_one(jobs: &mut Jobs<PlainRows>) -> Option<(usize, bool, u32, bool)> {
-    if jobs.sending().is_some() {
+/// Opens a job with a page, adds another one, and closes the job.
+fn opens<S: RowStore>(jobs: &mut Jobs<S>, first: Page<S>, second: Page<S>) -> Option<()> {
+    if jobs.open_job().is_some() {
         return None;
     }
-    jobs.next();
-    let waiting = jobs.waiting();
-    let is_unreported = jobs.report(0).is_none();
-    let call = jobs.sending()?.call();
-    jobs.end(Outcome::PageRefused, 1);
-    Some((waiting, is_unreported, call, jobs.sending().is_none()))
+    jobs.open(7, first).ok()?;
+    jobs.add_page(second).ok()?;
+    jobs.close();
+    Some(())
 }
 
 #[test]
 fn a_job_goes_through_the_book(rt: HostRuntime) -> Result<(), Fail> {
-    let mut jobs = book_of_two_pages(&rt, rt.alloc())?;
+    let mut jobs = book_of_two_pages(rt.alloc()).ok_or("a book")?;
     let wanted = Report {
         call: 7,
-        format: STANDARD,
+        format: format_of(true),
         pages: 2,
         delivered: 1,
         outcome: Outcome::PageRefused,
     };
-    assert!(rt; refuse_one(&mut jobs) == Some((0, true, 7, true)));
-    assert!(rt; jobs.report(0) == Some(wanted) && jobs.report(1).is_none());
-    Ok(())
-}
-
-/// The call of the job that is sent next: before a job waits, while those of calls 9 and 3 do, while the first of them is sent, and
-/// while the second is.
-fn next_calls(rt: &impl Abort, alloc: Global) -> Result<[Option<u32>; 4], Fail> {
-    let mut jobs = Jobs::new(alloc)?;
-    let none = next_call(&jobs);
-    tell(rt, alloc, &mut jobs, &Event::Confirms(9, STANDARD, true))?;
-    tell(rt, alloc, &mut jobs, &Event::Confirms(3, STANDARD, true))?;
-    let first = next_call(&jobs);
-    let sent_first = send_one(&mut jobs);
-    let second = next_call(&jobs);
-    let sent_second = send_one(&mut jobs);
-    assert!(rt; sent_first == Some((9, false, 1)) && sent_second == Some((3, false, 1)));
-    Ok([none, first, second, next_call(&jobs)])
-}
-
-/// The call of the job that waits first.
-fn next_call(jobs: &Jobs<PlainRows>) -> Option<u32> {
-    match jobs.first_waiting() {
-        Some(job) => Some(job.call()),
-        None => None,
-    }
-}
-
-#[test]
-fn the_job_that_was_closed_first_is_next(rt: HostRuntime) -> Result<(), Fail> {
-    let calls = next_calls(&rt, rt.alloc())?;
-    assert!(rt; calls == [None, Some(9), Some(3), None]);
+    assert!(rt; report_of(&jobs).is_none() && has_jobs(&mut jobs, &[(7, true, 2)]));
+    assert!(rt; report_of(&jobs) == Some(wanted));
     Ok(())
 }
 
@@ -195,25 +172,25 @@ const CUTS: &[(&[Event], &[Told])] = &[
     // two pages, the last of them for EOP
     (
         &[
-            Event::Confirms(7, STANDARD, false),
-            Event::Confirms(7, STANDARD, true),
+            Event::Confirms(7, false, false),
+            Event::Confirms(7, false, true),
         ],
         &[(7, false, 2)],
     ),
     // pages of other formats in mid-call: one job, of the first one's format
     (
         &[
-            Event::Confirms(7, STANDARD, false),
-            Event::Confirms(7, FINE, false),
-            Event::Confirms(7, STANDARD, true),
+            Event::Confirms(7, false, false),
+            Event::Confirms(7, true, false),
+            Event::Confirms(7, false, true),
         ],
         &[(7, false, 3)],
     ),
     // EOP in mid-call
     (
         &[
-            Event::Confirms(7, STANDARD, true),
-            Event::Confirms(7, STANDARD, false),
+            Event::Confirms(7, false, true),
+            Event::Confirms(7, false, false),
             Event::CallEnds,
         ],
         &[(7, false, 1), (7, false, 1)],
@@ -221,10 +198,10 @@ const CUTS: &[(&[Event], &[Told])] = &[
     // two calls, of which the first ends without EOP
     (
         &[
-            Event::Confirms(7, FINE, false),
-            Event::Confirms(7, FINE, false),
+            Event::Confirms(7, true, false),
+            Event::Confirms(7, true, false),
             Event::CallEnds,
-            Event::Confirms(8, FINE, true),
+            Event::Confirms(8, true, true),
             Event::CallEnds,
         ],
         &[(7, true, 2), (8, true, 1)],
@@ -232,48 +209,27 @@ const CUTS: &[(&[Event], &[Told])] = &[
     // two calls, of which the end of the first is not told
     (
         &[
-            Event::Confirms(7, FINE, false),
-            Event::Confirms(8, FINE, true),
+            Event::Confirms(7, true, false),
+            Event::Confirms(8, true, true),
         ],
         &[(7, true, 1), (8, true, 1)],
     ),
     // three jobs that wait
     (
         &[
-            Event::Confirms(9, STANDARD, true),
-            Event::Confirms(3, STANDARD, true),
-            Event::Confirms(5, STANDARD, true),
+            Event::Confirms(9, false, true),
+            Event::Confirms(3, false, true),
+            Event::Confirms(5, false, true),
         ],
         &[(9, false, 1), (3, false, 1), (5, false, 1)],
     ),
 ];
 
-/// Tells the book what happens.
-fn tell(
-    rt: &impl Abort,
-    alloc: Global,
-    jobs: &mut Jobs<PlainRows>,
-    event: &Event,
-) -> Result<(), Fail> {
-    match event {
-        Event::Confirms(call, format, closes) => {
-            let page = page_of(alloc, ONE_ROW, *format)?;
-            confirm(rt, jobs, *call, page, *closes)?;
-        }
-        Event::CallEnds => jobs.end_call(),
-    }
-    Ok(())
-}
-
 #[test]
 fn cuts_calls_into_jobs(rt: HostRuntime) -> Result<(), Fail> {
     for (events, wanted) in CUTS {
-        let mut jobs = Jobs::new(rt.alloc())?;
-        for event in *events {
-            tell(&rt, rt.alloc(), &mut jobs, event)?;
-        }
-        assert!(rt; jobs.open_job().is_none());
-        expect_jobs(&rt, &mut jobs, wanted);
+        let mut jobs = book_of(rt.alloc(), events).ok_or("a book")?;
+        assert!(rt; has_jobs(&mut jobs, wanted));
     }
     Ok(())
 }

@@ -4,8 +4,6 @@
 #[cfg(test)]
 mod gateway;
 #[cfg(test)]
-mod hex;
-#[cfg(test)]
 mod jobs;
 #[cfg(test)]
 mod memory;

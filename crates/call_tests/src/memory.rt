@@ -2,12 +2,11 @@
 //! turn, and reads what the test prints.
 use std::process::Abort;
 
-/// Says what was refused, once at most: a call, or a text of the test's own.
-pub(crate) fn refused(rt: &impl Abort, calls: u64, texts: u64) -> &'static str {
-    match (calls, texts) {
-        (0, 0) => "nothing",
-        (1, 0) => "a call",
-        (0, 1) => "a text",
+/// Says what was refused, once at most: a call.
+pub(crate) fn refused(rt: &impl Abort, calls: u64) -> &'static str {
+    match calls {
+        0 => "nothing",
+        1 => "a call",
         _ => rt.abort(),
     }
 }

@@ -1,28 +1,33 @@
 //! Runs of turns over a wire.
-use super::call::{
-    COMES, Change, DELIVERED, SENDS, TURNS, gateway_of, gives, is_whole_call, octets_of,
-};
-use super::list_wire::{Fails, ListWire, OnWire};
+use super::call::{COMES, Change, DELIVERED, SENDS, Sends, TURNS, play_call};
+use super::wire::{Fails, ListWire};
 use crate::memory::refused;
 use fax_bits::NoMemory;
 use fax_gateway::{Driven, Gateway, drive};
 use fax_jobs::Report;
-use fax_pagestore::PlainRows;
+use fax_pagestore::{PlainRows, RowStore};
 use std::alloc::Global;
-use std::process::Abort;
 use std::test::Fail;
 
-/// A run, and what it comes to.
+/// A run.
 #[derive(Clone, Copy)]
 struct Run {
     /// Whether what comes in a whole call does.
     is_call: bool,
-    /// Whether all is sent that is given in a whole call.
-    delivers: bool,
     failing_receives: Fails,
     failing_sends: Fails,
     rings: &'static [u32],
+    turns: u32,
+}
+
+/// What a run comes to.
+#[derive(Clone, Copy, PartialEq, Eq, Debug)]
+struct Ran {
     driven: Driven,
+    report: Option<Report>,
+    sends: Sends,
+    receives: u32,
+    room: usize,
 }
 
 /// How many receives a whole call has: some bring a datagram, and two in each turn none.
@@ -31,228 +36,222 @@ const RECEIVES: u32 = COMES.len() as u32 + 2 * TURNS;
 /// A whole call.
 const CALL: Run = Run {
     is_call: true,
-    delivers: true,
     failing_receives: Fails::NONE,
     failing_sends: Fails::NONE,
     rings: &[0],
-    driven: Driven {
-        turns: TURNS,
-        rings_refused: 0,
-        events_refused: 0,
-        sends_failed: 0,
-        receives_failed: 0,
-        stopped: false,
-    },
+    turns: TURNS,
 };
 
-/// Nobody calls, in 1000 turns.
-const STILL: Run = Run {
-    is_call: false,
-    delivers: false,
-    failing_receives: Fails::NONE,
-    failing_sends: Fails::NONE,
-    rings: &[],
-    driven: Driven {
-        turns: 1000,
-        rings_refused: 0,
-        events_refused: 0,
-        sends_failed: 0,
-        receives_failed: 0,
-        stopped: false,
-    },
+const DRIVEN: Driven = Driven {
+    turns: TURNS,
+    rings_refused: 0,
+    events_refused: 0,
+    sends_failed: 0,
+    receives_failed: 0,
+    stopped: false,
 };
+
+/// Runs in which nobody calls, and what they come to.
+const STILL: [(Run, Driven); 2] = [
+    // all receives fail: the last 100 are those of 50 turns
+    (
+        Run {
+            is_call: false,
+            failing_receives: Fails::ALL,
+            failing_sends: Fails::NONE,
+            rings: &[],
+            turns: 1000,
+        },
+        Driven {
+            turns: 50,
+            receives_failed: 100,
+            stopped: true,
+            ..DRIVEN
+        },
+    ),
+    // all sends fail, and nobody answers: three datagrams, then two every 3,040 ms, and two where T1 is due
+    (
+        Run {
+            is_call: false,
+            failing_receives: Fails::NONE,
+            failing_sends: Fails::ALL,
+            rings: &[0],
+            turns: 1000,
+        },
+        Driven {
+            turns: 1000,
+            sends_failed: 3 + 2 * 11 + 2,
+            ..DRIVEN
+        },
+    ),
+];
 
 #[test]
 fn runs_over_a_broken_wire(rt: HostRuntime) {
-    // all receives fail: the last 100 are those of 50 turns
-    let mut deaf = STILL;
-    deaf.failing_receives = Fails::ALL;
-    deaf.driven.turns = 50;
-    deaf.driven.receives_failed = 100;
-    deaf.driven.stopped = true;
-    comes_to(&rt, rt.alloc(), deaf, 1000);
-    // all sends fail, and nobody answers: three datagrams, then two every 3,040 ms, and two where T1 is due
-    let mut silent = STILL;
-    silent.failing_sends = Fails::ALL;
-    silent.rings = &[0];
-    silent.driven.sends_failed = 3 + 2 * 11 + 2;
-    comes_to(&rt, rt.alloc(), silent, 1000);
+    for (run, wanted) in STILL {
+        assert!(rt; driven_of(rt.alloc(), run) == Some(wanted));
+    }
 }
 
 #[test]
 fn a_page_goes_over_a_wire(rt: HostRuntime) {
-    comes_to(&rt, rt.alloc(), CALL, TURNS);
-}
-
-#[test]
-fn a_ring_while_a_call_is_on(rt: HostRuntime) {
-    let mut run = CALL;
-    run.rings = &[0, 1];
-    run.driven.rings_refused = 1;
-    comes_to(&rt, rt.alloc(), run, TURNS);
+    let busy = Run {
+        rings: &[0, 1],
+        ..CALL
+    };
+    for (run, rings_refused) in [(CALL, 0), (busy, 1)] {
+        let driven = Driven {
+            rings_refused,
+            ..DRIVEN
+        };
+        assert!(rt; delivers(rt.alloc(), run, driven));
+    }
 }
 
 #[test]
 fn each_receive_fails(rt: HostRuntime) {
-    let mut run = CALL;
-    run.delivers = false;
-    run.driven.receives_failed = 1;
     for from in 0..RECEIVES {
-        run.failing_receives = Fails { from, count: 1 };
-        comes_to(&rt, rt.alloc(), run, TURNS);
+        let run = Run {
+            failing_receives: Fails { from, count: 1 },
+            ..CALL
+        };
+        let driven = Driven {
+            receives_failed: 1,
+            ..DRIVEN
+        };
+        assert!(rt; driven_of(rt.alloc(), run) == Some(driven));
     }
 }
 
 #[test]
 fn each_send_fails(rt: HostRuntime) {
-    let mut run = CALL;
-    run.driven.sends_failed = 1;
     for from in 0..SENDS {
-        run.failing_sends = Fails { from, count: 1 };
-        comes_to(&rt, rt.alloc(), run, TURNS);
+        let run = Run {
+            failing_sends: Fails { from, count: 1 },
+            ..CALL
+        };
+        let driven = Driven {
+            sends_failed: 1,
+            ..DRIVEN
+        };
+        assert!(rt; delivers(rt.alloc(), run, driven));
     }
 }
 
-/// Makes a run of at most so many turns. It fails unless it comes to what is told.
-fn comes_to(rt: &impl Abort, alloc: Global, run: Run, turns: u32) {
-    let mut ends = Ends::new(rt, alloc, run);
-    assert!(rt; ends.comes_to(alloc, run, turns));
+/// What is driven in a run.
+fn driven_of(alloc: Global, run: Run) -> Option<Driven> {
+    match run_of(alloc, run) {
+        Ok((ran, _)) => Some(ran.driven),
+        Err(NoMemory) => None,
+    }
+}
+
+/// Whether a run is driven so, and the whole call is made in it.
+fn delivers(alloc: Global, run: Run, driven: Driven) -> bool {
+    match run_of(alloc, run) {
+        Ok((ran, _)) => ran == whole(driven, ran.sends.sum),
+        Err(NoMemory) => false,
+    }
+}
+
+/// What a run of the whole call comes to.
+fn whole(driven: Driven, sum: u64) -> Ran {
+    Ran {
+        driven,
+        report: Some(DELIVERED),
+        sends: Sends {
+            count: SENDS,
+            sum,
+            is_right: true,
+        },
+        receives: RECEIVES,
+        room: 65_536,
+    }
+}
+
+/// Makes a run, and what it comes to, and whether it was refused at once at first.
+fn run_of(alloc: Global, run: Run) -> Result<(Ran, u64), NoMemory> {
+    let mut gateway: Gateway<PlainRows> = Gateway::new(alloc, 3)?;
+    let mut wire = ListWire::new(run.is_call, run.failing_receives, run.failing_sends);
+    let (driven, refused) = match driven_over(alloc, &mut gateway, &mut wire, run) {
+        Ok(driven) => (driven, 0),
+        Err(NoMemory) => {
+            // nothing has happened: it is made again
+            (driven_over(alloc, &mut gateway, &mut wire, run)?, 1)
+        }
+    };
+    let ran = Ran {
+        driven,
+        report: report_of(&gateway),
+        sends: wire.sends,
+        receives: wire.receives,
+        room: wire.room,
+    };
+    Ok((ran, refused))
+}
+
+fn driven_over<S: RowStore>(
+    alloc: Global,
+    gateway: &mut Gateway<S>,
+    wire: &mut ListWire,
+    run: Run,
+) -> Result<Driven, NoMemory> {
+    drive(alloc, gateway, wire, 0, run.rings, run.turns)
+}
+
+/// The first report.
+fn report_of<S: RowStore>(gateway: &Gateway<S>) -> Option<Report> {
+    gateway.report(0)
 }
 
 #[test]
 fn a_run_that_is_refused_memory(rt: HostRuntime) -> Result<(), Fail> {
-    println!(rt; "refused: {}", refused_in_a_run(&rt, rt.alloc()))?;
+    let (ran, again) = match run_of(rt.alloc(), CALL) {
+        Ok(ran) => ran,
+        Err(NoMemory) => {
+            let (ran, again) = run_of(rt.alloc(), CALL)?;
+            (ran, again.saturating_add(1))
+        }
+    };
+    assert!(rt; is_left_out(rt.alloc(), ran));
+    let calls = again
+        .saturating_add(ran.driven.rings_refused)
+        .saturating_add(ran.driven.events_refused);
+    println!(rt; "refused: {}", refused(&rt, calls))?;
     Ok(())
 }
 
-/// Makes the run of a whole call. Where memory is refused, that alone is left out.
-fn refused_in_a_run(rt: &impl Abort, alloc: Global) -> &'static str {
-    let mut ends = Ends::new(rt, alloc, CALL);
-    let calls = ends.run_again(rt, alloc);
-    refused(rt, calls, ends.refused)
-}
-
-/// A gateway and the wire of a run. What is refused memory is asked for again once.
-#[derive(Drop)]
-struct Ends {
-    gateway: Gateway<PlainRows>,
-    wire: ListWire,
-    refused: u64,
-}
-
-impl Ends {
-    fn new(rt: &impl Abort, alloc: Global, run: Run) -> Self {
-        let (gateway, refused_gateways) = gateway_of(rt, alloc);
-        let (wire, refused_wires) = wire_of(rt, alloc, run);
-        Ends {
-            gateway,
-            wire,
-            refused: refused_gateways.saturating_add(refused_wires),
-        }
-    }
-
-    fn drive(&mut self, alloc: Global, rings: &[u32], turns: u32) -> Result<Driven, NoMemory> {
-        drive(alloc, &mut self.gateway, &mut self.wire, 0, rings, turns)
-    }
-
-    /// Makes the run, and says whether it comes to what is told.
-    fn comes_to(&mut self, alloc: Global, run: Run, turns: u32) -> bool {
-        let is_driven = self.drive(alloc, run.rings, turns) == Ok(run.driven);
-        is_driven && (!run.delivers || self.has_delivered())
-    }
-
-    /// Whether a whole call was made.
-    fn has_delivered(&self) -> bool {
-        self.delivers() && self.wire.receives() == RECEIVES && self.wire.room() == 65_536
-    }
-
-    /// Makes the run of a whole call, and says how many of its calls were refused memory. Where it is refused at once, nothing
-    /// has happened, and it is made again. It fails unless what is refused later is told and left out, and nothing else
-    /// differs.
-    fn run_again(&mut self, rt: &impl Abort, alloc: Global) -> u64 {
-        let (driven, calls) = match self.drive(alloc, CALL.rings, TURNS) {
-            Ok(driven) => (driven, 0),
-            Err(NoMemory) => (self.drive_unharmed(rt, alloc), 1u64),
-        };
-        assert!(rt; is_told(driven) && self.is_left_out(rt, alloc, driven));
-        calls
-            .saturating_add(driven.rings_refused)
-            .saturating_add(driven.events_refused)
-    }
-
-    /// Makes the run again that was refused at once. It fails unless nothing had happened.
-    fn drive_unharmed(&mut self, rt: &impl Abort, alloc: Global) -> Driven {
-        assert!(rt; self.wire.receives() == 0 && self.wire.sent().is_empty());
-        self.drive(alloc, CALL.rings, TURNS).expect(rt, "a run")
-    }
-
-    /// Whether the page was delivered, and each datagram handed over.
-    fn delivers(&self) -> bool {
-        self.gateway.report(0) == Some(DELIVERED) && is_whole_call(self.wire.sent())
-    }
-
-    /// Whether what was refused was left out, and nothing else: a ring, so that nothing was sent; or a datagram or a tick.
-    fn is_left_out(&self, rt: &impl Abort, alloc: Global, driven: Driven) -> bool {
-        let report = self.gateway.report(0);
-        match (driven.rings_refused, driven.events_refused) {
-            (0, 0) => self.delivers(),
-            (1, 0) => self.wire.sent().is_empty() && report.is_none(),
-            (0, 1) => is_without_one(rt, alloc, self.wire.sent(), report),
-            _ => false,
-        }
-    }
-}
-
-/// Whether a run tells nothing but what is refused otherwise than that of a whole call.
-fn is_told(driven: Driven) -> bool {
-    let mut otherwise = CALL.driven;
-    otherwise.rings_refused = driven.rings_refused;
-    otherwise.events_refused = driven.events_refused;
-    driven == otherwise
+/// Whether what was refused in a run of the whole call was left out, and nothing else: a ring, so that nothing was sent; or a datagram or
+/// a tick.
+fn is_left_out(alloc: Global, ran: Ran) -> bool {
+    let told = Driven {
+        rings_refused: ran.driven.rings_refused,
+        events_refused: ran.driven.events_refused,
+        ..DRIVEN
+    };
+    let is_left_out = match (told.rings_refused, told.events_refused) {
+        (0, 0) => ran == whole(DRIVEN, ran.sends.sum),
+        (1, 0) => ran.sends.count == 0 && ran.report.is_none(),
+        (0, 1) => is_without_one(alloc, ran),
+        _ => false,
+    };
+    is_left_out && ran.driven == told
 }
 
 /// Whether this is given in a call without one of the datagrams that come, or without one of the ticks.
-fn is_without_one(
-    rt: &impl Abort,
-    alloc: Global,
-    given: &[OnWire],
-    report: Option<Report>,
-) -> bool {
+fn is_without_one(alloc: Global, ran: Ran) -> bool {
+    let mut found = false;
     for place in 0..COMES.len() {
-        if gives(rt, alloc, Change::WithoutDatagram(place), given, report) {
-            return true;
-        }
+        found = found || gives(alloc, Change::Without(place), ran);
     }
     for turn in 0..TURNS {
-        if gives(rt, alloc, Change::WithoutTick(turn), given, report) {
-            return true;
-        }
+        found = found || gives(alloc, Change::WithoutTick(turn), ran);
     }
-    false
+    found
 }
 
-/// The wire of a run, asked for again where it is refused, and how often it was.
-fn wire_of(rt: &impl Abort, alloc: Global, run: Run) -> (ListWire, u64) {
-    match wire_once(alloc, run) {
-        Ok(wire) => (wire, 0),
-        Err(NoMemory) => (wire_once(alloc, run).expect(rt, "a wire"), 1),
-    }
-}
-
-fn wire_once(alloc: Global, run: Run) -> Result<ListWire, NoMemory> {
-    let mut wire = ListWire::new(alloc, run.failing_receives, run.failing_sends)?;
-    let is_put = !run.is_call || put_all(&mut wire).is_ok();
-    if is_put { Ok(wire) } else { Err(NoMemory) }
-}
-
-/// What comes in a whole call comes on a wire.
-fn put_all(wire: &mut ListWire) -> Result<(), NoMemory> {
-    for (turn, leg, head, zeros, tail) in COMES {
-        wire.put(OnWire {
-            turn: *turn,
-            leg: *leg,
-            octets: octets_of(*head, *zeros, *tail),
-        })?;
-    }
-    Ok(())
+/// Whether just this is given in a call with a change.
+fn gives(alloc: Global, change: Change, ran: Ran) -> bool {
+    let (played, _) = play_call(alloc, change);
+    (played.sends, played.report) == (ran.sends, ran.report)
 }

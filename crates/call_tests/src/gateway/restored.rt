@@ -1,14 +1,12 @@
-//! A gateway that is restored after a crash.
+//! A gateway that is restored after a crash, and asks for the calls of its jobs.
 use fax_answer::Confirmed;
-use fax_gateway::{Gateway, RestoredCall, Settings};
-use fax_pagestore::{Coding, Format, PlainRows, read_page};
+use fax_gateway::{Gateway, PlaceFault, RestoredCall, Settings};
+use fax_jobs::{Outcome, Report};
+use fax_pagestore::{Coding, Format, PlainRows, RowStore, read_page};
 use fax_runcodes::Width;
 use std::alloc::Global;
 
-/// How many turns there are, 40 ms apart: longer than two calls that nobody answers (ITU-T T.30, 5.4.3.1: T1 is 35 s at least).
-const TURNS: u64 = 2500;
-
-pub(super) const FORMAT: Format = Format {
+const FORMAT: Format = Format {
     width: Width::W1728,
     fine: false,
 };
@@ -18,63 +16,100 @@ const PAGE: [u8; 13] = [
     0x00, 0x14, 0xd9, 0xa8, 0x00, 0x80, 0x08, 0x00, 0x80, 0x08, 0x00, 0x80, 0x08,
 ];
 
-/// How many jobs wait, the number that a ring is answered with, and of the first three reports the call and the number of pages.
-type Told = (
-    usize,
-    u32,
-    Option<(u32, u32)>,
-    Option<(u32, u32)>,
-    Option<(u32, u32)>,
-);
+/// Calls are asked for.
+const ASKS: Settings = Settings {
+    redundancy: 3,
+    preamble_ms: 40,
+    asks: true,
+};
 
-#[test]
-fn restored_jobs_are_sent_first(rt: HostRuntime) {
-    assert!(rt; told(rt.alloc()) == Some((2, 0, Some((5, 2)), Some((2, 1)), None)));
+/// What is told of the older call's job where its call could not be placed.
+const NOT_PLACED: Report = Report {
+    call: 5,
+    format: FORMAT,
+    pages: 2,
+    delivered: 0,
+    outcome: Outcome::NotPlaced,
+};
+
+/// How a gateway stands: how many jobs wait, the call whose job is asked for, twice, and the moment at which a tick is due.
+type Stands = (usize, Option<u32>, Option<u32>, Option<u64>);
+
+fn stands<S: RowStore>(gateway: &Gateway<S>) -> Stands {
+    let job = match gateway.job_asked() {
+        Some(job) => Some(job.call()),
+        None => None,
+    };
+    (gateway.waiting(), gateway.asked(), job, gateway.next_due())
 }
 
-/// A gateway is restored with the two pages of call 5 and the one of call 2, in the midst of which it stopped. It is rung at once,
-/// and nobody answers its calls.
-fn told(alloc: Global) -> Option<Told> {
-    let mut gateway = Gateway::restore(alloc, Settings::default(), calls(alloc)?).ok()?;
-    let waiting = gateway.waiting();
-    let rung = gateway.ring(0).ok()?;
-    for turn in 0..TURNS {
-        gateway.tick(turn * 40).ok()?;
+/// The call of the job is placed, or could not be.
+fn place<S: RowStore>(gateway: &mut Gateway<S>, connected: bool) -> Result<(), PlaceFault> {
+    if connected {
+        gateway.connect(0)
+    } else {
+        gateway.not_connected(0)
     }
+}
+
+/// What a tick reports.
+fn reported<S: RowStore>(gateway: &mut Gateway<S>) -> Option<Report> {
+    gateway.tick(0).ok()?.report
+}
+
+/// What comes of what is tried: the call is placed or not, and a tick after it.
+fn tried<S: RowStore>(gateway: &mut Gateway<S>, connected: bool) -> (bool, Option<Report>, Stands) {
+    let is_taken = place(gateway, connected).is_ok();
+    let report = reported(gateway);
+    (is_taken, report, stands(gateway))
+}
+
+#[test]
+fn restored_jobs_are_asked_for_in_order(rt: HostRuntime) {
+    // T1 of the call that is placed: 35 s (ITU-T T.30, 5.4.3.1)
+    let wanted = (
+        (2, Some(5), Some(5), None),
+        [
+            (true, Some(NOT_PLACED), (1, Some(2), Some(2), None)),
+            (true, None, (0, None, None, Some(35_000))),
+            (false, None, (0, None, None, Some(35_000))),
+        ],
+    );
+    assert!(rt; told(rt.alloc()) == Some(wanted));
+}
+
+/// A gateway is restored with the two pages of call 5 and the one of call 2, in the midst of which it stopped. The call of the first job
+/// could not be placed, that of the second is, and then no more is asked for.
+fn told(alloc: Global) -> Option<(Stands, [(bool, Option<Report>, Stands); 3])> {
+    let mut gateway = Gateway::restore(alloc, ASKS, calls(alloc)?).ok()?;
+    let first = stands(&gateway);
     Some((
-        waiting,
-        rung,
-        reported(&gateway, 0),
-        reported(&gateway, 1),
-        reported(&gateway, 2),
+        first,
+        [
+            tried(&mut gateway, false),
+            tried(&mut gateway, true),
+            tried(&mut gateway, true),
+        ],
     ))
 }
 
-/// The call and the number of pages of a report.
-fn reported(gateway: &Gateway<PlainRows>, i: usize) -> Option<(u32, u32)> {
-    let report = gateway.report(i)?;
-    Some((report.call, report.pages))
-}
-
 /// Both calls, the older one first.
-pub(super) fn calls(alloc: Global) -> Option<Vec<RestoredCall<PlainRows>>> {
-    let mut older = Vec::new(alloc);
-    older.push(confirmed(alloc, false)?).ok()?;
-    older.push(confirmed(alloc, true)?).ok()?;
-    let mut newer = Vec::new(alloc);
-    newer.push(confirmed(alloc, false)?).ok()?;
+fn calls(alloc: Global) -> Option<Vec<RestoredCall<PlainRows>>> {
     let mut calls = Vec::new(alloc);
-    calls.push(call(5, older)).ok()?;
-    calls.push(call(2, newer)).ok()?;
+    for (number, closes) in [(5, [false, true].as_slice()), (2, &[false])] {
+        let confirmed = confirmed(alloc, closes)?;
+        calls.push(RestoredCall { number, confirmed }).ok()?;
+    }
     Some(calls)
 }
 
-fn call(number: u32, confirmed: Vec<Confirmed<PlainRows>>) -> RestoredCall<PlainRows> {
-    RestoredCall { number, confirmed }
-}
-
-/// The page.
-fn confirmed(alloc: Global, closes: bool) -> Option<Confirmed<PlainRows>> {
-    let page = read_page(alloc, &PAGE, FORMAT, Coding::Mh).ok()?;
-    Some(Confirmed { page, closes })
+/// The page, as often as it was confirmed, for EOP or not.
+fn confirmed(alloc: Global, closes: &[bool]) -> Option<Vec<Confirmed<PlainRows>>> {
+    let mut pages = Vec::new(alloc);
+    for closes in closes {
+        let page = read_page(alloc, &PAGE, FORMAT, Coding::Mh).ok()?;
+        let closes = *closes;
+        pages.push(Confirmed { page, closes }).ok()?;
+    }
+    Some(pages)
 }
