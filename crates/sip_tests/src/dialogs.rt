@@ -3,108 +3,168 @@ use fax_dialogs::{
     Agent, Agreement, Dialog, DialogFault, Refresher, Role, Session, SessionAction, SessionEvent,
     SessionTimer, TimerAction, TimerEvent, Within, agree_on, glare_pause, longer_interval,
 };
-use fax_sip::{Field, Name, read_message};
+use fax_sip::{Field, Message, Name, read_message};
+use std::alloc::Global;
 use std::test::Fail;
 
-/// When a 2xx that nobody acknowledges is sent again: the pause doubles from 0.5 s to 4 s.
-const ACCEPTED_AGAIN: &[u64] = &[
-    500, 1_500, 3_500, 7_500, 11_500, 15_500, 19_500, 23_500, 27_500, 31_500,
+/// When something happens in a session, what that is, and what is to be done.
+type Step = (u64, SessionEvent, SessionAction);
+
+const TIME: SessionEvent = SessionEvent::TimePassed;
+
+/// A 2xx that nobody acknowledges is sent again after pauses that double from 0.5 s to 4 s, and then the session ends.
+const UNACKNOWLEDGED: &[Step] = &[
+    (499, TIME, SessionAction::Nothing),
+    (500, TIME, SessionAction::SendAgain),
+    (1_499, TIME, SessionAction::Nothing),
+    (1_500, TIME, SessionAction::SendAgain),
+    (3_500, TIME, SessionAction::SendAgain),
+    (7_499, TIME, SessionAction::Nothing),
+    (7_500, TIME, SessionAction::SendAgain),
+    (11_500, TIME, SessionAction::SendAgain),
+    (15_500, TIME, SessionAction::SendAgain),
+    (19_500, TIME, SessionAction::SendAgain),
+    (23_500, TIME, SessionAction::SendAgain),
+    (27_500, TIME, SessionAction::SendAgain),
+    (31_500, TIME, SessionAction::SendAgain),
+    (31_999, TIME, SessionAction::Nothing),
+    (32_000, TIME, SessionAction::TellAndSendBye),
+    (32_050, SessionEvent::ByeAnswered, SessionAction::Nothing),
 ];
 
-#[test]
-fn an_unacknowledged_success_is_sent_eleven_times(rt: HostRuntime) {
-    let mut session = Session::of_answerer(0);
-    for moment in ACCEPTED_AGAIN {
-        assert!(rt; session.next_due() == Some(*moment));
-        assert!(rt; session.step(*moment - 1, SessionEvent::TimePassed) == SessionAction::Nothing);
-        assert!(rt; session.step(*moment, SessionEvent::TimePassed) == SessionAction::SendAgain);
-    }
-    assert!(rt; session.next_due() == Some(32_000));
-    assert!(rt; session.step(32_000, SessionEvent::TimePassed) == SessionAction::TellAndSendBye);
-    assert!(rt; session.step(32_050, SessionEvent::ByeAnswered) == SessionAction::Nothing);
-    assert!(rt; session == Session::Ended && session.next_due().is_none());
-}
-
 /// RFC 3665, 3.1: INVITE, 200, ACK, and BYE of the called end; then what comes late.
-#[test]
-fn a_call_is_hung_up_by_the_called_end(rt: HostRuntime) {
-    let mut session = Session::of_caller();
-    assert!(rt;
-        session.step(0, SessionEvent::Answered(200, 0)) == SessionAction::TellAndAcknowledge
-    );
-    assert!(rt; session.step(500, SessionEvent::AnsweredAgain) == SessionAction::Acknowledge);
-    assert!(rt; session.step(9_000, SessionEvent::ByeCame) == SessionAction::AnswerBye);
-    assert!(rt; session == Session::Ended);
-    assert!(rt; session.step(9_500, SessionEvent::AnsweredAgain) == SessionAction::Acknowledge);
-    assert!(rt; session.step(9_600, SessionEvent::InviteCame) == SessionAction::Refuse(481));
-    assert!(rt; session.step(9_700, SessionEvent::HangUp) == SessionAction::Nothing);
-}
+const HUNG_UP: &[Step] = &[
+    (
+        0,
+        SessionEvent::Answered(200, 0),
+        SessionAction::TellAndAcknowledge,
+    ),
+    (500, SessionEvent::AnsweredAgain, SessionAction::Acknowledge),
+    (9_000, SessionEvent::ByeCame, SessionAction::AnswerBye),
+    (
+        9_500,
+        SessionEvent::AnsweredAgain,
+        SessionAction::Acknowledge,
+    ),
+    (9_600, SessionEvent::InviteCame, SessionAction::Refuse(481)),
+    (9_700, SessionEvent::HangUp, SessionAction::Nothing),
+];
 
-/// RFC 3665, 3.7: a re-INVITE of the calling end, accepted and acknowledged, and its BYE.
-#[test]
-fn a_session_is_changed_and_ends(rt: HostRuntime) {
-    let mut session = Session::of_answerer(0);
-    assert!(rt; session.step(20, SessionEvent::AckCame) == SessionAction::Nothing);
-    assert!(rt; session.step(4_000, SessionEvent::InviteCame) == SessionAction::TellInvite);
-    assert!(rt; session.step(4_001, SessionEvent::Reinvite) == SessionAction::Nothing);
-    assert!(rt; session.step(4_002, SessionEvent::InviteCame) == SessionAction::Refuse(500));
-    assert!(rt; session.step(4_010, SessionEvent::Answer(200)) == SessionAction::SendAnswer);
-    assert!(rt; session.next_due() == Some(4_510));
-    assert!(rt; session.step(4_030, SessionEvent::AckCame) == SessionAction::Nothing);
-    assert!(rt; session.next_due() == Some(4_001));
-    assert!(rt; session.step(4_031, SessionEvent::TimePassed) == SessionAction::SendInvite);
-    assert!(rt;
-        session.step(4_050, SessionEvent::Answered(200, 0)) == SessionAction::TellAndAcknowledge
-    );
-    assert!(rt; session.step(8_000, SessionEvent::ByeCame) == SessionAction::AnswerBye);
-}
+/// RFC 3665, 3.7: a re-INVITE of the calling end, accepted and acknowledged, ours after it, and the BYE of the calling end.
+const CHANGED: &[Step] = &[
+    (20, SessionEvent::AckCame, SessionAction::Nothing),
+    (4_000, SessionEvent::InviteCame, SessionAction::TellInvite),
+    (4_001, SessionEvent::Reinvite, SessionAction::Nothing),
+    (4_002, SessionEvent::InviteCame, SessionAction::Refuse(500)),
+    (4_010, SessionEvent::Answer(200), SessionAction::SendAnswer),
+    (4_030, SessionEvent::AckCame, SessionAction::Nothing),
+    (4_031, TIME, SessionAction::SendInvite),
+    (
+        4_050,
+        SessionEvent::Answered(200, 0),
+        SessionAction::TellAndAcknowledge,
+    ),
+    (8_000, SessionEvent::ByeCame, SessionAction::AnswerBye),
+];
 
 /// Glare (14.1): both ends send a re-INVITE, both refuse with 491, and who made the Call-ID waits longer.
-#[test]
-fn two_invites_at_once_are_refused_and_sent_again(rt: HostRuntime) {
-    let mut session = Session::of_answerer(0);
-    assert!(rt; session.step(20, SessionEvent::AckCame) == SessionAction::Nothing);
-    assert!(rt; session.step(100, SessionEvent::Reinvite) == SessionAction::SendInvite);
-    assert!(rt; session.step(110, SessionEvent::InviteCame) == SessionAction::Refuse(491));
-    assert!(rt; session.step(115, SessionEvent::Answer(200)) == SessionAction::Nothing);
-    let pause = glare_pause(Role::Answerer, 87);
-    assert!(rt; pause == 870);
-    assert!(rt; session.step(120, SessionEvent::Answered(491, pause)) == SessionAction::Nothing);
-    assert!(rt; session.step(989, SessionEvent::TimePassed) == SessionAction::Nothing);
-    assert!(rt; session.step(990, SessionEvent::TimePassed) == SessionAction::SendInvite);
-    assert!(rt; glare_pause(Role::Caller, 0) == 2_100 && glare_pause(Role::Caller, 190) == 4_000);
-    assert!(rt; glare_pause(Role::Answerer, 200) == 2_000 && glare_pause(Role::Answerer, 201) == 0);
-}
+const GLARE: &[Step] = &[
+    (20, SessionEvent::AckCame, SessionAction::Nothing),
+    (100, SessionEvent::Reinvite, SessionAction::SendInvite),
+    (110, SessionEvent::InviteCame, SessionAction::Refuse(491)),
+    (115, SessionEvent::Answer(200), SessionAction::Nothing),
+    (
+        120,
+        SessionEvent::Answered(491, 870),
+        SessionAction::Nothing,
+    ),
+    (989, TIME, SessionAction::Nothing),
+    (990, TIME, SessionAction::SendInvite),
+];
 
 /// A re-INVITE that is refused is told; 481 and 408 end the session (12.2.1.2).
-#[test]
-fn a_refused_invite_is_told(rt: HostRuntime) {
-    let mut session = Session::of_caller();
-    assert!(rt;
-        session.step(0, SessionEvent::Answered(200, 0)) == SessionAction::TellAndAcknowledge
-    );
-    assert!(rt; session.step(100, SessionEvent::Reinvite) == SessionAction::SendInvite);
-    assert!(rt;
-        session.step(200, SessionEvent::Answered(488, 0)) == SessionAction::TellRefused(488)
-    );
-    assert!(rt; session.step(210, SessionEvent::Reinvite) == SessionAction::SendInvite);
-    assert!(rt; session.step(300, SessionEvent::Answered(481, 0)) == SessionAction::TellAndSendBye);
-    assert!(rt; session.step(310, SessionEvent::HangUp) == SessionAction::Nothing);
-    assert!(rt; session.next_due() == Some(32_300));
-    assert!(rt; session.step(32_300, SessionEvent::TimePassed) == SessionAction::Nothing);
-    assert!(rt; session == Session::Ended);
-}
+const REFUSED: &[Step] = &[
+    (
+        0,
+        SessionEvent::Answered(200, 0),
+        SessionAction::TellAndAcknowledge,
+    ),
+    (100, SessionEvent::Reinvite, SessionAction::SendInvite),
+    (
+        200,
+        SessionEvent::Answered(488, 0),
+        SessionAction::TellRefused(488),
+    ),
+    (210, SessionEvent::Reinvite, SessionAction::SendInvite),
+    (
+        300,
+        SessionEvent::Answered(481, 0),
+        SessionAction::TellAndSendBye,
+    ),
+    (310, SessionEvent::HangUp, SessionAction::Nothing),
+    (32_300, TIME, SessionAction::Nothing),
+];
 
 /// The called end sends no BYE before the ACK (15), and its INVITE waits for it too.
+const AWAITED: &[Step] = &[
+    (5, SessionEvent::Reinvite, SessionAction::Nothing),
+    (10, SessionEvent::HangUp, SessionAction::Nothing),
+    (500, TIME, SessionAction::SendAgain),
+    (600, SessionEvent::AckCame, SessionAction::SendBye),
+    (610, SessionEvent::ByeCame, SessionAction::AnswerBye),
+];
+
+/// How a session begins that is ours, or the other end's.
+fn begun(role: Role) -> Session {
+    match role {
+        Role::Caller => Session::of_caller(),
+        Role::Answerer => Session::of_answerer(0),
+    }
+}
+
+/// How many steps of a session go as they are to, whether it has ended then, and when something was due first and is last.
+fn played(role: Role, steps: &[Step]) -> (usize, bool, [Option<u64>; 2]) {
+    let mut session = begun(role);
+    let first = session.next_due();
+    let mut count = 0usize;
+    for (now, event, action) in steps {
+        if session.step(*now, *event) == *action {
+            count = count.saturating_add(1);
+        }
+    }
+    (
+        count,
+        session == Session::Ended,
+        [first, session.next_due()],
+    )
+}
+
 #[test]
-fn an_end_waits_for_the_ack(rt: HostRuntime) {
-    let mut session = Session::of_answerer(0);
-    assert!(rt; session.step(5, SessionEvent::Reinvite) == SessionAction::Nothing);
-    assert!(rt; session.step(10, SessionEvent::HangUp) == SessionAction::Nothing);
-    assert!(rt; session.step(500, SessionEvent::TimePassed) == SessionAction::SendAgain);
-    assert!(rt; session.step(600, SessionEvent::AckCame) == SessionAction::SendBye);
-    assert!(rt; session.step(610, SessionEvent::ByeCame) == SessionAction::AnswerBye);
-    assert!(rt; session == Session::Ended);
+fn sessions_go_by_the_standard(rt: HostRuntime) {
+    for (role, steps, has_ended, due) in [
+        (Role::Answerer, UNACKNOWLEDGED, true, [Some(500), None]),
+        (Role::Caller, HUNG_UP, true, [None, None]),
+        (Role::Answerer, CHANGED, true, [Some(500), None]),
+        (Role::Answerer, GLARE, false, [Some(500), None]),
+        (Role::Caller, REFUSED, true, [None, None]),
+        (Role::Answerer, AWAITED, true, [Some(500), None]),
+    ] {
+        assert!(rt; played(role, steps) == (steps.len(), has_ended, due));
+    }
+}
+
+/// The pause after glare of who made the Call-ID is 2.1 to 4 s, and of the other end at most 2 s, in steps of 10 ms (14.1).
+#[test]
+fn glare_has_pauses(rt: HostRuntime) {
+    for (role, random, pause) in [
+        (Role::Caller, 0, 2_100),
+        (Role::Caller, 190, 4_000),
+        (Role::Answerer, 87, 870),
+        (Role::Answerer, 200, 2_000),
+        (Role::Answerer, 201, 0),
+    ] {
+        assert!(rt; glare_pause(role, random) == pause);
+    }
 }
 
 /// RFC 3665, 3.1, F1 (over UDP): Alice's INVITE.
@@ -174,118 +234,216 @@ CSeq: 14 INVITE\r\n\
 Contact: <sip:bob@192.0.2.204>\r\n\
 Content-Length: 0\r\n\r\n";
 
-#[test]
-fn a_caller_follows_loose_routers(rt: HostRuntime) -> Result<(), Fail> {
-    let request = read_message(ALICE)?;
-    let answer = read_message(BOB)?;
-    let mut dialog = Dialog::of_caller(&request, &answer)?;
-    assert!(rt; dialog.role() == Role::Caller);
-    assert!(rt; dialog.is_answered_by(&answer) && !dialog.takes(&answer));
-    let bye = Within {
-        method: b"BYE",
+/// A request without a body within a dialog.
+fn written(
+    alloc: Global,
+    dialog: &mut Dialog,
+    method: &[u8],
+    sent_by: &[u8],
+    branch: &[u8],
+    fields: &[Field<'_>],
+) -> Result<Vec<u8>, Fail> {
+    let within = Within {
+        method,
         number: dialog.take_number()?,
-        sent_by: b"client.atlanta.example.com",
-        branch: b"z9hG4bKnashds",
-        fields: &[],
+        sent_by,
+        branch,
+        fields,
         body: b"",
     };
-    assert!(rt; dialog.write(rt.alloc(), &bye)?.as_slice() == ALICE_BYE);
+    Ok(dialog.write(alloc, &within)?)
+}
+
+/// A message.
+fn read(octets: &[u8]) -> Result<Message<'_>, Fail> {
+    Ok(read_message(octets)?)
+}
+
+/// A dialog that Alice began and Bob answered, or that STRICT begins.
+fn dialog_of(role: Role) -> Result<Dialog, Fail> {
+    match role {
+        Role::Caller => Ok(Dialog::of_caller(&read(ALICE)?, &read(BOB)?)?),
+        Role::Answerer => Ok(Dialog::of_answerer(&read(STRICT)?, b"to1")?),
+    }
+}
+
+/// Whether a message is an answer within a dialog, and whether it is a request there.
+fn is_within(dialog: &Dialog, message: &Message<'_>) -> (bool, bool) {
+    (dialog.is_answered_by(message), dialog.takes(message))
+}
+
+#[test]
+fn a_caller_follows_loose_routers(rt: HostRuntime) -> Result<(), Fail> {
+    let mut dialog = dialog_of(Role::Caller)?;
+    assert!(rt; dialog.role() == Role::Caller && is_within(&dialog, &read(BOB)?) == (true, false));
+    let bye = written(
+        rt.alloc(),
+        &mut dialog,
+        b"BYE",
+        b"client.atlanta.example.com",
+        b"z9hG4bKnashds",
+        &[],
+    )?;
+    assert!(rt; bye.as_slice() == ALICE_BYE);
     Ok(())
 }
 
 #[test]
 fn an_answerer_follows_a_strict_router(rt: HostRuntime) -> Result<(), Fail> {
-    let request = read_message(STRICT)?;
-    let mut dialog = Dialog::of_answerer(&request, b"to1")?;
-    assert!(rt; dialog.role() == Role::Answerer && !dialog.takes(&request));
-    let options = Within {
-        method: b"OPTIONS",
-        number: dialog.take_number()?,
-        sent_by: b"gw.example",
-        branch: b"z9hG4bK2",
-        fields: &[Field {
-            name: Name::Allow,
-            value: b"INVITE, ACK, BYE, CANCEL, OPTIONS",
-        }],
-        body: b"",
-    };
-    assert!(rt; dialog.write(rt.alloc(), &options)?.as_slice() == STRICT_OPTIONS);
-    assert!(rt; dialog.hear(314_158) == Err(DialogFault::LowNumber));
+    let mut dialog = dialog_of(Role::Answerer)?;
     assert!(rt;
-        dialog.hear(314_160).is_ok() && dialog.hear(314_159) == Err(DialogFault::LowNumber)
+        dialog.role() == Role::Answerer && is_within(&dialog, &read(STRICT)?) == (false, false)
     );
+    let allow = [Field {
+        name: Name::Allow,
+        value: b"INVITE, ACK, BYE, CANCEL, OPTIONS",
+    }];
+    let options = written(
+        rt.alloc(),
+        &mut dialog,
+        b"OPTIONS",
+        b"gw.example",
+        b"z9hG4bK2",
+        &allow,
+    )?;
+    assert!(rt; options.as_slice() == STRICT_OPTIONS);
+    let low = Err(DialogFault::LowNumber);
+    for (number, heard) in [(314_158, low), (314_160, Ok(())), (314_159, low)] {
+        assert!(rt; dialog.hear(number) == heard);
+    }
     Ok(())
 }
 
 #[test]
 fn a_re_invite_has_a_new_target(rt: HostRuntime) -> Result<(), Fail> {
-    let request = read_message(ALICE)?;
-    let mut dialog = Dialog::of_caller(&request, &read_message(BOB)?)?;
-    let again = read_message(BOB_AGAIN)?;
-    assert!(rt; dialog.takes(&again) && !dialog.is_answered_by(&again));
-    assert!(rt; dialog.hear(14).is_ok() && dialog.refresh(&again).is_ok());
-    let ack = Within {
-        method: b"ACK",
-        number: 1,
-        sent_by: b"client.atlanta.example.com",
-        branch: b"z9hG4bKnashe1",
-        fields: &[],
-        body: b"",
-    };
-    let octets = dialog.write(rt.alloc(), &ack)?;
-    assert!(rt;
-        octets
-            .as_slice()
-            .starts_with(b"ACK sip:bob@192.0.2.204 SIP/2.0\r\n")
-    );
+    let mut dialog = dialog_of(Role::Caller)?;
+    let again = read(BOB_AGAIN)?;
+    assert!(rt; is_within(&dialog, &again) == (false, true));
+    dialog.hear(14)?;
+    dialog.refresh(&again)?;
+    let octets = written(
+        rt.alloc(),
+        &mut dialog,
+        b"BYE",
+        b"client.atlanta.example.com",
+        b"z9hG4bKnashe1",
+        &[],
+    )?;
+    let line = b"BYE sip:bob@192.0.2.204 SIP/2.0\r\n";
+    assert!(rt; octets.as_slice().starts_with(line));
     Ok(())
+}
+
+/// Why a request and its answer begin no dialog.
+fn fault_of_caller(request: &[u8], answer: &[u8]) -> Result<Option<DialogFault>, Fail> {
+    Ok(Dialog::of_caller(&read(request)?, &read(answer)?).err())
+}
+
+/// Why a request begins none that is answered with this tag.
+fn fault_of_answerer(request: &[u8], tag: &[u8]) -> Result<Option<DialogFault>, Fail> {
+    Ok(Dialog::of_answerer(&read(request)?, tag).err())
 }
 
 #[test]
 fn what_begins_no_dialog_is_told(rt: HostRuntime) -> Result<(), Fail> {
-    let invite = read_message(ALICE)?;
-    let answer = read_message(BOB)?;
-    let strict = read_message(STRICT)?;
-    assert!(rt; Dialog::of_caller(&answer, &answer).err() == Some(DialogFault::NoInvite));
-    assert!(rt; Dialog::of_caller(&strict, &answer).err() == Some(DialogFault::OtherCall));
-    assert!(rt; Dialog::of_answerer(&answer, b"1").err() == Some(DialogFault::NoInvite));
-    let again = read_message(BOB_AGAIN)?;
-    assert!(rt; Dialog::of_answerer(&again, b"1").err() == Some(DialogFault::HasTag));
-    assert!(rt; Dialog::of_answerer(&invite, &[b'1'; 257]).err() == Some(DialogFault::LongText));
+    assert!(rt; fault_of_caller(BOB, BOB)? == Some(DialogFault::NoInvite));
+    assert!(rt; fault_of_caller(STRICT, BOB)? == Some(DialogFault::OtherCall));
+    assert!(rt; fault_of_answerer(BOB, b"1")? == Some(DialogFault::NoInvite));
+    assert!(rt; fault_of_answerer(BOB_AGAIN, b"1")? == Some(DialogFault::HasTag));
+    assert!(rt; fault_of_answerer(ALICE, &[b'1'; 257])? == Some(DialogFault::LongText));
     Ok(())
 }
 
-/// RFC 4028, 12: 50 s is too small for a Min-SE of 3,600 s; an interval of 4,000 s, refreshed by the calling end.
+/// An interval, who asked to refresh, whether the other end takes timers, and what comes of it: RFC 4028, 12, where 50 s is too small
+/// for a Min-SE of 3,600 s.
+const AGREEMENTS: &[(u32, Option<Agent>, bool, Agreement)] = &[
+    (50, None, true, Agreement::TooSmall),
+    (50, None, false, Agreement::Without),
+    (4_000, Some(Agent::Uac), true, Agreement::With(Agent::Uac)),
+    (4_000, None, false, Agreement::With(Agent::Uas)),
+];
+
 #[test]
-fn a_session_is_refreshed_at_half_its_interval(rt: HostRuntime) {
+fn intervals_are_agreed_on(rt: HostRuntime) {
+    for (seconds, asked, is_supported, agreement) in AGREEMENTS {
+        assert!(rt; agree_on(*seconds, *asked, *is_supported) == *agreement);
+    }
     assert!(rt; longer_interval(50, 3_600) == 3_600);
-    assert!(rt; agree_on(50, None, true) == Agreement::TooSmall);
-    assert!(rt; agree_on(50, None, false) == Agreement::Without);
-    assert!(rt; agree_on(4_000, Some(Agent::Uac), true) == Agreement::With(Agent::Uac));
-    assert!(rt; agree_on(4_000, None, false) == Agreement::With(Agent::Uas));
-    let mut timer = SessionTimer::Off;
-    let agreed = TimerEvent::Agreed(4_000, Agent::Uac.refresher(true));
-    assert!(rt; timer.step(1_000, agreed) == TimerAction::Nothing);
-    assert!(rt; timer.next_due() == Some(2_001_000));
-    assert!(rt; timer.step(2_000_999, TimerEvent::TimePassed) == TimerAction::Nothing);
-    assert!(rt; timer.step(2_001_000, TimerEvent::TimePassed) == TimerAction::Refresh);
-    assert!(rt; timer.next_due() == Some(3_969_000));
-    assert!(rt; timer.step(2_002_000, agreed) == TimerAction::Nothing);
-    assert!(rt; timer.next_due() == Some(4_002_000));
+    assert!(rt;
+        Agent::Uac.refresher(true) == Refresher::We && Agent::Uas.refresher(true) == Refresher::They
+    );
 }
 
+/// When something happens to a timer, what that is, what is to be done, and when something is due after it.
+type TimerStep = (u64, TimerEvent, TimerAction, Option<u64>);
+
+/// An interval of 4,000 s, which we refresh at its half.
+const WE_REFRESH: &[TimerStep] = &[
+    (
+        1_000,
+        TimerEvent::Agreed(4_000, Refresher::We),
+        TimerAction::Nothing,
+        Some(2_001_000),
+    ),
+    (
+        2_000_999,
+        TimerEvent::TimePassed,
+        TimerAction::Nothing,
+        Some(2_001_000),
+    ),
+    (
+        2_001_000,
+        TimerEvent::TimePassed,
+        TimerAction::Refresh,
+        Some(3_969_000),
+    ),
+    (
+        2_002_000,
+        TimerEvent::Agreed(4_000, Refresher::We),
+        TimerAction::Nothing,
+        Some(4_002_000),
+    ),
+];
+
 /// RFC 4028, 10: a session of 90 s that the other end does not refresh ends a third of it before, one of 1,800 s after 1,768 s.
-#[test]
-fn a_session_that_is_not_refreshed_ends(rt: HostRuntime) {
+const THEY_REFRESH: &[TimerStep] = &[
+    (
+        0,
+        TimerEvent::Agreed(90, Refresher::They),
+        TimerAction::Nothing,
+        Some(60_000),
+    ),
+    (
+        59_999,
+        TimerEvent::TimePassed,
+        TimerAction::Nothing,
+        Some(60_000),
+    ),
+    (60_000, TimerEvent::TimePassed, TimerAction::Expire, None),
+    (60_001, TimerEvent::TimePassed, TimerAction::Nothing, None),
+    (
+        100_000,
+        TimerEvent::Agreed(1_800, Refresher::They),
+        TimerAction::Nothing,
+        Some(1_868_000),
+    ),
+    (200_000, TimerEvent::NotAgreed, TimerAction::Nothing, None),
+];
+
+/// How many steps of a timer go as they are to.
+fn timed(steps: &[TimerStep]) -> usize {
     let mut timer = SessionTimer::Off;
-    let agreed = TimerEvent::Agreed(90, Refresher::They);
-    assert!(rt; timer.step(0, agreed) == TimerAction::Nothing);
-    assert!(rt; timer.step(59_999, TimerEvent::TimePassed) == TimerAction::Nothing);
-    assert!(rt; timer.step(60_000, TimerEvent::TimePassed) == TimerAction::Expire);
-    assert!(rt; timer.step(60_001, TimerEvent::TimePassed) == TimerAction::Nothing);
-    let agreed = TimerEvent::Agreed(1_800, Agent::Uas.refresher(true));
-    assert!(rt; timer.step(100_000, agreed) == TimerAction::Nothing);
-    assert!(rt; timer.next_due() == Some(1_868_000));
-    assert!(rt; timer.step(200_000, TimerEvent::NotAgreed) == TimerAction::Nothing);
-    assert!(rt; timer.next_due().is_none());
+    let mut count = 0usize;
+    for (now, event, action, due) in steps {
+        let done = timer.step(*now, *event);
+        if done == *action && timer.next_due() == *due {
+            count = count.saturating_add(1);
+        }
+    }
+    count
+}
+
+#[test]
+fn sessions_are_refreshed(rt: HostRuntime) {
+    assert!(rt; timed(WE_REFRESH) == WE_REFRESH.len() && timed(THEY_REFRESH) == THEY_REFRESH.len());
 }

@@ -1,8 +1,9 @@
 //! SIP messages by hand, of the forms that RFC 3261 allows and RFC 4475 warns of.
 use fax_sip::{
-    Field, Method, Name, Party, Reply, Request, SipFault, Start, WriteFault, credential, parameter,
-    read_message, read_via, unquoted, uri_of, user_of, write_answer, write_request,
+    Field, Message, Method, Name, Party, Reply, Request, SipFault, Start, WriteFault, credential,
+    parameter, read_message, read_via, unquoted, uri_of, user_of, write_answer, write_request,
 };
+use std::alloc::Global;
 use std::test::Fail;
 
 /// An INVITE with compact and long names in any case, lines that go on in the next, hops in one line and in several, escapes and
@@ -147,138 +148,203 @@ fn ok<'a>(fields: &'a [Field<'a>]) -> Reply<'a> {
     }
 }
 
-/// Whether a text is the one that is there.
-fn is_text(found: Option<&[u8]>, text: &[u8]) -> bool {
-    match found {
-        Some(octets) => octets == text,
-        None => false,
+/// A message.
+fn read(octets: &[u8]) -> Result<Message<'_>, Fail> {
+    Ok(read_message(octets)?)
+}
+
+/// A parameter of a field or of an element of one.
+fn parameter_of<'a>(value: &'a [u8], name: &str) -> Option<&'a [u8]> {
+    parameter(value, name)
+}
+
+/// The user of an address.
+fn user<'a>(uri: &'a [u8]) -> Option<&'a [u8]> {
+    user_of(uri)
+}
+
+/// What is asked for, and of whom, where it is a request; the status, where it is an answer.
+fn start_of<'a>(message: &Message<'a>) -> (Option<Method>, Option<&'a [u8]>, u16) {
+    match message.start {
+        Start::Request(word, uri) => (Some(Method::of_word(word)), user(uri), 0),
+        Start::Answer(status) => (None, None, status),
     }
+}
+
+/// A message's number, the tags of its two ends, and its body.
+fn shown<'a>(message: &Message<'a>) -> (u32, Option<&'a [u8]>, Option<&'a [u8]>, &'a [u8]) {
+    (
+        message.sequence.number,
+        parameter_of(message.from, "tag"),
+        parameter_of(message.to, "tag"),
+        message.body,
+    )
+}
+
+/// The first elements of a field, and how many it has.
+fn elements_of<'a>(message: &Message<'a>, name: Name) -> ([&'a [u8]; 3], usize) {
+    let mut first: [&[u8]; 3] = [b"", b"", b""];
+    let mut count = 0usize;
+    for element in message.elements(name) {
+        if let Some(place) = first.get_mut(count) {
+            *place = element;
+        }
+        count = count.saturating_add(1);
+    }
+    (first, count)
+}
+
+/// The last line of a field, and how many it has.
+fn last_line<'a>(message: &Message<'a>, name: Name) -> (&'a [u8], usize) {
+    let mut last: &[u8] = b"";
+    let mut count = 0usize;
+    for line in message.values(name) {
+        last = line;
+        count = count.saturating_add(1);
+    }
+    (last, count)
+}
+
+/// The transport and the host of a hop.
+fn hop(value: &[u8]) -> Option<(&[u8], &[u8])> {
+    let via = read_via(value)?;
+    Some((via.transport, via.sent_by))
 }
 
 #[test]
 fn a_tortuous_request_is_read(rt: HostRuntime) -> Result<(), Fail> {
-    let message = read_message(TORTUOUS).map_err(|_| "a request")?;
-    let called = match message.start {
-        Start::Request(word, uri) => {
-            Method::of_word(word) == Method::Invite && is_text(user_of(uri), b"+4930123")
-        }
-        Start::Answer(_) => false,
-    };
-    assert!(rt; called);
-    assert!(rt; is_text(parameter(message.from, "tag"), b"98asjd8"));
-    assert!(rt; is_text(parameter(message.to, "tag"), b"19"));
-    assert!(rt; message.sequence.number == 9);
-    assert!(rt; is_text(Some(message.body), b"abc"));
+    let message = read(TORTUOUS)?;
+    let called: &[u8] = b"+4930123";
+    assert!(rt; start_of(&message) == (Some(Method::Invite), Some(called), 0));
+    let (from, to, body): (&[u8], &[u8], &[u8]) = (b"98asjd8", b"19", b"abc");
+    assert!(rt; shown(&message) == (9, Some(from), Some(to), body));
+    let ([first, second, third], count) = elements_of(&message, Name::Via);
+    for (value, branch) in [
+        (first, b"z9hG4bK390"),
+        (second, b"z9hG4bK391"),
+        (third, b"z9hG4bK392"),
+    ] {
+        assert!(rt; parameter_of(value, "branch") == Some(branch.as_slice()));
+    }
+    let (transport, sent_by): (&[u8], &[u8]) = (b"UDP", b"192.0.2.2");
+    assert!(rt; count == 3 && hop(first) == Some((transport, sent_by)));
     Ok(())
 }
 
-#[test]
-fn hops_stand_in_one_line_and_in_several(rt: HostRuntime) -> Result<(), Fail> {
-    let message = read_message(TORTUOUS).map_err(|_| "a request")?;
-    let mut hops = message.elements(Name::Via);
-    let first = hops.next().ok_or("the first hop")?;
-    let second = hops.next().ok_or("the second hop")?;
-    let third = hops.next().ok_or("the third hop")?;
-    assert!(rt; is_text(parameter(first, "branch"), b"z9hG4bK390"));
-    assert!(rt; is_text(parameter(second, "branch"), b"z9hG4bK391"));
-    assert!(rt; is_text(parameter(third, "branch"), b"z9hG4bK392"));
-    assert!(rt; hops.next().is_none());
-    let via = read_via(first).ok_or("a hop")?;
-    assert!(rt; is_text(Some(via.transport), b"UDP") && is_text(Some(via.sent_by), b"192.0.2.2"));
-    Ok(())
+/// Why octets are no message.
+fn fault_of(octets: &[u8]) -> Option<SipFault> {
+    read_message(octets).err()
 }
 
 #[test]
 fn what_is_no_message_is_refused_by_name(rt: HostRuntime) {
     for (octets, fault) in FAULTS {
-        assert!(rt; read_message(octets).err() == Some(*fault));
+        assert!(rt; fault_of(octets) == Some(*fault));
     }
+}
+
+/// The answer to a request.
+fn answered(
+    alloc: Global,
+    request: &[u8],
+    reply: &Reply<'_>,
+) -> Result<Result<Vec<u8>, WriteFault>, Fail> {
+    Ok(write_answer(alloc, &read(request)?, reply))
+}
+
+/// A request.
+fn requested(alloc: Global, request: &Request<'_>) -> Result<Vec<u8>, WriteFault> {
+    write_request(alloc, request)
 }
 
 #[test]
 fn an_answer_has_the_hops_of_its_request(rt: HostRuntime) -> Result<(), Fail> {
-    let message = read_message(TORTUOUS).map_err(|_| "a request")?;
     let fields = [Field {
         name: Name::RetryAfter,
         value: b"5",
     }];
-    let reply = Reply {
+    let busy = Reply {
         status: 486,
         reason: "Busy Here",
         tag: "x",
         fields: &fields,
         body: b"",
     };
-    let octets = write_answer(rt.alloc(), &message, &reply).map_err(|_| "an answer")?;
+    let octets = answered(rt.alloc(), TORTUOUS, &busy)??;
     assert!(rt; octets.as_slice() == BUSY);
-    let read = read_message(octets.as_slice()).map_err(|_| "an answer")?;
-    let status = match read.start {
-        Start::Answer(status) => status,
-        Start::Request(_, _) => 0,
-    };
-    assert!(rt; status == 486 && read.sequence.number == 9);
+    let answer = read(octets.as_slice())?;
+    let (from, to, body): (&[u8], &[u8], &[u8]) = (b"98asjd8", b"19", b"");
     assert!(rt;
-        read.from == message.from && read.to == message.to && read.call_id == message.call_id
+        start_of(&answer) == (None, None, 486) && shown(&answer) == (9, Some(from), Some(to), body)
     );
-    Ok(())
-}
-
-#[test]
-fn a_request_without_a_tag_gets_one(rt: HostRuntime) -> Result<(), Fail> {
-    let request = read_message(OPTIONS).map_err(|_| "a request")?;
-    let reply = Reply {
-        status: 200,
-        reason: "OK",
-        tag: "9f3",
-        fields: &[],
+    // one without a tag gets one
+    let fine = Reply {
         body: b"v=0\r\n",
+        ..ok(&[])
     };
-    let octets = write_answer(rt.alloc(), &request, &reply).map_err(|_| "an answer")?;
+    let octets = answered(rt.alloc(), OPTIONS, &fine)??;
     assert!(rt; octets.as_slice() == OPTIONS_OK);
     Ok(())
 }
 
 #[test]
 fn addresses_and_their_parameters_are_told_apart(rt: HostRuntime) -> Result<(), Fail> {
-    let message = read_message(CHALLENGE).map_err(|_| "an answer")?;
-    assert!(rt; message.sequence.number == 2_147_483_647);
-    let mut addresses = message.elements(Name::Contact);
-    let room = addresses.next().ok_or("the room")?;
-    let mail = addresses.next().ok_or("the mail")?;
-    let gateway = addresses.next().ok_or("the gateway")?;
-    assert!(rt; addresses.next().is_none());
-    assert!(rt; is_text(Some(uri_of(room)), b"sips:3%2C0@gw.example;transport=udp,x"));
-    assert!(rt; is_text(user_of(uri_of(room)), b"3%2C0"));
-    assert!(rt; is_text(parameter(room, "expires"), b"3600"));
-    assert!(rt; is_text(parameter(mail, "q"), b"0.1") && user_of(uri_of(mail)).is_none());
-    assert!(rt;
-        is_text(Some(uri_of(gateway)), b"sip:gw.example") && is_text(parameter(gateway, "lr"), b"")
-    );
-    let mut lines = message.values(Name::Contact);
-    assert!(rt;
-        lines.next().is_some()
-            && is_text(lines.next(), b"sip:gw.example;lr")
-            && lines.next().is_none()
-    );
+    let message = read(CHALLENGE)?;
+    let ([room, mail, gateway], count) = elements_of(&message, Name::Contact);
+    assert!(rt; message.sequence.number == 2_147_483_647 && count == 3);
+    for (value, name, text) in [
+        (room, "expires", b"3600".as_slice()),
+        (mail, "q", b"0.1"),
+        (gateway, "lr", b""),
+    ] {
+        assert!(rt; parameter_of(value, name) == Some(text));
+    }
+    for (value, uri, name) in [
+        (
+            room,
+            b"sips:3%2C0@gw.example;transport=udp,x".as_slice(),
+            Some(b"3%2C0".as_slice()),
+        ),
+        (mail, b"mailto:fax@example.org", None),
+        (gateway, b"sip:gw.example", None),
+    ] {
+        assert!(rt; address_of(value) == (uri, name));
+    }
+    let line: &[u8] = b"sip:gw.example;lr";
+    assert!(rt; last_line(&message, Name::Contact) == (line, 2));
     Ok(())
+}
+
+/// The address of an element of a field, and its user.
+fn address_of<'a>(value: &'a [u8]) -> (&'a [u8], Option<&'a [u8]>) {
+    let uri = uri_of(value);
+    (uri, user(uri))
+}
+
+/// Part of a challenge, as it stands there.
+fn credential_of<'a>(message: &Message<'a>, name: &str) -> Option<&'a [u8]> {
+    credential(message.value(Name::WwwAuthenticate)?, name)
 }
 
 #[test]
 fn a_challenge_is_taken_apart(rt: HostRuntime) -> Result<(), Fail> {
-    let message = read_message(CHALLENGE).map_err(|_| "an answer")?;
-    let challenge = message.value(Name::WwwAuthenticate).ok_or("a challenge")?;
-    let realm = credential(challenge, "realm").ok_or("a realm")?;
-    assert!(rt; is_text(Some(unquoted(realm)), b"a, b"));
-    assert!(rt; is_text(credential(challenge, "nonce"), b"\"f84f1c\""));
-    assert!(rt; is_text(credential(challenge, "stale"), b"FALSE"));
-    assert!(rt; credential(challenge, "domain").is_none());
+    let message = read(CHALLENGE)?;
+    for (name, wanted) in [
+        ("realm", Some(b"\"a, b\"".as_slice())),
+        ("nonce", Some(b"\"f84f1c\"")),
+        ("stale", Some(b"FALSE")),
+        ("domain", None),
+    ] {
+        assert!(rt; credential_of(&message, name) == wanted);
+    }
+    assert!(rt; unquoted(b"\"a, b\"") == b"a, b".as_slice());
     Ok(())
 }
 
 #[test]
 fn a_user_has_no_password_and_no_parameters(rt: HostRuntime) {
-    for (uri, user) in USERS {
-        assert!(rt; is_text(user_of(uri), user));
+    for (uri, wanted) in USERS {
+        assert!(rt; user(uri) == Some(*wanted));
     }
 }
 
@@ -295,29 +361,27 @@ fn a_request_is_written_and_read_back(rt: HostRuntime) -> Result<(), Fail> {
         name: Name::Contact,
         value: b"<sip:fax@192.0.2.1:5080>",
     }];
-    let octets = write_request(rt.alloc(), &invite(&fields)).map_err(|_| "a request")?;
+    let octets = requested(rt.alloc(), &invite(&fields))?;
     assert!(rt; octets.as_slice() == INVITE);
-    let read = read_message(octets.as_slice()).map_err(|_| "a request")?;
-    let hop = read.value(Name::Via).ok_or("a hop")?;
-    assert!(rt; is_text(parameter(hop, "branch"), b"z9hG4bK7a"));
-    assert!(rt;
-        is_text(parameter(read.from, "tag"), b"83f") && parameter(read.to, "tag").is_none()
-    );
-    assert!(rt; read.sequence.number == 1 && is_text(Some(read.body), b"v=0\r\n"));
+    let message = read(octets.as_slice())?;
+    let (tag, body): (&[u8], &[u8]) = (b"83f", b"v=0\r\n");
+    assert!(rt; shown(&message) == (1, Some(tag), None, body));
     Ok(())
 }
 
+/// Header lines that nobody writes: one that goes on in another one, and one that the writer writes itself.
+const SPLIT: &[Field<'static>] = &[Field {
+    name: Name::Contact,
+    value: b"<sip:a>\r\nRecord-Route: <sip:evil.example;lr>",
+}];
+
+const OWN: &[Field<'static>] = &[Field {
+    name: Name::ContentLength,
+    value: b"0",
+}];
+
 #[test]
 fn nobody_writes_a_header_line_of_their_own(rt: HostRuntime) -> Result<(), Fail> {
-    let request = read_message(OPTIONS).map_err(|_| "a request")?;
-    let split = [Field {
-        name: Name::Contact,
-        value: b"<sip:a>\r\nRecord-Route: <sip:evil.example;lr>",
-    }];
-    let own = [Field {
-        name: Name::ContentLength,
-        value: b"0",
-    }];
     let reason = Reply {
         reason: "OK\r\nx: y",
         ..ok(&[])
@@ -326,6 +390,14 @@ fn nobody_writes_a_header_line_of_their_own(rt: HostRuntime) -> Result<(), Fail>
         tag: "9f3\r\nx: y",
         ..ok(&[])
     };
+    for (reply, fault) in [
+        (ok(SPLIT), WriteFault::BadField(Name::Contact)),
+        (ok(OWN), WriteFault::BadField(Name::ContentLength)),
+        (reason, WriteFault::BadReason),
+        (tag, WriteFault::BadTag),
+    ] {
+        assert!(rt; answered(rt.alloc(), OPTIONS, &reply)?.err() == Some(fault));
+    }
     let from = Request {
         from: Party {
             uri: b"sip:a>\r\nx: y",
@@ -333,43 +405,12 @@ fn nobody_writes_a_header_line_of_their_own(rt: HostRuntime) -> Result<(), Fail>
         },
         ..invite(&[])
     };
-    let refused = |fault: Option<WriteFault>, wanted: WriteFault| fault == Some(wanted);
-    assert!(rt;
-        refused(
-            write_answer(rt.alloc(), &request, &ok(&split)).err(),
-            WriteFault::BadField(Name::Contact)
-        )
-    );
-    assert!(rt;
-        refused(
-            write_answer(rt.alloc(), &request, &ok(&own)).err(),
-            WriteFault::BadField(Name::ContentLength)
-        )
-    );
-    assert!(rt;
-        refused(
-            write_answer(rt.alloc(), &request, &reason).err(),
-            WriteFault::BadReason
-        )
-    );
-    assert!(rt;
-        refused(
-            write_answer(rt.alloc(), &request, &tag).err(),
-            WriteFault::BadTag
-        )
-    );
-    assert!(rt;
-        refused(
-            write_request(rt.alloc(), &invite(&split)).err(),
-            WriteFault::BadField(Name::Contact)
-        )
-    );
-    assert!(rt;
-        refused(
-            write_request(rt.alloc(), &from).err(),
-            WriteFault::BadAddress
-        )
-    );
+    for (request, fault) in [
+        (invite(SPLIT), WriteFault::BadField(Name::Contact)),
+        (from, WriteFault::BadAddress),
+    ] {
+        assert!(rt; requested(rt.alloc(), &request).err() == Some(fault));
+    }
     Ok(())
 }
 
@@ -385,18 +426,28 @@ To: <sip:+4930123@gw.example>;tag=9f3\r\n\
 Call-ID: 5@192.0.2.1\r\n\
 CSeq: 1 ACK\r\n\r\n";
 
+/// Messages, one after another, and whether the transaction of the first takes the second as a request, and as an answer (RFC 3261, 17.2.3
+/// and 17.1.3: the branch and the method are the same).
+const MATCHES: &[(&[u8], &[u8], bool, bool)] = &[
+    (INVITE, INVITE, true, true),
+    (INVITE, ACK, true, false),
+    (INVITE, OPTIONS, false, false),
+    (ACK, INVITE, false, false),
+    (OLD, OLD, false, true),
+];
+
+/// Whether the transaction of a message takes another one as a request, and as an answer.
+fn matched(one: &[u8], other: &[u8]) -> Result<Option<(bool, bool)>, Fail> {
+    let (Some(one), Some(other)) = (read(one)?.key(), read(other)?.key()) else {
+        return Ok(None);
+    };
+    Ok(Some((one.takes(&other), one.is_answered_by(&other))))
+}
+
 #[test]
 fn messages_find_their_transactions(rt: HostRuntime) -> Result<(), Fail> {
-    let invite = read_message(INVITE).map_err(|_| "a request")?;
-    let acknowledgement = read_message(ACK).map_err(|_| "an ACK")?;
-    let other = read_message(OPTIONS).map_err(|_| "another")?;
-    let old = read_message(OLD).map_err(|_| "an old one")?;
-    let invite = invite.key().ok_or("a key")?;
-    let acknowledgement = acknowledgement.key().ok_or("a key")?;
-    let other = other.key().ok_or("a key")?;
-    let old = old.key().ok_or("a key")?;
-    assert!(rt; invite.takes(&invite) && invite.takes(&acknowledgement) && !invite.takes(&other));
-    assert!(rt; !acknowledgement.takes(&invite) && !old.takes(&old));
-    assert!(rt; invite.is_answered_by(&invite) && !invite.is_answered_by(&acknowledgement));
+    for (one, other, takes, is_answered) in MATCHES {
+        assert!(rt; matched(one, other)? == Some((*takes, *is_answered)));
+    }
     Ok(())
 }

@@ -4,71 +4,202 @@ use fax_transactions::{
     ServerInvite, ServerRequest,
 };
 
-/// When an INVITE that nobody answers is sent again: after 0.5, 1.5, 3.5, 7.5, 15.5 and 31.5 s.
-const INVITE_AGAIN: &[u64] = &[500, 1_500, 3_500, 7_500, 15_500, 31_500];
+/// When something happens, what that is, what is to be done, and when something is due after it.
+type ClientStep = (u64, ClientEvent, ClientAction, Option<u64>);
 
-/// When another request that nobody answers is: the pause is 4 s at most.
-const REQUEST_AGAIN: &[u64] = &[
-    500, 1_500, 3_500, 7_500, 11_500, 15_500, 19_500, 23_500, 27_500, 31_500,
+type ServerStep = (u64, ServerEvent, ServerAction, Option<u64>);
+
+const TIME: ClientEvent = ClientEvent::TimePassed;
+
+const AGAIN: ClientAction = ClientAction::SendAgain;
+
+/// An INVITE that nobody answers is sent again after 0.5, 1.5, 3.5, 7.5, 15.5 and 31.5 s.
+const UNANSWERED_INVITE: &[ClientStep] = &[
+    (499, TIME, ClientAction::Nothing, Some(500)),
+    (500, TIME, AGAIN, Some(1_500)),
+    (1_499, TIME, ClientAction::Nothing, Some(1_500)),
+    (1_500, TIME, AGAIN, Some(3_500)),
+    (3_500, TIME, AGAIN, Some(7_500)),
+    (7_500, TIME, AGAIN, Some(15_500)),
+    (15_500, TIME, AGAIN, Some(31_500)),
+    (31_500, TIME, AGAIN, Some(32_000)),
+    (32_000, TIME, ClientAction::TimedOut, None),
 ];
 
-#[test]
-fn an_unanswered_invite_is_sent_seven_times(rt: HostRuntime) {
+/// Each refusal is acknowledged.
+const REFUSED_INVITE: &[ClientStep] = &[
+    (
+        200,
+        ClientEvent::Answered(180),
+        ClientAction::Tell(180),
+        Some(90_000),
+    ),
+    (60_000, TIME, ClientAction::Nothing, Some(90_000)),
+    (
+        60_001,
+        ClientEvent::Answered(486),
+        ClientAction::TellAndAcknowledge(486),
+        Some(92_001),
+    ),
+    (
+        60_501,
+        ClientEvent::Answered(486),
+        ClientAction::AcknowledgeAgain,
+        Some(92_001),
+    ),
+    (
+        92_001,
+        ClientEvent::Answered(486),
+        ClientAction::Nothing,
+        None,
+    ),
+];
+
+/// Another request that nobody answers: the pause is 4 s at most.
+const UNANSWERED_REQUEST: &[ClientStep] = &[
+    (500, TIME, AGAIN, Some(1_500)),
+    (1_500, TIME, AGAIN, Some(3_500)),
+    (3_500, TIME, AGAIN, Some(7_500)),
+    (7_500, TIME, AGAIN, Some(11_500)),
+    (11_500, TIME, AGAIN, Some(15_500)),
+    (15_500, TIME, AGAIN, Some(19_500)),
+    (19_500, TIME, AGAIN, Some(23_500)),
+    (23_500, TIME, AGAIN, Some(27_500)),
+    (27_500, TIME, AGAIN, Some(31_500)),
+    (31_500, TIME, AGAIN, Some(32_000)),
+    (32_000, TIME, ClientAction::TimedOut, None),
+];
+
+/// A refusal is sent until its ACK.
+const REFUSAL: &[ServerStep] = &[
+    (
+        10,
+        ServerEvent::Repeated,
+        ServerAction::SendAgain,
+        Some(90_000),
+    ),
+    (
+        1_000,
+        ServerEvent::Answered(486),
+        ServerAction::Send,
+        Some(1_500),
+    ),
+    (
+        1_500,
+        ServerEvent::TimePassed,
+        ServerAction::SendAgain,
+        Some(2_500),
+    ),
+    (
+        1_600,
+        ServerEvent::Answered(200),
+        ServerAction::Nothing,
+        Some(2_500),
+    ),
+    (
+        1_700,
+        ServerEvent::Acknowledged,
+        ServerAction::Nothing,
+        Some(6_700),
+    ),
+    (
+        2_500,
+        ServerEvent::TimePassed,
+        ServerAction::Nothing,
+        Some(6_700),
+    ),
+];
+
+/// A request is answered once.
+const ANSWERED_REQUEST: &[ServerStep] = &[
+    (
+        5,
+        ServerEvent::Repeated,
+        ServerAction::Nothing,
+        Some(90_000),
+    ),
+    (
+        10,
+        ServerEvent::Answered(200),
+        ServerAction::Send,
+        Some(32_010),
+    ),
+    (
+        20,
+        ServerEvent::Answered(503),
+        ServerAction::Nothing,
+        Some(32_010),
+    ),
+    (
+        510,
+        ServerEvent::Repeated,
+        ServerAction::SendAgain,
+        Some(32_010),
+    ),
+    (32_010, ServerEvent::Repeated, ServerAction::Nothing, None),
+];
+
+/// How many steps of an INVITE go as they are to, and whether it is over then.
+fn invited(steps: &[ClientStep]) -> (usize, bool) {
     let mut invite = ClientInvite::begin(0, 90_000);
-    for moment in INVITE_AGAIN {
-        assert!(rt; invite.next_due() == Some(*moment));
-        assert!(rt; invite.step(*moment - 1, ClientEvent::TimePassed) == ClientAction::Nothing);
-        assert!(rt; invite.step(*moment, ClientEvent::TimePassed) == ClientAction::SendAgain);
+    let mut count = 0usize;
+    for (now, event, action, due) in steps {
+        let done = invite.step(*now, *event);
+        if done == *action && invite.next_due() == *due {
+            count = count.saturating_add(1);
+        }
     }
-    assert!(rt; invite.next_due() == Some(32_000));
-    assert!(rt; invite.step(32_000, ClientEvent::TimePassed) == ClientAction::TimedOut);
-    assert!(rt; invite == ClientInvite::Terminated && invite.next_due().is_none());
+    (count, invite == ClientInvite::Terminated)
 }
 
-#[test]
-fn a_refused_invite_acknowledges_each_refusal(rt: HostRuntime) {
-    let mut invite = ClientInvite::begin(0, 90_000);
-    assert!(rt; invite.step(200, ClientEvent::Answered(180)) == ClientAction::Tell(180));
-    assert!(rt; invite.step(60_000, ClientEvent::TimePassed) == ClientAction::Nothing);
-    assert!(rt;
-        invite.step(60_001, ClientEvent::Answered(486)) == ClientAction::TellAndAcknowledge(486)
-    );
-    assert!(rt; invite.step(60_501, ClientEvent::Answered(486)) == ClientAction::AcknowledgeAgain);
-    assert!(rt; invite.next_due() == Some(92_001));
-    assert!(rt; invite.step(92_001, ClientEvent::Answered(486)) == ClientAction::Nothing);
-    assert!(rt; invite == ClientInvite::Terminated);
-}
-
-#[test]
-fn an_unanswered_request_is_sent_eleven_times(rt: HostRuntime) {
+/// How many steps of another request do.
+fn requested(steps: &[ClientStep]) -> usize {
     let mut request = ClientRequest::begin(0);
-    for moment in REQUEST_AGAIN {
-        assert!(rt; request.next_due() == Some(*moment));
-        assert!(rt; request.step(*moment, ClientEvent::TimePassed) == ClientAction::SendAgain);
+    let mut count = 0usize;
+    for (now, event, action, due) in steps {
+        let done = request.step(*now, *event);
+        if done == *action && request.next_due() == *due {
+            count = count.saturating_add(1);
+        }
     }
-    assert!(rt; request.step(32_000, ClientEvent::TimePassed) == ClientAction::TimedOut);
+    count
 }
 
-#[test]
-fn a_refusal_is_sent_until_its_ack(rt: HostRuntime) {
+/// How many steps of an INVITE that came do.
+fn answered_invite(steps: &[ServerStep]) -> usize {
     let mut invite = ServerInvite::begin(90_000);
-    assert!(rt; invite.step(10, ServerEvent::Repeated) == ServerAction::SendAgain);
-    assert!(rt; invite.step(1_000, ServerEvent::Answered(486)) == ServerAction::Send);
-    assert!(rt; invite.step(1_500, ServerEvent::TimePassed) == ServerAction::SendAgain);
-    assert!(rt; invite.next_due() == Some(2_500));
-    assert!(rt; invite.step(1_600, ServerEvent::Answered(200)) == ServerAction::Nothing);
-    assert!(rt; invite.step(1_700, ServerEvent::Acknowledged) == ServerAction::Nothing);
-    assert!(rt; invite.step(2_500, ServerEvent::TimePassed) == ServerAction::Nothing);
-    assert!(rt; invite.next_due() == Some(6_700));
+    let mut count = 0usize;
+    for (now, event, action, due) in steps {
+        let done = invite.step(*now, *event);
+        if done == *action && invite.next_due() == *due {
+            count = count.saturating_add(1);
+        }
+    }
+    count
+}
+
+/// How many steps of another request that came do.
+fn answered_request(steps: &[ServerStep]) -> usize {
+    let mut request = ServerRequest::begin(90_000);
+    let mut count = 0usize;
+    for (now, event, action, due) in steps {
+        let done = request.step(*now, *event);
+        if done == *action && request.next_due() == *due {
+            count = count.saturating_add(1);
+        }
+    }
+    count
 }
 
 #[test]
-fn a_request_is_answered_once(rt: HostRuntime) {
-    let mut request = ServerRequest::begin(90_000);
-    assert!(rt; request.step(5, ServerEvent::Repeated) == ServerAction::Nothing);
-    assert!(rt; request.step(10, ServerEvent::Answered(200)) == ServerAction::Send);
-    assert!(rt; request.step(20, ServerEvent::Answered(503)) == ServerAction::Nothing);
-    assert!(rt; request.step(510, ServerEvent::Repeated) == ServerAction::SendAgain);
-    assert!(rt; request.next_due() == Some(32_010));
-    assert!(rt; request.step(32_010, ServerEvent::Repeated) == ServerAction::Nothing);
+fn requests_go_out(rt: HostRuntime) {
+    assert!(rt; invited(UNANSWERED_INVITE) == (UNANSWERED_INVITE.len(), true));
+    assert!(rt; invited(REFUSED_INVITE) == (REFUSED_INVITE.len(), true));
+    assert!(rt; requested(UNANSWERED_REQUEST) == UNANSWERED_REQUEST.len());
+}
+
+#[test]
+fn requests_come_in(rt: HostRuntime) {
+    assert!(rt; answered_invite(REFUSAL) == REFUSAL.len());
+    assert!(rt; answered_request(ANSWERED_REQUEST) == ANSWERED_REQUEST.len());
 }

@@ -73,189 +73,368 @@ const NO_NETWORKS: &[(&str, NetworkFault)] = &[
     ("::ffff:0:0/95", NetworkFault::BitsBeyond),
 ];
 
+/// A route: its prefix, how many digits it strips, and what it adds. Of those of a trunk each, in this order, one of 4 digits is taken for
+/// another of as many that comes after it.
+type Way = (&'static [u8], u8, &'static [u8]);
+
+const WAYS: [Way; 4] = [
+    (b"+49", 0, b""),
+    (b"+4930", 3, b"0"),
+    (b"+4930", 0, b""),
+    (b"00", 2, b"+"),
+];
+
+/// Numbers, the trunk over which each goes, and what is dialled there.
+const CHOSEN: &[(&[u8], Option<(usize, &[u8])>)] = &[
+    (b"+4930123", Some((1, b"030123"))),
+    (b"0033123", Some((3, b"+33123"))),
+    (b"+4989", Some((0, b"+4989"))),
+    (b"+33123", None),
+];
+
+/// Routes of +49, and why +49 is not dialled over them.
+const NOT_DIALLED: &[(Way, NumberFault)] = &[
+    ((b"+49", 3, b"0"), NumberFault::NoDigits),
+    ((b"+49", 0, b"0"), NumberFault::NotADigit),
+    (
+        (b"+49", 1, b"0123456789012345678901234567890"),
+        NumberFault::TooLong,
+    ),
+    ((b"+49", 0, b"0-"), NumberFault::NotADigit),
+];
+
+/// The number of octets.
+fn number(octets: &[u8]) -> Result<Number, NumberFault> {
+    Number::read(octets)
+}
+
 /// A route over a trunk.
-fn route(prefix: &[u8], trunk: usize, strip: u8, add: &[u8]) -> Result<Route, NumberFault> {
-    Route::new(Number::read(prefix)?, trunk, strip, add)
+fn route(way: Way, trunk: usize) -> Result<Route, NumberFault> {
+    let (prefix, strip, add) = way;
+    Route::new(number(prefix)?, trunk, strip, add)
+}
+
+/// What is dialled over a route.
+fn dialled(route: &Route, octets: &[u8]) -> Result<Number, NumberFault> {
+    route.dialled(&number(octets)?)
+}
+
+/// The octets of a number.
+fn octets_of(number: &Number) -> &[u8] {
+    number.as_bytes()
+}
+
+/// The network of a text.
+fn network(text: &str) -> Result<Network, NetworkFault> {
+    Network::read(text)
 }
 
 /// The host of an address, where it is one.
 fn host(address: &str) -> Option<Host> {
-    address.parse::<IpAddr>().ok().map(Host::of)
+    match address.parse::<IpAddr>() {
+        Ok(address) => Some(Host::of(address)),
+        Err(_) => None,
+    }
+}
+
+/// Whether a network has the host of an address.
+fn contains(network: &Network, address: &str) -> Option<bool> {
+    Some(network.contains(host(address)?))
+}
+
+/// Why the user of an address is no number.
+fn fault_of_user(uri: &str) -> Option<NumberFault> {
+    Number::of_user(user_of(uri.as_bytes())).err()
 }
 
 #[test]
-fn numbers_are_read_from_users(rt: HostRuntime) {
-    for (uri, number) in CALLED {
+fn numbers_are_read(rt: HostRuntime) {
+    for (uri, wanted) in CALLED {
         match Number::of_user(user_of(uri.as_bytes())) {
-            Ok(read) => assert!(rt; read.as_bytes() == number.as_bytes(), "{uri}"),
-            Err(fault) => assert!(rt; number.is_empty() && fault == NumberFault::NotADigit),
+            Ok(read) => assert!(rt; octets_of(&read) == wanted.as_bytes(), "{uri}"),
+            Err(fault) => assert!(rt; wanted.is_empty() && fault == NumberFault::NotADigit),
         }
     }
-    let no_user = Number::of_user(user_of(b"tel:+12125551212")).err();
-    assert!(rt; no_user == Some(NumberFault::NoUser));
+    assert!(rt; fault_of_user("tel:+12125551212") == Some(NumberFault::NoUser));
+    for (octets, fault) in NO_NUMBERS {
+        assert!(rt; number(octets.as_bytes()).err() == Some(*fault), "{octets}");
+    }
+    assert!(rt; number(b"01234567890123456789012345678901").is_ok());
 }
 
-#[test]
-fn other_octets_are_no_numbers(rt: HostRuntime) {
-    for (octets, fault) in NO_NUMBERS {
-        assert!(rt;
-            Number::read(octets.as_bytes()).err() == Some(*fault),
-            "{octets}"
-        );
+/// The trunk over which a number goes, and what is dialled there.
+fn chosen(routes: &[Route], octets: &[u8]) -> Result<Option<(usize, Number)>, NumberFault> {
+    let number = number(octets)?;
+    let Some(i) = choose(routes, &number) else {
+        return Ok(None);
+    };
+    match routes.get(i) {
+        Some(route) => Ok(Some((route.trunk(), dialled(route, octets)?))),
+        None => Ok(None),
     }
-    assert!(rt; Number::read(b"01234567890123456789012345678901").is_ok());
 }
 
 #[test]
 fn the_longest_prefix_is_taken(rt: HostRuntime) -> Result<(), Fail> {
+    let [local, city, again, abroad] = WAYS;
     let routes = [
-        route(b"+49", 0, 0, b"")?,
-        route(b"+4930", 1, 3, b"0")?,
-        route(b"+4930", 2, 0, b"")?,
-        route(b"00", 3, 2, b"+")?,
+        route(local, 0)?,
+        route(city, 1)?,
+        route(again, 2)?,
+        route(abroad, 3)?,
     ];
-    let berlin = Number::read(b"+4930123")?;
-    let taken = choose(&routes, &berlin).ok_or("a route")?;
-    assert!(rt; taken == 1);
-    assert!(rt; routes[1].trunk() == 1);
-    assert!(rt; routes[1].dialled(&berlin)?.as_bytes() == b"030123".as_slice());
-    let abroad = Number::read(b"0033123")?;
-    assert!(rt; choose(&routes, &abroad) == Some(3));
-    assert!(rt; routes[3].dialled(&abroad)?.as_bytes() == b"+33123".as_slice());
-    assert!(rt; choose(&routes, &Number::read(b"+4989")?) == Some(0));
-    assert!(rt; choose(&routes, &Number::read(b"+33123")?).is_none());
-    assert!(rt; choose(&[], &berlin).is_none());
+    for (octets, wanted) in CHOSEN {
+        match chosen(&routes, octets)? {
+            Some((trunk, number)) => {
+                assert!(rt; Some((trunk, octets_of(&number))) == *wanted);
+            }
+            None => assert!(rt; wanted.is_none()),
+        }
+    }
+    assert!(rt; chosen(&[], b"+4930123")?.is_none());
     Ok(())
 }
 
+/// Why nothing is dialled over a route.
+fn fault_of(way: Way) -> Option<NumberFault> {
+    match route(way, 0) {
+        Ok(route) => dialled(&route, b"+49").err(),
+        Err(fault) => Some(fault),
+    }
+}
+
 #[test]
-fn what_is_dialled_is_a_number(rt: HostRuntime) -> Result<(), Fail> {
-    let number = Number::read(b"+49")?;
-    let bare = route(b"+49", 0, 3, b"0")?.dialled(&number).err();
-    assert!(rt; bare == Some(NumberFault::NoDigits));
-    let inner = route(b"+49", 0, 0, b"0")?.dialled(&number).err();
-    assert!(rt; inner == Some(NumberFault::NotADigit));
-    let long = route(b"+49", 0, 1, b"0123456789012345678901234567890")?;
-    assert!(rt; long.dialled(&number).err() == Some(NumberFault::TooLong));
-    assert!(rt; route(b"+49", 0, 0, b"0-").err() == Some(NumberFault::NotADigit));
-    Ok(())
+fn what_is_dialled_is_a_number(rt: HostRuntime) {
+    for (way, fault) in NOT_DIALLED {
+        assert!(rt; fault_of(*way) == Some(*fault));
+    }
 }
 
 #[test]
 fn networks_are_those_of_ipaddress(rt: HostRuntime) -> Result<(), Fail> {
     for (text, within, without) in NETWORKS {
-        let network = Network::read(text).map_err(|_| "a network")?;
-        assert!(rt;
-            network.contains(host(within).ok_or("an address")?),
-            "{text} {within}"
-        );
-        assert!(rt;
-            !network.contains(host(without).ok_or("an address")?),
-            "{text} {without}"
-        );
+        let network = network(text).map_err(|_| "a network")?;
+        let contained = [contains(&network, within), contains(&network, without)];
+        assert!(rt; contained == [Some(true), Some(false)], "{text}");
     }
     for (text, fault) in NO_NETWORKS {
-        assert!(rt; Network::read(text).err() == Some(*fault), "{text}");
+        assert!(rt; network(text).err() == Some(*fault), "{text}");
     }
-    let networks = [
-        Network::read("198.51.100.0/28").map_err(|_| "a network")?,
-        Network::read("2001:db8::/32").map_err(|_| "a network")?,
-    ];
-    let caller = "2001:db8::7".parse::<IpAddr>().map_err(|_| "an address")?;
-    assert!(rt; allows(&networks, caller));
-    assert!(rt; !allows(&networks[..1], caller));
     Ok(())
 }
 
+/// Whether an IPv6 address is allowed by a network of IPv4, and by one of IPv6 after it.
+fn allowed() -> Option<[bool; 2]> {
+    let networks = [
+        network("198.51.100.0/28").ok()?,
+        network("2001:db8::/32").ok()?,
+    ];
+    let caller = "2001:db8::7".parse::<IpAddr>().ok()?;
+    Some([allows(&networks[..1], caller), allows(&networks, caller)])
+}
+
 #[test]
-fn a_registration_is_refreshed_and_ended(rt: HostRuntime) {
-    let mut registration = Registration::begin(1_000, 3_600);
-    let time = RegistrationEvent::TimePassed;
-    assert!(rt; registration.step(1_000, time) == RegistrationAction::Register(3_600));
-    assert!(rt;
-        registration.step(1_100, RegistrationEvent::Challenged(false))
-            == RegistrationAction::RegisterWithCredentials(3_600)
-    );
-    assert!(rt;
-        registration.step(1_200, RegistrationEvent::Granted(600)) == RegistrationAction::Nothing
-    );
-    // 600 s from 1.2 s on, less 90 s
-    assert!(rt; registration.next_due() == Some(511_200));
-    assert!(rt; registration.is_registered(601_199) && !registration.is_registered(601_200));
-    assert!(rt; registration.step(511_199, time) == RegistrationAction::Nothing);
-    assert!(rt; registration.step(511_200, time) == RegistrationAction::Register(3_600));
-    assert!(rt;
-        registration.step(511_300, RegistrationEvent::TooBrief(7_200))
-            == RegistrationAction::Nothing
-    );
-    assert!(rt; registration.next_due() == Some(516_300));
-    assert!(rt; registration.step(516_300, time) == RegistrationAction::Register(7_200));
-    assert!(rt;
-        registration.step(516_400, RegistrationEvent::Ended) == RegistrationAction::Nothing
-    );
-    assert!(rt;
-        registration.step(516_500, RegistrationEvent::Granted(7_200))
-            == RegistrationAction::Unregister
-    );
-    assert!(rt;
-        registration.step(516_600, RegistrationEvent::Challenged(true))
-            == RegistrationAction::UnregisterWithCredentials
-    );
-    assert!(rt;
-        registration.step(516_700, RegistrationEvent::Granted(0)) == RegistrationAction::Nothing
-    );
-    assert!(rt; registration == Registration::Over && registration.next_due().is_none());
+fn callers_are_allowed_by_networks(rt: HostRuntime) {
+    assert!(rt; allowed() == Some([false, true]));
+}
+
+/// When something happens to a registration, what that is, what is to be done, and when something is due after it, where that is said:
+/// after 32 s while nobody answers (RFC 3261, 17.1.2.2).
+type Step = (u64, RegistrationEvent, RegistrationAction, Option<u64>);
+
+const TIME: RegistrationEvent = RegistrationEvent::TimePassed;
+
+const NOTHING: RegistrationAction = RegistrationAction::Nothing;
+
+/// A registration from 1 s on for an hour: it is granted for 600 s, refreshed 90 s before their end, granted for two hours at least, and
+/// ended.
+const ENDED: &[Step] = &[
+    (
+        1_000,
+        TIME,
+        RegistrationAction::Register(3_600),
+        Some(33_000),
+    ),
+    (
+        1_100,
+        RegistrationEvent::Challenged(false),
+        RegistrationAction::RegisterWithCredentials(3_600),
+        Some(33_100),
+    ),
+    (
+        1_200,
+        RegistrationEvent::Granted(600),
+        NOTHING,
+        Some(511_200),
+    ),
+    (511_199, TIME, NOTHING, Some(511_200)),
+    (
+        511_200,
+        TIME,
+        RegistrationAction::Register(3_600),
+        Some(543_200),
+    ),
+    (
+        511_300,
+        RegistrationEvent::TooBrief(7_200),
+        NOTHING,
+        Some(516_300),
+    ),
+    (
+        516_300,
+        TIME,
+        RegistrationAction::Register(7_200),
+        Some(548_300),
+    ),
+    (516_400, RegistrationEvent::Ended, NOTHING, None),
+    (
+        516_500,
+        RegistrationEvent::Granted(7_200),
+        RegistrationAction::Unregister,
+        None,
+    ),
+    (
+        516_600,
+        RegistrationEvent::Challenged(true),
+        RegistrationAction::UnregisterWithCredentials,
+        None,
+    ),
+    (516_700, RegistrationEvent::Granted(0), NOTHING, None),
+];
+
+/// One of a minute: a second challenge is no stale one.
+const CHALLENGED: &[Step] = &[
+    (0, TIME, RegistrationAction::Register(60), Some(32_000)),
+    (
+        1,
+        RegistrationEvent::Challenged(false),
+        RegistrationAction::RegisterWithCredentials(60),
+        Some(32_001),
+    ),
+    (
+        2,
+        RegistrationEvent::Challenged(false),
+        NOTHING,
+        Some(30_002),
+    ),
+];
+
+/// One that is refused, again and again: the pauses grow from 30 s to half an hour.
+const PAUSES: [u64; 8] = [
+    30_000, 60_000, 120_000, 240_000, 480_000, 960_000, 1_800_000, 1_800_000,
+];
+
+/// What is to be done in a step, and when something is due after it.
+fn stepped(
+    registration: &mut Registration,
+    now: u64,
+    event: RegistrationEvent,
+) -> (RegistrationAction, Option<u64>) {
+    (registration.step(now, event), registration.next_due())
+}
+
+/// How many steps go as they are to, and whether it is over then, with nothing due.
+fn registered(mut registration: Registration, steps: &[Step]) -> (usize, bool) {
+    let mut count = 0usize;
+    for (now, event, action, due) in steps {
+        let (done, next) = stepped(&mut registration, *now, *event);
+        if done == *action && (due.is_none() || next == *due) {
+            count = count.saturating_add(1);
+        }
+    }
+    let is_over = registration == Registration::Over;
+    (count, is_over && registration.next_due().is_none())
+}
+
+#[test]
+fn registrations_are_refreshed_and_ended(rt: HostRuntime) {
+    let hour = Registration::begin(1_000, 3_600);
+    assert!(rt; registered(hour, ENDED) == (ENDED.len(), true));
+    let minute = Registration::begin(0, 60);
+    assert!(rt; registered(minute, CHALLENGED) == (CHALLENGED.len(), false));
+}
+
+/// Whether one is registered until 600 s after it was granted for that.
+fn is_registered_until_its_end() -> [bool; 2] {
+    let mut registration = Registration::begin(1_200, 3_600);
+    for event in [TIME, RegistrationEvent::Granted(600)] {
+        stepped(&mut registration, 1_200, event);
+    }
+    [
+        registration.is_registered(601_199),
+        registration.is_registered(601_200),
+    ]
+}
+
+#[test]
+fn a_registration_lasts_as_long_as_it_is_granted(rt: HostRuntime) {
+    assert!(rt; is_registered_until_its_end() == [true, false]);
 }
 
 #[test]
 fn failures_are_tried_again_after_growing_pauses(rt: HostRuntime) {
     let mut registration = Registration::begin(0, 3_600);
-    let mut now = 0;
-    let pauses: [u64; 8] = [
-        30_000, 60_000, 120_000, 240_000, 480_000, 960_000, 1_800_000, 1_800_000,
-    ];
-    for pause in pauses {
-        let action = registration.step(now, RegistrationEvent::TimePassed);
-        assert!(rt; action == RegistrationAction::Register(3_600));
+    let mut now = 0u64;
+    for pause in PAUSES {
+        let again = now.saturating_add(pause);
+        let (action, _) = stepped(&mut registration, now, TIME);
+        let refused = stepped(&mut registration, now, RegistrationEvent::Refused);
         assert!(rt;
-            registration.step(now, RegistrationEvent::Refused) == RegistrationAction::Nothing
+            action == RegistrationAction::Register(3_600) && refused == (NOTHING, Some(again))
         );
-        now = now.saturating_add(pause);
-        assert!(rt; registration.next_due() == Some(now));
+        now = again;
     }
-    assert!(rt;
-        registration.step(now, RegistrationEvent::TimePassed) == RegistrationAction::Register(3_600)
-    );
-    // nobody answers for 32 s, and a second challenge is no stale one
-    assert!(rt; registration.next_due() == Some(now.saturating_add(32_000)));
-    let mut refused = Registration::begin(0, 60);
-    assert!(rt; refused.step(0, RegistrationEvent::TimePassed) == RegistrationAction::Register(60));
-    assert!(rt;
-        refused.step(1, RegistrationEvent::Challenged(false))
-            == RegistrationAction::RegisterWithCredentials(60)
-    );
-    assert!(rt;
-        refused.step(2, RegistrationEvent::Challenged(false)) == RegistrationAction::Nothing
-    );
-    assert!(rt; refused.next_due() == Some(30_002));
+}
+
+/// Whether calls are taken up to two, and again after one is released; and how many are on between.
+fn taken() -> ([bool; 4], u32) {
+    let mut calls = Calls::new(2);
+    let first = calls.take();
+    let second = calls.take();
+    let third = calls.take();
+    calls.release();
+    let on = calls.on();
+    ([first, second, third, calls.take()], on)
 }
 
 #[test]
-fn calls_are_bounded_and_failures_slow_a_host(rt: HostRuntime) -> Result<(), Fail> {
-    let mut calls = Calls::new(2);
-    assert!(rt; calls.take() && calls.take() && !calls.take());
-    calls.release();
-    assert!(rt; calls.on() == 1 && calls.take());
+fn calls_are_bounded(rt: HostRuntime) {
+    assert!(rt; taken() == ([true, true, false, true], 1));
+}
+
+/// A host fails at a moment, or succeeds.
+fn fail(slow: &mut SlowHosts, host: Host, now: Option<u64>) {
+    match now {
+        Some(now) => slow.fail(host, now),
+        None => slow.succeed(host),
+    }
+}
+
+/// Whether a host is answered at a moment.
+fn is_answered(slow: &SlowHosts, host: Host, now: u64) -> bool {
+    slow.is_answered(host, now)
+}
+
+/// When a host fails, or that it succeeds; two moments after it, and whether it is answered then.
+const FAILURES: &[(Option<u64>, [u64; 2], [bool; 2])] = &[
+    (Some(5_000), [5_999, 6_000], [false, true]),
+    (Some(6_000), [7_999, 8_000], [false, true]),
+    (None, [6_000, 6_001], [true, true]),
+];
+
+#[test]
+fn failures_slow_a_host(rt: HostRuntime) -> Result<(), Fail> {
     let mut slow = SlowHosts::new();
     let caller = host("198.51.100.9").ok_or("an address")?;
     let other = host("198.51.100.10").ok_or("an address")?;
-    slow.fail(caller, 5_000);
-    assert!(rt; !slow.is_answered(caller, 5_999) && slow.is_answered(caller, 6_000));
-    assert!(rt; slow.is_answered(other, 5_000));
-    slow.fail(caller, 6_000);
-    assert!(rt; !slow.is_answered(caller, 7_999) && slow.is_answered(caller, 8_000));
-    slow.succeed(caller);
-    assert!(rt; slow.is_answered(caller, 6_000));
+    for (failed, [first, second], wanted) in FAILURES {
+        fail(&mut slow, caller, *failed);
+        let answered = [
+            is_answered(&slow, caller, *first),
+            is_answered(&slow, caller, *second),
+        ];
+        assert!(rt; answered == *wanted && is_answered(&slow, other, 5_000));
+    }
     Ok(())
 }
 
@@ -263,9 +442,14 @@ fn calls_are_bounded_and_failures_slow_a_host(rt: HostRuntime) -> Result<(), Fai
 fn the_host_that_failed_longest_ago_is_forgotten(rt: HostRuntime) {
     let mut slow = SlowHosts::new();
     for bits in 0..257u32 {
-        slow.fail(Host::of(IpAddr::from(bits.to_be_bytes())), 0);
+        fail(&mut slow, host_of(bits), Some(0));
     }
-    assert!(rt; slow.is_answered(Host::of(IpAddr::from([0, 0, 0, 0])), 0));
-    assert!(rt; !slow.is_answered(Host::of(IpAddr::from([0, 0, 0, 1])), 0));
-    assert!(rt; !slow.is_answered(Host::of(IpAddr::from([0, 0, 1, 0])), 0));
+    for (bits, is_forgotten) in [(0, true), (1, false), (256, false)] {
+        assert!(rt; is_answered(&slow, host_of(bits), 0) == is_forgotten);
+    }
+}
+
+/// The host of an IPv4 address.
+fn host_of(bits: u32) -> Host {
+    Host::of(IpAddr::from(bits.to_be_bytes()))
 }
