@@ -3,6 +3,7 @@ use fax_http::{
     Answer, Connection, Content, Health, Refusal, Status, refusal, write_answer, write_health,
     write_open_metrics,
 };
+use std::alloc::AllocError;
 use std::test::Fail;
 
 /// `ok`, as a monitor reads it.
@@ -34,49 +35,87 @@ const OK: Answer<'static> = Answer {
     body: b"ok\n",
 };
 
+/// What comes, how many octets of the answer are written after it, how many are left then, and whether that is all.
+const HEARD: &[(&[u8], usize, usize, bool)] = &[
+    (b"", 0, 0, false),
+    (
+        b"HEAD /healthz HTTP/1.0\r\n\r\n",
+        0,
+        WELL.len() - OK.body.len(),
+        false,
+    ),
+    (b"", 100, WELL.len() - OK.body.len() - 100, false),
+    (b"", 1_000, 0, true),
+];
+
 #[test]
 fn answers_are_written(rt: HostRuntime) -> Result<(), Fail> {
-    let written = write_answer(rt.alloc(), &OK, true)?;
-    assert!(rt; written.as_slice() == WELL);
-    let refused = write_answer(rt.alloc(), &refusal(Refusal::NotAllowed), true)?;
-    assert!(rt; refused.as_slice() == NOT_ALLOWED);
+    for (answer, wanted) in [(OK, WELL), (refusal(Refusal::NotAllowed), NOT_ALLOWED)] {
+        let written = write_answer(rt.alloc(), &answer, true)?;
+        assert!(rt; written.as_slice() == wanted);
+    }
     Ok(())
+}
+
+/// Octets come, and what they ask is answered; so many octets of the answer are written.
+fn step(connection: &mut Connection, heard: &[u8], written: usize) -> Result<(), AllocError> {
+    connection.hear(heard)?;
+    connection.answer(&OK)?;
+    connection.wrote(written);
+    Ok(())
+}
+
+/// What is left of the answer, and whether it is over, and asked for.
+fn shown(connection: &Connection) -> (&[u8], bool, bool) {
+    (
+        connection.left(),
+        connection.is_over(),
+        connection.asked().is_some(),
+    )
 }
 
 #[test]
 fn an_answer_to_head_has_no_body(rt: HostRuntime) -> Result<(), Fail> {
+    let head = WELL.strip_suffix(OK.body).ok_or("a head")?;
     let mut connection = Connection::new(rt.alloc());
-    connection.answer(&OK)?;
-    assert!(rt; connection.left().is_empty());
-    connection.hear(b"HEAD /healthz HTTP/1.0\r\n\r\n")?;
-    connection.answer(&OK)?;
-    assert!(rt; connection.left() == &WELL[..WELL.len() - 3]);
-    connection.wrote(100);
-    assert!(rt; connection.left() == &WELL[100..WELL.len() - 3]);
-    assert!(rt; !connection.is_over());
-    connection.wrote(1_000);
-    assert!(rt; connection.is_over());
-    assert!(rt; connection.asked().is_none());
+    for (heard, written, left, is_over) in HEARD {
+        step(&mut connection, heard, *written)?;
+        let rest = head
+            .get(head.len().saturating_sub(*left)..)
+            .unwrap_or_default();
+        assert!(rt; shown(&connection) == (rest, *is_over, false));
+    }
     Ok(())
 }
 
+/// What is wrong, what is told of it, and the status.
+const HEALTH: &[(Health, &[u8], Status)] = &[
+    (
+        Health {
+            is_stopping: false,
+            has_failed_disk: false,
+            is_late: false,
+        },
+        b"ok\n",
+        Status::Good,
+    ),
+    (
+        Health {
+            is_stopping: true,
+            has_failed_disk: false,
+            is_late: true,
+        },
+        b"it was told to stop\nturns are late\n",
+        Status::NotWell,
+    ),
+];
+
 #[test]
 fn what_is_wrong_is_told(rt: HostRuntime) -> Result<(), Fail> {
-    let well = Health {
-        is_stopping: false,
-        has_failed_disk: false,
-        is_late: false,
-    };
-    assert!(rt; write_health(rt.alloc(), well)?.as_slice() == b"ok\n".as_slice());
-    assert!(rt; well.status() == Status::Good);
-    let ill = Health {
-        is_stopping: true,
-        has_failed_disk: false,
-        is_late: true,
-    };
-    let told = write_health(rt.alloc(), ill)?;
-    assert!(rt; told.as_slice() == b"it was told to stop\nturns are late\n".as_slice());
-    assert!(rt; ill.status() == Status::NotWell);
+    for (health, text, status) in HEALTH {
+        let told = write_health(rt.alloc(), *health)?;
+        assert!(rt; told.as_slice() == *text && health.status() == *status);
+    }
     Ok(())
 }
 

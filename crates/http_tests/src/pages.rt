@@ -3,6 +3,7 @@ use fax_http::{
     CallView, CalledView, CountView, Health, JobView, LineView, PageView, UndeliveredView,
     write_page,
 };
+use std::alloc::{AllocError, Global};
 use std::test::Fail;
 
 const LINES: &[LineView<'static>] = &[
@@ -56,77 +57,73 @@ const COUNTS: &[CountView<'static>] = &[CountView {
     value: 18_446_744_073_709_551_615,
 }];
 
-/// Where a text stands in another one.
-fn has(text: &[u8], part: &[u8]) -> bool {
-    text.windows(part.len().max(1)).any(|window| window == part)
+/// What the page of all that has.
+const SHOWN: &[&[u8]] = &[
+    b"<tr><th scope=\"row\">a&lt;1&gt;</th><td>receives call 4, &quot;&gt;&lt;script&gt;alert(&#39;&amp;&#39;)&lt;/script&gt;</td><td>idle</td><td class=\"number\">0</td></tr>\n",
+    b"<td>asks for the call of the job of call 2</td><td class=\"number\">3</td>",
+    b"<td>sends the pages of call 7, +49301234/c7</td>",
+    b"<th scope=\"row\">c</th><td>call 6</td><td>2 of 3</td><td>a command was not answered</td>",
+    b"<td class=\"number\">18446744073709551615</td>",
+    b"<tr><th scope=\"row\">a&lt;1&gt;</th><td>call 9, 49&amp;1</td><td class=\"number\">12</td><td class=\"number\">4</td><td>its call could not be placed: 486</td></tr>\n",
+    b"<p>Other lines: 97.</p>",
+    b"<li>the spool's disk has failed</li>",
+];
+
+/// What one of a service that serves no line has.
+const EMPTY: &[&[u8]] = &[
+    b"<p><strong>Well.</strong></p>",
+    b"<p>None.</p>",
+    b"</html>\n",
+];
+
+/// What none has: markup of a tag, and what is not wrong.
+const HIDDEN: &[&[u8]] = &[b"<script", b"turns are late"];
+
+/// A page of these lines, jobs and counts, of a service whose disk has failed or that is well.
+fn page_of(
+    alloc: Global,
+    has_failed_disk: bool,
+    lines: &[LineView<'_>],
+    others: u64,
+    jobs: &[JobView<'_>],
+    undelivered: &[UndeliveredView<'_>],
+    counts: &[CountView<'_>],
+) -> Result<Vec<u8>, AllocError> {
+    let view = PageView {
+        health: Health {
+            is_stopping: false,
+            has_failed_disk,
+            is_late: false,
+        },
+        lines,
+        others,
+        jobs,
+        undelivered,
+        counts,
+    };
+    write_page(alloc, &view)
+}
+
+/// How many of some texts stand in another one.
+fn count_in(text: &[u8], parts: &[&[u8]]) -> usize {
+    let mut count = 0usize;
+    for part in parts {
+        for window in text.windows(part.len().max(1)) {
+            if window == *part {
+                count = count.saturating_add(1);
+                break;
+            }
+        }
+    }
+    count
 }
 
 #[test]
 fn a_page_shows_texts_as_they_are(rt: HostRuntime) -> Result<(), Fail> {
-    let view = PageView {
-        health: Health {
-            is_stopping: false,
-            has_failed_disk: true,
-            is_late: false,
-        },
-        lines: LINES,
-        others: 97,
-        jobs: JOBS,
-        undelivered: UNDELIVERED,
-        counts: COUNTS,
-    };
-    let page = write_page(rt.alloc(), &view)?;
-    let page = page.as_slice();
-    assert!(rt;
-        has(
-            page,
-            b"<tr><th scope=\"row\">a&lt;1&gt;</th><td>receives call 4, &quot;&gt;&lt;script&gt;alert(&#39;&amp;&#39;)&lt;/script&gt;</td><td>idle</td><td class=\"number\">0</td></tr>\n"
-        )
-    );
-    assert!(rt;
-        has(
-            page,
-            b"<td>asks for the call of the job of call 2</td><td class=\"number\">3</td>"
-        )
-    );
-    assert!(rt; has(page, b"<td>sends the pages of call 7, +49301234/c7</td>"));
-    assert!(rt;
-        has(
-            page,
-            b"<th scope=\"row\">c</th><td>call 6</td><td>2 of 3</td><td>a command was not answered</td>"
-        )
-    );
-    assert!(rt; has(page, b"<td class=\"number\">18446744073709551615</td>"));
-    assert!(rt;
-        has(
-            page,
-            b"<tr><th scope=\"row\">a&lt;1&gt;</th><td>call 9, 49&amp;1</td><td class=\"number\">12</td><td class=\"number\">4</td><td>its call could not be placed: 486</td></tr>\n"
-        )
-    );
-    assert!(rt; has(page, b"<p>Other lines: 97.</p>"));
-    assert!(rt; has(page, b"<li>the spool's disk has failed</li>"));
-    assert!(rt; !has(page, b"<script"));
-    assert!(rt; !has(page, b"turns are late"));
-    Ok(())
-}
-
-#[test]
-fn an_empty_page_says_so(rt: HostRuntime) -> Result<(), Fail> {
-    let view = PageView {
-        health: Health {
-            is_stopping: false,
-            has_failed_disk: false,
-            is_late: false,
-        },
-        lines: &[],
-        others: 0,
-        jobs: &[],
-        undelivered: &[],
-        counts: &[],
-    };
-    let page = write_page(rt.alloc(), &view)?;
-    assert!(rt; has(page.as_slice(), b"<p><strong>Well.</strong></p>"));
-    assert!(rt; has(page.as_slice(), b"<p>None.</p>"));
-    assert!(rt; page.as_slice().ends_with(b"</html>\n"));
+    let page = page_of(rt.alloc(), true, LINES, 97, JOBS, UNDELIVERED, COUNTS)?;
+    let text = page.as_slice();
+    assert!(rt; count_in(text, SHOWN) == SHOWN.len() && count_in(text, HIDDEN) == 0);
+    let empty = page_of(rt.alloc(), false, &[], 0, &[], &[], &[])?;
+    assert!(rt; count_in(empty.as_slice(), EMPTY) == EMPTY.len());
     Ok(())
 }

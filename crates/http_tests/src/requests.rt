@@ -1,13 +1,14 @@
 //! Requests as browsers, monitors and strangers send them.
-use fax_http::{Connection, MOST_HEAD, Question, Refusal, Resource, Wanted, read_question};
+use fax_http::{Connection, Question, Refusal, Resource, Wanted, read_question};
+use std::alloc::{AllocError, Global};
 use std::test::Fail;
 
 /// What a browser sends.
 const BROWSER: &[u8] =
     b"GET / HTTP/1.1\r\nHost: 127.0.0.1:9464\r\nUser-Agent: Mozilla/5.0 (X11; Linux x86_64)\r\nAccept: text/html,*/*;q=0.8\r\nAccept-Language: de\r\n\r\n";
 
-/// Heads that are whole, and what they ask for.
-const WHOLE: &[(&[u8], Wanted, bool)] = &[
+/// Heads that are whole, and octets that never become one; what they ask for, and whether the answer has a body.
+const HEADS: &[(&[u8], Wanted, bool)] = &[
     (BROWSER, Wanted::Tell(Resource::Page), true),
     (
         b"GET /metrics HTTP/1.0\r\n\r\n",
@@ -54,75 +55,117 @@ const WHOLE: &[(&[u8], Wanted, bool)] = &[
         Wanted::Refuse(Refusal::NotAllowed),
         true,
     ),
+    (
+        b"GET / HTTP/2.0\r\n\r\n",
+        Wanted::Refuse(Refusal::Unreadable),
+        true,
+    ),
+    (b"GET /\r\n\r\n", Wanted::Refuse(Refusal::Unreadable), true),
+    (
+        b"\x16\x03\x01\x02\x00\x01\x00\x01\xfc\x03\x03",
+        Wanted::Refuse(Refusal::Unreadable),
+        true,
+    ),
+    (
+        b"GET / HTTP/1.1\r\nHo st: a\r\n\r\n",
+        Wanted::Refuse(Refusal::Unreadable),
+        true,
+    ),
+    (
+        b"GET / HTTP/1.1\r\nHost: a\x00b\r\n\r\n",
+        Wanted::Refuse(Refusal::Unreadable),
+        true,
+    ),
 ];
 
-/// Octets that are no head, and never become one.
-const UNREADABLE: &[&[u8]] = &[
-    b"GET / HTTP/2.0\r\n\r\n",
-    b"GET /\r\n\r\n",
-    b"\x16\x03\x01\x02\x00\x01\x00\x01\xfc\x03\x03",
-    b"GET / HTTP/1.1\r\nHo st: a\r\n\r\n",
-    b"GET / HTTP/1.1\r\nHost: a\x00b\r\n\r\n",
+/// A head that comes in pieces: what it begins with, what comes after it so many times, the octets of a piece at most, and with which
+/// piece it asks, and what.
+type InPieces = (&'static [u8], &'static [u8], usize, usize, usize, Wanted);
+
+const IN_PIECES: &[InPieces] = &[
+    // octet by octet
+    (
+        BROWSER,
+        b"",
+        0,
+        1,
+        BROWSER.len(),
+        Wanted::Tell(Resource::Page),
+    ),
+    // of 8,192 octets
+    (
+        b"GET /",
+        b"a",
+        8192,
+        4096,
+        2,
+        Wanted::Refuse(Refusal::TooLong),
+    ),
+    // of 65 fields
+    (
+        b"GET / HTTP/1.1\r\n",
+        b"A: b\r\n",
+        65,
+        16,
+        26,
+        Wanted::Refuse(Refusal::TooLong),
+    ),
 ];
 
-fn is_asked(asked: Option<Question>, wanted: Wanted, has_body: bool) -> bool {
-    asked == Some(Question { wanted, has_body })
-}
-
 #[test]
-fn whole_heads_ask(rt: HostRuntime) -> Result<(), Fail> {
-    for (octets, wanted, has_body) in WHOLE {
-        assert!(rt; is_asked(read_question(octets), *wanted, *has_body));
-    }
-    Ok(())
-}
-
-#[test]
-fn no_head_is_refused(rt: HostRuntime) -> Result<(), Fail> {
-    for octets in UNREADABLE {
+fn heads_ask_or_are_refused(rt: HostRuntime) {
+    for (octets, wanted, has_body) in HEADS {
         assert!(rt;
-            is_asked(
-                read_question(octets),
-                Wanted::Refuse(Refusal::Unreadable),
-                true
-            )
+            read_question(octets)
+                == Some(Question {
+                    wanted: *wanted,
+                    has_body: *has_body
+                })
         );
     }
-    Ok(())
 }
 
-#[test]
-fn a_head_comes_octet_by_octet(rt: HostRuntime) -> Result<(), Fail> {
-    let mut connection = Connection::new(rt.alloc());
-    for (i, octet) in BROWSER.iter().enumerate() {
-        let asked = connection.hear(&[*octet])?;
-        assert!(rt; asked.is_some() == (i + 1 == BROWSER.len()));
+/// A text, and another one after it so many times.
+fn repeated(
+    alloc: Global,
+    first: &[u8],
+    again: &[u8],
+    times: usize,
+) -> Result<Vec<u8>, AllocError> {
+    let mut octets = Vec::from_slice(alloc, first)?;
+    for _ in 0..times {
+        octets.extend_from_slice(again)?;
     }
-    assert!(rt; is_asked(connection.asked(), Wanted::Tell(Resource::Page), true));
-    assert!(rt; connection.hear(BROWSER)?.is_none());
-    Ok(())
+    Ok(octets)
 }
 
-#[test]
-fn a_long_head_is_refused(rt: HostRuntime) -> Result<(), Fail> {
-    let mut connection = Connection::new(rt.alloc());
-    assert!(rt; connection.hear(b"GET /")?.is_none());
-    let octets = [b'a'; 4096];
-    assert!(rt; connection.hear(&octets)?.is_none());
-    let asked = connection.hear(&octets)?;
-    assert!(rt; MOST_HEAD == 8192);
-    assert!(rt; is_asked(asked, Wanted::Refuse(Refusal::TooLong), true));
-    Ok(())
-}
-
-#[test]
-fn many_fields_are_refused(rt: HostRuntime) -> Result<(), Fail> {
-    let mut connection = Connection::new(rt.alloc());
-    assert!(rt; connection.hear(b"GET / HTTP/1.1\r\n")?.is_none());
-    for _ in 0..64 {
-        assert!(rt; connection.hear(b"A: b\r\n")?.is_none());
+/// With which piece a new connection is asked, and what.
+fn asked_in_pieces(
+    alloc: Global,
+    octets: &[u8],
+    most: usize,
+) -> Result<(usize, Option<Question>), AllocError> {
+    let mut connection = Connection::new(alloc);
+    let mut pieces = 0usize;
+    for piece in octets.chunks(most.max(1)) {
+        pieces = pieces.saturating_add(1);
+        if connection.hear(piece)?.is_some() {
+            break;
+        }
     }
-    let asked = connection.hear(b"A: b\r\n")?;
-    assert!(rt; is_asked(asked, Wanted::Refuse(Refusal::TooLong), true));
+    Ok((pieces, connection.asked()))
+}
+
+#[test]
+fn heads_come_in_pieces(rt: HostRuntime) -> Result<(), Fail> {
+    for (first, again, times, most, pieces, wanted) in IN_PIECES {
+        let octets = repeated(rt.alloc(), first, again, *times)?;
+        let asked = asked_in_pieces(rt.alloc(), octets.as_slice(), *most)?;
+        let question = Question {
+            wanted: *wanted,
+            has_body: true,
+        };
+        assert!(rt; asked == (*pieces, Some(question)));
+    }
     Ok(())
 }
