@@ -1,4 +1,5 @@
 //! What no contract says: that memory is there, and worked bits from outside.
+use crate::digits::put;
 use fax_bits::*;
 use std::alloc::Global;
 use std::test::Fail;
@@ -28,15 +29,17 @@ fn zeros_before_a_one() -> u128 {
     BitReader::new(&[0x00, 0x10]).skip_zeros()
 }
 
-/// Numbers of some bits each, zeros, and what is cut again; and how many bits that makes.
+/// Numbers, and how many of their bits are put.
+const PUT: &[(u32, u32)] = &[(0b101, 3), (0xffff_ff05, 5), (0xdead_beef, 32), (1, 1)];
+
+/// These numbers, zeros, and what is cut again; and how many bits that makes.
 fn written(alloc: Global) -> Result<(u128, Octets), NoMemory> {
     let mut writer = BitWriter::new(alloc);
-    writer.put(0b101, 3)?;
-    writer.put(0xffff_ff05, 5)?;
-    writer.put(0xdead_beef, 32)?;
-    writer.put(1, 1)?;
+    for (number, bits) in PUT {
+        put(&mut writer, *number, *bits)?;
+    }
     writer.zeros(9)?;
-    writer.put(0b111, 3)?;
+    put(&mut writer, 0b111, 3)?;
     writer.cut(writer.bits().min(52));
     Ok((writer.bits(), writer.finish()))
 }
@@ -44,12 +47,12 @@ fn written(alloc: Global) -> Result<(u128, Octets), NoMemory> {
 /// Three bits, numbers that are put where there is room, and a one.
 fn written_with_room(alloc: Global) -> Result<Octets, NoMemory> {
     let mut writer = BitWriter::new(alloc);
-    writer.put(0b101, 3)?;
+    put(&mut writer, 0b101, 3)?;
     let mut roomy = writer.take_with_room(5)?;
     roomy.put(0b00101, 5);
     roomy.put(0xdead_beef, 32);
     writer = roomy.into_writer();
-    writer.put(1, 1)?;
+    put(&mut writer, 1, 1)?;
     Ok(writer.finish())
 }
 

@@ -30,6 +30,11 @@ pub(crate) fn octets_of(alloc: Global, digits: Digits, texts: &[&str]) -> Result
     Ok(writer.finish())
 }
 
+/// Writes so many of a number's bits, its low ones: all of it where it has no more.
+pub(crate) fn put(writer: &mut BitWriter, number: u32, bits: u32) -> Result<(), NoMemory> {
+    writer.put(number, bits.min(32))
+}
+
 /// Writes the bits that texts of digits show.
 pub(crate) fn put_digits(
     writer: &mut BitWriter,
@@ -41,7 +46,7 @@ pub(crate) fn put_digits(
         for digit in text.bytes() {
             // the low bits of a digit's code are its value, and those of a letter 9 less
             let code = u32::from(digit);
-            writer.put(if digit > b'9' { code + 9 } else { code }, bits)?;
+            put(writer, if digit > b'9' { code + 9 } else { code }, bits)?;
         }
     }
     Ok(())

@@ -5,7 +5,6 @@ use fax_frames::{
     write_plain,
 };
 use fax_runcodes::{Coding, Format, Width};
-use std::process::Abort;
 
 /// Standard pages of the usual width.
 const STANDARD: Format = Format {
@@ -431,20 +430,9 @@ fn dis_of(bits: u32) -> Dis {
     }
 }
 
-/// The DCS that is chosen for the DIS of these bits.
-fn chosen(rt: &impl Abort, bits: u32, format: Format, step: u8) -> Dcs {
-    let Ok(dcs) = choose(&dis_of(bits), format, step) else {
-        rt.abort()
-    };
-    dcs
-}
-
-/// Whether no DCS is chosen for the DIS of these bits, for that reason.
-fn is_refused(bits: u32, format: Format, step: u8, refusal: Refusal) -> bool {
-    match choose(&dis_of(bits), format, step) {
-        Ok(_) => false,
-        Err(found) => found == refusal,
-    }
+/// The DCS that is chosen for the DIS of these bits, or why none is.
+fn chosen(bits: u32, format: Format, step: u8) -> Result<Dcs, Refusal> {
+    choose(&dis_of(bits), format, step)
 }
 
 /// The frame of a facsimile control field with three zero octets after it.
@@ -460,38 +448,56 @@ fn frame_named(field: u8) -> Frame {
 #[test]
 fn our_dis_is_written(rt: HostRuntime) {
     let frame = write_dis(&OUR_DIS);
-    assert!(rt; frame.as_slice() == b"\xFF\xC8\x01\x00\x77\x5E".as_slice());
-    assert!(rt; frame_of(frame.as_slice()) == Some(Frame::Dis(OUR_DIS)));
+    let octets = frame.as_slice();
+    assert!(rt;
+        octets == b"\xFF\xC8\x01\x00\x77\x5E".as_slice()
+            && frame_of(octets) == Some(Frame::Dis(OUR_DIS))
+    );
+}
+
+/// Whether the DCS that is chosen is written so, and is read again, but for the length of a page, which is not read.
+fn is_chosen(bits: u32, format: Format, step: u8, octets: &[u8]) -> bool {
+    let Ok(dcs) = choose(&dis_of(bits), format, step) else {
+        return false;
+    };
+    let read = Dcs {
+        length: Length::A4,
+        ..dcs
+    };
+    write_dcs(&dcs).as_slice() == octets && frame_of(octets) == Some(Frame::Dcs(read))
 }
 
 #[test]
 fn dcs_are_chosen(rt: HostRuntime) {
     for (bits, format, step, octets) in CHOICES {
-        let Ok(dcs) = choose(&dis_of(*bits), *format, *step) else {
-            rt.abort()
-        };
-        assert!(rt; write_dcs(&dcs).as_slice() == *octets);
-        // the length of a page is not read
-        let read_dcs = Dcs {
-            length: Length::A4,
-            ..dcs
-        };
-        assert!(rt; frame_of(octets) == Some(Frame::Dcs(read_dcs)));
+        assert!(rt; is_chosen(*bits, *format, *step, octets));
+    }
+    for (bits, format, step, refusal) in REFUSALS {
+        assert!(rt; chosen(*bits, *format, *step).err() == Some(*refusal));
     }
 }
 
-/// Whether a DCS has this time for a row, these least bits and this format.
-fn has_times(dcs: Dcs, scan_ms: u8, least_bits: u32, format: Format) -> bool {
-    dcs.scan_ms == scan_ms && dcs.least_bits() == least_bits && dcs.format() == format
+/// The bits of a DIS, a format, and of the DCS that is chosen the time for a row, the least bits of one and the coding.
+const TIMES: &[(u32, Format, u8, u32, Coding)] = &[
+    (0x00_42_06, STANDARD, 10, 24, Coding::Mh),
+    (0x00_42_06, FINE, 5, 12, Coding::Mh),
+    (0x00_77_5E, WIDEST, 0, 0, Coding::Mr),
+];
+
+/// The time for a row of a DCS, its least bits, its format and its coding.
+fn shown(dcs: &Dcs) -> (u8, u32, Format, Coding) {
+    (dcs.scan_ms, dcs.least_bits(), dcs.format(), dcs.coding())
 }
 
 #[test]
 fn times_are_those_of_the_resolution(rt: HostRuntime) {
-    let standard = chosen(&rt, 0x00_42_06, STANDARD, 0);
-    assert!(rt; has_times(standard, 10, 24, STANDARD) && standard.coding() == Coding::Mh);
-    assert!(rt; has_times(chosen(&rt, 0x00_42_06, FINE, 0), 5, 12, FINE));
-    let ours = chosen(&rt, 0x00_77_5E, WIDEST, 0);
-    assert!(rt; has_times(ours, 0, 0, WIDEST) && ours.coding() == Coding::Mr);
+    for (bits, format, scan_ms, least_bits, coding) in TIMES {
+        let told = match chosen(*bits, *format, 0) {
+            Ok(dcs) => Some(shown(&dcs)),
+            Err(_) => None,
+        };
+        assert!(rt; told == Some((*scan_ms, *least_bits, *format, *coding)));
+    }
 }
 
 #[test]
@@ -504,16 +510,11 @@ fn dcs_are_written(rt: HostRuntime) {
         length: Length::A4AndB4,
         scan_ms: 40,
     };
-    let frame = write_dcs(&dcs);
-    assert!(rt; frame.as_slice() == b"\xFF\xC8\xC1\x00\x72\xA2".as_slice());
-    assert!(rt; dcs.least_bits() == 288);
-}
-
-#[test]
-fn refusals_come_in_order(rt: HostRuntime) {
-    for (bits, format, step, refusal) in REFUSALS {
-        assert!(rt; is_refused(*bits, *format, *step, *refusal));
-    }
+    let octets = write_dcs(&dcs);
+    assert!(rt;
+        octets.as_slice() == b"\xFF\xC8\xC1\x00\x72\xA2".as_slice()
+            && shown(&dcs) == (40, 288, WIDER_FINE, Coding::Mh)
+    );
 }
 
 #[test]
@@ -526,18 +527,20 @@ fn refusals_have_numbers(rt: HostRuntime) {
 #[test]
 fn fields_name_frames(rt: HostRuntime) {
     for field in 0..=255 {
-        let frame = frame_named(field);
-        let is_read = read(field, [0, 0, 0]) == Some(frame)
-            && frame_of(&octets_of(0xC0, field, [0, 0, 0])) == Some(frame);
-        assert!(rt; is_read);
+        let frame = Some(frame_named(field));
+        let either = [
+            read(field, [0, 0, 0]),
+            frame_of(&octets_of(0xC0, field, [0, 0, 0])),
+        ];
+        assert!(rt; either == [frame, frame]);
     }
 }
 
 #[test]
 fn plain_frames_are_written(rt: HostRuntime) {
     for (plain, got_dis, octets, frame) in PLAIN_FRAMES {
-        assert!(rt; write_plain(*plain, *got_dis).as_slice() == *octets);
-        assert!(rt; frame_of(octets) == Some(*frame));
+        let written = write_plain(*plain, *got_dis);
+        assert!(rt; written.as_slice() == *octets && frame_of(octets) == Some(*frame));
     }
 }
 
@@ -548,19 +551,23 @@ fn octets_are_read(rt: HostRuntime) {
     }
 }
 
+/// What is read of octets whose DCS has this rate.
+fn frame_at(rate: Option<Rate>) -> Frame {
+    match rate {
+        Some(rate) => Frame::Dcs(Dcs { rate, ..LEAST_DCS }),
+        None => Frame::Other,
+    }
+}
+
 #[test]
 fn rates_of_a_dcs(rt: HostRuntime) {
     for (second, rate) in DCS_RATES {
-        let frame = match rate {
-            Some(rate) => Frame::Dcs(Dcs {
-                rate: *rate,
-                ..LEAST_DCS
-            }),
-            None => Frame::Other,
-        };
-        let is_read = read(0x41, [0x00, *second, 0x00]) == Some(frame)
-            && read(0xC1, [0x00, *second | 0x40, 0x00]) == Some(frame);
-        assert!(rt; is_read);
+        let frame = Some(frame_at(*rate));
+        let either = [
+            read(0x41, [0x00, *second, 0x00]),
+            read(0xC1, [0x00, *second | 0x40, 0x00]),
+        ];
+        assert!(rt; either == [frame, frame]);
     }
 }
 
@@ -575,67 +582,89 @@ fn times_of_a_dcs(rt: HostRuntime) {
     }
 }
 
+/// The rates of the DIS of these bits.
+fn rates_of(bits: u32) -> &'static [Rate] {
+    dis_of(bits).rates()
+}
+
 #[test]
 fn rates_of_a_dis(rt: HostRuntime) {
     let mut code = 0u32;
     for rates in DIS_RATES {
-        assert!(rt; dis_of(code % 16 * 0x00_04_00).rates() == *rates);
+        assert!(rt; rates_of(code % 16 * 0x00_04_00) == *rates);
         code = code.wrapping_add(1);
     }
     assert!(rt; code == 16);
 }
 
-#[test]
-fn widths_of_a_dis(rt: HostRuntime) {
-    for (third, wider, widest) in DIS_WIDTHS {
-        let dis = dis_of(*third);
-        let has = [
-            dis.has_width(Width::W1728),
-            dis.has_width(Width::W2048),
-            dis.has_width(Width::W2432),
-        ];
-        assert!(rt; has == [true, *wider, *widest]);
-    }
+/// The widths that the DIS of these bits has.
+fn widths_of(bits: u32) -> [bool; 3] {
+    let dis = dis_of(bits);
+    [
+        dis.has_width(Width::W1728),
+        dis.has_width(Width::W2048),
+        dis.has_width(Width::W2432),
+    ]
 }
 
 #[test]
-fn lengths_of_a_dis(rt: HostRuntime) {
+fn widths_and_lengths_of_a_dis(rt: HostRuntime) {
+    for (third, wider, widest) in DIS_WIDTHS {
+        assert!(rt; widths_of(*third) == [true, *wider, *widest]);
+    }
     for (third, length) in DIS_LENGTHS {
         assert!(rt; dis_of(*third).length() == *length);
     }
 }
 
+/// The times of the DIS of these bits, at the standard and at the fine resolution.
+fn times_of(bits: u32) -> [u8; 2] {
+    let dis = dis_of(bits);
+    [dis.scan_ms(false), dis.scan_ms(true)]
+}
+
 #[test]
 fn times_of_a_dis(rt: HostRuntime) {
     for (third, standard_ms, fine_ms) in DIS_TIMES {
-        let dis = dis_of(*third);
-        assert!(rt; [dis.scan_ms(false), dis.scan_ms(true)] == [*standard_ms, *fine_ms]);
+        assert!(rt; times_of(*third) == [*standard_ms, *fine_ms]);
     }
+}
+
+/// Whether the DIS of these bits receives, has fine pages, and two-dimensional lines.
+fn flags_of(bits: u32) -> [bool; 3] {
+    let dis = dis_of(bits);
+    [dis.is_receiver(), dis.has_fine(), dis.has_two_d()]
 }
 
 #[test]
 fn flags_of_a_dis(rt: HostRuntime) {
     for (bits, receiver, fine, two_d) in DIS_FLAGS {
-        let dis = dis_of(*bits);
-        let flags = [dis.is_receiver(), dis.has_fine(), dis.has_two_d()];
-        assert!(rt; flags == [*receiver, *fine, *two_d]);
+        assert!(rt; flags_of(*bits) == [*receiver, *fine, *two_d]);
     }
 }
 
 #[test]
 fn caps_are_flags(rt: HostRuntime) {
     let caps = dis_of(0x00_77_5E).caps;
-    assert!(rt; caps == OUR_DIS.caps && caps.bits() == 0x00_77_5E);
     let has_some = caps.contains(Caps::RECEIVER | Caps::WIDTH_2432 | Caps::LENGTH_UNLIMITED);
-    assert!(rt; has_some && !caps.contains(Caps::EXTEND));
-    assert!(rt; Caps::flags().len() == 15);
+    let has = (has_some, caps.contains(Caps::EXTEND), caps.bits());
+    assert!(rt;
+        has == (true, false, 0x00_77_5E) && caps == OUR_DIS.caps && Caps::flags().len() == 15
+    );
+}
+
+/// The training indicators of a rate, short and long, its bits a second, and its kind of data.
+fn numbers_of(rate: Rate) -> ([u8; 2], u16, u8) {
+    (
+        [rate.training(false), rate.training(true)],
+        rate.bits(),
+        rate.kind(),
+    )
 }
 
 #[test]
 fn rates_have_their_numbers(rt: HostRuntime) {
     for (rate, bits, short, long, kind) in RATES {
-        let trainings = [rate.training(false), rate.training(true)];
-        assert!(rt; trainings == [*short, *long]);
-        assert!(rt; rate.bits() == *bits && rate.kind() == *kind);
+        assert!(rt; numbers_of(*rate) == ([*short, *long], *bits, *kind));
     }
 }

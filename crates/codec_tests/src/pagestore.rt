@@ -733,26 +733,40 @@ fn reads_long_texts_whole_and_in_pieces(rt: HostRuntime) -> Result<(), Fail> {
     Ok(())
 }
 
+/// Pieces of a page, how often each comes, and whether the page's end is settled then.
+const FILLED_PIECES: &[(&[u8], u32, bool)] = &[
+    // an EOL, a white line, and the EOLs of the end, with fill before each and after the last
+    (&[0x00, 0x01, 0x4d, 0x9a, 0x80], 1, false),
+    (&[0x00; 100], 100, false),
+    (&[0x01], 1, false),
+    (&[0x00; 100], 100, false),
+    (&[0x80, 0x08, 0x00, 0x80], 1, false),
+    (&[0x00; 100], 100, false),
+    (&[0x08, 0x00, 0x80, 0x08, 0x00, 0x80], 1, true),
+];
+
+/// Feeds a piece so many times; it answers how many octets are kept at most, and whether the end is settled.
+fn fed(
+    reader: &mut PageReader<PackedRows>,
+    piece: &[u8],
+    times: u32,
+) -> Result<(usize, bool), PageFault> {
+    let mut most = 0;
+    for _ in 0..times {
+        reader.feed(piece)?;
+        most = most.max(reader.pending());
+    }
+    Ok((most, reader.is_settled()))
+}
+
 #[test]
 fn fill_is_not_kept(rt: HostRuntime) -> Result<(), Fail> {
     let mut reader: PageReader<PackedRows> = PageReader::new(rt.alloc(), STANDARD, Coding::Mh);
-    // an EOL, a white line, and the EOLs of the end, with fill before each and after the last
-    for piece in [
-        &[0x00, 0x01, 0x4d, 0x9a, 0x80][..],
-        &[0x01],
-        &[0x80, 0x08, 0x00, 0x80],
-    ] {
-        reader.feed(piece)?;
-        for _ in 0..100 {
-            reader.feed(&[0x00; 100])?;
-            assert!(rt; reader.pending() <= 12, "{}", reader.pending());
-        }
+    for (piece, times, is_settled) in FILLED_PIECES {
+        let (most, settled) = fed(&mut reader, piece, *times)?;
+        assert!(rt; settled == *is_settled && most <= if settled { 0 } else { 12 });
     }
-    assert!(rt; !reader.is_settled());
-    reader.feed(&[0x08, 0x00, 0x80, 0x08, 0x00, 0x80])?;
-    assert!(rt; reader.is_settled());
-    assert_eq!(rt; reader.pending(), 0);
-    assert!(rt; reader.check().is_ok());
+    reader.check()?;
     Ok(())
 }
 

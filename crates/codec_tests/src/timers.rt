@@ -2,7 +2,7 @@
 use fax_timers::{Clock, Pace, T1_MS, T2_MS, T4_MS, Timer, earlier};
 
 /// At which moment a timer is set for how many milliseconds, another moment, and whether it is due then.
-const SET: [(u64, u64, u64, bool); 11] = [
+const SET: &[(u64, u64, u64, bool)] = &[
     (1000, T2_MS, 0, false),
     (1000, T2_MS, 1000, false),
     (1000, T2_MS, 6999, false),
@@ -14,10 +14,7 @@ const SET: [(u64, u64, u64, bool); 11] = [
     (10_000, T1_MS, 45_000, true),
     (10, 5, 14, false),
     (10, 5, 15, true),
-];
-
-/// The same at the end of the range.
-const SET_LAST: [(u64, u64, u64, bool); 5] = [
+    // at the end of the range
     (u64::MAX - 5, 6000, u64::MAX - 1, false),
     (u64::MAX - 5, 6000, u64::MAX, true),
     (u64::MAX - 1, 5, u64::MAX - 1, false),
@@ -26,7 +23,7 @@ const SET_LAST: [(u64, u64, u64, bool); 5] = [
 ];
 
 /// The moment at which a packet is given, two others, and what is shown after it.
-const GIVEN: [(u64, [u64; 2], (Option<u64>, bool, bool)); 5] = [
+const GIVEN: &[(u64, [u64; 2], (Option<u64>, bool, bool))] = &[
     (1000, [0, 1000], (Some(1040), false, false)),
     (1000, [1039, 1040], (Some(1040), false, true)),
     (1000, [1039, u64::MAX], (Some(1040), false, true)),
@@ -37,6 +34,12 @@ const GIVEN: [(u64, [u64; 2], (Option<u64>, bool, bool)); 5] = [
     ),
     (u64::MAX - 39, [0, u64::MAX], (None, false, false)),
 ];
+
+/// Whether a timer that is set at a moment for so long is due at another one.
+fn is_due(timer: &mut Timer, at: u64, ms: u64, now: u64) -> bool {
+    timer.set(at, ms);
+    timer.due(now)
+}
 
 /// From when on a pace lets a packet through, and whether it does at these moments.
 fn shown(pace: &Pace, first: u64, second: u64) -> (Option<u64>, bool, bool) {
@@ -77,21 +80,11 @@ fn timers_fall_due(rt: HostRuntime) {
     let mut timer = Timer::new();
     assert!(rt; ends_of(&timer) == (None, false, false));
     for (at, ms, now, due) in SET {
-        timer.set(at, ms);
-        assert!(rt; timer.due(now) == due);
+        assert!(rt; is_due(&mut timer, *at, *ms, *now) == *due);
     }
-    assert!(rt; timer.moment() == Some(15));
+    assert!(rt; ends_of(&timer) == (Some(0), true, true));
     timer.clear();
     assert!(rt; ends_of(&timer) == (None, false, false));
-}
-
-#[test]
-fn moments_stop_at_the_last_one(rt: HostRuntime) {
-    let mut timer = Timer::new();
-    for (at, ms, now, due) in SET_LAST {
-        timer.set(at, ms);
-        assert!(rt; timer.due(now) == due);
-    }
 }
 
 #[test]
@@ -103,7 +96,7 @@ fn the_earlier_moment(rt: HostRuntime) {
         (Some(3), Some(5), Some(3)),
         (Some(5), Some(3), Some(3)),
     ] {
-        assert_eq!(rt; earlier(one, other), first);
+        assert!(rt; earlier(one, other) == first);
     }
 }
 
@@ -112,29 +105,39 @@ fn packets_are_40_milliseconds_apart(rt: HostRuntime) {
     let mut pace = Pace::new(1000);
     assert!(rt; shown(&pace, 0, u64::MAX) == (Some(0), true, true));
     for (at, [first, second], wanted) in GIVEN {
-        assert!(rt; shown_after(&mut pace, at, first, second) == wanted);
+        assert!(rt; shown_after(&mut pace, *at, *first, *second) == *wanted);
     }
+}
+
+/// A pause after a preamble, when that is given, a moment, and whether a packet is let through then.
+const PAUSES: &[(u16, u64, u64, bool)] = &[
+    (40, 1000, 1039, false),
+    (40, 1000, 1040, true),
+    (1000, 1000, 1040, false),
+    (1000, 1000, 1999, false),
+    (1000, 1000, 2000, true),
+    (2000, u64::MAX - 2000, u64::MAX - 1, false),
+    (2000, u64::MAX - 2000, u64::MAX, true),
+    (2000, u64::MAX - 1999, u64::MAX, false),
+    (u16::MAX, 1000, 2999, false),
+    (u16::MAX, 1000, 3000, true),
+];
+
+/// Whether a packet is let through so, and the next one 40 ms after one at 0.
+fn allowed_after(pause: u16, at: u64, now: u64) -> (bool, (bool, bool)) {
+    let mut pace = Pace::new(pause);
+    pace.given(true, at);
+    let is_allowed = pace.allows(now);
+    let (_, early, late) = shown_after(&mut pace, 0, 39, 40);
+    (is_allowed, (early, late))
 }
 
 #[test]
 fn the_packet_after_a_preamble_waits_for_the_pause(rt: HostRuntime) {
-    for (pause, at, now, allowed) in [
-        (40, 1000, 1039, false),
-        (40, 1000, 1040, true),
-        (1000, 1000, 1040, false),
-        (1000, 1000, 1999, false),
-        (1000, 1000, 2000, true),
-        (2000, u64::MAX - 2000, u64::MAX - 1, false),
-        (2000, u64::MAX - 2000, u64::MAX, true),
-        (2000, u64::MAX - 1999, u64::MAX, false),
-        (u16::MAX, 1000, 2999, false),
-        (u16::MAX, 1000, 3000, true),
-    ] {
-        let mut pace = Pace::new(pause);
-        pace.given(true, at);
-        assert!(rt; pace.allows(now) == allowed, "a pause of {pause}");
-        pace.given(false, 0);
-        let (_, early, late) = shown(&pace, 39, 40);
-        assert!(rt; !early && late);
+    for (pause, at, now, allowed) in PAUSES {
+        assert!(rt;
+            allowed_after(*pause, *at, *now) == (*allowed, (false, true)),
+            "a pause of {pause}"
+        );
     }
 }

@@ -1,7 +1,6 @@
 //! Datagrams by hand and from another implementation.
 mod captured;
 
-use crate::digits::{Digits, octets_of};
 use captured::{ANSWERING, CALLING};
 use fax_bits::NoMemory;
 use fax_udptl::{Packets, Receiver, Secondaries, Sender, UdptlFault, laws, read};
@@ -9,68 +8,86 @@ use std::alloc::{AllocError, Global};
 use std::test::Fail;
 
 /// The first packets of a call's answerer, and their datagrams.
-const ANSWERING_LEG: &[(&str, &str)] = &[
-    ("04", "000001040000"),
-    ("06", "0001010600010104"),
+const ANSWERING_LEG: &[(&[u8], &[u8])] = &[
+    (b"\x04", b"\x00\x00\x01\x04\x00\x00"),
+    (b"\x06", b"\x00\x01\x01\x06\x00\x01\x01\x04"),
     (
-        "c002800005ffc80100775e40",
-        "00020cc002800005ffc80100775e40000201060104",
-    ),
-    ("06", "0003010600030cc002800005ffc80100775e4001060104"),
-    (
-        "c002800002ffc82140",
-        "000409c002800002ffc82140000301060cc002800005ffc80100775e400106",
+        b"\xc0\x02\x80\x00\x05\xff\xc8\x01\x00\x77\x5e\x40",
+        b"\x00\x02\x0c\xc0\x02\x80\x00\x05\xff\xc8\x01\x00\x77\x5e\x40\x00\x02\x01\x06\x01\x04",
     ),
     (
-        "06",
-        "00050106000309c002800002ffc8214001060cc002800005ffc80100775e40",
+        b"\x06",
+        b"\x00\x03\x01\x06\x00\x03\x0c\xc0\x02\x80\x00\x05\xff\xc8\x01\x00\x77\x5e\x40\x01\x06\x01\x04",
     ),
     (
-        "c002800002ffc83140",
-        "000609c002800002ffc831400003010609c002800002ffc821400106",
+        b"\xc0\x02\x80\x00\x02\xff\xc8\x21\x40",
+        b"\x00\x04\x09\xc0\x02\x80\x00\x02\xff\xc8\x21\x40\x00\x03\x01\x06\x0c\xc0\x02\x80\x00\x05\xff\xc8\x01\x00\x77\x5e\x40\x01\x06",
+    ),
+    (
+        b"\x06",
+        b"\x00\x05\x01\x06\x00\x03\x09\xc0\x02\x80\x00\x02\xff\xc8\x21\x40\x01\x06\x0c\xc0\x02\x80\x00\x05\xff\xc8\x01\x00\x77\x5e\x40",
+    ),
+    (
+        b"\xc0\x02\x80\x00\x02\xff\xc8\x31\x40",
+        b"\x00\x06\x09\xc0\x02\x80\x00\x02\xff\xc8\x31\x40\x00\x03\x01\x06\x09\xc0\x02\x80\x00\x02\xff\xc8\x21\x40\x01\x06",
     ),
 ];
 
 /// The first packets of the call by which its page is sent on, and their datagrams: CNG, and the DCS with
 /// its preamble and training.
-const CALLED_LEG: &[(&str, &str)] = &[
-    ("02", "000001020000"),
-    ("06", "0001010600010102"),
+const CALLED_LEG: &[(&[u8], &[u8])] = &[
+    (b"\x02", b"\x00\x00\x01\x02\x00\x00"),
+    (b"\x06", b"\x00\x01\x01\x06\x00\x01\x01\x02"),
     (
-        "c002800002ffc8c100400040",
-        "00020cc002800002ffc8c100400040000201060102",
+        b"\xc0\x02\x80\x00\x02\xff\xc8\xc1\x00\x40\x00\x40",
+        b"\x00\x02\x0c\xc0\x02\x80\x00\x02\xff\xc8\xc1\x00\x40\x00\x40\x00\x02\x01\x06\x01\x02",
     ),
-    ("08", "0003010800030cc002800002ffc8c10040004001060102"),
+    (
+        b"\x08",
+        b"\x00\x03\x01\x08\x00\x03\x0c\xc0\x02\x80\x00\x02\xff\xc8\xc1\x00\x40\x00\x40\x01\x06\x01\x02",
+    ),
 ];
 
 /// The datagrams of the machine that called, but for the training check: without secondaries. Numbers 0 to
 /// 1 and 3 to 6 of a call, with the packet of each.
-const OTHER_LEG: &[(&str, u16, &str)] = &[
+const OTHER_LEG: &[(&[u8], u16, &[u8])] = &[
     (
-        "00000cc002800005ffc8c1004000400000",
+        b"\x00\x00\x0c\xc0\x02\x80\x00\x05\xff\xc8\xc1\x00\x40\x00\x40\x00\x00",
         0,
-        "c002800005ffc8c100400040",
+        b"\xc0\x02\x80\x00\x05\xff\xc8\xc1\x00\x40\x00\x40",
     ),
-    ("000101080000", 1, "08"),
-    ("000301080000", 3, "08"),
+    (b"\x00\x01\x01\x08\x00\x00", 1, b"\x08"),
+    (b"\x00\x03\x01\x08\x00\x00", 3, b"\x08"),
     (
-        "000412c201f0000c0014d9a80080080080080080080000",
+        b"\x00\x04\x12\xc2\x01\xf0\x00\x0c\x00\x14\xd9\xa8\x00\x80\x08\x00\x80\x08\x00\x80\x08\x00\x00",
         4,
-        "c201f0000c0014d9a8008008008008008008",
+        b"\xc2\x01\xf0\x00\x0c\x00\x14\xd9\xa8\x00\x80\x08\x00\x80\x08\x00\x80\x08",
     ),
-    ("000501060000", 5, "06"),
-    ("000609c002800002ffc8f4400000", 6, "c002800002ffc8f440"),
+    (b"\x00\x05\x01\x06\x00\x00", 5, b"\x06"),
+    (
+        b"\x00\x06\x09\xc0\x02\x80\x00\x02\xff\xc8\xf4\x40\x00\x00",
+        6,
+        b"\xc0\x02\x80\x00\x02\xff\xc8\xf4\x40",
+    ),
 ];
 
 /// The first answers of the called machine, likewise.
-const CALLED_MACHINE: &[(&str, u16, &str)] = &[
+const CALLED_MACHINE: &[(&[u8], u16, &[u8])] = &[
     (
-        "00000cc002800005ffc801004000400000",
+        b"\x00\x00\x0c\xc0\x02\x80\x00\x05\xff\xc8\x01\x00\x40\x00\x40\x00\x00",
         0,
-        "c002800005ffc80100400040",
+        b"\xc0\x02\x80\x00\x05\xff\xc8\x01\x00\x40\x00\x40",
     ),
-    ("000109c002800002ffc821400000", 1, "c002800002ffc82140"),
-    ("000209c002800002ffc831400000", 2, "c002800002ffc83140"),
+    (
+        b"\x00\x01\x09\xc0\x02\x80\x00\x02\xff\xc8\x21\x40\x00\x00",
+        1,
+        b"\xc0\x02\x80\x00\x02\xff\xc8\x21\x40",
+    ),
+    (
+        b"\x00\x02\x09\xc0\x02\x80\x00\x02\xff\xc8\x31\x40\x00\x00",
+        2,
+        b"\xc0\x02\x80\x00\x02\xff\xc8\x31\x40",
+    ),
 ];
 
 /// Octets that are no datagram, and the first fault of each.
@@ -259,8 +276,7 @@ fn says_what_is_wrong(rt: HostRuntime) {
     for (octets, fault) in FAULTS {
         assert!(rt; is_fault(octets, fault));
     }
-    assert!(rt; UdptlFault::Short.number() == 1);
-    assert!(rt; UdptlFault::BadLength.number() == 2);
+    assert!(rt; [UdptlFault::Short.number(), UdptlFault::BadLength.number()] == [1, 2]);
 }
 
 #[test]
@@ -321,19 +337,16 @@ fn are_fronts_short(octets: &[u8]) -> bool {
 
 /// Whether a sender sends the packets of one end as these datagrams, each front of a datagram is
 /// short, and a receiver decides each packet.
-fn is_leg_sent(alloc: Global, leg: &[(&str, &str)]) -> Result<bool, NoMemory> {
+fn is_leg_sent(alloc: Global, leg: &[(&[u8], &[u8])]) -> Result<bool, NoMemory> {
     let mut sender = Sender::new(alloc, 3)?;
     let mut receiver = Receiver::new();
     let mut number = 0u16;
     let mut all = true;
     for (packet, datagram) in leg {
-        let packet = octets_of(alloc, Digits::Hex, &[packet])?;
-        let datagram = octets_of(alloc, Digits::Hex, &[datagram])?;
-        let (packet, datagram) = (packet.as_slice(), datagram.as_slice());
         all = all
             && is_sent(&mut sender, packet, datagram)?
             && are_fronts_short(datagram)
-            && decides(&mut receiver, datagram, number, 0, &[packet]);
+            && decides(&mut receiver, datagram, number, 0, &[*packet]);
         number = number.wrapping_add(1);
     }
     Ok(all)
@@ -341,8 +354,9 @@ fn is_leg_sent(alloc: Global, leg: &[(&str, &str)]) -> Result<bool, NoMemory> {
 
 #[test]
 fn sends_each_packet_with_the_three_before_it(rt: HostRuntime) -> Result<(), Fail> {
-    assert!(rt; is_leg_sent(rt.alloc(), CALLED_LEG)?);
-    assert!(rt; is_leg_sent(rt.alloc(), ANSWERING_LEG)?);
+    for leg in [CALLED_LEG, ANSWERING_LEG] {
+        assert!(rt; is_leg_sent(rt.alloc(), leg)?);
+    }
     Ok(())
 }
 
@@ -390,18 +404,17 @@ fn sends_into_room_that_is_there(rt: HostRuntime) -> Result<(), Fail> {
 
 /// How many packets a receiver decides of these datagrams of one end, in the order sent, where each is read, each front of it
 /// is short, and none is missing.
-fn packets_of(alloc: Global, texts: &[&str]) -> Result<Option<usize>, NoMemory> {
+fn packets_of(datagrams: &[&[u8]]) -> Option<usize> {
     let mut receiver = Receiver::new();
     let mut count = 0usize;
-    for text in texts {
-        let octets = octets_of(alloc, Digits::Hex, &[text])?;
-        let taken = count_taken(&mut receiver, octets.as_slice(), count);
-        let (Some(taken), true) = (taken, are_fronts_short(octets.as_slice())) else {
-            return Ok(None);
-        };
+    for octets in datagrams {
+        let taken = count_taken(&mut receiver, octets, count)?;
+        if !are_fronts_short(octets) {
+            return None;
+        }
         count = count.saturating_add(taken);
     }
-    Ok(Some(count))
+    Some(count)
 }
 
 /// How many packets a datagram brings, where they begin at this slot and none is missing.
@@ -415,33 +428,26 @@ fn count_taken(receiver: &mut Receiver, octets: &[u8], from: usize) -> Option<us
 }
 
 #[test]
-fn takes_what_another_terminal_sent(rt: HostRuntime) -> Result<(), Fail> {
-    assert!(rt; packets_of(rt.alloc(), ANSWERING)? == Some(24));
-    assert!(rt; packets_of(rt.alloc(), CALLING)? == Some(42));
-    Ok(())
+fn takes_what_another_terminal_sent(rt: HostRuntime) {
+    assert!(rt; packets_of(ANSWERING) == Some(24) && packets_of(CALLING) == Some(42));
 }
 
 /// Whether a receiver decides the packet of each datagrams of one end, with the numbers that it missed.
-fn is_leg_taken(alloc: Global, leg: &[(&str, u16, &str)]) -> Result<bool, NoMemory> {
+fn is_leg_taken(leg: &[(&[u8], u16, &[u8])]) -> bool {
     let mut receiver = Receiver::new();
     let mut expected = 0u16;
     let mut all = true;
     for (datagram, number, packet) in leg {
-        let datagram = octets_of(alloc, Digits::Hex, &[datagram])?;
-        let packet = octets_of(alloc, Digits::Hex, &[packet])?;
         let lost = number.wrapping_sub(expected);
-        let packets = [packet.as_slice()];
-        all = all && decides(&mut receiver, datagram.as_slice(), expected, lost, &packets);
+        all = all && decides(&mut receiver, datagram, expected, lost, &[*packet]);
         expected = number.wrapping_add(1);
     }
-    Ok(all)
+    all
 }
 
 #[test]
-fn takes_datagrams_without_secondaries(rt: HostRuntime) -> Result<(), Fail> {
-    assert!(rt; is_leg_taken(rt.alloc(), OTHER_LEG)?);
-    assert!(rt; is_leg_taken(rt.alloc(), CALLED_MACHINE)?);
-    Ok(())
+fn takes_datagrams_without_secondaries(rt: HostRuntime) {
+    assert!(rt; is_leg_taken(OTHER_LEG) && is_leg_taken(CALLED_MACHINE));
 }
 
 #[test]
