@@ -1,0 +1,4 @@
+pub mod Datagrams
+pub mod Delivered
+pub mod Gateways
+pub mod Links
