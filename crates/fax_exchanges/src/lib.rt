@@ -1,0 +1,4 @@
+//! Exchanges over good lines end well: laws of a page that is sent through a gateway.
+#![tactic(auto)]
+
+pub mod laws;
