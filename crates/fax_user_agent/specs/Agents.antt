@@ -1,0 +1,59 @@
+-- What a user agent is seen as, and how each event takes it on.
+use Rattle.std.specs.Prelude.{◌≡◌, ℕ, ◌⊎◌, List, ◌++◌}
+use Rattle.fax_switch.specs.declared.action.LineAction.{LineAction}
+use Rattle.fax_switch.specs.declared.event.Choice.{Choice}
+use Rattle.fax_switch.specs.declared.event.Event.{Event}
+use Rattle.fax_switch.specs.declared.event.Event.TheVariants.{Dialled}
+use Rattle.fax_switch.specs.declared.place.LineCall.{LineCall}
+use Rattle.fax_switch.specs.Tables.{Table, row, swept}
+use Rattle.fax_user_agent.specs.declared.out.Datagram.{Datagram}
+use Rattle.fax_user_agent.specs.declared.out.Told.{Told}
+use Rattle.fax_user_agent.specs.declared.settings.Trunk.{Trunk}
+use Rattle.fax_user_agent.specs.Orders.{words_of}
+
+-- its trunks, the calls of its switch, and what is to come out: datagrams, words to lines, and what is told
+pub record Agent : Type 0 where
+  pub trunks : List Trunk
+  pub switch : Table
+  pub datagrams : List Datagram
+  pub words : List LineAction
+  pub told : List Told
+
+-- more stands at the end, and what was there stands before it
+abbrev pub Extends : {A : Type 0} → List A → List A → Type 0
+Extends {A = A} old new = (more : List A) × (new ≡ old ++ more)
+
+-- Nothing that is to come out is lost or changed, and the trunks stay.
+pub record Queues (old new : Agent) : Type 0 where
+  pub trunks : new.trunks ≡ old.trunks
+  pub datagrams : Extends old.datagrams new.datagrams
+  pub told : Extends old.told new.told
+
+-- The switch hears an event, and lines are told what it says then, no more and no less.
+pub record Hears (now : ℕ) (event : Event) (old new : Agent) : Type 0 where
+  pub switch : new.switch ≡ row old.switch now event
+  pub words : new.words ≡ old.words ++ words_of new.switch.entries
+
+-- the switch hears nothing, and lines are told nothing
+pub record IsQuiet (old new : Agent) : Type 0 where
+  pub switch : new.switch ≡ old.switch
+  pub words : new.words ≡ old.words
+
+-- Memory was refused: the switch hears nothing, or heard the event, and of what lines are to be told then the end may be lost.
+pub record HearsInPart (now : ℕ) (event : Event) (old new : Agent) : Type 0 where
+  pub switch : (new.switch ≡ row old.switch now event) ⊎ (new.switch ≡ swept old.switch)
+  pub words : Extends old.words new.words
+
+abbrev pub HearsOne : ℕ → Agent → Agent → Type 0
+HearsOne now old new = (event : Event) × Hears now event old new
+
+-- one event, or none
+abbrev pub MayHear : ℕ → Agent → Agent → Type 0
+MayHear now old new = IsQuiet old new ⊎ HearsOne now old new
+
+abbrev pub MayHearInPart : ℕ → Agent → Agent → Type 0
+MayHearInPart now old new = IsQuiet old new ⊎ ((event : Event) × HearsInPart now event old new)
+
+-- the call of a job is asked for, however it is placed
+abbrev pub HearsDial : ℕ → LineCall → Agent → Agent → Type 0
+HearsDial now on old new = (choice : Choice) × Hears now (Dialled on choice) old new

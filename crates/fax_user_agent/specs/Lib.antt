@@ -1,0 +1,3 @@
+pub mod Agents
+pub mod Orders
+pub mod Senders

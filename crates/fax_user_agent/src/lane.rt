@@ -1,0 +1,17 @@
+//! What there is of a trunk as time goes on: its calls and its registration.
+use fax_requests::Token;
+use fax_trunks::{Calls, Registration};
+
+/// What there is of a trunk as time goes on.
+#[derive(Drop)]
+pub(crate) struct Lane {
+    pub calls: Calls,
+    /// Its registration, where there is one.
+    pub registration: Option<Registration>,
+    /// Whether we were registered when it was told last.
+    pub was_registered: bool,
+    pub call_id: Token,
+    pub tag: Token,
+    /// The number of the last REGISTER.
+    pub number: u32,
+}
