@@ -4,7 +4,7 @@ use Rattle.fax_command.proofs.TellLemmas.{text_of_lines-append}
 use Rattle.fax_command.specs.RowLines.{text_of_lines}
 use Rattle.fax_pcap.specs.declared.fault.CaptureFault.{CaptureFault}
 use Rattle.fax_pcap.specs.declared.fault.CaptureFault.TheVariants as capture
-use Rattle.fax_pcap.specs.Captures.{TimedDatagram, HeadValue, FailsAs, ReadsAs, fault_of_end, head_record, read_of, record_at, record_of_kind, untold_head}
+use Rattle.fax_pcap.specs.Captures.{TimedPacket, HeadValue, FailsAs, Follow, ReadsAs, fault_of_end, head_record, read_of, record_at, record_of_kind, untold_head}
 use Rattle.fax_pcap.specs.Fields.{front_of}
 use Rattle.fax_pcap.proofs.PieceLemmas.{Follow-append, Follow-more, Follow-push, ReadsAs-more, refused-more}
 use Rattle.fax_capture.specs.declared.options.CaptureOptions.{CaptureOptions}
@@ -14,13 +14,13 @@ use Rattle.fax_capture.specs.declared.script_fault.ScriptFault.TheVariants.{Capt
 use Rattle.fax_capture.specs.Answers.{Fails, FailsCapture, FailsReading, Refuses, ToldSoFar, ToldWhole}
 use Rattle.fax_capture.specs.Growing.{Stops}
 use Rattle.fax_capture.specs.Rep.{Breaks, BreaksAt, HasRead, Holds, TakesAllRecords, TakesRecords, Untold}
-use Rattle.fax_capture.specs.Scripts.{ScriptSoFar, TellsFound, only_ring, script_lines, tick_lines}
+use Rattle.fax_capture.specs.Scripts.{ScriptSoFar, TellsAll, TellsFound, only_ring, script_lines, tick_lines}
 use Rattle.fax_capture.proofs.FollowLemmas.{TellsAll-append, TellsAll-push}
 use Rattle.fax_capture.proofs.StopLemmas.{Stops-more, Stops-same}
 
 -- ---- one record more
 
-pub TakesRecords-found : (options : CaptureOptions) (old : HeadValue) (octets : List ℕ) (told : ScriptSoFar) (mid : HeadValue) (rest : List ℕ) (new : HeadValue) (after : List ℕ) (script grown : Script) (found : Option TimedDatagram)
+pub TakesRecords-found : (options : CaptureOptions) (old : HeadValue) (octets : List ℕ) (told : ScriptSoFar) (mid : HeadValue) (rest : List ℕ) (new : HeadValue) (after : List ℕ) (script grown : Script) (found : Option TimedPacket)
     → (took : TakesRecords options old octets told mid rest script) → ReadsAs (record_at mid rest) found new after
     → (next : ScriptSoFar) → TellsFound options took.next found next → Holds grown next → TakesRecords options old octets told new after grown
 TakesRecords-found options old octets told mid rest new after script grown found took reads next tells holds = record {
@@ -62,7 +62,7 @@ stopped head octets told (Capture capture.Cut) stops = absurd stops
 stopped head octets told (Capture capture.Snapped) stops = absurd stops
 stopped head octets told (Capture capture.Damaged) stops = absurd stops
 
-untold : (options : CaptureOptions) (old : HeadValue) (octets : List ℕ) (told : ScriptSoFar) (mid : HeadValue) (rest : List ℕ) (new : HeadValue) (after : List ℕ) (script : Script) (captured : TimedDatagram) (fault : ScriptFault)
+untold : (options : CaptureOptions) (old : HeadValue) (octets : List ℕ) (told : ScriptSoFar) (mid : HeadValue) (rest : List ℕ) (new : HeadValue) (after : List ℕ) (script : Script) (captured : TimedPacket) (fault : ScriptFault)
     → (took : TakesRecords options old octets told mid rest script) → ReadsAs (record_at mid rest) (Some captured) new after
     → Untold options took.next (Some captured) fault → Breaks options old octets told fault
 untold options old octets told mid rest new after script captured fault took reads (inl lacking) =
@@ -78,7 +78,7 @@ untold options old octets told mid rest new after script captured fault took rea
   stopped new after stops.0 fault stops.2,
 )
 
-pub Breaks-untold : (options : CaptureOptions) (old : HeadValue) (octets : List ℕ) (told : ScriptSoFar) (mid : HeadValue) (rest : List ℕ) (new : HeadValue) (after : List ℕ) (script : Script) (found : Option TimedDatagram) (fault : ScriptFault)
+pub Breaks-untold : (options : CaptureOptions) (old : HeadValue) (octets : List ℕ) (told : ScriptSoFar) (mid : HeadValue) (rest : List ℕ) (new : HeadValue) (after : List ℕ) (script : Script) (found : Option TimedPacket) (fault : ScriptFault)
     → (took : TakesRecords options old octets told mid rest script) → ReadsAs (record_at mid rest) found new after
     → Untold options took.next found fault → Breaks options old octets told fault
 Breaks-untold options old octets told mid rest new after script None fault took reads fails = absurd fails

@@ -1,13 +1,13 @@
 -- ADDRESSES of the two machines, and what a datagram is to them. (This project's profile.)
-use Rattle.std.specs.Prelude.{◌≡◌, ℕ, ◌⊎◌, ◌==◌, ◌&&◌, bytes_eq, Bool, true, false, not, List, Option, Some, None}
-use Rattle.fax_pcap.specs.Frames.{EndpointValue, DatagramValue}
+use Rattle.std.specs.Prelude.{◌≡◌, ℕ, ◌==◌, ◌&&◌, bytes_eq, Bool, true, false, not, List, Option, Some, None, is_some}
+use Rattle.fax_pcap.specs.Datagrams.{EndpointValue, DatagramValue}
 use Rattle.fax_capture.specs.declared.address.Host.{Host}
 use Rattle.fax_capture.specs.declared.address.Host.TheVariants.{V4, V6}
 use Rattle.fax_capture.specs.declared.address.Address.{Address}
 use Rattle.fax_capture.specs.declared.machines.Machines.{Machines}
 use Rattle.fax_capture.specs.declared.machines.Machines.TheVariants.{Known, CallerKnown, Unknown}
 use Rattle.fax_capture.specs.declared.address.Role.{Role}
-use Rattle.fax_capture.specs.declared.address.Role.TheVariants.{FromCaller, FromCalled, ToCaller, ToCalled, InFragments, Unrelated}
+use Rattle.fax_capture.specs.declared.address.Role.TheVariants.{FromCaller, FromCalled, ToCaller, ToCalled, CallerInFragments, CalledInFragments, Unrelated}
 
 -- the octets of a host's address
 abbrev pub host_octets : Host → List ℕ
@@ -41,7 +41,7 @@ AreApart one other = (host_octets one.host ≡ host_octets other.host) → Share
 
 -- a datagram went in fragments, of which the first has not all of its data
 abbrev pub is_in_fragments : DatagramValue → Bool
-is_in_fragments datagram = datagram.is_fragment && not datagram.is_whole
+is_in_fragments datagram = is_some datagram.fragments && not datagram.is_whole
 
 -- the caller and the called machine, where they are known
 abbrev pub caller_of : Machines → Option Address
@@ -63,8 +63,9 @@ abbrev pub IsRole : Option Address → Option Address → DatagramValue → Role
 IsRole caller called datagram FromCaller = IsAtKnown caller datagram.source × (is_in_fragments datagram ≡ false)
 IsRole caller called datagram FromCalled =
     (IsAtKnown caller datagram.source → ⊥) × IsAtKnown called datagram.source × (is_in_fragments datagram ≡ false)
-IsRole caller called datagram InFragments =
-    (IsAtKnown caller datagram.source ⊎ IsAtKnown called datagram.source) × (is_in_fragments datagram ≡ true)
+IsRole caller called datagram CallerInFragments = IsAtKnown caller datagram.source × (is_in_fragments datagram ≡ true)
+IsRole caller called datagram CalledInFragments =
+    (IsAtKnown caller datagram.source → ⊥) × IsAtKnown called datagram.source × (is_in_fragments datagram ≡ true)
 IsRole caller called datagram ToCaller =
     (IsAtKnown caller datagram.source → ⊥) × (IsAtKnown called datagram.source → ⊥) × IsAtKnown caller datagram.destination
 IsRole caller called datagram ToCalled =
@@ -74,14 +75,15 @@ IsRole caller called datagram Unrelated =
     (IsAtKnown caller datagram.source → ⊥) × (IsAtKnown called datagram.source → ⊥)
     × (IsAtKnown caller datagram.destination → ⊥) × (IsAtKnown called datagram.destination → ⊥)
 
--- Of a capture's datagrams those are passed over that went in fragments, or are of others.
+-- Of a capture's datagrams those are passed over that went in fragments, until they are put together, or are of others.
 abbrev pub is_passed_over : Role → Bool
-is_passed_over InFragments = true
+is_passed_over CallerInFragments = true
+is_passed_over CalledInFragments = true
 is_passed_over Unrelated = true
 is_passed_over role = false
 
--- Of a datagram that one of the two sent some is lacking, where it is not whole. Of others nothing is wanted, nor of one that went
--- in fragments, which is passed over.
+-- Of a datagram that one of the two sent some is lacking, where it is not whole. Of others nothing is wanted, nor of the first of
+-- fragments.
 abbrev pub lacks : Role → Bool → Bool
 lacks FromCaller is_whole = not is_whole
 lacks FromCalled is_whole = not is_whole

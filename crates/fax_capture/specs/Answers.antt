@@ -3,7 +3,7 @@ use Rattle.std.specs.Prelude.{◌≡◌, ℕ, ◌<◌, ◌⊎◌, List, length, 
 use Rattle.fax_command.specs.RowLines.{text_of_lines}
 use Rattle.fax_pcap.specs.declared.fault.CaptureFault.{CaptureFault}
 use Rattle.fax_pcap.specs.declared.fault.CaptureFault.TheVariants as capture
-use Rattle.fax_pcap.specs.Captures.{TimedDatagram, HeadValue, Follow, ReadsAs, fault_of_end, read_of, record_at, untold_head}
+use Rattle.fax_pcap.specs.Captures.{TimedPacket, HeadValue, Follow, ReadsAs, fault_of_end, read_of, record_at, untold_head}
 use Rattle.fax_capture.specs.declared.options.CaptureOptions.{CaptureOptions}
 use Rattle.fax_capture.specs.declared.counts.Counts.{Counts}
 use Rattle.fax_capture.specs.declared.script_fault.ScriptFault.{ScriptFault}
@@ -21,7 +21,7 @@ most_octets = 16777216
 -- So far a capture was read, record by record, and its datagrams were told: what is told of the capture then, and the octets
 -- after.
 pub record ToldSoFar (options : CaptureOptions) (input : List ℕ) (head : HeadValue) (after : List ℕ) (told : ScriptSoFar) : Type 0 where
-  pub found : List (Option TimedDatagram)
+  pub found : List (Option TimedPacket)
   pub follow : Follow untold_head input found head after
   pub tells : TellsAll options (only_ring options) found told
 
@@ -34,7 +34,7 @@ pub record ToldWhole (options : CaptureOptions) (input : List ℕ) (told : Scrip
 
 -- some is lacking of a datagram that is read at the front of octets
 abbrev pub LacksAt : ScriptSoFar → HeadValue → List ℕ → Type 0
-LacksAt told head octets = (captured : TimedDatagram) × (next : HeadValue) × (after : List ℕ)
+LacksAt told head octets = (captured : TimedPacket) × (next : HeadValue) × (after : List ℕ)
     × ReadsAs (record_at head octets) (Some captured) next after × IsLacking told captured
 
 -- The record at the front of octets is refused, or some of its datagram is lacking; that octets lack at the end is another fault.

@@ -1,7 +1,7 @@
 -- COUNTS of a capture's datagrams, by whom they came from, and of its calls. (This project's profile.)
-use Rattle.std.specs.Prelude.{ℕ, ◌+◌, min, Bool, true, false, List}
+use Rattle.std.specs.Prelude.{ℕ, ◌+◌, ◌-◌, ◌==◌, min, Bool, true, false, List, if◌then◌else◌}
 use Rattle.fax_capture.specs.declared.address.Role.{Role}
-use Rattle.fax_capture.specs.declared.address.Role.TheVariants.{FromCaller, FromCalled, ToCaller, ToCalled, InFragments, Unrelated}
+use Rattle.fax_capture.specs.declared.address.Role.TheVariants.{FromCaller, FromCalled, ToCaller, ToCalled, CallerInFragments, CalledInFragments, Unrelated}
 use Rattle.fax_capture.specs.declared.counts.Counts.{Counts}
 use Rattle.fax_capture.specs.declared.machines.Machines.{Machines}
 use Rattle.fax_capture.specs.Signals.{seems_exchanged}
@@ -22,7 +22,8 @@ one_more_if false count = count
 abbrev pub counts_with : Counts → Role → Counts
 counts_with counts FromCaller = record counts { from_caller = one_more counts.from_caller }
 counts_with counts FromCalled = record counts { from_called = one_more counts.from_called }
-counts_with counts InFragments = record counts { in_fragments = one_more counts.in_fragments }
+counts_with counts CallerInFragments = record counts { in_fragments = one_more counts.in_fragments }
+counts_with counts CalledInFragments = record counts { in_fragments = one_more counts.in_fragments }
 counts_with counts ToCaller = counts
 counts_with counts ToCalled = counts
 counts_with counts Unrelated = record counts { passed_over = one_more counts.passed_over }
@@ -30,6 +31,13 @@ counts_with counts Unrelated = record counts { passed_over = one_more counts.pas
 -- one datagram more that is told
 abbrev pub counts_told : Counts → Role → List ℕ → Counts
 counts_told counts role octets = record (counts_with counts role) { exchanged = one_more_if (seems_exchanged role octets) counts.exchanged }
+
+-- One of the datagrams in fragments is put together. Of as many as 64 bits count it is not known how many are left.
+abbrev pub one_less : ℕ → ℕ
+one_less count = if count == 18446744073709551615 then count else count - 1
+
+abbrev pub counts_of_whole : Counts → Counts
+counts_of_whole counts = record counts { in_fragments = one_less counts.in_fragments }
 
 -- A call more, where one begins anew.
 abbrev pub counts_of_call : Counts → Bool → Counts

@@ -3,6 +3,7 @@ pub mod Answers
 pub mod Calls
 pub mod Counts
 pub mod Faults
+pub mod Fragments
 pub mod Growing
 pub mod Machines
 pub mod Rep

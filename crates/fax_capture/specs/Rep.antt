@@ -2,7 +2,8 @@
 use Rattle.std.specs.Prelude.{◌≡◌, ℕ, ◌<◌, ◌≤◌, ◌^◌, ◌⊎◌, List, length, Option, None, Some, Err}
 use Rattle.fax_command.specs.RowLines.{text_of_lines}
 use Rattle.fax_pcap.specs.declared.fault.CaptureFault.TheVariants.{Cut, Snapped, NoMemory}
-use Rattle.fax_pcap.specs.Captures.{TimedDatagram, HeadValue, Follow, read_of, record_at, untold_head}
+use Rattle.fax_pcap.specs.declared.found.Found.{Found}
+use Rattle.fax_pcap.specs.Captures.{TimedPacket, HeadValue, Follow, read_of, record_at, untold_head}
 use Rattle.fax_capture.specs.declared.options.CaptureOptions.{CaptureOptions}
 use Rattle.fax_capture.specs.declared.answer.Answer.{Answer}
 use Rattle.fax_capture.specs.declared.answer.Answer.TheVariants as answers
@@ -12,18 +13,19 @@ use Rattle.fax_capture.specs.declared.script_fault.ScriptFault.{ScriptFault}
 use Rattle.fax_capture.specs.declared.script_fault.ScriptFault.TheVariants.{Capture, NoAddress, NoCall, TooLong}
 use Rattle.fax_capture.specs.Answers.{Refuses, fault_counts, fault_line, fault_status, most_octets}
 use Rattle.fax_capture.specs.Growing.{Stops}
-use Rattle.fax_capture.specs.Scripts.{IsLacking, ScriptSoFar, Tells, TellsAll, only_ring, script_lines}
+use Rattle.fax_capture.specs.Scripts.{IsLackingIn, ScriptSoFar, TellsAll, TellsPacket, only_ring, script_lines}
 
 pub record Holds (script : Script) (told : ScriptSoFar) : Type 0 where
   pub start : script.start ≡ told.start
   pub ticks : script.ticks ≡ told.ticks
   pub text : script.text.items ≡ text_of_lines told.lines
   pub leg : script.leg ≡ told.leg
+  pub under_way : script.under_way ≡ told.under_way
   pub counts : script.counts ≡ told.counts
 
 -- Records at the front of octets were read, and told: what is told of the capture then, the octets after, and the script.
 pub record TakesRecords (options : CaptureOptions) (old : HeadValue) (octets : List ℕ) (told : ScriptSoFar) (new : HeadValue) (after : List ℕ) (script : Script) : Type 0 where
-  pub found : List (Option TimedDatagram)
+  pub found : List (Option TimedPacket)
   pub next : ScriptSoFar
   pub follow : Follow old octets found new after
   pub tells : TellsAll options told found next
@@ -43,14 +45,17 @@ BreaksAt head octets told (NoCall counts) = ⊥
 BreaksAt head octets told TooLong = most_octets < length (text_of_lines (script_lines told))
 
 abbrev pub Breaks : CaptureOptions → HeadValue → List ℕ → ScriptSoFar → ScriptFault → Type 0
-Breaks options old octets told fault = (found : List (Option TimedDatagram)) × (head : HeadValue) × (after : List ℕ) × (next : ScriptSoFar)
+Breaks options old octets told fault = (found : List (Option TimedPacket)) × (head : HeadValue) × (after : List ℕ) × (next : ScriptSoFar)
     × Follow old octets found head after × TellsAll options told found next × BreaksAt head after next fault
 
 -- a datagram is not told: some of it is lacking, or with it the text stops to grow
-abbrev pub Untold : CaptureOptions → ScriptSoFar → Option TimedDatagram → ScriptFault → Type 0
+abbrev pub UntoldIn : CaptureOptions → ScriptSoFar → Option ℕ → Found → ScriptFault → Type 0
+UntoldIn options told time found fault = (IsLackingIn told found × (fault ≡ Capture Snapped))
+    ⊎ ((next : ScriptSoFar) × TellsPacket options told time found next × Stops fault (text_of_lines next.lines))
+
+abbrev pub Untold : CaptureOptions → ScriptSoFar → Option TimedPacket → ScriptFault → Type 0
 Untold options told None fault = ⊥
-Untold options told (Some captured) fault = (IsLacking told captured × (fault ≡ Capture Snapped))
-    ⊎ ((next : ScriptSoFar) × Tells options told captured next × Stops fault (text_of_lines next.lines))
+Untold options told (Some captured) fault = UntoldIn options told captured.time captured.found fault
 
 -- All whole records of what was read of a capture were told: what is told of the capture, the script, and the octets that are left.
 pub record HasRead (options : CaptureOptions) (read : List ℕ) (head : HeadValue) (script : Script) (left : List ℕ) : Type 0 where

@@ -92,8 +92,10 @@ pub(crate) enum Role {
     FromCalled,
     ToCaller,
     ToCalled,
-    /// One of the two sent it, in fragments.
-    InFragments,
+    /// The caller sent it, in fragments.
+    CallerInFragments,
+    /// The called machine sent it, in fragments.
+    CalledInFragments,
     Unrelated,
 }
 
@@ -103,7 +105,7 @@ impl Role {
         ensures { result ≡ is_passed_over self }
     {
         match self {
-            Role::InFragments | Role::Unrelated => true,
+            Role::CallerInFragments | Role::CalledInFragments | Role::Unrelated => true,
             Role::FromCaller | Role::FromCalled | Role::ToCaller | Role::ToCalled => false,
         }
     }
@@ -116,9 +118,9 @@ pub(crate) fn role_of(machines: &Machines, datagram: &Datagram<'_>) -> Role
     let caller = machines.caller();
     let called = machines.called();
     if is_at_known(caller, datagram.source()) {
-        role_of_sent(Role::FromCaller, datagram)
+        role_of_sent(Role::FromCaller, Role::CallerInFragments, datagram)
     } else if is_at_known(called, datagram.source()) {
-        role_of_sent(Role::FromCalled, datagram)
+        role_of_sent(Role::FromCalled, Role::CalledInFragments, datagram)
     } else if is_at_known(caller, datagram.destination()) {
         Role::ToCaller
     } else if is_at_known(called, datagram.destination()) {
@@ -138,13 +140,13 @@ fn is_at_known(address: Option<Address>, endpoint: &Endpoint<'_>) -> bool
     }
 }
 
-/// The role of a datagram that one of the two sent, unless it went in fragments.
-fn role_of_sent(role: Role, datagram: &Datagram<'_>) -> Role
+/// The first role of a datagram that one of the two sent; where it went in fragments, the second one.
+fn role_of_sent(role: Role, in_fragments: Role, datagram: &Datagram<'_>) -> Role
     ensures whole { is_in_fragments datagram.now ≡ false → result ≡ role }
-    ensures fragments { is_in_fragments datagram.now ≡ true → result ≡ Role.InFragments }
+    ensures fragments { is_in_fragments datagram.now ≡ true → result ≡ in_fragments }
 {
-    if datagram.is_fragment() && !datagram.is_whole() {
-        Role::InFragments
+    if datagram.fragments().is_some() && !datagram.is_whole() {
+        in_fragments
     } else {
         role
     }

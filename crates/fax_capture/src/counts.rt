@@ -1,6 +1,6 @@
 //! How many datagrams a capture has, by whom they came from, and in how many calls.
 ghost use Rattle.std.specs.Prelude.{◌≡◌};
-ghost use Rattle.fax_capture.specs.Counts.{counts_of_call, counts_of_other, counts_told, counts_with, no_counts, one_more, one_more_if};
+ghost use Rattle.fax_capture.specs.Counts.{counts_of_call, counts_of_other, counts_of_whole, counts_told, counts_with, no_counts, one_less, one_more, one_more_if};
 
 use crate::address::Role;
 use crate::machines::Machines;
@@ -13,7 +13,7 @@ pub struct Counts {
     pub machines: Machines,
     pub from_caller: u64,
     pub from_called: u64,
-    /// One of the two machines sent these, in fragments: they were passed over.
+    /// One of the two machines sent these, in fragments that were not put together: they were passed over.
     pub in_fragments: u64,
     /// Neither of the two machines sent these, nor was any sent to one of them.
     pub passed_over: u64,
@@ -50,7 +50,9 @@ impl Counts {
         match role {
             Role::FromCaller => counts.from_caller = one_more(self.from_caller),
             Role::FromCalled => counts.from_called = one_more(self.from_called),
-            Role::InFragments => counts.in_fragments = one_more(self.in_fragments),
+            Role::CallerInFragments | Role::CalledInFragments => {
+                counts.in_fragments = one_more(self.in_fragments)
+            }
             Role::ToCaller | Role::ToCalled => {}
             Role::Unrelated => counts.passed_over = one_more(self.passed_over),
         }
@@ -64,6 +66,16 @@ impl Counts {
         Counts {
             exchanged: one_more_if(seems_exchanged(role, octets), self.exchanged),
             ..self.with(role)
+        }
+    }
+
+    /// Where one of those in fragments was put together.
+    pub(crate) fn with_whole(self) -> Counts
+        ensures { result ≡ counts_of_whole self }
+    {
+        Counts {
+            in_fragments: one_less(self.in_fragments),
+            ..self
         }
     }
 
@@ -93,6 +105,17 @@ fn one_more(count: u64) -> u64
     ensures { result ≡ one_more count }
 {
     count.saturating_add(1)
+}
+
+/// One less, where it is known how many there are.
+fn one_less(count: u64) -> u64
+    ensures { result ≡ one_less count }
+{
+    if count == u64::MAX {
+        count
+    } else {
+        count.saturating_sub(1)
+    }
 }
 
 /// One more where something is so.

@@ -4,6 +4,7 @@
 mod address;
 mod answer;
 mod counts;
+mod fragments;
 mod leg;
 mod machines;
 mod options;

@@ -1,13 +1,15 @@
 //! A capture that is read in pieces, as a source gives them, and told.
 ghost use Rattle.std.specs.Prelude.{ℕ, List, ◌≡◌, ◌≢◌, ◌<◌, ◌≤◌, ◌^◌, ◌++◌, ◌⊎◌, true, Err, IfOk, IfErr, IfSome, OnOk, Ok, vec_len};
 ghost use Rattle.fax_pcap.specs.Captures.{untold_head};
+ghost use Rattle.fax_command.specs.RowLines.{text_of_lines};
 ghost use Rattle.fax_command.specs.Streams.{greatest_count};
 ghost use Rattle.fax_capture.specs.declared.options.CaptureOptions.{CaptureOptions};
 ghost use Rattle.fax_capture.specs.Addresses.{lacks};
 ghost use Rattle.fax_capture.specs.Answers.{Allows, Fails};
-ghost use Rattle.fax_capture.specs.Rep.{Breaks, HasRead, Holds, TakesAllRecords, Untold};
+ghost use Rattle.fax_capture.specs.Growing.{Stops};
+ghost use Rattle.fax_capture.specs.Rep.{Breaks, HasRead, Holds, TakesAllRecords, Untold, UntoldIn};
 ghost use Rattle.fax_capture.specs.Reading.{FailsSo};
-ghost use Rattle.fax_capture.specs.Scripts.{ScriptSoFar, TellsFound};
+ghost use Rattle.fax_capture.specs.Scripts.{ScriptSoFar, Tells, TellsFound, TellsPacket, told_fragment};
 
 use crate::address::{Role, role_of};
 use crate::counts::Counts;
@@ -17,7 +19,7 @@ use crate::script::{Made, Script};
 use crate::script_fault::ScriptFault;
 use fax_bits::NoMemory;
 use fax_command::{MOST_AT_ONCE, ReadFault, Source};
-use fax_pcap::{Capture, CaptureFault, CapturedPacket};
+use fax_pcap::{Capture, CaptureFault, CapturedPacket, Datagram, Found, Fragment};
 use std::alloc::{AllocError, Global};
 
 /// The script of the capture that a source gives, for these options, or why there is none.
@@ -121,12 +123,78 @@ fn tell(
     let Some(captured) = found else {
         return Ok(());
     };
-    script.find(&captured);
-    let role = role_of(&script.machines(), captured.datagram());
-    if is_lacking(role, captured.datagram().is_whole()) {
+    tell_packet(alloc, options, script, captured.time(), captured.found())
+}
+
+/// Tells a datagram that was found, or the one that a fragment makes whole.
+fn tell_packet(
+    alloc: Global,
+    options: &CaptureOptions,
+    script: &mut Script,
+    time: Option<u128>,
+    found: &Found<'_>,
+) -> Result<(), ScriptFault>
+    requires few { script.old.ticks ≤ 2 ^ 103 }
+    ensures few { OnOk result (script.new.ticks ≤ 2 ^ 103) }
+    ensures ok { (told : ScriptSoFar) → Holds script.old told
+        → OnOk result ((next : ScriptSoFar) × TellsPacket options.now told time found.now next × Holds script.new next) }
+    ensures err { (told : ScriptSoFar) → Holds script.old told → IfErr result (λ e. UntoldIn options.now told time found.now e) }
+{
+    match found {
+        Found::Datagram(datagram) => tell_datagram(alloc, options, script, time, datagram),
+        Found::Fragment(fragment) => tell_fragment(alloc, options, script, time, fragment),
+    }
+}
+
+/// Tells a datagram, where one of the two machines sent it or it was sent to one; or begins to put it together.
+fn tell_datagram(
+    alloc: Global,
+    options: &CaptureOptions,
+    script: &mut Script,
+    time: Option<u128>,
+    datagram: &Datagram<'_>,
+) -> Result<(), ScriptFault>
+    requires few { script.old.ticks ≤ 2 ^ 103 }
+    ensures few { OnOk result (script.new.ticks ≤ 2 ^ 103) }
+    ensures ok { (told : ScriptSoFar) → Holds script.old told
+        → OnOk result ((next : ScriptSoFar) × Tells options.now told time datagram.now next × Holds script.new next) }
+    ensures err { (told : ScriptSoFar) → Holds script.old told → IfErr result (λ e. UntoldIn options.now told time (Found.Datagram datagram.now) e) }
+{
+    script.find(datagram);
+    let role = role_of(&script.machines(), datagram);
+    if is_lacking(role, datagram.is_whole()) {
         return Err(ScriptFault::Capture(CaptureFault::Snapped));
     }
-    script.tell(alloc, &captured, role, options.call)
+    script.begin(alloc, datagram, role)?;
+    script.tell(alloc, time, datagram.octets(), role, options.call)
+}
+
+/// Puts a fragment to the datagram that is put together, and tells that, where it is whole.
+fn tell_fragment(
+    alloc: Global,
+    options: &CaptureOptions,
+    script: &mut Script,
+    time: Option<u128>,
+    fragment: &Fragment<'_>,
+) -> Result<(), ScriptFault>
+    requires few { script.old.ticks ≤ 2 ^ 103 }
+    ensures few { OnOk result (script.new.ticks ≤ 2 ^ 103) }
+    ensures ok { (told : ScriptSoFar) → Holds script.old told
+        → OnOk result (Holds script.new (told_fragment options.now.call told time fragment.now)) }
+    ensures err { (told : ScriptSoFar) → Holds script.old told
+        → IfErr result (λ e. Stops e (text_of_lines (told_fragment options.now.call told time fragment.now).lines)) }
+{
+    let Some(whole) = script.put(fragment)? else {
+        return Ok(());
+    };
+    script.count_whole();
+    script.tell(
+        alloc,
+        time,
+        whole.octets.as_slice(),
+        whole.role,
+        options.call,
+    )
 }
 
 /// Whether some is lacking of a datagram that one of the two sent.
@@ -135,7 +203,11 @@ fn is_lacking(role: Role, is_whole: bool) -> bool
 {
     match role {
         Role::FromCaller | Role::FromCalled => !is_whole,
-        Role::ToCaller | Role::ToCalled | Role::InFragments | Role::Unrelated => false,
+        Role::ToCaller
+        | Role::ToCalled
+        | Role::CallerInFragments
+        | Role::CalledInFragments
+        | Role::Unrelated => false,
     }
 }
 

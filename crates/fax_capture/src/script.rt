@@ -3,18 +3,21 @@ ghost use Rattle.std.specs.Prelude.{ℕ, List, ◌≡◌, ◌+◌, ◌-◌, ◌<
 ghost use Rattle.hex.specs.Hex.{encode_lower};
 ghost use Rattle.fax_command.specs.RowLines.{text_of_lines};
 ghost use Rattle.fax_capture.specs.declared.options.CaptureOptions.{CaptureOptions};
+ghost use Rattle.fax_capture.specs.Counts.{counts_of_whole};
+ghost use Rattle.fax_capture.specs.Fragments.{put_together};
 ghost use Rattle.fax_capture.specs.Growing.{Stops};
 ghost use Rattle.fax_capture.specs.Rep.{Holds};
-ghost use Rattle.fax_capture.specs.Scripts.{ScriptSoFar, begins_with, found_with, heard_with, only_ring, ring_lines, role_lines, script_lines, start_of, tick_line, tick_lines, tick_of, ticks_before, ticks_to, told_in, told_of, told_with};
+ghost use Rattle.fax_capture.specs.Scripts.{ScriptSoFar, begins_with, begun_with, found_with, heard_with, only_ring, ring_lines, role_lines, script_lines, start_of, tick_line, tick_lines, tick_of, ticks_before, ticks_to, told_in, told_of, told_with};
 
 use crate::address::Role;
 use crate::counts::Counts;
+use crate::fragments::{Unfinished, Whole, begun};
 use crate::leg::{CallingLeg, is_asked, number_of};
 use crate::machines::Machines;
 use crate::script_fault::ScriptFault;
 use fax_bits::NoMemory;
 use fax_command::MOST_OCTETS;
-use fax_pcap::CapturedPacket;
+use fax_pcap::{Datagram, Fragment};
 use itoa::Buffer;
 use std::alloc::Global;
 
@@ -38,6 +41,7 @@ pub(crate) struct Script {
     ticks: u128,
     text: Vec<u8>,
     leg: CallingLeg,
+    under_way: Option<Unfinished>,
     counts: Counts,
 }
 
@@ -59,6 +63,7 @@ impl Script {
             ticks: 0,
             text: Vec::from_slice(alloc, RING)?,
             leg: CallingLeg::new(),
+            under_way: None,
             counts: Counts::new(machines),
         })
     }
@@ -85,11 +90,63 @@ impl Script {
     }
 
     /// Finds machines by a datagram, where they are not known.
-    pub fn find(&mut self, captured: &CapturedPacket<'_>)
+    pub fn find(&mut self, datagram: &Datagram<'_>)
         ensures ticks { self.new.ticks ≡ self.old.ticks }
-        ensures holds { (told : ScriptSoFar) → Holds self.old told → Holds self.new (found_with told captured.now) }
+        ensures holds { (told : ScriptSoFar) → Holds self.old told → Holds self.new (found_with told datagram.now) }
     {
-        self.counts.machines = self.counts.machines.with(captured.datagram());
+        self.counts.machines = self.counts.machines.with(datagram);
+    }
+
+    /// Begins to put a datagram together, where it is the first of fragments.
+    pub fn begin(
+        &mut self,
+        alloc: Global,
+        datagram: &Datagram<'_>,
+        role: Role,
+    ) -> Result<(), NoMemory>
+        ensures ticks { OnOk result (self.new.ticks ≡ self.old.ticks) }
+        ensures holds { (told : ScriptSoFar) → Holds self.old told → OnOk result (Holds self.new (begun_with told datagram.now role)) }
+    {
+        match role {
+            Role::CallerInFragments => self.under_way = begun(alloc, Role::FromCaller, datagram)?,
+            Role::CalledInFragments => self.under_way = begun(alloc, Role::FromCalled, datagram)?,
+            Role::FromCaller
+            | Role::FromCalled
+            | Role::ToCaller
+            | Role::ToCalled
+            | Role::Unrelated => {}
+        }
+        Ok(())
+    }
+
+    /// Puts a fragment to what is under way, and answers the datagram that is whole with it.
+    pub fn put(&mut self, fragment: &Fragment<'_>) -> Result<Option<Whole>, NoMemory>
+        ensures ticks { OnOk result (self.new.ticks ≡ self.old.ticks) }
+        ensures whole { (told : ScriptSoFar) → Holds self.old told → IfOk result (λ whole. whole ≡ (put_together told.under_way fragment.now).1) }
+        ensures holds { (told : ScriptSoFar) → Holds self.old told
+            → OnOk result (Holds self.new (record told { under_way = (put_together told.under_way fragment.now).0 })) }
+    {
+        let Some(mut unfinished) = self.under_way.take() else {
+            return Ok(None);
+        };
+        if !unfinished.goes_on(fragment) {
+            self.under_way = Some(unfinished);
+            return Ok(None);
+        }
+        unfinished.grow(fragment)?;
+        if fragment.is_last() {
+            return Ok(unfinished.whole());
+        }
+        self.under_way = Some(unfinished);
+        Ok(None)
+    }
+
+    /// Counts a datagram that was put together no more among those in fragments.
+    pub fn count_whole(&mut self)
+        ensures ticks { self.new.ticks ≡ self.old.ticks }
+        ensures holds { (told : ScriptSoFar) → Holds self.old told → Holds self.new (record told { counts = counts_of_whole told.counts }) }
+    {
+        self.counts = self.counts.with_whole();
     }
 
     /// Tells a datagram, after the ticks up to its own, and counts it. One that is unrelated, in fragments, or in another call than
@@ -97,31 +154,31 @@ impl Script {
     pub fn tell(
         &mut self,
         alloc: Global,
-        captured: &CapturedPacket<'_>,
+        time: Option<u128>,
+        octets: &[u8],
         role: Role,
         asked: Option<u64>,
     ) -> Result<(), ScriptFault>
         requires few { self.old.ticks ≤ 2 ^ 103 }
         ensures few { OnOk result (self.new.ticks ≤ 2 ^ 103) }
-        ensures ok { (told : ScriptSoFar) → Holds self.old told → OnOk result (Holds self.new (told_of asked told captured.now role)) }
-        ensures err { (told : ScriptSoFar) → Holds self.old told → IfErr result (λ e. Stops e (text_of_lines (told_of asked told captured.now role).lines)) }
+        ensures ok { (told : ScriptSoFar) → Holds self.old told → OnOk result (Holds self.new (told_of asked told time octets.now role)) }
+        ensures err { (told : ScriptSoFar) → Holds self.old told → IfErr result (λ e. Stops e (text_of_lines (told_of asked told time octets.now role).lines)) }
     {
         if role.is_passed_over() {
             self.counts = self.counts.with(role);
             return Ok(());
         }
-        let begins = self.hear(captured, role);
-        self.tell_in_call(alloc, captured, role, asked, begins)
+        let begins = self.hear(time, octets, role);
+        self.tell_in_call(alloc, time, octets, role, asked, begins)
     }
 
     /// Hears a datagram, and says whether a call begins anew with it.
-    fn hear(&mut self, captured: &CapturedPacket<'_>, role: Role) -> bool
-        ensures begins { (told : ScriptSoFar) → Holds self.old told → result ≡ begins_with told captured.now role }
+    fn hear(&mut self, time: Option<u128>, octets: &[u8], role: Role) -> bool
+        ensures begins { (told : ScriptSoFar) → Holds self.old told → result ≡ begins_with told time octets.now role }
         ensures ticks { self.new.ticks ≡ self.old.ticks }
-        ensures holds { (told : ScriptSoFar) → Holds self.old told → Holds self.new (heard_with told captured.now role) }
+        ensures holds { (told : ScriptSoFar) → Holds self.old told → Holds self.new (heard_with told time octets.now role) }
     {
-        let time = captured.time();
-        let number = number_of(captured.datagram().octets());
+        let number = number_of(octets);
         let begins = self.leg.begins_anew(role, number, time);
         self.leg = self.leg.with(role, number, time, begins);
         self.counts = self.counts.with_call(begins);
@@ -132,18 +189,19 @@ impl Script {
     fn tell_in_call(
         &mut self,
         alloc: Global,
-        captured: &CapturedPacket<'_>,
+        time: Option<u128>,
+        octets: &[u8],
         role: Role,
         asked: Option<u64>,
         begins: bool,
     ) -> Result<(), ScriptFault>
         requires few { self.old.ticks ≤ 2 ^ 103 }
         ensures few { OnOk result (self.new.ticks ≤ 2 ^ 103) }
-        ensures ok { (told : ScriptSoFar) → Holds self.old told → OnOk result (Holds self.new (told_in asked told captured.now role begins)) }
-        ensures err { (told : ScriptSoFar) → Holds self.old told → IfErr result (λ e. Stops e (text_of_lines (told_in asked told captured.now role begins).lines)) }
+        ensures ok { (told : ScriptSoFar) → Holds self.old told → OnOk result (Holds self.new (told_in asked told time octets.now role begins)) }
+        ensures err { (told : ScriptSoFar) → Holds self.old told → IfErr result (λ e. Stops e (text_of_lines (told_in asked told time octets.now role begins).lines)) }
     {
         if is_asked(asked, self.counts.calls) {
-            self.push_told(alloc, captured, role, rings(asked, begins))
+            self.push_told(alloc, time, octets, role, rings(asked, begins))
         } else {
             self.counts = self.counts.with_other();
             Ok(())
@@ -154,19 +212,18 @@ impl Script {
     fn push_told(
         &mut self,
         alloc: Global,
-        captured: &CapturedPacket<'_>,
+        time: Option<u128>,
+        octets: &[u8],
         role: Role,
         rings: &[u8],
     ) -> Result<(), ScriptFault>
         requires few { self.old.ticks ≤ 2 ^ 103 }
         ensures few { OnOk result (self.new.ticks ≤ 2 ^ 103) }
         ensures ok { (told : ScriptSoFar) → Holds self.old told → (lines : List (List ℕ)) → rings.now ≡ text_of_lines lines
-            → OnOk result (Holds self.new (told_with told captured.now role lines)) }
+            → OnOk result (Holds self.new (told_with told time octets.now role lines)) }
         ensures err { (told : ScriptSoFar) → Holds self.old told → (lines : List (List ℕ)) → rings.now ≡ text_of_lines lines
-            → IfErr result (λ e. Stops e (text_of_lines (told_with told captured.now role lines).lines)) }
+            → IfErr result (λ e. Stops e (text_of_lines (told_with told time octets.now role lines).lines)) }
     {
-        let time = captured.time();
-        let octets = captured.datagram().octets();
         let start = start_at(self.start, time);
         let tick = tick_at(start, time);
         let before = self.ticks.max(tick);
@@ -276,7 +333,11 @@ fn push_datagram(
     match role {
         Role::FromCaller => push_octets(alloc, text, b"A ", octets),
         Role::FromCalled => push_octets(alloc, text, b"B ", octets),
-        Role::ToCaller | Role::ToCalled | Role::InFragments | Role::Unrelated => Ok(()),
+        Role::ToCaller
+        | Role::ToCalled
+        | Role::CallerInFragments
+        | Role::CalledInFragments
+        | Role::Unrelated => Ok(()),
     }
 }
 

@@ -11,7 +11,7 @@ use Rattle.fax_pcap.specs.declared.capture.FileKind.{FileKind}
 use Rattle.fax_pcap.specs.declared.capture.FileKind.TheVariants.{Unopened, Pcap, Pcapng}
 use Rattle.fax_pcap.specs.Fields.{◌>>=◌, front_of, number_16, number_32}
 use Rattle.fax_pcap.specs.Frames.{link_of}
-use Rattle.fax_pcap.specs.Captures.{BlockValue, FailsAs, Follow, HeadValue, ReadsAs, ReadValue, RecordValue, TimedDatagram, block_at, block_of, block_record, head_record, most_of_record, packet_record, pcap_of, pcap_packet_at, pcap_packet_of, pcap_record, pcapng_record, read_at, read_of, read_of_record, record_at, record_of_kind, section_at, section_head, section_order_at, section_record, unit_of_magic}
+use Rattle.fax_pcap.specs.Captures.{BlockValue, FailsAs, Follow, HeadValue, ReadsAs, ReadValue, RecordValue, TimedPacket, block_at, block_of, block_record, head_record, most_of_record, packet_record, pcap_of, pcap_packet_at, pcap_packet_of, pcap_record, pcapng_record, read_at, read_of, read_of_record, record_at, record_of_kind, section_at, section_head, section_order_at, section_record, unit_of_magic}
 
 -- ---- readers that go on alike
 
@@ -265,7 +265,7 @@ same_fault fault other r is was = sym (ap (fault_in fault) is) ∙ ap (fault_in 
 no_cut : {X : Type 0} → (x : X) (r : Result X CaptureFault) → r ≡ Ok x → r ≢ Err Cut
 no_cut x r is cut = let wrong : Ok x ≡ Err Cut = sym is ∙ cut in cc
 
-pub ReadsAs-more : (old : HeadValue) (octets : List ℕ) (found : Option TimedDatagram) (head : HeadValue) (after more : List ℕ)
+pub ReadsAs-more : (old : HeadValue) (octets : List ℕ) (found : Option TimedPacket) (head : HeadValue) (after more : List ℕ)
     → ReadsAs (record_at old octets) found head after → ReadsAs (record_at old (octets ++ more)) found head (after ++ more)
 ReadsAs-more old octets found head after more is =
     read_lasts old octets more (no_cut (record { found = found; head = head }, after) (read_of (record_at old octets)) is) ∙ ap (with_more more) is
@@ -276,14 +276,14 @@ refused-more old octets more fault other is =
     let not_cut_here : read_of (record_at old octets) ≢ Err Cut = λ cut. other (same_fault fault Cut (read_of (record_at old octets)) is cut) in
     read_lasts old octets more not_cut_here ∙ ap (with_more more) is
 
-pub Follow-more : (old : HeadValue) (octets : List ℕ) (founds : List (Option TimedDatagram)) (new : HeadValue) (after more : List ℕ)
+pub Follow-more : (old : HeadValue) (octets : List ℕ) (founds : List (Option TimedPacket)) (new : HeadValue) (after more : List ℕ)
     → Follow old octets founds new after → Follow old (octets ++ more) founds new (after ++ more)
 Follow-more old octets [] new after more all = (all.0, ap (λ (l : List ℕ). l ++ more) all.1)
 Follow-more old octets (found ∷ founds) new after more all =
     (all.0, all.1 ++ more, ReadsAs-more old octets found all.0 all.1 more all.2, Follow-more all.0 all.1 founds new after more all.3)
 
 -- one record more, and the records of two runs
-pub Follow-push : (old : HeadValue) (octets : List ℕ) (founds : List (Option TimedDatagram)) (found : Option TimedDatagram) (mid : HeadValue) (rest : List ℕ) (new : HeadValue) (after : List ℕ)
+pub Follow-push : (old : HeadValue) (octets : List ℕ) (founds : List (Option TimedPacket)) (found : Option TimedPacket) (mid : HeadValue) (rest : List ℕ) (new : HeadValue) (after : List ℕ)
     → Follow old octets founds mid rest → ReadsAs (record_at mid rest) found new after → Follow old octets (founds ++ found ∷ []) new after
 Follow-push old octets [] found mid rest new after all one =
     let here : ReadsAs (record_at old octets) found new after = subst (λ (h : HeadValue). ReadsAs (record_at h octets) found new after) all.0 (subst (λ (l : List ℕ). ReadsAs (record_at mid l) found new after) all.1 one) in
@@ -291,7 +291,7 @@ Follow-push old octets [] found mid rest new after all one =
 Follow-push old octets (f ∷ founds) found mid rest new after all one =
     (all.0, all.1, all.2, Follow-push all.0 all.1 founds found mid rest new after all.3 one)
 
-pub Follow-append : (old : HeadValue) (octets : List ℕ) (founds others : List (Option TimedDatagram)) (mid : HeadValue) (rest : List ℕ) (new : HeadValue) (after : List ℕ)
+pub Follow-append : (old : HeadValue) (octets : List ℕ) (founds others : List (Option TimedPacket)) (mid : HeadValue) (rest : List ℕ) (new : HeadValue) (after : List ℕ)
     → Follow old octets founds mid rest → Follow mid rest others new after → Follow old octets (founds ++ others) new after
 Follow-append old octets [] others mid rest new after all more =
     subst (λ (h : HeadValue). Follow h octets others new after) all.0 (subst (λ (l : List ℕ). Follow mid l others new after) all.1 more)

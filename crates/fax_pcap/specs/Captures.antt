@@ -1,7 +1,7 @@
 -- CAPTURES: the records of a file, one after the other, and the datagrams in them. (pcap savefiles: pcap-savefile(5) of
 -- libpcap, version 2.4; pcapng: draft-ietf-opsawg-pcapng. Options other than the unit and the offset of time are not read: this
 -- project's profile.)
-use Rattle.std.specs.Prelude.{◌≡◌, ◌⊎◌, ℕ, zero, suc, ◌+◌, ◌-◌, ◌*◌, ◌/◌, ◌%◌, ◌^◌, ◌==◌, ◌&&◌, ◌||◌, not, nat_lt, min, Bool, true, false, List, [], ◌∷◌, ◌++◌, take, drop, length, slice_index, slice_get, Option, Some, None, Result, Ok, Err, if◌then◌else◌}
+use Rattle.std.specs.Prelude.{◌≡◌, ◌⊎◌, ℕ, zero, suc, ◌+◌, ◌-◌, ◌*◌, ◌/◌, ◌%◌, ◌^◌, ◌==◌, ◌&&◌, ◌||◌, not, nat_lt, min, Bool, true, false, List, [], ◌∷◌, ◌++◌, take, drop, length, slice_index, slice_get, Option, Some, None, is_some, Result, Ok, Err, if◌then◌else◌}
 use Rattle.fax_pcap.specs.declared.fields.ByteOrder.{ByteOrder}
 use Rattle.fax_pcap.specs.declared.fields.ByteOrder.TheVariants.{Big, Little}
 use Rattle.fax_pcap.specs.declared.link.LinkType.{LinkType}
@@ -15,7 +15,9 @@ use Rattle.fax_pcap.specs.declared.pcap.PcapFile.{PcapFile}
 use Rattle.fax_pcap.specs.declared.capture.FileKind.{FileKind}
 use Rattle.fax_pcap.specs.declared.capture.FileKind.TheVariants.{Unopened, Pcap, Pcapng}
 use Rattle.fax_pcap.specs.Fields.{◌>>=◌, front_of, number_16, number_32, number_64}
-use Rattle.fax_pcap.specs.Frames.{DatagramValue, FrameRead, frame_at, link_of}
+use Rattle.fax_pcap.specs.declared.found.Found.{Found}
+use Rattle.fax_pcap.specs.declared.found.Found.TheVariants.{Datagram, Fragment}
+use Rattle.fax_pcap.specs.Frames.{FrameRead, frame_at, link_of}
 
 -- A packet: when it was captured, in nanoseconds, where that is told; its link; whether fewer of its octets were captured
 -- than it had; and those that were.
@@ -25,10 +27,10 @@ pub record PacketValue : Type 0 where
   pub is_cut : Bool
   pub octets : List ℕ
 
--- a datagram, and when it was captured
-pub record TimedDatagram : Type 0 where
+-- a datagram, or a fragment of one, and when it was captured
+pub record TimedPacket : Type 0 where
   pub time : Option ℕ
-  pub datagram : DatagramValue
+  pub found : Found
 
 -- What was told of a capture so far: by its head, and in pcapng by the head of the last section and the interfaces after it.
 pub record HeadValue : Type 0 where
@@ -281,31 +283,38 @@ record_at head octets = record_of_kind head.kind head octets
 
 -- ---- what a capture means
 
--- What a frame tells of its packet: a datagram, or none. Of a packet that was captured in part, and in the first of fragments, a
--- datagram may be there in part; where its headers are not there, whose it is is not known, and the capture is a cut one.
-unfoldable pub datagram_of_frame : Option ℕ → Bool → FrameRead → Result (Option TimedDatagram) CaptureFault
-datagram_of_frame time is_cut (Ok datagram) =
-    if not datagram.is_whole && not (is_cut || datagram.is_fragment) then Ok None else Ok (Some (record { time = time; datagram = datagram }))
-datagram_of_frame time is_cut (Err Other) = Ok None
-datagram_of_frame time true (Err Short) = Err Snapped
-datagram_of_frame time false (Err Short) = Ok None
+-- A datagram whose header counts more octets than its packet has is none, where all of the packet was captured; of the first of
+-- fragments others have them.
+abbrev pub lacks_octets : Found → Bool
+lacks_octets (Datagram datagram) = not datagram.is_whole && not (is_some datagram.fragments)
+lacks_octets (Fragment fragment) = false
 
-abbrev pub datagram_of_packet : PacketValue → Result (Option TimedDatagram) CaptureFault
-datagram_of_packet packet = datagram_of_frame packet.time packet.is_cut (frame_at packet.link packet.octets)
+-- What a frame tells of its packet: a datagram, or a fragment of one, or none. Of a packet that was captured in part, and in the first
+-- of fragments, a datagram may be there in part; where its headers are not there, whose it is is not known, and the capture is a cut
+-- one.
+unfoldable pub found_in_frame : Option ℕ → Bool → FrameRead → Result (Option TimedPacket) CaptureFault
+found_in_frame time is_cut (Ok found) =
+    if lacks_octets found && not is_cut then Ok None else Ok (Some (record { time = time; found = found }))
+found_in_frame time is_cut (Err Other) = Ok None
+found_in_frame time true (Err Short) = Err Snapped
+found_in_frame time false (Err Short) = Ok None
 
--- what was read: a datagram, where the record has one, and what is told of the capture then
+abbrev pub found_in_packet : PacketValue → Result (Option TimedPacket) CaptureFault
+found_in_packet packet = found_in_frame packet.time packet.is_cut (frame_at packet.link packet.octets)
+
+-- what was read: a datagram or a fragment, where the record has one, and what is told of the capture then
 pub record ReadValue : Type 0 where
-  pub found : Option TimedDatagram
+  pub found : Option TimedPacket
   pub head : HeadValue
 
 unfoldable pub read_of_record : RecordValue → Result ReadValue CaptureFault
 read_of_record told = elim told.packet [
-  | Some packet ↦ datagram_of_packet packet >>= λ found. Ok (record { found = found; head = told.head })
+  | Some packet ↦ found_in_packet packet >>= λ found. Ok (record { found = found; head = told.head })
   | None ↦ Ok (record { found = None; head = told.head })
 ]
 
 -- a block is read so, or not
-abbrev pub ReadsBlock : Result RecordValue CaptureFault → Option TimedDatagram → HeadValue → Type 0
+abbrev pub ReadsBlock : Result RecordValue CaptureFault → Option TimedPacket → HeadValue → Type 0
 ReadsBlock told found head = told >>= read_of_record ≡ Ok (record { found = found; head = head })
 
 abbrev pub FailsBlock : Result RecordValue CaptureFault → CaptureFault → Type 0
@@ -319,7 +328,7 @@ abbrev pub read_at : HeadValue → List ℕ → Result (ReadValue × List ℕ) C
 read_at head octets = read_of (record_at head octets)
 
 -- a record is read so: this was found, this is told of the capture then, and these octets stand after it
-abbrev pub ReadsAs : Result (RecordValue × List ℕ) CaptureFault → Option TimedDatagram → HeadValue → List ℕ → Type 0
+abbrev pub ReadsAs : Result (RecordValue × List ℕ) CaptureFault → Option TimedPacket → HeadValue → List ℕ → Type 0
 ReadsAs recorded found head after = read_of recorded ≡ Ok (record { found = found; head = head }, after)
 
 -- or not, for want of memory or for this fault
@@ -327,7 +336,7 @@ abbrev pub FailsAs : Result (RecordValue × List ℕ) CaptureFault → CaptureFa
 FailsAs recorded fault = (fault ≡ NoMemory) ⊎ (read_of recorded ≡ Err fault)
 
 -- One record after the other, from octets to those after them, this is found.
-abbrev pub Follow : HeadValue → List ℕ → List (Option TimedDatagram) → HeadValue → List ℕ → Type 0
+abbrev pub Follow : HeadValue → List ℕ → List (Option TimedPacket) → HeadValue → List ℕ → Type 0
 Follow old octets [] new after = (new ≡ old) × (after ≡ octets)
 Follow old octets (found ∷ more) new after =
     (head : HeadValue) × (rest : List ℕ) × ReadsAs (record_at old octets) found head rest × Follow head rest more new after

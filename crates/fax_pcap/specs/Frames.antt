@@ -1,31 +1,21 @@
--- FRAMES: where a UDP datagram stands in what was captured of a link. (IEEE 802.3 and 802.1Q; LINKTYPE_LINUX_SLL and
--- LINKTYPE_LINUX_SLL2, LINKTYPE_NULL and LINKTYPE_LOOP of the registry of link types; RFC 791, RFC 8200, RFC 768. Of fragments
--- the first alone is read, and of headers of extension that of a fragment: this project's profile.)
-use Rattle.std.specs.Prelude.{ℕ, min, ◌-◌, ◌*◌, ◌/◌, ◌%◌, ◌==◌, ◌&&◌, ◌||◌, not, nat_lt, Bool, false, List, take, drop, length, slice_index, Result, Ok, Err, if◌then◌else◌}
+-- FRAMES: where a UDP datagram, or a fragment of one, stands in what was captured of a link. (IEEE 802.3 and 802.1Q;
+-- LINKTYPE_LINUX_SLL and LINKTYPE_LINUX_SLL2, LINKTYPE_NULL and LINKTYPE_LOOP of the registry of link types; RFC 791, RFC 8200,
+-- RFC 768. Of headers of extension that of a fragment alone is read: this project's profile.)
+use Rattle.std.specs.Prelude.{ℕ, min, ◌-◌, ◌*◌, ◌/◌, ◌%◌, ◌==◌, ◌&&◌, ◌||◌, not, nat_lt, Bool, List, take, drop, length, slice_index, Option, Some, None, Result, Ok, Err, if◌then◌else◌}
 use Rattle.fax_pcap.specs.declared.fields.ByteOrder.TheVariants.{Big, Little}
 use Rattle.fax_pcap.specs.declared.link.LinkType.{LinkType}
 use Rattle.fax_pcap.specs.declared.link.LinkType.TheVariants.{Ethernet, LinuxCooked, LinuxCooked2, Loopback, RawIp, Unread}
+use Rattle.fax_pcap.specs.declared.found.Found.{Found}
+use Rattle.fax_pcap.specs.declared.found.Found.TheVariants.{Datagram, Fragment}
 use Rattle.fax_pcap.specs.declared.frame.FrameFault.{FrameFault}
 use Rattle.fax_pcap.specs.declared.frame.FrameFault.TheVariants.{Other, Short}
+use Rattle.fax_pcap.specs.declared.part.Part.{Part}
+use Rattle.fax_pcap.specs.Datagrams.{EndpointValue}
 use Rattle.fax_pcap.specs.Fields.{◌>>=◌, front_of, number_16, number_32}
 
--- a host, by the 4 octets of its address of IPv4 or the 16 of IPv6, and a port
-pub record EndpointValue : Type 0 where
-  pub host : List ℕ
-  pub port : ℕ
-
--- a UDP datagram: who sent it, to whom, whether it is the first of fragments of one, whether all of its data is there, and what
--- is there of it
-pub record DatagramValue : Type 0 where
-  pub source : EndpointValue
-  pub destination : EndpointValue
-  pub is_fragment : Bool
-  pub is_whole : Bool
-  pub octets : List ℕ
-
--- A datagram; or traffic of another kind; or the octets end inside of a header.
+-- A datagram, or a fragment of one; or traffic of another kind; or the octets end inside of a header.
 abbrev pub FrameRead : Type 0
-FrameRead = Result DatagramValue FrameFault
+FrameRead = Result Found FrameFault
 
 -- the numbers of link types that are read: LINKTYPE_ETHERNET, _LINUX_SLL, _LINUX_SLL2, _NULL and _LOOP, and _RAW, _IPV4 and
 -- _IPV6; 12 and 14 are what some systems have for _RAW
@@ -39,65 +29,90 @@ link_of number =
     else Unread
 
 -- the data of UDP: its length counts the eight octets of the header too
-unfoldable pub data_at : EndpointValue → EndpointValue → Bool → ℕ → List ℕ → FrameRead
-data_at source destination is_fragment count octets =
+unfoldable pub data_at : EndpointValue → EndpointValue → Option ℕ → ℕ → List ℕ → FrameRead
+data_at source destination fragments count octets =
     if nat_lt count 8 then Err Other
-    else Ok (record {
+    else Ok (Datagram (record {
       source = source;
       destination = destination;
-      is_fragment = is_fragment;
+      fragments = fragments;
+      length = count - 8;
       is_whole = not (nat_lt (length octets) (count - 8));
       octets = take (count - 8) octets;
-    })
+    }))
 
 -- UDP (RFC 768): the ports of both ends, the length and a checksum, which is not read
-unfoldable pub udp_at : List ℕ → List ℕ → Bool → List ℕ → FrameRead
-udp_at source destination is_fragment octets = do
+unfoldable pub udp_at : List ℕ → List ℕ → Option ℕ → List ℕ → FrameRead
+udp_at source destination fragments octets = do
   parts ← front_of Short 8 octets
   data_at (record { host = source; port = number_16 Big parts.0 0 }) (record { host = destination; port = number_16 Big parts.0 2 })
-      is_fragment (number_16 Big parts.0 4) parts.1
+      fragments (number_16 Big parts.0 4) parts.1
 
--- The first 20 octets of a datagram of IPv4 (RFC 791) say that it carries UDP from its front on: its version, a header of 20
--- octets or more, which the total length counts, no offset, and the protocol.
+-- A datagram that is not alone is the first of fragments, which share a number.
+abbrev pub fragments_of : Part → Option ℕ
+fragments_of part = if part.is_followed then Some part.number else None
+
+-- UDP from its front on; or a fragment after the first one. Places count eight octets each, and the first eight are the header of UDP.
+unfoldable pub part_at : List ℕ → List ℕ → Part → List ℕ → FrameRead
+part_at source destination part octets =
+    if part.place == 0 then udp_at source destination (fragments_of part) octets
+    else Ok (Fragment (record {
+      source = source;
+      destination = destination;
+      number = part.number;
+      place = 8 * (part.place - 1);
+      is_last = not part.is_followed;
+      octets = octets;
+    }))
+
+-- The first 20 octets of a datagram of IPv4 (RFC 791) say that it carries UDP: its version, a header of 20 octets or more, which
+-- the total length counts, and the protocol;
 unfoldable pub is_udp_4 : List ℕ → Bool
 is_udp_4 header =
     (slice_index header 0 / 16 == 4) && (not (nat_lt (slice_index header 0 % 16) 5)
-    && (not (nat_lt (number_16 Big header 2) (4 * (slice_index header 0 % 16)))
-    && ((number_16 Big header 6 % 8192 == 0) && (slice_index header 9 == 17))))
+    && (not (nat_lt (number_16 Big header 2) (4 * (slice_index header 0 % 16))) && (slice_index header 9 == 17)))
 
--- or that more fragments follow
-unfoldable pub is_followed : List ℕ → Bool
-is_followed header = (number_16 Big header 6 / 8192) % 2 == 1
+-- and which part of it: its identification, 13 bits of an offset, and, by one more bit, whether more fragments follow
+unfoldable pub part_4 : List ℕ → Part
+part_4 header = record {
+  number = number_16 Big header 4;
+  place = number_16 Big header 6 % 8192;
+  is_followed = (number_16 Big header 6 / 8192) % 2 == 1;
+}
+
+-- Where the headers of a first fragment are not there, whose it is is not known. Of another one that is not known anyway.
+abbrev pub fault_of_part : Part → FrameFault
+fault_of_part part = if part.place == 0 then Short else Other
 
 unfoldable pub ip_4_at : List ℕ → FrameRead
 ip_4_at octets = do
   parts ← front_of Short 20 octets
-  if is_udp_4 parts.0 then (front_of Short (4 * (slice_index parts.0 0 % 16) - 20) parts.1 >>= λ options.
-      udp_at (take 4 (drop 12 parts.0)) (take 4 (drop 16 parts.0)) (is_followed parts.0) (take (number_16 Big parts.0 2 - 4 * (slice_index parts.0 0 % 16)) options.1))
+  if is_udp_4 parts.0 then (front_of (fault_of_part (part_4 parts.0)) (4 * (slice_index parts.0 0 % 16) - 20) parts.1 >>= λ options.
+      part_at (take 4 (drop 12 parts.0)) (take 4 (drop 16 parts.0)) (part_4 parts.0) (take (number_16 Big parts.0 2 - 4 * (slice_index parts.0 0 % 16)) options.1))
       else Err Other
 
 -- The 40 octets of a header of IPv6 (RFC 8200) say what stands after it: their version, and the next header.
 abbrev pub is_next_6 : List ℕ → ℕ → Bool
 is_next_6 header next = (slice_index header 0 / 16 == 6) && (slice_index header 6 == next)
 
--- The eight octets of the header of a fragment (RFC 8200, 4.5) say that UDP stands in it from its front on: the next header, and
--- 13 bits of an offset;
-abbrev pub is_first_6 : List ℕ → Bool
-is_first_6 header = (slice_index header 0 == 17) && (number_16 Big header 2 / 8 == 0)
-
--- or, by one more bit, that more fragments follow
-abbrev pub is_followed_6 : List ℕ → Bool
-is_followed_6 header = number_16 Big header 2 % 2 == 1
+-- The eight octets of the header of a fragment (RFC 8200, 4.5) say which part of a datagram it is: 13 bits of an offset, one that
+-- tells whether more fragments follow, and the identification.
+unfoldable pub part_6 : List ℕ → Part
+part_6 header = record {
+  number = number_32 Big header 4;
+  place = number_16 Big header 2 / 8;
+  is_followed = number_16 Big header 2 % 2 == 1;
+}
 
 unfoldable pub fragment_6_at : List ℕ → List ℕ → List ℕ → FrameRead
 fragment_6_at source destination octets = do
   parts ← front_of Short 8 octets
-  if is_first_6 parts.0 then udp_at source destination (is_followed_6 parts.0) parts.1 else Err Other
+  if slice_index parts.0 0 == 17 then part_at source destination (part_6 parts.0) parts.1 else Err Other
 
 -- UDP after the header, or after that of a fragment
 unfoldable pub after_ip_6 : List ℕ → List ℕ → FrameRead
 after_ip_6 header octets =
-    if is_next_6 header 17 then udp_at (take 16 (drop 8 header)) (take 16 (drop 24 header)) false octets
+    if is_next_6 header 17 then udp_at (take 16 (drop 8 header)) (take 16 (drop 24 header)) None octets
     else if is_next_6 header 44 then fragment_6_at (take 16 (drop 8 header)) (take 16 (drop 24 header)) octets
     else Err Other
 

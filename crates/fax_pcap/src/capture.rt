@@ -52,7 +52,7 @@ impl Model for Capture {
     ghost view = { λ c. record { kind = c.kind; order = c.order; interfaces = c.interfaces.items } };
 }
 
-/// A record that was read: the datagram that it has, where it has one; and the octets after it.
+/// A record that was read: the datagram that it has, or the fragment of one, where it has either; and the octets after it.
 #[derive(Drop)]
 pub struct RecordRead<'a> {
     pub found: Option<CapturedPacket<'a>>,

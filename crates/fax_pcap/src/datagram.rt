@@ -11,7 +11,7 @@ pub struct Endpoint<'a> {
 }
 
 impl<'a> Model for Endpoint<'a> {
-    ghost use Rattle.fax_pcap.specs.Frames.{EndpointValue};
+    ghost use Rattle.fax_pcap.specs.Datagrams.{EndpointValue};
 
     ghost Value = { EndpointValue };
 
@@ -39,18 +39,18 @@ impl<'a> Endpoint<'a> {
 pub struct Datagram<'a> {
     pub(crate) source: Endpoint<'a>,
     pub(crate) destination: Endpoint<'a>,
-    /// Whether it is the first of the fragments of one.
-    pub(crate) is_fragment: bool,
+    pub(crate) fragments: Option<u32>,
+    pub(crate) length: u16,
     pub(crate) is_whole: bool,
     pub(crate) octets: &'a [u8],
 }
 
 impl<'a> Model for Datagram<'a> {
-    ghost use Rattle.fax_pcap.specs.Frames.{DatagramValue};
+    ghost use Rattle.fax_pcap.specs.Datagrams.{DatagramValue};
 
     ghost Value = { DatagramValue };
 
-    ghost view = { λ d. record { source = d.source; destination = d.destination; is_fragment = d.is_fragment; is_whole = d.is_whole; octets = d.octets.now } };
+    ghost view = { λ d. record { source = d.source; destination = d.destination; fragments = d.fragments; length = d.length; is_whole = d.is_whole; octets = d.octets.now } };
 }
 
 impl<'a> Datagram<'a> {
@@ -68,11 +68,18 @@ impl<'a> Datagram<'a> {
         &self.destination
     }
 
-    /// Whether it went in fragments, of which this is the first.
-    pub fn is_fragment(&self) -> bool
-        ensures { result ≡ self.now.is_fragment }
+    /// The number that its fragments share, where it went in fragments and this is the first one.
+    pub fn fragments(&self) -> Option<u32>
+        ensures { result ≡ self.now.fragments }
     {
-        self.is_fragment
+        self.fragments
+    }
+
+    /// How many octets of data it has, of which all may not be there.
+    pub fn length(&self) -> u16
+        ensures { result ≡ self.now.length }
+    {
+        self.length
     }
 
     /// Whether all of its data is there.

@@ -1,10 +1,10 @@
-//! Where a UDP datagram stands in a packet.
+//! Where a UDP datagram, or a fragment of one, stands in a packet.
 ghost use Rattle.std.specs.Prelude.{◌≡◌, ◌+◌, ◌≤◌};
 ghost use Rattle.fax_pcap.specs.Fields.{Gives};
 ghost use Rattle.fax_pcap.specs.Frames.{untagged, protocol_at, after_header, family_at, loopback_at, frame_at};
 
-use crate::datagram::Datagram;
 use crate::fields::{ByteOrder, read_16, read_32, split_front};
+use crate::found::Found;
 use crate::ip::{read_ip, read_ip_4, read_ip_6};
 use crate::link::LinkType;
 
@@ -26,10 +26,10 @@ pub(crate) enum FrameFault {
     Short,
 }
 
-/// The datagram in a packet of this link.
+/// The datagram in a packet of this link, or the fragment of one.
 #[tactic(auto, unfolding(crate::specs::Frames::frame_at))]
-pub(crate) fn read_frame(link: LinkType, octets: &[u8]) -> Result<Datagram<'_>, FrameFault>
-    ensures { Gives (λ d. d) result (frame_at link octets.now) }
+pub(crate) fn read_frame(link: LinkType, octets: &[u8]) -> Result<Found<'_>, FrameFault>
+    ensures { Gives (λ f. f) result (frame_at link octets.now) }
 {
     match link {
         LinkType::Ethernet => read_after_header(14, 12, octets),
@@ -43,8 +43,8 @@ pub(crate) fn read_frame(link: LinkType, octets: &[u8]) -> Result<Datagram<'_>, 
 
 /// The datagram after the header of a loopback interface.
 #[tactic(auto, unfolding(crate::specs::Frames::loopback_at, crate::specs::Fields::front_of))]
-fn read_loopback(octets: &[u8]) -> Result<Datagram<'_>, FrameFault>
-    ensures { Gives (λ d. d) result (loopback_at octets.now) }
+fn read_loopback(octets: &[u8]) -> Result<Found<'_>, FrameFault>
+    ensures { Gives (λ f. f) result (loopback_at octets.now) }
 {
     let (header, rest) = split_front(FrameFault::Short, 4, octets)?;
     let big = read_32(ByteOrder::Big, header, 0);
@@ -54,8 +54,8 @@ fn read_loopback(octets: &[u8]) -> Result<Datagram<'_>, FrameFault>
 
 /// The datagram in the octets of a family of addresses.
 #[tactic(auto, unfolding(crate::specs::Frames::family_at))]
-fn read_family(family: u32, octets: &[u8]) -> Result<Datagram<'_>, FrameFault>
-    ensures { Gives (λ d. d) result (family_at family octets.now) }
+fn read_family(family: u32, octets: &[u8]) -> Result<Found<'_>, FrameFault>
+    ensures { Gives (λ f. f) result (family_at family octets.now) }
 {
     match family {
         2 => read_ip_4(octets),
@@ -66,9 +66,9 @@ fn read_family(family: u32, octets: &[u8]) -> Result<Datagram<'_>, FrameFault>
 
 /// The datagram after a header of so many octets, in which the type of protocol stands at a place.
 #[tactic(auto, unfolding(crate::specs::Frames::after_header, crate::specs::Fields::front_of))]
-fn read_after_header(count: usize, place: usize, octets: &[u8]) -> Result<Datagram<'_>, FrameFault>
+fn read_after_header(count: usize, place: usize, octets: &[u8]) -> Result<Found<'_>, FrameFault>
     requires { place + 2 ≤ count }
-    ensures { Gives (λ d. d) result (after_header count place octets.now) }
+    ensures { Gives (λ f. f) result (after_header count place octets.now) }
 {
     let (header, rest) = split_front(FrameFault::Short, count, octets)?;
     read_protocol(read_16(ByteOrder::Big, header, place), rest)
@@ -76,8 +76,8 @@ fn read_after_header(count: usize, place: usize, octets: &[u8]) -> Result<Datagr
 
 /// The datagram in the octets of a protocol, after two tags at most.
 #[tactic(auto, unfolding(crate::specs::Frames::protocol_at))]
-fn read_protocol(protocol: u16, octets: &[u8]) -> Result<Datagram<'_>, FrameFault>
-    ensures { Gives (λ d. d) result (protocol_at protocol octets.now) }
+fn read_protocol(protocol: u16, octets: &[u8]) -> Result<Found<'_>, FrameFault>
+    ensures { Gives (λ f. f) result (protocol_at protocol octets.now) }
 {
     let (protocol, octets) = pass_tag(protocol, octets)?;
     let (protocol, octets) = pass_tag(protocol, octets)?;

@@ -1,11 +1,14 @@
-//! Datagrams of IP, and of UDP in them.
+//! Datagrams of IP, and of UDP in them, or fragments of such.
 ghost use Rattle.std.specs.Prelude.{◌≡◌, ◌≤◌, ◌*◌, ◌%◌, IsTrue, length, slice_index, take};
 ghost use Rattle.fax_pcap.specs.Fields.{Gives, number_16};
-ghost use Rattle.fax_pcap.specs.Frames.{after_ip_6, data_at, fragment_6_at, ip_4_at, ip_6_at, ip_at, is_followed, is_udp_4, udp_at};
+ghost use Rattle.fax_pcap.specs.Frames.{after_ip_6, data_at, fragment_6_at, ip_4_at, ip_6_at, ip_at, is_udp_4, part_4, part_6, part_at, udp_at};
 
 use crate::datagram::{Datagram, Endpoint};
-use crate::fields::{ByteOrder, read_16, split_front};
+use crate::fields::{ByteOrder, read_16, read_32, split_front};
+use crate::found::Found;
+use crate::fragment::Fragment;
 use crate::frame::FrameFault;
+use crate::part::Part;
 
 /// The number of UDP among the protocols of IP.
 const UDP: u8 = 17;
@@ -15,8 +18,8 @@ const FRAGMENT: u8 = 44;
 
 /// The UDP datagram in a datagram of IP of either version.
 #[tactic(auto, unfolding(crate::specs::Frames::ip_at, crate::specs::Fields::front_of))]
-pub(crate) fn read_ip(octets: &[u8]) -> Result<Datagram<'_>, FrameFault>
-    ensures { Gives (λ d. d) result (ip_at octets.now) }
+pub(crate) fn read_ip(octets: &[u8]) -> Result<Found<'_>, FrameFault>
+    ensures { Gives (λ f. f) result (ip_at octets.now) }
 {
     let (first, _) = split_front(FrameFault::Short, 1, octets)?;
     if first[0] / 16 == 4 {
@@ -26,27 +29,28 @@ pub(crate) fn read_ip(octets: &[u8]) -> Result<Datagram<'_>, FrameFault>
     }
 }
 
-/// The UDP datagram in a datagram of IPv4, or in the first of its fragments.
+/// The UDP datagram in a datagram of IPv4, or the fragment of one.
 #[tactic(auto, unfolding(crate::specs::Frames::ip_4_at, crate::specs::Fields::front_of))]
-pub(crate) fn read_ip_4(octets: &[u8]) -> Result<Datagram<'_>, FrameFault>
-    ensures { Gives (λ d. d) result (ip_4_at octets.now) }
+pub(crate) fn read_ip_4(octets: &[u8]) -> Result<Found<'_>, FrameFault>
+    ensures { Gives (λ f. f) result (ip_4_at octets.now) }
 {
     let (header, rest) = split_front(FrameFault::Short, 20, octets)?;
     if !is_udp(header) {
         return Err(FrameFault::Other);
     }
+    let part = part_of_4(header);
     let header_length = 4 * usize::from(header[0] % 16);
-    let (_, rest) = split_front(FrameFault::Short, header_length - 20, rest)?;
+    let (_, rest) = split_front(part.fault(), header_length - 20, rest)?;
     let length = usize::from(read_16(ByteOrder::Big, header, 2)) - header_length;
-    read_udp(
+    read_part(
         &header[12..16],
         &header[16..20],
-        is_followed(header),
+        part,
         first_octets(length, rest),
     )
 }
 
-/// Whether a header of IPv4 says that its datagram carries UDP from its front on.
+/// Whether a header of IPv4 says that its datagram carries UDP.
 #[tactic(auto, unfolding(crate::specs::Frames::is_udp_4))]
 fn is_udp(header: &[u8]) -> bool
     requires { length header.now ≡ 20 }
@@ -58,23 +62,27 @@ fn is_udp(header: &[u8]) -> bool
     header[0] / 16 == 4
         && words >= 5
         && read_16(ByteOrder::Big, header, 2) >= 4 * u16::from(words)
-        && read_16(ByteOrder::Big, header, 6) % 8_192 == 0
         && header[9] == UDP
 }
 
-/// Whether a header of IPv4 says that more fragments follow.
-#[tactic(auto, unfolding(crate::specs::Frames::is_followed))]
-fn is_followed(header: &[u8]) -> bool
+/// The part of a datagram that a header of IPv4 tells.
+#[tactic(auto, unfolding(crate::specs::Frames::part_4))]
+fn part_of_4(header: &[u8]) -> Part
     requires { length header.now ≡ 20 }
-    ensures { result ≡ is_followed header.now }
+    ensures { result ≡ part_4 header.now }
 {
-    read_16(ByteOrder::Big, header, 6) / 8_192 % 2 == 1
+    let field = read_16(ByteOrder::Big, header, 6);
+    Part {
+        number: u32::from(read_16(ByteOrder::Big, header, 4)),
+        place: field % 8_192,
+        is_followed: field / 8_192 % 2 == 1,
+    }
 }
 
-/// The UDP datagram in a datagram of IPv6, or in the first of its fragments.
+/// The UDP datagram in a datagram of IPv6, or the fragment of one.
 #[tactic(auto, unfolding(crate::specs::Frames::ip_6_at, crate::specs::Fields::front_of))]
-pub(crate) fn read_ip_6(octets: &[u8]) -> Result<Datagram<'_>, FrameFault>
-    ensures { Gives (λ d. d) result (ip_6_at octets.now) }
+pub(crate) fn read_ip_6(octets: &[u8]) -> Result<Found<'_>, FrameFault>
+    ensures { Gives (λ f. f) result (ip_6_at octets.now) }
 {
     let (header, rest) = split_front(FrameFault::Short, 40, octets)?;
     let length = usize::from(read_16(ByteOrder::Big, header, 4));
@@ -83,9 +91,9 @@ pub(crate) fn read_ip_6(octets: &[u8]) -> Result<Datagram<'_>, FrameFault>
 
 /// The UDP datagram after a header of IPv6, or after that of a fragment.
 #[tactic(auto, unfolding(crate::specs::Frames::after_ip_6))]
-fn read_after_ip_6<'a>(header: &'a [u8], octets: &'a [u8]) -> Result<Datagram<'a>, FrameFault>
+fn read_after_ip_6<'a>(header: &'a [u8], octets: &'a [u8]) -> Result<Found<'a>, FrameFault>
     requires { length header.now ≡ 40 }
-    ensures { Gives (λ d. d) result (after_ip_6 header.now octets.now) }
+    ensures { Gives (λ f. f) result (after_ip_6 header.now octets.now) }
 {
     let source = &header[8..24];
     let destination = &header[24..40];
@@ -93,27 +101,63 @@ fn read_after_ip_6<'a>(header: &'a [u8], octets: &'a [u8]) -> Result<Datagram<'a
         return Err(FrameFault::Other);
     }
     match header[6] {
-        UDP => read_udp(source, destination, false, octets),
+        UDP => read_udp(source, destination, None, octets),
         FRAGMENT => read_fragment(source, destination, octets),
         _ => Err(FrameFault::Other),
     }
 }
 
-/// The UDP datagram in the first of the fragments of one of IPv6.
+/// The UDP datagram, or the fragment of one, after the header of a fragment of IPv6.
 #[tactic(auto, unfolding(crate::specs::Frames::fragment_6_at, crate::specs::Fields::front_of))]
 fn read_fragment<'a>(
     source: &'a [u8],
     destination: &'a [u8],
     octets: &'a [u8],
-) -> Result<Datagram<'a>, FrameFault>
-    ensures { Gives (λ d. d) result (fragment_6_at source.now destination.now octets.now) }
+) -> Result<Found<'a>, FrameFault>
+    ensures { Gives (λ f. f) result (fragment_6_at source.now destination.now octets.now) }
 {
     let (header, rest) = split_front(FrameFault::Short, 8, octets)?;
-    let place = read_16(ByteOrder::Big, header, 2);
-    if header[0] != UDP || place / 8 != 0 {
+    if header[0] != UDP {
         return Err(FrameFault::Other);
     }
-    read_udp(source, destination, place % 2 == 1, rest)
+    read_part(source, destination, part_of_6(header), rest)
+}
+
+/// The part of a datagram that the header of a fragment of IPv6 tells.
+#[tactic(auto, unfolding(crate::specs::Frames::part_6))]
+fn part_of_6(header: &[u8]) -> Part
+    requires { length header.now ≡ 8 }
+    ensures { result ≡ part_6 header.now }
+{
+    let field = read_16(ByteOrder::Big, header, 2);
+    Part {
+        number: read_32(ByteOrder::Big, header, 4),
+        place: field / 8,
+        is_followed: field % 2 == 1,
+    }
+}
+
+/// The UDP datagram, or the fragment of one, that a part of a datagram of IP has.
+#[tactic(auto, unfolding(crate::specs::Frames::part_at))]
+fn read_part<'a>(
+    source: &'a [u8],
+    destination: &'a [u8],
+    part: Part,
+    octets: &'a [u8],
+) -> Result<Found<'a>, FrameFault>
+    ensures { Gives (λ f. f) result (part_at source.now destination.now part octets.now) }
+{
+    if part.place == 0 {
+        return read_udp(source, destination, part.fragments(), octets);
+    }
+    Ok(Found::Fragment(Fragment {
+        source,
+        destination,
+        number: part.number,
+        place: 8 * usize::from(part.place - 1),
+        is_last: !part.is_followed,
+        octets,
+    }))
 }
 
 /// So many octets, or all where they are fewer.
@@ -128,10 +172,10 @@ fn first_octets(count: usize, octets: &[u8]) -> &[u8]
 fn read_udp<'a>(
     source: &'a [u8],
     destination: &'a [u8],
-    is_fragment: bool,
+    fragments: Option<u32>,
     octets: &'a [u8],
-) -> Result<Datagram<'a>, FrameFault>
-    ensures { Gives (λ d. d) result (udp_at source.now destination.now is_fragment octets.now) }
+) -> Result<Found<'a>, FrameFault>
+    ensures { Gives (λ f. f) result (udp_at source.now destination.now fragments octets.now) }
 {
     let (header, rest) = split_front(FrameFault::Short, 8, octets)?;
     let source = Endpoint {
@@ -145,7 +189,7 @@ fn read_udp<'a>(
     read_data(
         source,
         destination,
-        is_fragment,
+        fragments,
         read_16(ByteOrder::Big, header, 4),
         rest,
     )
@@ -156,21 +200,22 @@ fn read_udp<'a>(
 fn read_data<'a>(
     source: Endpoint<'a>,
     destination: Endpoint<'a>,
-    is_fragment: bool,
+    fragments: Option<u32>,
     count: u16,
     octets: &'a [u8],
-) -> Result<Datagram<'a>, FrameFault>
-    ensures { Gives (λ d. d) result (data_at source.entry destination.entry is_fragment count octets.now) }
+) -> Result<Found<'a>, FrameFault>
+    ensures { Gives (λ f. f) result (data_at source.entry destination.entry fragments count octets.now) }
 {
     if count < 8 {
         return Err(FrameFault::Other);
     }
-    let count = usize::from(count - 8);
-    Ok(Datagram {
+    let length = count - 8;
+    Ok(Found::Datagram(Datagram {
         source,
         destination,
-        is_fragment,
-        is_whole: octets.len() >= count,
-        octets: first_octets(count, octets),
-    })
+        fragments,
+        length,
+        is_whole: octets.len() >= usize::from(length),
+        octets: first_octets(usize::from(length), octets),
+    }))
 }

@@ -1,10 +1,10 @@
 //! Packets as they were captured.
 ghost use Rattle.std.specs.Prelude.{◌≡◌};
-ghost use Rattle.fax_pcap.specs.Captures.{datagram_of_packet};
+ghost use Rattle.fax_pcap.specs.Captures.{found_in_packet};
 ghost use Rattle.fax_pcap.specs.Fields.{Gives};
 
-use crate::datagram::Datagram;
 use crate::fault::CaptureFault;
+use crate::found::Found;
 use crate::frame::{FrameFault, read_frame};
 use crate::link::LinkType;
 use std::marker::Model;
@@ -31,19 +31,20 @@ impl<'a> Model for Packet<'a> {
     ghost view = { λ p. record { time = p.time; link = p.link; is_cut = p.is_cut; octets = p.octets.now } };
 }
 
-/// A datagram, whole or in part, and when it was captured, in nanoseconds since 1970, where the capture tells that.
+/// A datagram, whole or in part, or a fragment of one, and when it was captured, in nanoseconds since 1970, where the capture tells
+/// that.
 #[derive(Drop)]
 pub struct CapturedPacket<'a> {
     time: Option<u128>,
-    datagram: Datagram<'a>,
+    found: Found<'a>,
 }
 
 impl<'a> Model for CapturedPacket<'a> {
-    ghost use Rattle.fax_pcap.specs.Captures.{TimedDatagram};
+    ghost use Rattle.fax_pcap.specs.Captures.{TimedPacket};
 
-    ghost Value = { TimedDatagram };
+    ghost Value = { TimedPacket };
 
-    ghost view = { λ c. record { time = c.time; datagram = c.datagram } };
+    ghost view = { λ c. record { time = c.time; found = c.found } };
 }
 
 impl<'a> CapturedPacket<'a> {
@@ -54,29 +55,30 @@ impl<'a> CapturedPacket<'a> {
         self.time
     }
 
-    /// The datagram.
-    pub fn datagram(&self) -> &Datagram<'a>
-        ensures { result.now ≡ self.now.datagram }
+    /// The datagram, or the fragment of one.
+    pub fn found(&self) -> &Found<'a>
+        ensures { result.now ≡ self.now.found }
     {
-        &self.datagram
+        &self.found
     }
 }
 
-/// The datagram that a packet is, where it is one. `Snapped` says that it was captured up to a place inside its headers.
-#[tactic(auto, unfolding(crate::specs::Captures::datagram_of_frame))]
+/// The datagram that a packet is, or the fragment of one, where it is either. `Snapped` says that it was captured up to a place inside
+/// its headers.
+#[tactic(auto, unfolding(crate::specs::Captures::found_in_frame))]
 pub(crate) fn read_packet<'a>(
     packet: &Packet<'a>,
 ) -> Result<Option<CapturedPacket<'a>>, CaptureFault>
-    ensures { Gives (λ found. found) result (datagram_of_packet packet.now) }
+    ensures { Gives (λ found. found) result (found_in_packet packet.now) }
 {
     match read_frame(packet.link, packet.octets) {
-        Ok(datagram) => {
-            if !datagram.is_whole && !(packet.is_cut || datagram.is_fragment) {
+        Ok(found) => {
+            if found.lacks_octets() && !packet.is_cut {
                 return Ok(None);
             }
             Ok(Some(CapturedPacket {
                 time: packet.time,
-                datagram,
+                found,
             }))
         }
         Err(FrameFault::Short) if packet.is_cut => Err(CaptureFault::Snapped),
