@@ -67,10 +67,10 @@ class InAFolder(unittest.TestCase):
     def send(self, port, *words, **more):
         return self.run_program("send", "--to", address(port), *words, **more)
 
-    def receive(self, pages="got", calls=1, **more):
+    def receive(self, *words, pages="got", calls=1, **more):
         """A run that receives, and its port; its socket is open."""
         port = self.ports.take()
-        process = self.run_program("receive", "--on", address(port), "--pages", pages, "--calls", str(calls), **more)
+        process = self.run_program("receive", "--on", address(port), "--pages", pages, "--calls", str(calls), *words, **more)
         until(lambda: is_open(port) or process.poll() is not None, what="the port")
         return process, port
 

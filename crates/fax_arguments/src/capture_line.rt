@@ -115,7 +115,8 @@ const ABOUT: &str =
 const LINES_AND_STATUSES: &str = "\
 Reads:
   A capture of any size, on the standard input. Only datagrams of the two machines matter, and only of them all octets have to
-  be there. Those that went in fragments are passed over, and counted on the standard error.
+  be there. Of one that went in fragments each has to come after the one before it; else it is passed over, and counted on the
+  standard error.
 
 Prints:
   R       it rings: first, and where the caller's UDPTL numbers start over, or 60 s pass without a datagram of it

@@ -1,5 +1,5 @@
 //! The command line of `faxgate receive`.
-use crate::building::{command, option};
+use crate::building::{command, flag, option};
 use crate::options::{preamble_option, redundancy_option, repeat_option};
 use clap::builder::ValueParser;
 use clap::{Arg, Command};
@@ -10,11 +10,12 @@ pub(crate) fn receive_command<'a>(alloc: Global) -> Result<Command<'a>, AllocErr
     command(
         alloc,
         "receive",
-        "Answer calls of T.38 machines over UDP, one after another, as a machine does, and write each page that is confirmed as a picture (PBM), into a file that was not there",
+        "Answer calls of T.38 machines over UDP, one after another, as a machine does, and write each page that is confirmed as a picture (PBM) or as a TIFF, into a file that was not there",
         LINES_AND_STATUSES,
     )
     .arg(local_option(alloc))?
     .arg(pages_option(alloc))?
+    .arg(tiff_option(alloc))?
     .arg(calls_option(alloc))?
     .arg(redundancy_option(alloc))?
     .arg(preamble_option(alloc))?
@@ -32,15 +33,24 @@ fn local_option<'a>(alloc: Global) -> Arg<'a> {
     .required(true)
 }
 
-/// The option of the names of pictures.
+/// The option of the names of files.
 fn pages_option<'a>(alloc: Global) -> Arg<'a> {
     option(
         alloc,
         "pages",
         "PREFIX",
-        "How the names of pictures begin: PREFIX-CALL-PAGE.pbm, calls from 0 on, pages from 1 on",
+        "How the names of files begin: PREFIX-CALL-PAGE.pbm, calls from 0 on, pages from 1 on",
     )
     .default_value("page")
+}
+
+/// The option of TIFFs.
+fn tiff_option<'a>(alloc: Global) -> Arg<'a> {
+    flag(
+        alloc,
+        "tiff",
+        "Write TIFFs of class F, PREFIX-CALL-PAGE.tif, each of one page, in place of pictures",
+    )
 }
 
 /// The option of how many calls are answered.

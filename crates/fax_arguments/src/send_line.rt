@@ -11,7 +11,7 @@ pub(crate) fn send_command<'a>(alloc: Global) -> Result<Command<'a>, AllocError>
     command(
         alloc,
         "send",
-        "Call a T.38 machine over UDP and send it the page in each file, as a machine does, and print how the call ended: job, call, width, resolution, pages, pages delivered, outcome",
+        "Call a T.38 machine over UDP and send it the pages in files, as a machine does, and print how the call ended: job, call, width, resolution, pages, pages delivered, outcome",
         LINES_AND_STATUSES,
     )
     .arg(called_option(alloc))?
@@ -48,7 +48,11 @@ fn local_option<'a>(alloc: Global) -> Arg<'a> {
 
 /// The option of the resolution.
 fn fine_option<'a>(alloc: Global) -> Arg<'a> {
-    flag(alloc, "fine", "The fine resolution, of pictures too")
+    flag(
+        alloc,
+        "fine",
+        "The fine resolution, of pictures too; a TIFF says its own",
+    )
 }
 
 /// The words that name files.
@@ -58,13 +62,13 @@ fn file_word<'a>(alloc: Global) -> Arg<'a> {
         .required(true)
         .num_args(1..)
         .help(
-            "A page: a picture (PBM) of 1728, 2048 or 2432 elements a row, or the octets of a page as hex text, of that width and coding",
+            "Pages: a TIFF of class F, of one or many; or a picture (PBM) of 1728, 2048 or 2432 elements a row; or the octets of a page as hex text, of that width and coding",
         )
 }
 
 const LINES_AND_STATUSES: &str = "\
 Reads:
-  Each file, whole, before the call: at most 16,777,216 octets, 999 files.
+  Each file, whole, before the call, and its first octets tell what it is: at most 16,777,216 octets a file, 999 pages.
 
 Prints:
   job CALL WIDTH standard|fine PAGES DELIVERED OUTCOME
@@ -73,7 +77,7 @@ Where the standard error is a terminal, it has a line for each page that was del
 
 Statuses:
   0  all pages were delivered
-  1  a file has no page, or there are more than 999
+  1  a file has no page, or there are more than 999 pages
   2  the command line was refused
   3  memory was wanted and refused
   4  a file could not be read, an address or a socket failed, or the output

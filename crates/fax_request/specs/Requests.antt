@@ -21,6 +21,9 @@ use Rattle.fax_capture.specs.declared.options.CaptureOptions.{CaptureOptions}
 use Rattle.fax_capture.specs.Addresses.{AreApart}
 use Rattle.fax_send_receive.specs.declared.sending.SendOptions.{SendOptions}
 use Rattle.fax_send_receive.specs.declared.receiving.ReceiveOptions.{ReceiveOptions}
+use Rattle.fax_send_receive.specs.declared.page_naming.PageForm.{PageForm}
+use Rattle.fax_send_receive.specs.declared.page_naming.PageForm.TheVariants.{Picture as PictureForm, Tiff as TiffForm}
+use Rattle.fax_send_receive.specs.declared.page_naming.PageNaming.{PageNaming}
 use Rattle.fax_request.specs.declared.explain_options.ExplainOptions.{ExplainOptions}
 use Rattle.fax_request.specs.declared.request.Request.{Request}
 use Rattle.fax_request.specs.declared.request.Request.TheVariants.{Page, Trace, Explain, Capture, Loop, Serve, Check, Say, Spool, Send, Receive}
@@ -101,9 +104,18 @@ pub record AreSendOptionsOf (given : List Row) (options : SendOptions) : Type 0 
   pub settings : AreSettingsOf given options.settings
   pub repeats : options.repeat ≡ repeat_named (first_of (codes "repeat") given)
 
+-- what stands in the files of received pages: --tiff
+abbrev pub IsPageFormOf : List Row → PageForm → Type 0
+IsPageFormOf given TiffForm = IsFlagOf (one_of (codes "tiff") given) true
+IsPageFormOf given PictureForm = IsFlagOf (one_of (codes "tiff") given) false
+
+pub record IsNamingOf (given : List Row) (naming : PageNaming) : Type 0 where
+  pub prefix : naming.prefix.now ≡ unwrap_or (first_of (codes "pages") given) (codes "page")
+  pub form : IsPageFormOf given naming.form
+
 pub record AreReceiveOptionsOf (given : List Row) (options : ReceiveOptions) : Type 0 where
   pub on : options.on.now ≡ text_given (codes "on") given
-  pub prefix : options.prefix.now ≡ unwrap_or (first_of (codes "pages") given) (codes "page")
+  pub naming : IsNamingOf given options.naming
   pub calls : IsNumberOf (one_of (codes "calls") given) 1 (2 ^ 64 - 1) (2 ^ 64 - 1) options.calls
   pub settings : AreSettingsOf given options.settings
   pub repeats : options.repeat ≡ repeat_named (first_of (codes "repeat") given)

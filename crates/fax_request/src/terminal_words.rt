@@ -1,11 +1,11 @@
 //! What `faxgate send` and `faxgate receive` are asked for.
 ghost use Rattle.std.specs.Prelude.{◌≡◌, IfOk, [], codes, map, unwrap_or};
 ghost use Rattle.clap.specs.Words.{all_of, found_of, rows_of};
-ghost use Rattle.fax_request.specs.Requests.{AreReceiveOptionsOf, AreSendOptionsOf};
+ghost use Rattle.fax_request.specs.Requests.{AreReceiveOptionsOf, AreSendOptionsOf, IsNamingOf, IsPageFormOf};
 
-use crate::given::{coding_of, format_of, number_of, repeat_of, settings_of, text_of};
+use crate::given::{coding_of, flag_of, format_of, number_of, repeat_of, settings_of, text_of};
 use clap::ArgMatches;
-use fax_send_receive::{ReceiveOptions, SendOptions};
+use fax_send_receive::{PageForm, PageNaming, ReceiveOptions, SendOptions};
 use std::alloc::{AllocError, Global};
 
 /// The options that were given to `faxgate send`, and the defaults of those that were not.
@@ -41,9 +41,30 @@ pub(crate) fn receive_options_of<'a>(given: &ArgMatches<'a>) -> ReceiveOptions<'
 {
     ReceiveOptions {
         on: text_of(given, "on").unwrap_or(""),
-        prefix: text_of(given, "pages").unwrap_or("page"),
+        naming: naming_of(given),
         calls: number_of(given, "calls", 1, u64::MAX, u64::MAX),
         settings: settings_of(given),
         repeat: repeat_of(given),
+    }
+}
+
+/// How the files of received pages are named, and what stands in them.
+fn naming_of<'a>(given: &ArgMatches<'a>) -> PageNaming<'a>
+    ensures { IsNamingOf (rows_of (found_of given.now)) result }
+{
+    PageNaming {
+        prefix: text_of(given, "pages").unwrap_or("page"),
+        form: form_of(given),
+    }
+}
+
+/// What stands in the files of received pages: TIFFs where they were asked for.
+fn form_of(given: &ArgMatches<'_>) -> PageForm
+    ensures { IsPageFormOf (rows_of (found_of given.now)) result }
+{
+    if flag_of(given, "tiff") {
+        PageForm::Tiff
+    } else {
+        PageForm::Picture
     }
 }

@@ -1,24 +1,26 @@
 //! Pages that are stored in files.
 ghost use Rattle.std.specs.Prelude.{◌≡◌, ◌≤◌, string_bytes, IfOk, OnErr, OnOk};
-ghost use Rattle.fax_send_receive.specs.Storing.{BeginsCall, IsPageAdded, name_of_page};
+ghost use Rattle.fax_send_receive.specs.Naming.{name_of_page, naming_of};
+ghost use Rattle.fax_send_receive.specs.Storing.{BeginsCall, IsPageAdded};
 
 use crate::named_files::{NamedFiles, write_file};
+use crate::page_naming::{PageForm, PageNaming};
+use crate::page_octets::octets_of;
 use crate::watch::Watch;
 use fax_pagestore::{PackedRows, Page};
-use fax_pbm::write_pbm;
 use fax_terminal::{PageStore, StoreFault};
 use std::alloc::{AllocError, Global};
 use std::io;
 use std::marker::Model;
 
-/// Writes the pages of calls as pictures, into files that are named for the call and for their number in it. No file that is
-/// there is written over.
+/// Writes the pages of calls as pictures or as TIFFs, into files that are named for the call and for their number in it. No file that
+/// is there is written over.
 #[derive(Drop)]
 pub struct PageFiles<'a, F: NamedFiles + Drop, E: Eprint> {
     files: F,
     watch: &'a Watch<'a, E>,
     alloc: Global,
-    prefix: &'a str,
+    naming: PageNaming<'a>,
     call: u32,
     /// How many pages of the call it was given.
     pages: u32,
@@ -28,11 +30,12 @@ pub struct PageFiles<'a, F: NamedFiles + Drop, E: Eprint> {
 
 /// Seen as the call that is on, and the files that were made.
 impl<'a, F: NamedFiles + Drop, E: Eprint> Model for PageFiles<'a, F, E> {
+    ghost use Rattle.fax_send_receive.specs.Naming.{naming_of};
     ghost use Rattle.fax_send_receive.specs.Storing.{FilingValue};
 
     ghost Value = { FilingValue };
 
-    ghost view = { λ p. record { prefix = p.prefix.now; call = p.call; pages = p.pages; made = F.made p.files } };
+    ghost view = { λ p. record { naming = naming_of p.naming; call = p.call; pages = p.pages; made = F.made p.files } };
 }
 
 impl<'a, F: NamedFiles + Drop, E: Eprint> PageFiles<'a, F, E> {
@@ -44,20 +47,23 @@ impl<'a, F: NamedFiles + Drop, E: Eprint> PageFiles<'a, F, E> {
             files,
             watch,
             alloc,
-            prefix: "",
+            naming: PageNaming {
+                prefix: "",
+                form: PageForm::Picture,
+            },
             call: 0,
             pages: 0,
             fault: None,
         }
     }
 
-    /// The next call begins, whose files are named with this prefix. It has the next number of whose first page no file is there.
-    pub(crate) fn begin_call(&mut self, prefix: &'a str) -> Result<(), AllocError>
-        ensures ok { OnOk result (BeginsCall prefix.entry.now self.old self.new) }
+    /// The next call begins, whose files are named so. It has the next number of whose first page no file is there.
+    pub(crate) fn begin_call(&mut self, naming: PageNaming<'a>) -> Result<(), AllocError>
+        ensures ok { OnOk result (BeginsCall (naming_of naming.entry) self.old self.new) }
         ensures err { OnErr result (self.new ≡ self.old) }
     {
-        self.call = free_call(&self.files, self.alloc, prefix, self.call)?;
-        self.prefix = prefix;
+        self.call = free_call(&self.files, self.alloc, naming, self.call)?;
+        self.naming = naming;
         self.pages = 0;
         self.fault = None;
         Ok(())
@@ -95,8 +101,8 @@ impl<F: NamedFiles + Drop, E: Eprint> PageStore<PackedRows> for PageFiles<'_, F,
             return Err(StoreFault);
         };
         self.pages = number;
-        let (alloc, prefix, call) = (self.alloc, self.prefix, self.call);
-        if let Err(fault) = write_page(&mut self.files, alloc, prefix, call, number, page) {
+        let (alloc, naming, call) = (self.alloc, self.naming, self.call);
+        if let Err(fault) = write_page(&mut self.files, alloc, naming, call, number, page) {
             self.fault = fault;
             return Err(StoreFault);
         }
@@ -105,23 +111,24 @@ impl<F: NamedFiles + Drop, E: Eprint> PageStore<PackedRows> for PageFiles<'_, F,
     }
 }
 
-/// Writes a page as a picture, into the file of this number in a call, where there is none. An `Err` tells why it was not, where
-/// the system says it.
+/// Writes a page into the file of this number in a call, where there is none. An `Err` tells why it was not, where the system says
+/// it.
 fn write_page<F: NamedFiles>(
     files: &mut F,
     alloc: Global,
-    prefix: &str,
+    naming: PageNaming<'_>,
     call: u32,
     number: u32,
     page: &Page<PackedRows>,
 ) -> Result<(), Option<io::Error>>
-    ensures ok { OnOk result (IsPageAdded prefix.now call number page.now (F.made files.old) (F.made files.new)) }
+    ensures ok { OnOk result (IsPageAdded (naming_of naming.entry) call number page.now (F.made files.old) (F.made files.new)) }
     ensures err { OnErr result (F.made files.new ≡ F.made files.old) }
 {
-    let Ok(octets) = write_pbm(alloc, page) else {
-        return Err(None);
+    let octets = match octets_of(alloc, naming.form, page) {
+        Ok(octets) => octets,
+        Err(fault) => return Err(fault),
     };
-    let name = match path_of(alloc, prefix, call, number) {
+    let name = match path_of(alloc, naming, call, number) {
         Ok(name) => name,
         Err(error) => return Err(Some(io::Error::from(error))),
     };
@@ -135,13 +142,13 @@ fn write_page<F: NamedFiles>(
 fn free_call<F: NamedFiles>(
     files: &F,
     alloc: Global,
-    prefix: &str,
+    naming: PageNaming<'_>,
     from: u32,
 ) -> Result<u32, AllocError>
     ensures { IfOk result (λ call. from ≤ call) }
 {
     for call in from..u32::MAX {
-        let path = path_of(alloc, prefix, call, 1)?;
+        let path = path_of(alloc, naming, call, 1)?;
         if files.open(path.as_str()).is_err() {
             return Ok(call);
         }
@@ -150,8 +157,14 @@ fn free_call<F: NamedFiles>(
 }
 
 /// The name of the file of a page.
-fn path_of(alloc: Global, prefix: &str, call: u32, page: u32) -> Result<String, AllocError>
-    ensures { IfOk result (λ path. string_bytes path ≡ name_of_page prefix.now call page) }
+fn path_of(
+    alloc: Global,
+    naming: PageNaming<'_>,
+    call: u32,
+    page: u32,
+) -> Result<String, AllocError>
+    ensures { IfOk result (λ path. string_bytes path ≡ name_of_page (naming_of naming.entry) call page) }
 {
-    format!(in alloc; "{prefix}-{call}-{page}.pbm")
+    let (prefix, ending) = (naming.prefix, naming.form.ending());
+    format!(in alloc; "{prefix}-{call}-{page}{ending}")
 }

@@ -2,12 +2,14 @@
 ghost use Rattle.std.specs.Prelude.{◌≡◌, ◌⊎◌, IfErr};
 ghost use Rattle.fax_gateway.specs.Setups.{AreAllowed};
 ghost use Rattle.fax_send_receive.specs.Faults.{IsClockFault, IsReceiveFault, IsStoreFault};
+ghost use Rattle.fax_send_receive.specs.Naming.{naming_of};
 ghost use Rattle.fax_send_receive.specs.Storing.{AddsFiles, HasRun};
 
 use crate::clock_pace::ClockPace;
 use crate::host_files::HostFiles;
 use crate::named_files::NamedFiles;
 use crate::page_files::PageFiles;
+use crate::page_naming::PageNaming;
 use crate::run_fault::RunFault;
 use crate::sockets::{address_of, socket_at};
 use crate::udp_leg::{LastCall, Port, UdpLeg, await_call, keep_repeating};
@@ -24,8 +26,8 @@ use std::rt::{Clock, Files};
 pub struct ReceiveOptions<'a> {
     /// The address at which calls are answered.
     pub on: &'a str,
-    /// How the names of files begin. That of page 2 of call 0 goes on with `-0-2.pbm`.
-    pub prefix: &'a str,
+    /// How the files of pages are named, and what stands in them.
+    pub naming: PageNaming<'a>,
     /// How many calls are answered.
     pub calls: u64,
     pub settings: Settings,
@@ -33,8 +35,7 @@ pub struct ReceiveOptions<'a> {
     pub repeat: RepeatPolicy,
 }
 
-/// Answers calls, one after another, and writes each page that it confirms as a P4 picture into a file of the system, as
-/// `receive_pages`. No contract says what stands in a file of the system.
+/// Answers calls, one after another, and writes each page that it confirms into a file of the system, as `receive_pages`. No contract says what stands in a file of the system.
 pub fn run_receive<'a, H: Net + Clock + Files, E: Eprint>(
     host: &'a H,
     watch: &'a Watch<'a, E>,
@@ -48,8 +49,8 @@ pub fn run_receive<'a, H: Net + Clock + Files, E: Eprint>(
     receive_pages(host, watch, alloc, options, &mut pages)
 }
 
-/// Answers calls, one after another, and writes each page that it confirms as a P4 picture, before its MCF is sent: page i of a call
-/// into file i of the call. Calls have the numbers from 0 on of which no file is there. No contract says what comes over a socket.
+/// Answers calls, one after another, and writes each page that it confirms as a P4 picture or as a TIFF of class F, before its MCF is
+/// sent: page i of a call into file i of the call. Calls have the numbers from 0 on of which no file is there. No contract says what comes over a socket.
 pub fn receive_pages<'a, H: Net + Clock, F: NamedFiles + Drop, E: Eprint>(
     host: &'a H,
     watch: &'a Watch<'a, E>,
@@ -86,7 +87,7 @@ fn answer_calls<'a, H: Clock, F: NamedFiles + Drop, E: Eprint>(
         let Some(begun) = await_call(port, &mut pace, &mut last, buffer.as_mut_slice()) else {
             return Err(RunFault::Time);
         };
-        pages.begin_call(options.prefix)?;
+        pages.begin_call(options.naming)?;
         let wire = RepeatingWire::new(UdpLeg::new(port, begun.peer), options.repeat);
         let first = &buffer[..begun.octets];
         match receive_call(alloc, &mut pace, wire, first, pages, options.settings) {
@@ -96,7 +97,7 @@ fn answer_calls<'a, H: Clock, F: NamedFiles + Drop, E: Eprint>(
                     peer: begun.peer,
                 });
             }
-            Err(fault) => return Err(fault_of(fault, options.prefix, pages)),
+            Err(fault) => return Err(fault_of(fault, options.naming, pages)),
         }
     }
     if let Some(LastCall { mut wire, .. }) = last {
@@ -108,18 +109,18 @@ fn answer_calls<'a, H: Clock, F: NamedFiles + Drop, E: Eprint>(
 /// Why a call goes no further, whose pages are in these files.
 fn fault_of<'a, F: NamedFiles + Drop, E: Eprint>(
     fault: TerminalFault,
-    prefix: &'a str,
+    naming: PageNaming<'a>,
     pages: &mut PageFiles<'_, F, E>,
 ) -> RunFault<'a>
-    ensures fault { IsClockFault result ⊎ IsStoreFault prefix.entry.now result }
-    ensures storage { fault ≡ TerminalFault.Keeping → IsStoreFault prefix.entry.now result }
+    ensures fault { IsClockFault result ⊎ IsStoreFault (naming_of naming.entry) result }
+    ensures storage { fault ≡ TerminalFault.Keeping → IsStoreFault (naming_of naming.entry) result }
     ensures same { pages.new ≡ pages.old }
 {
     match fault {
         TerminalFault::NoMemory => RunFault::NoMemory,
         TerminalFault::Clock => RunFault::Time,
         TerminalFault::Keeping => match pages.take_fault() {
-            Some(error) => RunFault::Page(prefix, pages.call(), pages.last(), error),
+            Some(error) => RunFault::Page(naming, pages.call(), pages.last(), error),
             None => RunFault::NoMemory,
         },
     }

@@ -2,9 +2,11 @@
 ghost use Rattle.std.specs.Prelude.{◌≡◌};
 ghost use Rattle.fax_send_receive.specs.Runs.{status_of_fault};
 
+use crate::page_naming::PageNaming;
 use fax_bits::NoMemory;
 use fax_command::{InputError, InputFault, Status};
 use fax_pbm::PbmFault;
+use fax_tiff::TiffFault;
 use std::alloc::AllocError;
 use std::{fmt, io};
 
@@ -16,9 +18,11 @@ pub enum RunFault<'a> {
     File(&'a str, io::Error),
     /// A read of this file failed, or it has too many octets.
     Unread(&'a str, InputError),
+    /// The file begins as a TIFF, and is none of class F.
+    Tiff(&'a str, TiffFault),
     /// The file begins as a picture, and is none of a page.
     Picture(&'a str, PbmFault),
-    /// The file does not begin as a picture, and is no hex text of a page.
+    /// The file begins as neither, and is no hex text of a page.
     Text(&'a str, InputFault),
     /// No page, or more than 999.
     PageCount,
@@ -27,8 +31,8 @@ pub enum RunFault<'a> {
     Clock(io::Error),
     /// The clock told no more.
     Time,
-    /// A page could not be written: of this prefix, call and number.
-    Page(&'a str, u32, u32, io::Error),
+    /// A page could not be written: named so, of this call and number.
+    Page(PageNaming<'a>, u32, u32, io::Error),
 }
 
 impl RunFault<'_> {
@@ -38,7 +42,10 @@ impl RunFault<'_> {
     {
         match self {
             RunFault::NoMemory => Status::NoMemory,
-            RunFault::Picture(_, _) | RunFault::Text(_, _) | RunFault::PageCount => Status::Fault,
+            RunFault::Tiff(_, _)
+            | RunFault::Picture(_, _)
+            | RunFault::Text(_, _)
+            | RunFault::PageCount => Status::Fault,
             RunFault::File(_, _)
             | RunFault::Unread(_, _)
             | RunFault::Address(_, _)
@@ -59,6 +66,7 @@ impl fmt::Display for RunFault<'_> {
                 write!(f, "{path}: more than 16,777,216 octets")
             }
             RunFault::Unread(path, _) => write!(f, "{path}: a read failed"),
+            RunFault::Tiff(path, fault) => write!(f, "{path}: {fault}"),
             RunFault::Picture(path, fault) => write!(f, "{path}: {fault}"),
             RunFault::Text(path, InputFault::Page(fault)) => {
                 write!(f, "{path}: no picture, and no page: {fault}")
@@ -68,8 +76,9 @@ impl fmt::Display for RunFault<'_> {
             RunFault::Address(address, error) => write!(f, "{address}: {error}"),
             RunFault::Clock(error) => write!(f, "no clock: {error}"),
             RunFault::Time => write!(f, "the clock tells no more"),
-            RunFault::Page(prefix, call, page, error) => {
-                write!(f, "{prefix}-{call}-{page}.pbm: {error}")
+            RunFault::Page(naming, call, page, error) => {
+                let (prefix, ending) = (naming.prefix, naming.form.ending());
+                write!(f, "{prefix}-{call}-{page}{ending}: {error}")
             }
         }
     }
