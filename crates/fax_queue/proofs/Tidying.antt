@@ -53,5 +53,14 @@ module _ {D : Type 0} (seen : D → List ℕ) (may_leave : D → List ℕ → Ty
   tidy_again (Ok was) between after tidy failed waits rest accepts = tidy waits rest
   tidy_again (Err e) between after tidy failed waits rest accepts = let no : Refuses after = failed waits rest in absurd (cc)
 
+  -- and where the spool refuses, it stays as it is
+  pub so_on : (waits : List PageValue) (between after : Spool D) → WaitSo seen may_leave is_usable between (λ told. told ≡ waits)
+      → ((pages : List PageValue) → PagesWait seen may_leave is_usable between pages → WaitSo seen may_leave is_usable after (λ told. told ≡ pages)) → (Refuses between → after ≡ between)
+      → WaitSo seen may_leave is_usable after (λ told. told ≡ waits)
+  so_on waits between after (inl wait) told same =
+      subst (λ (l : List PageValue). WaitSo seen may_leave is_usable after (λ told. told ≡ l)) wait.2 (told wait.0 wait.1)
+  so_on waits between after (inr refuses) told same =
+      subst (λ (s : Spool D). WaitSo seen may_leave is_usable s (λ told. told ≡ waits)) (sym (same refuses.0)) (inr refuses)
+
   pub no_tidy : (spool : Spool D) → Refuses spool → Accepts spool → IsTidy seen may_leave is_usable spool
   no_tidy spool refuses accepts = absurd (cc)

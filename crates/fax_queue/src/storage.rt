@@ -24,7 +24,8 @@ use fax_spool::{EndedRecord, Spool, WaitingPage};
 use sqlite_disk::Disk;
 use std::alloc::Global;
 
-/// Where so many octets were put into a file, the other one is taken into use once it is empty.
+/// Where so many octets were put into a file, the other one is taken into use once it is empty; and where a page in that one does not go,
+/// what waits is copied forward.
 const MOST_OCTETS: usize = 16 * 1024 * 1024;
 
 /// The most octets of the name of a line.
@@ -364,20 +365,36 @@ fn put_ended<D: Disk>(
 }
 
 /// The older file is cleared where nothing in it waits; and where so many octets were put into the newer one that they are enough,
-/// the other is taken into use, and the one before cleared, where nothing in it waits. It answers how many count from then on. What
-/// fails is tried again after the next end of a job.
+/// the other is taken into use, and the one before cleared, where nothing in it waits. Where a page of the older one waits still, what
+/// waits is copied forward, where that has at most a quarter of those octets. It answers how many count from then on. What fails is
+/// tried again after the next end of a job.
 pub fn change_files<D: Disk>(alloc: Global, spool: &mut Spool<D>, octets: usize) -> usize
     ensures told { (waits : List SpoolPage) → PagesWait D.seen D.may_leave D.is_usable spool.old waits
         → WaitSo D.seen D.may_leave D.is_usable spool.new (λ told. told ≡ waits) }
     ensures tidy { (waits : List SpoolPage) → PagesWait D.seen D.may_leave D.is_usable spool.old waits → Accepts spool.new → IsTidy D.seen D.may_leave D.is_usable spool.new }
     ensures refuses { Refuses spool.old → spool.new ≡ spool.old }
 {
-    let Ok(_) = clear_older(spool) else {
+    let Ok(is_empty) = clear_older(spool) else {
         return octets;
     };
     if octets < MOST_OCTETS {
         return octets;
     }
+    if is_empty {
+        return take_other(alloc, spool, octets);
+    }
+    copy_forward(alloc, spool, octets)
+}
+
+/// The other file is taken into use where it is empty, and the one before cleared where nothing in it waits. It answers how many of so
+/// many octets count from then on.
+fn take_other<D: Disk>(alloc: Global, spool: &mut Spool<D>, octets: usize) -> usize
+    ensures told { (waits : List SpoolPage) → PagesWait D.seen D.may_leave D.is_usable spool.old waits
+        → WaitSo D.seen D.may_leave D.is_usable spool.new (λ told. told ≡ waits) }
+    ensures tidy { (waits : List SpoolPage) → PagesWait D.seen D.may_leave D.is_usable spool.old waits → IsTidy D.seen D.may_leave D.is_usable spool.old
+        → Accepts spool.new → IsTidy D.seen D.may_leave D.is_usable spool.new }
+    ensures refuses { Refuses spool.old → spool.new ≡ spool.old }
+{
     let Ok(was_changed) = change(alloc, spool) else {
         return octets;
     };
@@ -386,6 +403,30 @@ pub fn change_files<D: Disk>(alloc: Global, spool: &mut Spool<D>, octets: usize)
     }
     let _ = clear_older(spool);
     0
+}
+
+/// All that waits is put again into the newer file, where that has at most a quarter of so many octets, so that the older one is cleared and
+/// taken into use; and once more into that, so that the one before is cleared too. It answers how many of these octets count from then on.
+fn copy_forward<D: Disk>(alloc: Global, spool: &mut Spool<D>, octets: usize) -> usize
+    ensures told { (waits : List SpoolPage) → PagesWait D.seen D.may_leave D.is_usable spool.old waits
+        → WaitSo D.seen D.may_leave D.is_usable spool.new (λ told. told ≡ waits) }
+    ensures tidy { (waits : List SpoolPage) → PagesWait D.seen D.may_leave D.is_usable spool.old waits → IsTidy D.seen D.may_leave D.is_usable spool.old
+        → Accepts spool.new → IsTidy D.seen D.may_leave D.is_usable spool.new }
+    ensures refuses { Refuses spool.old → spool.new ≡ spool.old }
+{
+    let Ok(was_put) = put_again(alloc, spool, octets / 4) else {
+        return octets;
+    };
+    if !was_put {
+        return octets;
+    }
+    let Ok(_) = clear_older(spool) else {
+        return octets;
+    };
+    let left = take_other(alloc, spool, octets);
+    let _ = put_again(alloc, spool, octets);
+    let _ = clear_older(spool);
+    left
 }
 
 /// The older file is cleared where nothing in it waits.
@@ -416,6 +457,22 @@ fn change<D: Disk>(alloc: Global, spool: &mut Spool<D>) -> Result<bool, StoreFau
     ensures refuses { Refuses spool.old → IsErr result × (spool.new ≡ spool.old) }
 {
     match spool.change(alloc) {
+        Ok(was) => Ok(was),
+        Err(_) => Err(StoreFault),
+    }
+}
+
+/// All that waits is put again into the newer file, where it has at most so many octets, and is kept in memory.
+fn put_again<D: Disk>(alloc: Global, spool: &mut Spool<D>, most: usize) -> Result<bool, StoreFault>
+    ensures same { IfOk result (λ was. was ≡ false → IsTidy D.seen D.may_leave D.is_usable spool.old → IsTidy D.seen D.may_leave D.is_usable spool.new) }
+    ensures failed { OnErr result (IsTidy D.seen D.may_leave D.is_usable spool.old → Accepts spool.new → IsTidy D.seen D.may_leave D.is_usable spool.new) }
+    ensures stays { OnOk result ((waits : List SpoolPage) → PagesWait D.seen D.may_leave D.is_usable spool.old waits
+        → PagesWait D.seen D.may_leave D.is_usable spool.new waits) }
+    ensures told { OnErr result ((waits : List SpoolPage) → PagesWait D.seen D.may_leave D.is_usable spool.old waits
+        → WaitSo D.seen D.may_leave D.is_usable spool.new (λ told. told ≡ waits)) }
+    ensures refuses { Refuses spool.old → IsErr result × (spool.new ≡ spool.old) }
+{
+    match spool.put_again(alloc, most) {
         Ok(was) => Ok(was),
         Err(_) => Err(StoreFault),
     }

@@ -13,6 +13,9 @@ use Rattle.fax_spool.specs.Settled.{IsSettled}
 use Rattle.fax_spool.specs.declared.file.RecordFile.{RecordFile}
 use Rattle.fax_spool.specs.declared.spool.Spool.{Spool}
 use Rattle.fax_spool.proofs.Order.{order_changed, order_found, order_stays}
+use Rattle.fax_spool.specs.KeptPages.{put_again}
+use Rattle.fax_spool.proofs.Again.{above_again, more_again}
+use Rattle.fax_spool.proofs.Kept.{same_kept}
 use Rattle.fax_spool.proofs.Shares.{shares}
 use Rattle.fax_spool.proofs.SpoolSteps.{at_rest, waiting_epochs, waiting_pages, waiting_push}
 
@@ -43,6 +46,14 @@ told_changed older newer olds news n none (inl tell) low = (olds, news, tell, in
 told_changed older newer olds news n none (inr (inl tell)) low = (news, [], tell, inl refl, ap (λ (l : List SpoolRecord). waiting l) (append-nil news) ∙ sym (ap (λ (l : List SpoolRecord). waiting (l ++ news)) none))
 told_changed older newer olds news n none (inr (inr tell)) low = (news, epoch_records n, tell, order_found news (epoch_records n) (order_changed news n low), more_epoch olds news n none)
 
+-- and as what waits is put again
+pub told_again : (older newer : List ℕ) (olds news : List SpoolRecord) → TellBoth older newer olds news ⊎ TellBoth older newer olds (news ++ put_again (waiting (olds ++ news)))
+    → AreInOrder olds news → (os : List SpoolRecord) × (ns : List SpoolRecord) × TellBoth older newer os ns × IsOrderFound os ns × (waiting (os ++ ns) ≡ waiting (olds ++ news))
+told_again older newer olds news (inl tell) order = (olds, news, tell, order_found olds news order, refl)
+told_again older newer olds news (inr tell) order =
+    let pages = waiting (olds ++ news) in
+    (olds, news ++ put_again pages, tell, order_found olds (news ++ put_again pages) (order_stays olds news (put_again pages) (above_again (greatest_epoch olds) pages) order), more_again olds news)
+
 module _ {D : Type 0} (seen : D → List ℕ) (may_leave : D → List ℕ → Type 0) (is_usable : D → Bool) (old new : Spool D) where
   told_so : (call : Call) (waits : List PageValue) (older newer : List ℕ) (olds news : List SpoolRecord) → TellBoth older newer olds news → IsOrderFound olds news → (P : List PageValue → Type 0) → P (waiting (olds ++ news))
       → (pages : List PageValue) × TellWaits older newer pages × P pages
@@ -67,8 +78,8 @@ module _ {D : Type 0} (seen : D → List ℕ) (may_leave : D → List ℕ → Ty
       newer = subst (λ (f : RecordFile D). IsSettled seen may_leave is_usable f.disk f.end k.newer_items) (sym newer) k.newer;
       older_read = k.older_read;
       newer_read = k.newer_read;
-      older_waits = older_pages ∙ k.older_waits;
-      newer_waits = newer_pages ∙ k.newer_waits;
+      older_waits = same_kept _ _ _ _ older_pages refl k.older_waits;
+      newer_waits = same_kept _ _ _ _ newer_pages refl k.newer_waits;
       epoch = omega (arith, k.epoch, epoch);
     };
     refuses = refuses;

@@ -6,6 +6,9 @@ mod Turned
 mod Numbers
 mod Shorts
 mod Digests
+mod ReadRecords
+mod Again
+mod Kept
 mod SpoolSteps
 pub mod Loops
 mod Shares

@@ -1,5 +1,5 @@
 -- What is read back of a file that is in use.
-use Rattle.std.proofs.Common.{◌≡◌, ℕ, Bool, IsTrue, List, refl, sym, ◌∙◌, ap, subst}
+use Rattle.std.proofs.Common.{◌≡◌, ℕ, Bool, IsTrue, List, refl, sym, ◌∙◌}
 use Rattle.fax_spool.specs.Found.{IsFoundIn, items_of}
 use Rattle.fax_spool.specs.Settled.{IsSettled}
 use Rattle.fax_spool.specs.Calls.{IsRead}

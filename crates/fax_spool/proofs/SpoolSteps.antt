@@ -1,37 +1,22 @@
 -- What the calls of a spool make of its records.
-use Rattle.std.proofs.Common.{◌≡◌, ◌⊎◌, inl, inr, ℕ, ◌≤◌, Bool, true, false, not, cond, List, [], ◌∷◌, ◌++◌, map, max, refl, sym, ◌∙◌, ap, subst, arith, append_assoc}
-use Rattle.std.proofs.lemmas.List.{append-nil, map-append}
-use Rattle.std.specs.List.{filter}
+use Rattle.std.proofs.Common.{◌≡◌, ◌⊎◌, inl, inr, ℕ, ◌≤◌, Bool, List, [], ◌∷◌, ◌++◌, map, max, refl, sym, ◌∙◌, ap, subst, arith, append_assoc}
+use Rattle.std.proofs.lemmas.List.{append-nil}
 use Rattle.fax_spool.specs.Records.{Stands}
 use Rattle.fax_spool.specs.Settled.{IsSettled}
-use Rattle.fax_spool.specs.RecordOctets.{PageValue, EndedValue}
+use Rattle.fax_spool.specs.RecordOctets.{PageValue}
 use Rattle.fax_spool.specs.SpoolRecords.{IsReadAs, AreReadAs, kept_of}
-use Rattle.fax_spool.specs.Waits.{PageName, name_of, ends, without, left_of, after, left_after, waiting_after, waiting}
+use Rattle.fax_spool.specs.Waits.{left_of, after, left_after, waiting_after, waiting}
+use Rattle.fax_spool.specs.KeptPages.{AreKept, put_again}
 use Rattle.fax_spool.specs.Spools.{epoch_of, epoch_records, greatest_after, greatest_epoch, raised, Tells, MayLeaveBoth, Stores, NoneIsLeft, TellBoth}
 use Rattle.fax_spool.specs.declared.file.RecordFile.{RecordFile}
 use Rattle.fax_spool.specs.declared.spool.Spool.{Spool}
 use Rattle.fax_spool.specs.declared.spool_record.SpoolRecord.{SpoolRecord}
 use Rattle.fax_spool.specs.declared.spool_record.SpoolRecord.TheVariants.{Page, Ended, Epoch, Damaged}
+use Rattle.fax_spool.proofs.Again.{greatest_again, left_again, waits_again}
+use Rattle.fax_spool.proofs.Kept.{kept_append, no_pages, same_kept}
+pub use Rattle.fax_spool.proofs.ReadRecords.{read_all_through, read_append, read_push, read_through}
+use Rattle.fax_spool.proofs.Shares.{shares}
 use Rattle.fax_spool.proofs.Steps.{rests, none_open}
-
-pub read_push : (items : List (List ℕ)) (records : List SpoolRecord) (item : List ℕ) (r : SpoolRecord) → AreReadAs items records → IsReadAs item r → AreReadAs (items ++ item ∷ []) (records ++ r ∷ [])
-read_push [] [] item r are is = (is, tt)
-read_push [] (q ∷ records) item r are is = absurd are
-read_push (i ∷ items) [] item r are is = absurd are
-read_push (i ∷ items) (q ∷ records) item r are is = (are.0, read_push items records item r are.1 is)
-
-read_append : (items more : List (List ℕ)) (records others : List SpoolRecord) → AreReadAs items records → AreReadAs more others → AreReadAs (items ++ more) (records ++ others)
-read_append [] more [] others are after = after
-read_append [] more (q ∷ records) others are after = absurd are
-read_append (i ∷ items) more [] others are after = absurd are
-read_append (i ∷ items) more (q ∷ records) others are after = (are.0, read_append items more records others are.1 after)
-
--- octets are read alike, wherever they stand
-pub read_through : (item octets : List ℕ) (r : SpoolRecord) → item ≡ octets → IsReadAs octets r → IsReadAs item r
-read_through item octets r same is = subst (λ (l : List ℕ). IsReadAs l r) (sym same) is
-
-pub read_all_through : (items octets : List (List ℕ)) (records : List SpoolRecord) → items ≡ octets → AreReadAs octets records → AreReadAs items records
-read_all_through items octets records same are = subst (λ (l : List (List ℕ)). AreReadAs l records) (sym same) are
 
 -- pages end none of those before them
 left_pages : (waits : List PageValue) (records : List SpoolRecord) (pages : List PageValue) → left_after waits (records ++ map kept_of pages) ≡ left_after waits records
@@ -89,22 +74,6 @@ pub none_left : (records : List SpoolRecord) → left_after [] records ≡ []
 none_left [] = refl
 none_left (r ∷ records) = ap (λ (l : List PageValue). left_after l records) (none_left_of r) ∙ none_left records
 
-names_without : (e : EndedValue) (pages : List PageValue) → map name_of (without e pages) ≡ filter (λ (n : PageName). not (ends e n)) (map name_of pages)
-names_without e [] = refl
-names_without e (p ∷ pages) =
-    elim (ends e (name_of p)) as (λ b. map name_of (cond (not b) (p ∷ without e pages) (without e pages)) ≡ cond (not b) (name_of p ∷ filter (λ (n : PageName). not (ends e n)) (map name_of pages)) (filter (λ (n : PageName). not (ends e n)) (map name_of pages))) [
-      | true ↦ names_without e pages
-      | false ↦ ap (λ (l : List PageName). name_of p ∷ l) (names_without e pages)
-    ]
-
--- the names of those that wait still, where a job ended
-pub names_left : (e : EndedValue) (names : List PageName) (pages : List PageValue) → names ≡ map name_of pages → filter (λ (n : PageName). not (ends e n)) names ≡ map name_of (without e pages)
-names_left e names pages are = ap (λ (l : List PageName). filter (λ (n : PageName). not (ends e n)) l) are ∙ sym (names_without e pages)
-
-pub no_names : (pages : List PageValue) → map name_of pages ≡ [] → pages ≡ []
-no_names [] none = refl
-no_names (p ∷ pages) none = cc none
-
 epoch_push : (records : List SpoolRecord) (r : SpoolRecord) (most : ℕ) → greatest_epoch records ≤ most → greatest_epoch (r ∷ []) ≤ most → greatest_epoch (records ++ r ∷ []) ≤ most
 epoch_push records (Page page) most was is = omega (arith, greatest_push records (Page page) 0, was)
 epoch_push records (Ended ended) most was is = omega (arith, greatest_push records (Ended ended) 0, was)
@@ -132,17 +101,17 @@ first_within records = within_after 0 records
 pub begun : {D : Type 0} (seen : D → List ℕ) (may_leave : D → List ℕ → Type 0) (is_usable : D → Bool) (spool : Spool D) (olds news : List SpoolRecord) (older_items newer_items : List (List ℕ))
     → IsSettled seen may_leave is_usable spool.older.disk spool.older.end older_items → AreReadAs older_items olds
     → IsSettled seen may_leave is_usable spool.newer.disk spool.newer.end newer_items → AreReadAs newer_items news
-    → spool.older_pages.items ≡ map name_of (left_after (waiting olds) news) → spool.newer_pages.items ≡ map name_of (waiting news)
+    → AreKept spool.older_pages.items (left_after (waiting olds) news) → AreKept spool.newer_pages.items (waiting news)
     → greatest_epoch news ≤ spool.epoch → Stores seen may_leave is_usable spool olds news
-begun seen may_leave is_usable spool olds news older_items newer_items older olds_read newer news_read older_names newer_names most = record {
+begun seen may_leave is_usable spool olds news older_items newer_items older olds_read newer news_read older_kept newer_kept most = record {
   older_items = older_items;
   newer_items = newer_items;
   older = older;
   newer = newer;
   older_read = olds_read;
   newer_read = news_read;
-  older_waits = older_names;
-  newer_waits = newer_names;
+  older_waits = older_kept;
+  newer_waits = newer_kept;
   epoch = most;
 }
 
@@ -160,8 +129,8 @@ module _ {D : Type 0} (seen : D → List ℕ) (may_leave : D → List ℕ → Ty
   -- one more record
   pub keeps_more : (item : List ℕ) (r : SpoolRecord) → IsReadAs item r → new.older ≡ old.older
       → IsSettled seen may_leave is_usable new.newer.disk new.newer.end (k.newer_items ++ item ∷ [])
-      → new.older_pages.items ≡ map name_of (left_of (left_after (waiting olds) news) r)
-      → new.newer_pages.items ≡ map name_of (after (waiting news) r)
+      → AreKept new.older_pages.items (left_of (left_after (waiting olds) news) r)
+      → AreKept new.newer_pages.items (after (waiting news) r)
       → old.epoch ≤ new.epoch → greatest_epoch (r ∷ []) ≤ new.epoch → Stores seen may_leave is_usable new olds (news ++ r ∷ [])
   keeps_more item r is same settled older newer grows epoch = record {
     older_items = k.older_items;
@@ -170,8 +139,8 @@ module _ {D : Type 0} (seen : D → List ℕ) (may_leave : D → List ℕ → Ty
     newer = settled;
     older_read = k.older_read;
     newer_read = read_push k.newer_items news item r k.newer_read is;
-    older_waits = older ∙ sym (ap (λ (l : List PageValue). map name_of l) (left_push (waiting olds) news r));
-    newer_waits = newer ∙ sym (ap (λ (l : List PageValue). map name_of l) (waiting_push [] news r));
+    older_waits = same_kept _ _ _ _ refl (left_push (waiting olds) news r) older;
+    newer_waits = same_kept _ _ _ _ refl (waiting_push [] news r) newer;
     epoch = epoch_push news r new.epoch (omega (arith, k.epoch, grows)) epoch;
   }
 
@@ -188,7 +157,7 @@ module _ {D : Type 0} (seen : D → List ℕ) (may_leave : D → List ℕ → Ty
   -- the records of pages, one after the other
   pub keeps_pages : (items : List (List ℕ)) (pages : List PageValue) → AreReadAs items (map kept_of pages) → new.older ≡ old.older
       → IsSettled seen may_leave is_usable new.newer.disk new.newer.end (k.newer_items ++ items)
-      → new.older_pages.items ≡ old.older_pages.items → new.newer_pages.items ≡ old.newer_pages.items ++ map name_of pages → new.epoch ≡ old.epoch
+      → new.older_pages.items ≡ old.older_pages.items → AreKept new.newer_pages.items (waiting news ++ pages) → new.epoch ≡ old.epoch
       → Stores seen may_leave is_usable new olds (news ++ map kept_of pages)
   keeps_pages items pages are same settled older newer epoch = record {
     older_items = k.older_items;
@@ -197,8 +166,8 @@ module _ {D : Type 0} (seen : D → List ℕ) (may_leave : D → List ℕ → Ty
     newer = settled;
     older_read = k.older_read;
     newer_read = read_append k.newer_items items news (map kept_of pages) k.newer_read are;
-    older_waits = older ∙ k.older_waits ∙ sym (ap (λ (l : List PageValue). map name_of l) (left_pages (waiting olds) news pages));
-    newer_waits = newer ∙ ap (λ (l : List PageName). l ++ map name_of pages) k.newer_waits ∙ sym (map-append name_of (waiting news) pages) ∙ sym (ap (λ (l : List PageValue). map name_of l) (waiting_pages [] news pages));
+    older_waits = same_kept _ _ _ _ older (left_pages (waiting olds) news pages) k.older_waits;
+    newer_waits = same_kept _ _ _ _ refl (waiting_pages [] news pages) newer;
     epoch = omega (arith, greatest_pages news pages 0, k.epoch, epoch);
   }
 
@@ -210,6 +179,33 @@ module _ {D : Type 0} (seen : D → List ℕ) (may_leave : D → List ℕ → Ty
       elim (crash k.newer_items k.newer newer left.1) [
         | inl stands ↦ inl (first, record { items = k.newer_items; stands = stands; read = k.newer_read })
         | inr stands ↦ inr (first, record { items = k.newer_items ++ items; stands = stands; read = read_append k.newer_items items news (map kept_of pages) k.newer_read are })
+      ]
+
+  -- all pages that wait, put again
+  pub keeps_again : (items : List (List ℕ)) → AreReadAs items (put_again (waiting (olds ++ news))) → new.older ≡ old.older
+      → IsSettled seen may_leave is_usable new.newer.disk new.newer.end (k.newer_items ++ items)
+      → new.older_pages.items ≡ [] → new.newer_pages.items ≡ old.older_pages.items ++ old.newer_pages.items → new.epoch ≡ old.epoch
+      → Stores seen may_leave is_usable new olds (news ++ put_again (waiting (olds ++ news)))
+  keeps_again items are same settled older newer epoch = record {
+    older_items = k.older_items;
+    newer_items = k.newer_items ++ items;
+    older = subst (λ (f : RecordFile D). IsSettled seen may_leave is_usable f.disk f.end k.older_items) (sym same) k.older;
+    newer = settled;
+    older_read = k.older_read;
+    newer_read = read_append k.newer_items items news (put_again (waiting (olds ++ news))) k.newer_read are;
+    older_waits = same_kept [] _ [] _ older (left_again olds news) tt;
+    newer_waits = same_kept _ _ _ _ newer (waits_again olds news ∙ shares olds news) (kept_append _ _ _ _ k.older_waits k.newer_waits);
+    epoch = omega (arith, greatest_again news (waiting (olds ++ news)) 0, k.epoch, epoch);
+  }
+
+  pub leaves_again : (items : List (List ℕ)) → AreReadAs items (put_again (waiting (olds ++ news))) → new.older ≡ old.older
+      → ((rs : List (List ℕ)) → IsSettled seen may_leave is_usable old.newer.disk old.newer.end rs → (c : List ℕ) → may_leave new.newer.disk c → Stands c rs ⊎ Stands c (rs ++ items))
+      → (older newer : List ℕ) → MayLeaveBoth may_leave new older newer → TellBoth older newer olds news ⊎ TellBoth older newer olds (news ++ put_again (waiting (olds ++ news)))
+  leaves_again items are same crash older newer left =
+      let first : Tells older olds = older_tells older (subst (λ (f : RecordFile D). may_leave f.disk older) same left.0) in
+      elim (crash k.newer_items k.newer newer left.1) [
+        | inl stands ↦ inl (first, record { items = k.newer_items; stands = stands; read = k.newer_read })
+        | inr stands ↦ inr (first, record { items = k.newer_items ++ items; stands = stands; read = read_append k.newer_items items news (put_again (waiting (olds ++ news))) k.newer_read are })
       ]
 
   -- the records of an epoch
@@ -224,14 +220,14 @@ module _ {D : Type 0} (seen : D → List ℕ) (may_leave : D → List ℕ → Ty
     newer = settled;
     older_read = k.older_read;
     newer_read = read_append k.newer_items items news (epoch_records number) k.newer_read are;
-    older_waits = older ∙ k.older_waits ∙ sym (ap (λ (l : List PageValue). map name_of l) (left_epochs (waiting olds) news number));
-    newer_waits = newer ∙ k.newer_waits ∙ sym (ap (λ (l : List PageValue). map name_of l) (waiting_epochs [] news number));
+    older_waits = same_kept _ _ _ _ older (left_epochs (waiting olds) news number) k.older_waits;
+    newer_waits = same_kept _ _ _ _ newer (waiting_epochs [] news number) k.newer_waits;
     epoch = omega (arith, k.epoch, grow, epoch, greatest_epochs news number 0);
   }
 
   -- no page of the older file waits
   pub none_waits : old.older_pages.items ≡ [] → NoneIsLeft olds news
-  none_waits none = no_names (left_after (waiting olds) news) (sym k.older_waits ∙ none)
+  none_waits none = no_pages (left_after (waiting olds) news) (same_kept _ _ _ _ (sym none) refl k.older_waits)
 
   pub keeps_cleared : IsSettled seen may_leave is_usable new.older.disk new.older.end [] → new.newer ≡ old.newer → new.older_pages.items ≡ [] → new.newer_pages.items ≡ old.newer_pages.items → new.epoch ≡ old.epoch
       → Stores seen may_leave is_usable new [] news
@@ -242,8 +238,8 @@ module _ {D : Type 0} (seen : D → List ℕ) (may_leave : D → List ℕ → Ty
     newer = subst (λ (f : RecordFile D). IsSettled seen may_leave is_usable f.disk f.end k.newer_items) (sym same) k.newer;
     older_read = tt;
     newer_read = k.newer_read;
-    older_waits = none ∙ sym (ap (λ (l : List PageValue). map name_of l) (none_left news));
-    newer_waits = names ∙ k.newer_waits;
+    older_waits = same_kept [] _ [] _ none (none_left news) tt;
+    newer_waits = same_kept _ _ _ _ names refl k.newer_waits;
     epoch = omega (arith, k.epoch, epoch);
   }
 
@@ -276,8 +272,8 @@ module _ {D : Type 0} (seen : D → List ℕ) (may_leave : D → List ℕ → Ty
     newer = subst (λ (l : List (List ℕ)). IsSettled seen may_leave is_usable new.newer.disk new.newer.end (l ++ items)) (none_there empty) (settled k.older_items k.older);
     older_read = k.newer_read;
     newer_read = are;
-    older_waits = older ∙ k.newer_waits;
-    newer_waits = newer ∙ k.older_waits ∙ ap (λ (l : List SpoolRecord). map name_of (left_after (waiting l) news)) (none_told empty) ∙ ap (λ (l : List PageValue). map name_of l) (none_left news);
+    older_waits = same_kept _ _ _ _ older refl k.newer_waits;
+    newer_waits = same_kept _ _ _ _ newer (sym (ap (λ (l : List SpoolRecord). left_after (waiting l) news) (none_told empty) ∙ none_left news)) k.older_waits;
     epoch = omega (arith, epoch);
   }
 

@@ -52,7 +52,7 @@ pub data Call : Type 0 where
   Puts : (pages : List PageValue) → Call
   -- the record of the end of a job is put
   Ends : (ended : EndedValue) → Call
-  -- the older file is cleared, or taken into use
+  -- the older file is cleared, or taken into use, or what waits is put again
   Turns : Call
 
 -- which pages wait after a call, where these waited before it

@@ -1,9 +1,10 @@
 -- A spool between two calls, and what a crash may leave of it. (This project's profile.)
-use Rattle.std.specs.Prelude.{◌≡◌, ◌⊎◌, ◌<◌, ◌≤◌, ◌+◌, ℕ, max, Bool, IsTrue, List, [], ◌∷◌, map}
+use Rattle.std.specs.Prelude.{◌≡◌, ◌⊎◌, ◌<◌, ◌≤◌, ◌+◌, ℕ, max, Bool, IsTrue, List, [], ◌∷◌}
 use Rattle.fax_spool.specs.Records.{Stands}
 use Rattle.fax_spool.specs.Settled.{IsSettled}
 use Rattle.fax_spool.specs.SpoolRecords.{AreReadAs}
-use Rattle.fax_spool.specs.Waits.{name_of, waiting, left_after}
+use Rattle.fax_spool.specs.Waits.{waiting, left_after}
+use Rattle.fax_spool.specs.KeptPages.{AreKept}
 use Rattle.fax_spool.specs.declared.spool_record.SpoolRecord.{SpoolRecord}
 use Rattle.fax_spool.specs.declared.spool_record.SpoolRecord.TheVariants.{Page, Ended, Epoch, Damaged}
 use Rattle.fax_spool.specs.declared.file.RecordFile.{RecordFile}
@@ -49,7 +50,8 @@ TellsOneList = (file : List ℕ) (records others : List SpoolRecord) → Tells f
 abbrev pub MayLeaveBoth : {D : Type 0} → (D → List ℕ → Type 0) → Spool D → List ℕ → List ℕ → Type 0
 MayLeaveBoth may_leave spool older newer = may_leave spool.older.disk older × may_leave spool.newer.disk newer
 
--- A SPOOL KEEPS RECORDS: its older file those before the newer one's. Both files are settled, and it knows the pages that wait.
+-- A SPOOL KEEPS RECORDS: its older file those before the newer one's. Both files are settled, and it knows the pages that wait, some of
+-- them with the octets of their records.
 pub record Stores {D : Type 0} (seen : D → List ℕ) (may_leave : D → List ℕ → Type 0) (is_usable : D → Bool) (spool : Spool D) (olds news : List SpoolRecord) : Type 0 where
   pub older_items : List (List ℕ)
   pub newer_items : List (List ℕ)
@@ -57,8 +59,8 @@ pub record Stores {D : Type 0} (seen : D → List ℕ) (may_leave : D → List �
   pub newer : IsSettled seen may_leave is_usable spool.newer.disk spool.newer.end newer_items
   pub older_read : AreReadAs older_items olds
   pub newer_read : AreReadAs newer_items news
-  pub older_waits : spool.older_pages.items ≡ map name_of (left_after (waiting olds) news)
-  pub newer_waits : spool.newer_pages.items ≡ map name_of (waiting news)
+  pub older_waits : AreKept spool.older_pages.items (left_after (waiting olds) news)
+  pub newer_waits : AreKept spool.newer_pages.items (waiting news)
   pub epoch : greatest_epoch news ≤ spool.epoch
 
 -- no wrong answer of either file was taken as true

@@ -3,6 +3,7 @@
 #![tactic(auto)]
 
 mod file;
+mod kept_page;
 pub mod laws;
 mod listing;
 mod opening;

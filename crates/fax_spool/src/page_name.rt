@@ -36,6 +36,34 @@ impl PageName {
         })
     }
 
+    /// In which life of the process it was confirmed.
+    pub(crate) fn life(&self) -> u32
+        ensures { result ≡ self.now.life }
+    {
+        self.life
+    }
+
+    /// The number of the call that it came in.
+    pub(crate) fn call(&self) -> u32
+        ensures { result ≡ self.now.call }
+    {
+        self.call
+    }
+
+    /// Which page of that call it is.
+    pub(crate) fn number(&self) -> u32
+        ensures { result ≡ self.now.number }
+    {
+        self.number
+    }
+
+    /// The name of its line.
+    pub(crate) fn line(&self) -> &[u8]
+        ensures { result.now ≡ self.now.line }
+    {
+        self.line.as_slice()
+    }
+
     /// Whether the job that ended had this page.
     pub(crate) fn is_ended_by(&self, ended: &EndedRecord<'_>) -> bool
         ensures { result ≡ ends ended.now self.now }

@@ -7,18 +7,25 @@ ghost use Rattle.fax_spool.specs.Calls.{Accepts, Does, IsRead, Puts, Ends, Refus
 ghost use Rattle.fax_spool.specs.Records.{Stands};
 ghost use Rattle.fax_spool.specs.Settled.{IsSettled};
 ghost use Rattle.fax_spool.specs.SpoolRecords.{AreReadAs, kept_of};
+ghost use Rattle.fax_spool.specs.KeptPages.{put_again};
 ghost use Rattle.fax_spool.specs.Waits.{ended_by, ends, waiting};
 ghost use Rattle.fax_spool.specs.Spools.{AreClean, Stores, NoneIsLeft, MayLeaveBoth, TellBoth, epoch_now, epoch_records, files_of, greatest_epoch};
 ghost use Rattle.fax_spool.specs.declared.spool_record.SpoolRecord.{SpoolRecord as SpoolRecordShown};
 
+use crate::kept_page::{
+    KeptPage, Room, keep_page, keep_read_pages, kept_octets, records_again, room_left, seal_pages,
+};
 use crate::page_name::PageName;
 use crate::reading::{ended_pages, read_items};
-use crate::spool_record::{seal_ended, seal_epochs, seal_page, seal_pages};
-use crate::waiting::{drop_ended, names_of, newest_epoch};
+use crate::spool_record::{seal_ended, seal_epochs, seal_page};
+use crate::waiting::{drop_ended, newest_epoch};
 use crate::{EndedRecord, PageRecord, RecordFile, SpoolRecord, WaitingPage, waiting_pages};
 use sqlite_disk::Disk;
 use std::alloc::Global;
 use std::{io, mem};
+
+/// The most octets of records that are kept in memory.
+const MOST_KEPT: usize = 16 * 1024 * 1024;
 
 /// Records of confirmed pages and of jobs that ended, in two files in turn: what is new is put into the newer one, and the older
 /// one is cleared once no page in it waits. `begin` makes one of two files that were recovered.
@@ -30,9 +37,11 @@ pub struct Spool<D: Disk> {
     older: RecordFile<D>,
     newer: RecordFile<D>,
     /// The pages of the older file that wait.
-    older_pages: Vec<PageName>,
+    older_pages: Vec<KeptPage>,
     /// The pages of the newer file that wait.
-    newer_pages: Vec<PageName>,
+    newer_pages: Vec<KeptPage>,
+    /// What room there is for the records of more.
+    room: Room,
     /// The greatest number of an epoch so far.
     epoch: u32,
     /// A call of the disk has failed.
@@ -65,9 +74,10 @@ impl<D: Disk + Drop> Spool<D> {
         let epoch = greatest + 1;
         let mut pages = waiting_pages(alloc, olds)?;
         drop_ended(&mut pages, news);
-        let older_pages = names_of(alloc, pages.as_slice())?;
+        let mut room = Room { octets: MOST_KEPT };
+        let older_pages = keep_read_pages(alloc, pages.as_slice(), &mut room)?;
         let pages = waiting_pages(alloc, news)?;
-        let newer_pages = names_of(alloc, pages.as_slice())?;
+        let newer_pages = keep_read_pages(alloc, pages.as_slice(), &mut room)?;
         let items = seal_epochs(alloc, epoch)?;
         let mut newer = newer;
         let mut refuses = false;
@@ -77,6 +87,7 @@ impl<D: Disk + Drop> Spool<D> {
             newer,
             older_pages,
             newer_pages,
+            room,
             epoch,
             refuses,
         })
@@ -107,6 +118,7 @@ impl<D: Disk> Spool<D> {
             newer,
             older_pages: _,
             newer_pages: _,
+            room: _,
             epoch: _,
             refuses: _,
         } = self;
@@ -132,7 +144,8 @@ impl<D: Disk> Spool<D> {
         let octets = seal_page(alloc, page)?;
         self.newer_pages.reserve(1)?;
         append(&mut self.newer, &mut self.refuses, alloc, octets.as_slice())?;
-        self.newer_pages.push_reserved(name);
+        let kept = keep_page(name, octets, &mut self.room);
+        self.newer_pages.push_reserved(kept);
         Ok(())
     }
 
@@ -151,10 +164,16 @@ impl<D: Disk> Spool<D> {
         if self.refuses {
             return Err(io::ErrorKind::Other.into());
         }
-        let mut names = names_of(alloc, pages)?;
-        let items = seal_pages(alloc, pages)?;
-        self.newer_pages.append(&mut names)?;
-        append_all(&mut self.newer, &mut self.refuses, alloc, items.as_slice())?;
+        let mut room = self.room;
+        let mut sealed = seal_pages(alloc, pages, &mut room)?;
+        self.newer_pages.append(&mut sealed.kept)?;
+        append_all(
+            &mut self.newer,
+            &mut self.refuses,
+            alloc,
+            sealed.items.as_slice(),
+        )?;
+        self.room = room;
         Ok(())
     }
 
@@ -176,6 +195,11 @@ impl<D: Disk> Spool<D> {
         append(&mut self.newer, &mut self.refuses, alloc, octets.as_slice())?;
         forget_ended(&mut self.older_pages, ended);
         forget_ended(&mut self.newer_pages, ended);
+        self.room = room_left(
+            MOST_KEPT,
+            self.older_pages.as_slice(),
+            self.newer_pages.as_slice(),
+        );
         Ok(())
     }
 
@@ -252,6 +276,46 @@ impl<D: Disk> Spool<D> {
         append_all(&mut self.newer, &mut self.refuses, alloc, items.as_slice())?;
         Ok(true)
     }
+
+    /// Puts all pages that wait again, into the newer file, in the order in which they wait, so that none of the older one's is left: all of
+    /// them at once, whatever crash comes. It answers whether it did: not where the records of one of them are not kept in memory, nor where
+    /// they have more than `most` octets. It costs two syncs, and what those octets cost.
+    pub fn put_again(&mut self, alloc: Global, most: usize) -> io::Result<bool>
+        ensures put { IfOk result (λ was. (olds news : List SpoolRecordShown) → Stores D.seen D.may_leave D.is_usable self.old olds news
+            → MatchBool was (NoneIsLeft olds (news ++ put_again (waiting (olds ++ news))) × Stores D.seen D.may_leave D.is_usable self.new olds (news ++ put_again (waiting (olds ++ news))))
+            (Stores D.seen D.may_leave D.is_usable self.new olds news)) }
+        // Whenever the machine stops, the files tell the records from before, with those that are put again or without.
+        ensures crash { (olds news : List SpoolRecordShown) → Stores D.seen D.may_leave D.is_usable self.old olds news
+            → (older newer : List ℕ) → MayLeaveBoth D.may_leave self.new older newer
+            → TellBoth older newer olds news ⊎ TellBoth older newer olds (news ++ put_again (waiting (olds ++ news))) }
+        ensures does { Does D.seen D.may_leave D.is_usable Turns (is_ok result) self.old self.new }
+    {
+        if self.refuses {
+            return Err(io::ErrorKind::Other.into());
+        }
+        if !self.are_kept_within(most) {
+            return Ok(false);
+        }
+        let items = records_again(
+            alloc,
+            self.older_pages.as_slice(),
+            self.newer_pages.as_slice(),
+        )?;
+        self.older_pages.append(&mut self.newer_pages)?;
+        mem::swap(&mut self.older_pages, &mut self.newer_pages);
+        append_all(&mut self.newer, &mut self.refuses, alloc, items.as_slice())?;
+        Ok(true)
+    }
+
+    /// Whether the records of all pages that wait are kept in memory, and have at most so many octets.
+    fn are_kept_within(&self, most: usize) -> bool {
+        let older = kept_octets(self.older_pages.as_slice());
+        let newer = kept_octets(self.newer_pages.as_slice());
+        match (older, newer) {
+            (Some(older), Some(newer)) => older.saturating_add(newer) <= most,
+            _ => false,
+        }
+    }
 }
 
 /// Adds a record to a file. Where that fails, the spool refuses everything from then on.
@@ -300,9 +364,9 @@ fn append_all<D: Disk>(
     Ok(())
 }
 
-/// Drops the names of the pages of a job that ended.
-fn forget_ended(pages: &mut Vec<PageName>, ended: &EndedRecord<'_>)
-    ensures { pages.new.items ≡ filter (λ page. not (ends ended.now page)) pages.old.items }
+/// Forgets the pages of a job that ended.
+fn forget_ended(pages: &mut Vec<KeptPage>, ended: &EndedRecord<'_>)
+    ensures { pages.new.items ≡ filter (λ page. not (ends ended.now page.name)) pages.old.items }
 {
-    pages.retain(|page| !page.is_ended_by(ended));
+    pages.retain(|page| !page.name.is_ended_by(ended));
 }

@@ -1,7 +1,7 @@
 //! What a sealed record of a spool says, whichever it is.
 ghost use Rattle.std.specs.Prelude.{◌≡◌, ◌≢◌, ◌<◌, ℕ, List, length, map, IfOk, MatchOption};
 ghost use Rattle.fax_spool.specs.RecordOctets.{PageValue, EndedValue, epoch_octets};
-ghost use Rattle.fax_spool.specs.SpoolRecords.{AreReadAs, IsReadAs, kept_of};
+ghost use Rattle.fax_spool.specs.SpoolRecords.{AreReadAs, IsReadAs};
 ghost use Rattle.fax_spool.specs.Spools.{epoch_records};
 
 use crate::record::{
@@ -9,13 +9,9 @@ use crate::record::{
 };
 use crate::{EndedRecord, PageRecord, seal, unseal};
 use std::alloc::{AllocError, Global};
-use std::io;
 
 /// The first octet of the record of an epoch.
 const EPOCH: u8 = 3;
-
-/// The most octets of the name of a line, and of a tag.
-const MOST_NAME: usize = 255;
 
 /// What a sealed record says.
 #[derive(Drop)]
@@ -58,20 +54,6 @@ pub(crate) fn seal_page(alloc: Global, page: &PageRecord<'_>) -> Result<Vec<u8>,
     let kept = write_page_record(alloc, page)?;
     let octets = seal(alloc, kept.as_slice())?;
     Ok(octets)
-}
-
-/// The records of pages, sealed. It refuses a page whose line or tag has more than 255 octets.
-pub(crate) fn seal_pages(alloc: Global, pages: &[PageRecord<'_>]) -> io::Result<Vec<Vec<u8>>>
-    ensures { IfOk result (λ items. AreReadAs (map (λ v. v.items) items.items) (map kept_of pages.now)) }
-{
-    let mut items = Vec::with_capacity(alloc, pages.len())?;
-    for page in pages {
-        if page.line.len() > MOST_NAME || page.tag.len() > MOST_NAME {
-            return Err(io::ErrorKind::InvalidInput.into());
-        }
-        items.push(seal_page(alloc, page)?)?;
-    }
-    Ok(items)
 }
 
 /// The record of a job that ended, sealed.

@@ -1,10 +1,10 @@
 //! Which pages wait, by the records that were read.
 ghost use Rattle.std.specs.Prelude.{◌≡◌, ◌++◌, map, IfOk, OnOk};
 ghost use Rattle.fax_spool.specs.SpoolRecords.{AreReadAs};
-ghost use Rattle.fax_spool.specs.Waits.{name_of, left_of, after, left_after, waiting, waiting_after, without};
+ghost use Rattle.fax_spool.specs.Waits.{left_of, after, left_after, waiting, waiting_after, without};
 ghost use Rattle.fax_spool.specs.Spools.{epoch_of, greatest_epoch, raised};
 
-use crate::page_name::{PageName, had};
+use crate::page_name::had;
 use crate::{EndedRecord, PageRecord, SpoolRecord, read_spool_record};
 use std::alloc::{AllocError, Global};
 
@@ -56,17 +56,6 @@ pub(crate) fn drop_ended(pages: &mut Vec<PageRecord<'_>>, records: &[SpoolRecord
     for kept in records {
         drop_ended_by(pages, kept);
     }
-}
-
-/// The names of pages.
-pub(crate) fn names_of(alloc: Global, pages: &[PageRecord<'_>]) -> Result<Vec<PageName>, AllocError>
-    ensures { IfOk result (λ names. names.items ≡ map name_of pages.now) }
-{
-    let mut names = Vec::with_capacity(alloc, pages.len())?;
-    for page in pages {
-        names.push(PageName::of_page(alloc, page)?)?;
-    }
-    Ok(names)
 }
 
 /// The number of the first epoch that can be read, 0 where there is none. Of the two files of a spool, that of the smaller number is

@@ -89,8 +89,19 @@ fn end(
     Ok(())
 }
 
+/// What waits is put again, so that the other file is cleared and taken into use; and once more into that.
+fn copy_forward(spool: &mut Spool<SpoolFolderFile<Unknown>>, alloc: Global) -> io::Result<()> {
+    spool.put_again(alloc, usize::MAX)?;
+    spool.clear()?;
+    spool.change(alloc)?;
+    spool.put_again(alloc, usize::MAX)?;
+    spool.clear()?;
+    Ok(())
+}
+
 /// Ends the jobs of the pages that wait, and puts page after page, and tells each with the nanoseconds that it took. `SPOOL_PAGES`: how many; `SPOOL_OCTETS`: of which length;
-/// `SPOOL_ENDS`: whether the jobs of pages end as more come.
+/// `SPOOL_ENDS`: whether the jobs of pages end as more come; `SPOOL_STAYS`: the first page that waits stays, and after so many puts what
+/// waits is copied forward.
 #[test]
 fn puts_pages(rt: HostRuntime) -> Result<(), Fail> {
     let Ok(folder) = env::var(&rt, "SPOOL_PUTS") else {
@@ -98,11 +109,17 @@ fn puts_pages(rt: HostRuntime) -> Result<(), Fail> {
     };
     let octets = number_in(&rt, "SPOOL_OCTETS", 40_000);
     let ends = number_in(&rt, "SPOOL_ENDS", 1) == 1;
+    let stays = number_in(&rt, "SPOOL_STAYS", 0);
     let opened = open_folder(&rt, folder.as_str(), Unknown)?;
     let mut spool = opened.spool;
     let life = spool.epoch();
     println!(rt; "life {life}")?;
+    let mut first_stays = stays > 0;
     for page in opened.pages.as_slice() {
+        if first_stays {
+            first_stays = false;
+            continue;
+        }
         end(&mut spool, rt.alloc(), page.life, page.number)?;
         println!(rt; "ended {} {}", page.life, page.number)?;
     }
@@ -112,6 +129,14 @@ fn puts_pages(rt: HostRuntime) -> Result<(), Fail> {
         put(&mut spool, rt.alloc(), life, number, text.as_slice())?;
         let took = start.elapsed(&rt)?.as_nanos();
         println!(rt; "put {number} {took}")?;
+        if stays > 0 && number % stays == 0 {
+            let start = Instant::now(&rt)?;
+            copy_forward(&mut spool, rt.alloc())?;
+            println!(rt; "copied {}", start.elapsed(&rt)?.as_nanos())?;
+        }
+        if first_stays && number == MOST_WAITING + 1 {
+            continue;
+        }
         if ends && number > MOST_WAITING {
             end(&mut spool, rt.alloc(), life, number - MOST_WAITING)?;
             println!(rt; "ended {life} {}", number - MOST_WAITING)?;
@@ -253,7 +278,7 @@ fn put_calls(
     Ok(())
 }
 
-/// Puts the pages of four calls into both files of a new folder, and ends a job.
+/// Puts the pages of four calls into both files of a new folder, and ends a job. `SPOOL_AGAIN`: whether what waits is copied forward then.
 #[test]
 fn puts_calls(rt: HostRuntime) -> Result<(), Fail> {
     let Ok(folder) = env::var(&rt, "SPOOL_CALLS") else {
@@ -276,6 +301,9 @@ fn puts_calls(rt: HostRuntime) -> Result<(), Fail> {
         line: b"a1",
     };
     spool.end(rt.alloc(), &ended)?;
+    if number_in(&rt, "SPOOL_AGAIN", 0) == 1 {
+        copy_forward(&mut spool, rt.alloc())?;
+    }
     println!(rt; "put")?;
     Ok(())
 }

@@ -2,6 +2,8 @@
 #![tactic(auto)]
 
 #[cfg(test)]
+mod copied;
+#[cfg(test)]
 mod crashes;
 #[cfg(test)]
 mod noted;

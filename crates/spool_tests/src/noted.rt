@@ -75,3 +75,56 @@ fn ended_job_is_not_found_again(rt: HostRuntime) -> Result<(), Fail> {
     assert!(rt; tells_page(&found, 1, "second"));
     Ok(())
 }
+
+/// The octets of the text of a page that fills files: 1 MiB.
+const LARGE: usize = 1024 * 1024;
+
+/// What is known of two lines as their first life begins.
+fn two_queues(alloc: Global) -> Result<Vec<Queue>, NoMemory> {
+    let mut queues = queues_of(alloc)?;
+    queues.push(Queue::new(alloc, "a2")?)?;
+    Ok(queues)
+}
+
+/// The only page of this call of the second line.
+fn large_page(alloc: Global, call: u32) -> Result<PageToStore, AllocError> {
+    let text = Vec::from_elem(alloc, 7u8, LARGE)?;
+    Ok(PageToStore {
+        line: 1,
+        kept: Kept {
+            call,
+            format: FORMAT,
+            rows: 1,
+            closes: true,
+        },
+        text: Octets::from_vec(text),
+    })
+}
+
+/// A page of the first line stays, while 80 MiB of the second one come and go: neither file has more than 20 MiB, and the page is found.
+#[test]
+fn a_page_that_stays_keeps_no_file(rt: HostRuntime) -> Result<(), Fail> {
+    let alloc = rt.alloc();
+    let opened = open_over(alloc, &[], &[])?;
+    let mut storage = Storage::new(alloc, opened.spool, two_queues(alloc)?);
+    storage.set_tag(0, "stays");
+    storage.store_all(&[page_of(alloc, 0)?])?;
+    for call in 0..80 {
+        storage.begin_slot();
+        storage.store_all(&[large_page(alloc, call)?])?;
+        let report = Report {
+            call,
+            format: FORMAT,
+            pages: 1,
+            delivered: 1,
+            outcome: Outcome::Delivered,
+        };
+        storage.end(1, report)?;
+    }
+    let (older, newer) = storage.into_spool().into_files();
+    assert!(rt; older.disk.bytes().len() < 20 * LARGE);
+    assert!(rt; newer.disk.bytes().len() < 20 * LARGE);
+    let found = open_over(alloc, older.disk.bytes(), newer.disk.bytes())?;
+    assert!(rt; tells_page(&found, 0, "stays"));
+    Ok(())
+}

@@ -1,8 +1,8 @@
-use Rattle.std.proofs.Common.{◌≡◌, ◌∙◌, [], true, false, length, map, refl, ap, inl, arith}
+use Rattle.std.proofs.Common.{◌≡◌, [], true, false, length, refl, sym, ap, inl, arith}
 use Rattle.fax_spool.proofs.Loops.{none_more}
 use Rattle.fax_spool.specs.Calls.{Turns}
-use Rattle.fax_spool.specs.Waits.{name_of}
 use Rattle.fax_spool.proofs.Doing.{does_err, does_nothing, does_turn, may_have_turned, none_gone, told_cleared}
+use Rattle.fax_spool.proofs.Kept.{none_kept, same_kept}
 use Rattle.fax_spool.proofs.SpoolSteps.{at_rest, none_waits, keeps_cleared, leaves_cleared}
 use Rattle.fax_spool.proofs.spool.Spool.clear.Goals as goal
 
@@ -26,7 +26,7 @@ returns-clause-cleared g c = λ olds news k.
 
 pub returns-then-not-is_empty-clause-cleared : goal.returns-then-not-is_empty-clause-cleared
 returns-then-not-is_empty-clause-cleared g c = λ olds news k. (
-  λ none. let zero : length c.args.self.now.older_pages.items ≡ 0 = ap length (k.older_waits ∙ ap (map name_of) none) in absurd (grind (arith, c.if-not-is_empty.true, c.is_empty.ensures, zero)),
+  λ none. let zero : length c.args.self.now.older_pages.items ≡ 0 = ap length (none_kept _ (same_kept _ _ _ _ refl (sym none) k.older_waits)) in absurd (grind (arith, c.if-not-is_empty.true, c.is_empty.ensures, zero)),
   k,
 )
 

@@ -1,4 +1,4 @@
-use Rattle.std.proofs.Common.{List, ℕ, Vec, Global, map, refl, ◌∙◌, ap}
+use Rattle.std.proofs.Common.{List, ℕ, Vec, Global, map, ◌∙◌, ap}
 use Rattle.fax_spool.proofs.SpoolSteps.{read_all_through}
 use Rattle.fax_spool.proofs.ReadBack.{is_read}
 use Rattle.fax_spool.proofs.spool.Spool.pages_ended_by.Goals as goal

@@ -1,9 +1,9 @@
-use Rattle.std.proofs.Common.{List, [], ◌∷◌, ◌++◌, map, refl, inl, sym, ◌∙◌, ap, arith}
-use Rattle.std.proofs.lemmas.List.{map_push}
-use Rattle.fax_spool.specs.Waits.{PageName, name_of, waiting}
+use Rattle.std.proofs.Common.{List, [], ◌∷◌, ◌++◌, refl, inl, ◌∙◌, ap, arith}
+use Rattle.fax_spool.specs.declared.kept_page.KeptPage.{KeptPage}
 use Rattle.fax_spool.specs.declared.spool_record.SpoolRecord.TheVariants.{Page}
 use Rattle.fax_spool.specs.Calls.{Puts}
 use Rattle.fax_spool.proofs.Doing.{as_before, does_err, does_none, does_nothing, does_put, may_have_put, more_pages}
+use Rattle.fax_spool.proofs.Kept.{is_record, kept_append, same_kept}
 use Rattle.fax_spool.proofs.SpoolSteps.{at_rest, keeps_more, leaves_more, read_through}
 use Rattle.fax_spool.proofs.spool.Spool.put.Goals as goal
 
@@ -29,9 +29,8 @@ returns-clause-acknowledged g c = λ olds news k.
     keeps_more _ _ _ _ _ olds news k c.as_slice.result.now (Page c.args.page.now) (read_through _ _ (Page c.args.page.now) c.as_slice.ensures.value c.in_ok-octets.ensures) refl
     (c.in_ok-append.ensures.acknowledged k.newer_items k.newer)
     k.older_waits
-    (c.push_reserved.ensures.items ∙ ap (λ (l : List PageName). l ++ c.in_ok-name.name ∷ []) (c.reserve.ensures.items ∙ k.newer_waits)
-    ∙ ap (λ (n : PageName). map name_of (waiting news) ++ n ∷ []) c.in_ok-name.ensures
-    ∙ sym (map_push name_of (waiting news) c.args.page.now))
+    (same_kept _ _ _ _ (c.push_reserved.ensures.items ∙ ap (λ (l : List KeptPage). l ++ c.keep_page-kept.result ∷ []) c.reserve.ensures.items) refl
+    (kept_append _ _ _ _ k.newer_waits ((c.keep_page-kept.ensures.name ∙ c.in_ok-name.ensures, is_record c.keep_page-kept.result.octets c.in_ok-octets.octets.items c.args.page.now c.in_ok-octets.ensures c.keep_page-kept.ensures.octets), tt)))
     (omega arith) (omega arith)
 
 pub returns-then-self-clause-does : goal.returns-then-self-clause-does

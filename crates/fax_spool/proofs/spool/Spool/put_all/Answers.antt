@@ -1,37 +1,34 @@
-use Rattle.std.proofs.Common.{List, ℕ, Vec, Global, map, ◌++◌, refl, inl, ◌∙◌, ap}
+use Rattle.std.proofs.Common.{List, ℕ, Vec, Global, map, refl, inl, ap}
 use Rattle.fax_spool.specs.SpoolRecords.{kept_of}
-use Rattle.fax_spool.specs.Waits.{PageName}
 use Rattle.fax_spool.specs.Calls.{Puts}
 use Rattle.fax_spool.proofs.Doing.{as_before, does_err, does_none, does_nothing, does_put, may_have_put, more_pages}
+use Rattle.fax_spool.proofs.Kept.{kept_append, same_kept}
 use Rattle.fax_spool.proofs.Order.{above_pages}
 use Rattle.fax_spool.proofs.SpoolSteps.{at_rest, keeps_pages, leaves_pages, read_all_through}
 use Rattle.fax_spool.proofs.spool.Spool.put_all.Goals as goal
 
 pub returns-in_err-append_all-clause-crash : goal.returns-in_err-append_all-clause-crash
 returns-in_err-append_all-clause-crash g c = λ olds news k.
-    let are = read_all_through _ _ (map kept_of c.args.pages.now) (ap (λ (l : List (Vec ℕ Global)). map (λ (v : Vec ℕ Global). v.items) l) c.as_slice.ensures.value) c.in_ok-items.ensures in
+    let are = read_all_through _ _ (map kept_of c.args.pages.now) (ap (λ (l : List (Vec ℕ Global)). map (λ (v : Vec ℕ Global). v.items) l) c.as_slice.ensures.value) c.in_ok-sealed.ensures.items in
     leaves_pages _ _ _ c.args.self.now (record c.args.self.now { newer = c.append_all.new.file }) olds news k (map (λ (v : Vec ℕ Global). v.items) c.as_slice.result.now) c.args.pages.now are refl c.append_all.ensures.crash
 
 pub returns-clause-crash : goal.returns-clause-crash
 returns-clause-crash g c = λ olds news k.
-    let are = read_all_through _ _ (map kept_of c.args.pages.now) (ap (λ (l : List (Vec ℕ Global)). map (λ (v : Vec ℕ Global). v.items) l) c.as_slice.ensures.value) c.in_ok-items.ensures in
+    let are = read_all_through _ _ (map kept_of c.args.pages.now) (ap (λ (l : List (Vec ℕ Global)). map (λ (v : Vec ℕ Global). v.items) l) c.as_slice.ensures.value) c.in_ok-sealed.ensures.items in
     leaves_pages _ _ _ c.args.self.now (record c.args.self.now { newer = c.append_all.new.file }) olds news k (map (λ (v : Vec ℕ Global). v.items) c.as_slice.result.now) c.args.pages.now are refl c.append_all.ensures.crash
 
 pub returns-clause-acknowledged : goal.returns-clause-acknowledged
 returns-clause-acknowledged g c = λ olds news k.
-    let are = read_all_through _ _ (map kept_of c.args.pages.now) (ap (λ (l : List (Vec ℕ Global)). map (λ (v : Vec ℕ Global). v.items) l) c.as_slice.ensures.value) c.in_ok-items.ensures in
+    let are = read_all_through _ _ (map kept_of c.args.pages.now) (ap (λ (l : List (Vec ℕ Global)). map (λ (v : Vec ℕ Global). v.items) l) c.as_slice.ensures.value) c.in_ok-sealed.ensures.items in
     keeps_pages _ _ _ c.args.self.now _ olds news k (map (λ (v : Vec ℕ Global). v.items) c.as_slice.result.now) c.args.pages.now are refl
     (c.in_ok-append_all.ensures.acknowledged k.newer_items k.newer) refl
-    (c.in_ok-append.ensures.items ∙ ap (λ (l : List PageName). c.args.self.now.newer_pages.items ++ l) c.in_ok-names.ensures) refl
+    (same_kept _ _ _ _ c.in_ok-append.ensures.items refl (kept_append _ _ _ _ k.newer_waits c.in_ok-sealed.ensures.kept)) refl
 
 pub returns-then-self-clause-does : goal.returns-then-self-clause-does
 returns-then-self-clause-does g c = does_nothing _ _ _ c.args.self.now c.args.self.now (Puts c.args.pages.now)
 
-pub returns-in_err-names-clause-does : goal.returns-in_err-names-clause-does
-returns-in_err-names-clause-does g c = does_err _ _ _ c.args.self.now _ _ c.from_residual.result (Puts c.args.pages.now) c.from_residual.ensures.1 (does_nothing _ _ _ c.args.self.now c.args.self.now (Puts c.args.pages.now))
-
-pub returns-in_err-items-clause-does : goal.returns-in_err-items-clause-does
-returns-in_err-items-clause-does g c = does_err _ _ _ c.args.self.now _ _ c.from_residual-in_err-items.result (Puts c.args.pages.now) c.from_residual-in_err-items.ensures.1 (does_nothing _ _ _ c.args.self.now c.args.self.now (Puts c.args.pages.now))
+pub returns-in_err-sealed-clause-does : goal.returns-in_err-sealed-clause-does
+returns-in_err-sealed-clause-does g c = does_err _ _ _ c.args.self.now _ _ c.from_residual.result (Puts c.args.pages.now) c.from_residual.ensures.1 (does_nothing _ _ _ c.args.self.now c.args.self.now (Puts c.args.pages.now))
 
 pub returns-in_err-append-clause-does : goal.returns-in_err-append-clause-does
 returns-in_err-append-clause-does g c = does_err _ _ _ c.args.self.now _ _ c.from_residual-in_err-append.result (Puts c.args.pages.now) c.from_residual-in_err-append.ensures.1
@@ -47,11 +44,8 @@ returns-clause-does g c = does_put _ _ _ c.args.self.now _ (Puts c.args.pages.no
 pub returns-then-self-clause-crash : goal.returns-then-self-clause-crash
 returns-then-self-clause-crash g c = λ olds news k older newer left. inl (at_rest _ _ _ _ c.args.self.now olds news k older newer left)
 
-pub returns-in_err-names-clause-crash : goal.returns-in_err-names-clause-crash
-returns-in_err-names-clause-crash g c = λ olds news k older newer left. inl (at_rest _ _ _ _ c.args.self.now olds news k older newer left)
-
-pub returns-in_err-items-clause-crash : goal.returns-in_err-items-clause-crash
-returns-in_err-items-clause-crash g c = λ olds news k older newer left. inl (at_rest _ _ _ _ c.args.self.now olds news k older newer left)
+pub returns-in_err-sealed-clause-crash : goal.returns-in_err-sealed-clause-crash
+returns-in_err-sealed-clause-crash g c = λ olds news k older newer left. inl (at_rest _ _ _ _ c.args.self.now olds news k older newer left)
 
 pub returns-in_err-append-clause-crash : goal.returns-in_err-append-clause-crash
 returns-in_err-append-clause-crash g c = λ olds news k older newer left. inl (at_rest _ _ _ _ c.args.self.now olds news k older newer left)

@@ -4,8 +4,9 @@ use Rattle.fax_spool.specs.RecordOctets.{PageValue}
 use Rattle.fax_spool.specs.SpoolRecords.{AreReadAs, IsReadAs, kept_of}
 use Rattle.fax_spool.specs.declared.spool_record.SpoolRecord.{SpoolRecord}
 use Rattle.fax_spool.specs.declared.spool_record.SpoolRecord.TheVariants.{Page}
-use Rattle.fax_spool.proofs.SpoolSteps.{read_push}
-use Rattle.fax_spool.proofs.spool_record.seal_pages.Goals as goal
+use Rattle.fax_spool.proofs.Kept.{is_record, next_kept}
+use Rattle.fax_spool.proofs.ReadRecords.{read_push, read_through}
+use Rattle.fax_spool.proofs.kept_page.seal_pages.Goals as goal
 
 -- one page more is sealed
 next_sealed : (before after : List (Vec ℕ Global)) (v : Vec ℕ Global) (pages : List PageValue) (i : ℕ) (page : PageValue) → i < length pages → get_or pages i page ≡ page
@@ -21,7 +22,13 @@ next_sealed before after v pages i page lt got pushed is was =
     (read_push (map (λ (w : Vec ℕ Global). w.items) before) (map kept_of (take i pages)) v.items (Page page) was is))
 
 pub loop-page-preserved : goal.loop-page-preserved
-loop-page-preserved c =
-    next_sealed c.loop-page.items.items c.push.new.self.items c.in_ok-seal_page.field-0 c.args.pages.now c.loop-page.page-index c.page-item.result c.loop-page-test.true
-    (sym c.page-item.is)
-    c.in_ok-push.ensures.items c.in_ok-seal_page.ensures c.loop-page.invariant
+loop-page-preserved c = (
+  next_sealed c.loop-page.items.items c.push-in-loop-page.new.self.items c.in_ok-item.item c.args.pages.now c.loop-page.page-index c.page-item.result c.loop-page-test.true
+      (sym c.page-item.is)
+      c.in_ok-push-2.ensures.items c.in_ok-item.ensures c.loop-page.invariant.0,
+  next_kept c.loop-page.kept.items c.push.new.self.items (record { name = c.in_ok-name.name; octets = c.in_ok-octets.octets }) c.args.pages.now c.loop-page.page-index c.page-item.result c.loop-page-test.true
+      (sym c.page-item.is)
+      c.in_ok-push.ensures.items
+      (c.in_ok-name.ensures, is_record c.in_ok-octets.octets c.as_slice.result.now c.page-item.result (read_through _ _ (Page c.page-item.result) c.as_slice.ensures.value c.in_ok-item.ensures) c.in_ok-octets.ensures)
+      c.loop-page.invariant.1,
+)

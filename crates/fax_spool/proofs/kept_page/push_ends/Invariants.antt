@@ -1,0 +1,12 @@
+use Rattle.std.proofs.Common.{List, ◌++◌, map, take}
+use Rattle.fax_spool.specs.RecordOctets.{PageValue}
+use Rattle.fax_spool.specs.SpoolRecords.{AreReadAs}
+use Rattle.fax_spool.specs.KeptPages.{AreKept, ended_alone}
+use Rattle.fax_spool.specs.declared.spool_record.SpoolRecord.{SpoolRecord}
+use Rattle.fax_spool.proofs.kept_page.push_ends.Given as goal
+
+-- the records before, and those of the pages so far
+abbrev pub invariant-loop-page : goal.invariant-loop-page
+invariant-loop-page l =
+    (records : List SpoolRecord) (waits : List PageValue) → AreReadAs (map (λ v. v.items) l.initial.items.items) records → AreKept l.pages waits
+    → AreReadAs (map (λ v. v.items) l.items.items) (records ++ map ended_alone (take l.page-index waits))
