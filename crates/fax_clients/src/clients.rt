@@ -1,5 +1,5 @@
 //! All clients.
-ghost use Rattle.std.specs.Prelude.{◌≡◌, ℕ, ◌+◌, ◌≤◌, ◌⊎◌, false, [], ◌∷◌, ◌++◌, length, map, is_some, IfNone, IfOk, IfSome, OnErr, OnOk};
+ghost use Rattle.std.specs.Prelude.{◌≡◌, ℕ, ◌+◌, ◌≤◌, ◌⊎◌, false, [], ◌∷◌, ◌++◌, length, map, nat_eq, is_some, IfNone, IfOk, IfSome, OnErr, OnOk};
 ghost use Rattle.std.specs.List.{AllZip};
 ghost use Rattle.fax_clients.specs.Clients.{AreLeft, AreServed, AreWaitedFor, Hears, HearsNoLine, IsAsked, IsCounted, IsServed, IsTold, all_said, answered, changed_at, one_says_more, one_wants_events, silent, socket_alone, standard_alone, wanting, with_client};
 
@@ -35,6 +35,22 @@ impl Model for Asker {
     ghost view = { λ a. a.0 };
 
     ghost inverse = { λ n. record { 0 = n } };
+}
+
+impl Asker {
+    /// One that is no client, and says words as clients do: what it is answered is handed to nobody here.
+    pub fn apart() -> Self
+        ensures { result ≡ MOST_CLIENTS }
+    {
+        Asker(MOST_CLIENTS)
+    }
+
+    /// Whether it is that one.
+    pub fn is_apart(self) -> bool
+        ensures { result ≡ nat_eq self MOST_CLIENTS }
+    {
+        self.0 == MOST_CLIENTS
+    }
 }
 
 /// The clients of a control socket, at most 64 at one time; or standard input and output alone. Where one more comes, the one goes that

@@ -1,4 +1,5 @@
 pub mod KeyLemmas
 pub mod LineLemmas
 pub mod MemberLemmas
+pub mod SipLemmas
 pub mod UnlikeLemmas

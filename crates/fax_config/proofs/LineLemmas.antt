@@ -31,6 +31,7 @@ count_view (v ∷ vs) = let more = count_view vs in omega (arith, more)
 pub misfit_of_line : (members : Members) (items : Items) (i : ℕ) (line : Members) (misfit : Misfit) → get_item i items ≡ Some (table line) → HasMisfit i line misfit
     → get_member (codes "lines") members ≡ Some (array items) → IsMisfitOf members misfit
 misfit_of_line document items i line (misfits.Top flaw) here h at = absurd h
+misfit_of_line document items i line (misfits.Sip misfit) here h at = absurd h
 misfit_of_line document items i line (misfits.Line name flaw) here h at = (items, at, (i, line, here, h))
 misfit_of_line document items i line (misfits.Leg name leg flaw) here h at = (items, at, (i, line, here, h))
 misfit_of_line document items i line (misfits.DoubledName name) here h at = absurd h

@@ -1,5 +1,5 @@
 -- What a document tells of a service and its lines (this project's profile).
-use Rattle.std.specs.Prelude.{◌≡◌, ◌≢◌, ℕ, ◌<◌, ◌≤◌, ◌⊎◌, None, Some, List, [], ◌∷◌, length, codes, get_or, map, flat_map, option_map, string_bytes}
+use Rattle.std.specs.Prelude.{◌≡◌, ◌≢◌, ℕ, ◌<◌, ◌≤◌, ◌⊎◌, Option, None, Some, All, List, [], ◌∷◌, length, codes, get_or, map, flat_map, option_map, string_bytes}
 use Rattle.std.specs.declared.net.socket_addr.SocketAddr.{SocketAddr}
 use Rattle.toml.specs.Data.{Data, array, table, Items, no_items, item, Members, get_member}
 use Rattle.toml.specs.Parse.{parse_document}
@@ -7,6 +7,8 @@ use Rattle.fax_config.specs.declared.config.LegConfig.{LegConfig}
 use Rattle.fax_config.specs.declared.config.LineConfig.{LineConfig}
 use Rattle.fax_config.specs.declared.config.Config.{Config}
 use Rattle.fax_config.specs.declared.keys.Level.TheVariants as levels
+use Rattle.fax_config.specs.declared.sip.SipConfig.{SipConfig}
+use Rattle.fax_config.specs.SipConfigurations.{IsSipAt}
 use Rattle.fax_config.specs.Members.{HasKnownKeys, IsAddressAt, IsLineName, IsNumberAt, IsPathAt, IsRepeatAt, IsTableAt, IsTextAt}
 
 -- A line's name can be said in a control word, and its settings are in their ranges.
@@ -72,6 +74,15 @@ abbrev pub AreLinesAt : Members → List LineConfig → Type 0
 AreLinesAt members lines =
     ((get_member (codes "lines") members ≡ None) × (lines ≡ [])) ⊎ ((items : Items) × (get_member (codes "lines") members ≡ Some (array items)) × AreLines items lines)
 
+-- the local address of no leg
+abbrev pub IsAtNoLeg : List LineConfig → SocketAddr → Type 0
+IsAtNoLeg lines address = All (λ line. (line.calling.local ≢ address) × (line.called.local ≢ address)) lines
+
+-- what SIP and audio are at is that of no leg
+abbrev pub IsUnlikeSip : List LineConfig → Option SipConfig → Type 0
+IsUnlikeSip lines None = Unit {0}
+IsUnlikeSip lines (Some sip) = IsAtNoLeg lines sip.local × IsAtNoLeg lines sip.audio
+
 -- The document tells this configuration.
 pub record IsConfig (members : Members) (config : Config) : Type 0 where
   pub keys : HasKnownKeys levels.Top members
@@ -84,6 +95,8 @@ pub record IsConfig (members : Members) (config : Config) : Type 0 where
   pub few : length config.lines.items ≤ 4000
   pub names_unlike : AreUnlike (names_of config)
   pub addresses_unlike : AreUnlike (local_addresses config)
+  pub sip : IsSipAt members config.sip
+  pub sip_unlike : IsUnlikeSip config.lines.items config.sip
 
 -- the text is a TOML document that tells this configuration
 abbrev pub Tells : List ℕ → Config → Type 0

@@ -1,3 +1,5 @@
 pub mod Configurations
 pub mod Faults
 pub mod Members
+pub mod SipConfigurations
+pub mod SipMembers

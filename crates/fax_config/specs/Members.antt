@@ -9,11 +9,14 @@ use Rattle.fax_config.specs.declared.config.Repeat.TheVariants as repeat
 use Rattle.fax_config.specs.declared.keys.Level.{Level}
 use Rattle.fax_config.specs.declared.keys.Level.TheVariants as levels
 
--- the keys that a table may have: the document, a line, and a leg of a line
+-- the keys that a table may have: the document, a line, a leg of a line, and those of SIP
 abbrev pub known_keys : Level → List (List ℕ)
-known_keys levels.Top = codes "control" ∷ codes "spool" ∷ codes "http" ∷ codes "stop_seconds" ∷ codes "lines" ∷ []
+known_keys levels.Top = codes "control" ∷ codes "spool" ∷ codes "http" ∷ codes "stop_seconds" ∷ codes "lines" ∷ codes "sip" ∷ codes "trunks" ∷ codes "routes" ∷ []
 known_keys levels.Line = codes "name" ∷ codes "calling" ∷ codes "called" ∷ codes "redundancy" ∷ codes "preamble_ms" ∷ codes "repeat" ∷ codes "dial_seconds" ∷ []
 known_keys levels.Leg = codes "local" ∷ codes "peer" ∷ []
+known_keys levels.Sip = codes "local" ∷ codes "audio" ∷ codes "ring_seconds" ∷ []
+known_keys levels.Trunk = codes "name" ∷ codes "address" ∷ codes "allow" ∷ codes "user" ∷ codes "password_file" ∷ codes "register" ∷ codes "call_with" ∷ codes "calls" ∷ []
+known_keys levels.Route = codes "prefix" ∷ codes "trunk" ∷ codes "strip" ∷ codes "add" ∷ []
 
 -- the keys of some members, in order
 abbrev pub keys_of : Members → List (List ℕ)

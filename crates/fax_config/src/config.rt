@@ -1,4 +1,5 @@
 //! What a configuration tells.
+use crate::sip::SipConfig;
 use std::net::SocketAddr;
 
 /// The most lines of a configuration.
@@ -68,4 +69,6 @@ pub struct Config {
     /// How long a stop waits for calls and jobs, in seconds.
     pub stop_seconds: u32,
     pub lines: Vec<LineConfig>,
+    /// How SIP is spoken, where it is.
+    pub sip: Option<SipConfig>,
 }

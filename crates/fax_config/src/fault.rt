@@ -1,4 +1,5 @@
 //! What is wrong with a configuration.
+use crate::sip_fault::SipMisfit;
 use fax_control::Leg;
 use std::alloc::{AllocError, AllocFailed};
 use std::fmt;
@@ -12,6 +13,17 @@ pub enum Trouble {
     NotTable,
     NotTables,
     NotAddress,
+    /// It is neither true nor false.
+    NotTruth,
+    /// It is no list of networks.
+    NotNetworks,
+    /// It is no user of an address of SIP.
+    NotUser,
+    NotCallWith,
+    /// It is no number that can be called.
+    NotCalled,
+    /// It cannot be put in front of a number.
+    NotDialled,
     /// Its port is 0, at which nothing is heard.
     NoPort,
     Empty,
@@ -28,6 +40,8 @@ pub enum Flaw {
     Unknown(String),
     /// The value at a key.
     At(&'static str, Trouble),
+    /// The value at a key wants one at another, where there is none.
+    Wants(&'static str, &'static str),
     /// The peer of a leg is the leg's own address.
     OwnPeer,
     NoMemory,
@@ -55,6 +69,8 @@ pub enum ConfigFault {
 pub enum Misfit {
     /// What does not lie in a line's table.
     Top(Flaw),
+    /// What tells of SIP.
+    Sip(SipMisfit),
     /// What lies in a line's table.
     Line(LineName, Flaw),
     /// What lies in the table of a line's leg.
@@ -77,6 +93,18 @@ impl fmt::Display for Trouble {
             Trouble::NotTable => write!(f, "is no table"),
             Trouble::NotTables => write!(f, "is no list of tables"),
             Trouble::NotAddress => write!(f, "is no address with a port"),
+            Trouble::NotTruth => write!(f, "is neither true nor false"),
+            Trouble::NotNetworks => write!(f, "is no list of networks as 192.0.2.0/28"),
+            Trouble::NotUser => write!(f, "is no user of 1 to 64 letters, digits, -, _, . and +"),
+            Trouble::NotCallWith => write!(f, "is neither t38 nor audio"),
+            Trouble::NotCalled => write!(
+                f,
+                "is no number: an optional + and digits, 32 octets at most"
+            ),
+            Trouble::NotDialled => write!(
+                f,
+                "is neither empty nor an optional + and digits, 32 octets at most"
+            ),
             Trouble::NoPort => write!(f, "has port 0"),
             Trouble::Empty => write!(f, "is empty"),
             Trouble::NotRepeat => write!(f, "is none of full, last and none"),
@@ -94,6 +122,7 @@ impl fmt::Display for Flaw {
         match self {
             Flaw::Unknown(key) => write!(f, "the key {key:?} is not known"),
             Flaw::At(key, trouble) => write!(f, "{key} {trouble}"),
+            Flaw::Wants(key, other) => write!(f, "{key} wants {other}"),
             Flaw::OwnPeer => write!(f, "peer is the leg's own address"),
             Flaw::NoMemory => write!(f, "memory was refused"),
         }
@@ -128,6 +157,7 @@ impl fmt::Display for Misfit {
     fn fmt<W: fmt::Write>(&self, f: &mut fmt::Formatter<W>) -> fmt::Result {
         match self {
             Misfit::Top(flaw) => write!(f, "{flaw}"),
+            Misfit::Sip(misfit) => write!(f, "{misfit}"),
             Misfit::Line(name, flaw) => write!(f, "{name}: {flaw}"),
             Misfit::Leg(name, leg, flaw) => {
                 let leg = leg.name();

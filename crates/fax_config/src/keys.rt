@@ -15,6 +15,9 @@ pub enum Level {
     Top,
     Line,
     Leg,
+    Sip,
+    Trunk,
+    Route,
 }
 
 impl Level {
@@ -23,7 +26,17 @@ impl Level {
         ensures { IsTrue result ↔ Contains (known_keys self) key.now }
     {
         match self {
-            Level::Top => ["control", "spool", "http", "stop_seconds", "lines"].contains(&key),
+            Level::Top => [
+                "control",
+                "spool",
+                "http",
+                "stop_seconds",
+                "lines",
+                "sip",
+                "trunks",
+                "routes",
+            ]
+            .contains(&key),
             Level::Line => [
                 "name",
                 "calling",
@@ -35,6 +48,19 @@ impl Level {
             ]
             .contains(&key),
             Level::Leg => ["local", "peer"].contains(&key),
+            Level::Sip => ["local", "audio", "ring_seconds"].contains(&key),
+            Level::Trunk => [
+                "name",
+                "address",
+                "allow",
+                "user",
+                "password_file",
+                "register",
+                "call_with",
+                "calls",
+            ]
+            .contains(&key),
+            Level::Route => ["prefix", "trunk", "strip", "add"].contains(&key),
         }
     }
 }

@@ -6,8 +6,16 @@ mod fault;
 mod keys;
 mod member;
 mod reading;
+mod routes;
+mod sip;
+mod sip_fault;
+mod sip_member;
+mod sip_reading;
+mod trunks;
 mod unlike;
 
 pub use config::{Config, LegConfig, LineConfig, Repeat};
 pub use fault::{ConfigFault, Flaw, LineName, Misfit, Trouble};
 pub use reading::read_config;
+pub use sip::{CallWith, RouteConfig, SipConfig, TrunkConfig};
+pub use sip_fault::SipMisfit;

@@ -5,7 +5,8 @@ ghost use Rattle.toml.specs.View.{array_view, table_view};
 ghost use Rattle.fax_gateway.specs.LegNames.{leg_text};
 ghost use Rattle.fax_config.specs.declared.keys.Level.TheVariants as levels;
 ghost use Rattle.fax_config.specs.Members.{HasKnownKeys, IsAddressAt, IsNumberAt, IsPathAt};
-ghost use Rattle.fax_config.specs.Configurations.{AreLines, AreLinesAt, AreUnlike, IsConfig, IsInRange, IsLeg, IsLegAt, IsLine, Tells, local_addresses, names_of};
+ghost use Rattle.fax_config.specs.Configurations.{AreLines, AreLinesAt, AreUnlike, IsConfig, IsInRange, IsLeg, IsLegAt, IsLine, IsUnlikeSip, Tells, local_addresses, names_of};
+ghost use Rattle.fax_config.specs.SipConfigurations.{IsSipAt};
 ghost use Rattle.fax_config.specs.Faults.{HasFlaw, HasMisfit, IsFaultOf, IsMisfitOf, IsToldAs, line_number};
 
 use crate::config::{
@@ -15,7 +16,9 @@ use crate::config::{
 use crate::fault::{ConfigFault, Flaw, LineName, Misfit, Trouble};
 use crate::keys::{Level, only_known_keys};
 use crate::member::{address_at, name_of, number_at, path_at, repeat_of, table_at, value_at};
-use crate::unlike::{locals_unlike, names_unlike};
+use crate::sip::SipConfig;
+use crate::sip_reading::sip_of;
+use crate::unlike::{locals_unlike, names_unlike, sip_unlike};
 use fax_control::Leg;
 use std::alloc::{AllocError, Global};
 use std::net::SocketAddr;
@@ -76,6 +79,7 @@ fn config_of(alloc: Global, table: &Table) -> Result<Config, Misfit>
     let lines = lines_of(alloc, table)?;
     names_unlike(alloc, lines.as_slice())?;
     locals_unlike(alloc, lines.as_slice())?;
+    let sip = sip_with(alloc, table, lines.as_slice())?;
     match top_of(alloc, table) {
         Ok(top) => Ok(Config {
             control: top.control,
@@ -83,8 +87,25 @@ fn config_of(alloc: Global, table: &Table) -> Result<Config, Misfit>
             http: top.http,
             stop_seconds: top.stop_seconds,
             lines,
+            sip,
         }),
         Err(flaw) => Err(Misfit::Top(flaw)),
+    }
+}
+
+/// What a document with these lines tells of SIP.
+fn sip_with(alloc: Global, table: &Table, lines: &[LineConfig]) -> Result<Option<SipConfig>, Misfit>
+    ensures told { IfOk result (IsSipAt (table_view table.now)) }
+    ensures unlike { IfOk result (IsUnlikeSip lines.now) }
+    ensures fault { IfErr result (IsMisfitOf (table_view table.now)) }
+{
+    match sip_of(alloc, table) {
+        Ok(Some(sip)) => match sip_unlike(lines, sip.local, sip.audio) {
+            Ok(()) => Ok(Some(sip)),
+            Err(misfit) => Err(Misfit::Sip(misfit)),
+        },
+        Ok(None) => Ok(None),
+        Err(misfit) => Err(Misfit::Sip(misfit)),
     }
 }
 
@@ -121,7 +142,7 @@ fn top_of(alloc: Global, table: &Table) -> Result<Service, Flaw>
 }
 
 /// A copy of a text.
-fn owned(alloc: Global, text: Option<&str>) -> Result<Option<String>, AllocError>
+pub(crate) fn owned(alloc: Global, text: Option<&str>) -> Result<Option<String>, AllocError>
     ensures { IfOk result (λ copy. option_map (λ s. string_bytes s) copy ≡ option_map (λ t. t.now) text.entry) }
 {
     match text {
@@ -250,7 +271,11 @@ fn leg_of(alloc: Global, table: &Table) -> Result<LegConfig, Flaw>
 }
 
 /// How a line is told of in a fault.
-fn name_to_tell(alloc: Global, table: &Table, after: usize) -> Result<LineName, AllocError>
+pub(crate) fn name_to_tell(
+    alloc: Global,
+    table: &Table,
+    after: usize,
+) -> Result<LineName, AllocError>
     ensures { IfOk result (IsToldAs after (table_view table.now)) }
 {
     let Some(value) = value_at(table, "name") else {

@@ -1,12 +1,15 @@
 //! What no two of may be alike.
-ghost use Rattle.std.specs.Prelude.{IfOk, IfErr, IfNone, IfSome, OnOk};
+ghost use Rattle.std.specs.Prelude.{◌≡◌, false, IfOk, IfErr, IfNone, IfSome, OnOk};
 ghost use Rattle.std.specs.List.{IsDistinct};
 ghost use Rattle.toml.specs.Data.{Members};
-ghost use Rattle.fax_config.specs.Configurations.{AreLinesAt, AreUnlike, locals_of_lines, names_of_lines};
-ghost use Rattle.fax_config.specs.Faults.{IsMisfitOf, IsRepeated};
+ghost use Rattle.fax_config.specs.Configurations.{AreLinesAt, AreUnlike, IsAtNoLeg, locals_of_lines, names_of_lines};
+ghost use Rattle.fax_config.specs.Faults.{IsMisfitOf, IsRepeated, IsSipMisfitOf, IsTaken};
+ghost use Rattle.fax_config.specs.SipConfigurations.{AreTrunksAt, names_of_trunks};
 
 use crate::config::LineConfig;
 use crate::fault::{LineName, Misfit};
+use crate::sip::TrunkConfig;
+use crate::sip_fault::SipMisfit;
 use fax_control::Leg;
 use std::alloc::{AllocError, Global};
 use std::collections::HashSet;
@@ -85,4 +88,53 @@ fn last_leg_at(
         return Ok((LineName::Named(name), leg));
     }
     Ok((LineName::After(0), Leg::Calling))
+}
+
+/// Refuses trunks of which two have one name.
+pub fn trunks_unlike(alloc: Global, trunks: &[TrunkConfig]) -> Result<(), SipMisfit>
+    ensures ok { OnOk result (AreUnlike (names_of_trunks trunks.now)) }
+    ensures fault { IfErr result (λ misfit. (members : Members) → AreTrunksAt members trunks.now → IsSipMisfitOf members misfit) }
+{
+    let mut names = Vec::new(alloc);
+    for trunk in trunks {
+        names.push(trunk.name.as_str())?;
+    }
+    match repeated(alloc, names.as_slice())? {
+        None => Ok(()),
+        Some(name) => Err(SipMisfit::DoubledTrunk(String::from_str(alloc, name)?)),
+    }
+}
+
+/// Refuses addresses of SIP that are the local ones of legs.
+pub fn sip_unlike(
+    lines: &[LineConfig],
+    local: SocketAddr,
+    audio: SocketAddr,
+) -> Result<(), SipMisfit>
+    ensures local { OnOk result (IsAtNoLeg lines.now local) }
+    ensures audio { OnOk result (IsAtNoLeg lines.now audio) }
+    ensures fault { IfErr result (IsTaken local audio) }
+{
+    if is_local(lines, local) {
+        return Err(SipMisfit::Taken("local"));
+    }
+    if is_local(lines, audio) {
+        return Err(SipMisfit::Taken("audio"));
+    }
+    Ok(())
+}
+
+/// Whether this is the local address of a leg.
+fn is_local(lines: &[LineConfig], address: SocketAddr) -> bool
+    ensures { result ≡ false → IsAtNoLeg lines.now address }
+{
+    for line in lines {
+        if line.calling.local == address {
+            return true;
+        }
+        if line.called.local == address {
+            return true;
+        }
+    }
+    false
 }

@@ -1,7 +1,7 @@
 use Rattle.std.proofs.Common.{rules, List, sym, subst}
 use Rattle.toml.specs.View.{table_view}
 use Rattle.fax_config.specs.declared.config.LineConfig.{LineConfig}
-use Rattle.fax_config.specs.Configurations.{AreLinesAt, AreUnlike, locals_of_lines, names_of_lines}
+use Rattle.fax_config.specs.Configurations.{AreLinesAt, AreUnlike, IsUnlikeSip, locals_of_lines, names_of_lines}
 use Rattle.fax_config.proofs.reading.config_of.Goals as goal
 
 pub returns-in-Ok-clause-told : goal.returns-in-Ok-clause-told
@@ -16,6 +16,8 @@ returns-in-Ok-clause-told c = record {
   few = c.in_ok-lines.ensures.few;
   names_unlike = subst (λ (lines : List LineConfig). AreUnlike (names_of_lines lines)) c.as_slice.ensures.value c.in_ok-names_unlike.ensures.ok;
   addresses_unlike = subst (λ (lines : List LineConfig). AreUnlike (locals_of_lines lines)) c.as_slice-2.ensures.value c.in_ok-locals_unlike.ensures.ok;
+  sip = c.in_ok-sip.ensures.told;
+  sip_unlike = subst (λ (lines : List LineConfig). IsUnlikeSip lines c.in_ok-sip.sip) c.as_slice-3.ensures.value c.in_ok-sip.ensures.unlike;
 }
 
 pub returns-in_err-names_unlike-clause-fault : goal.returns-in_err-names_unlike-clause-fault

@@ -14,3 +14,18 @@ pub returns-in-Line : goal.returns-in-Line
 returns-in-Line c =
     subst (λ (level : Level). IsTrue c.contains-in-Line.result ↔ Contains (known_keys level) c.args.key.now) (sym c.in-Line.is)
     (known_by (known_keys levels.Line) c.args.key.now c.contains-in-Line.result c.contains-in-Line.ensures.value)
+
+pub returns-in-Sip : goal.returns-in-Sip
+returns-in-Sip c =
+    subst (λ (level : Level). IsTrue c.contains-in-Sip.result ↔ Contains (known_keys level) c.args.key.now) (sym c.in-Sip.is)
+    (known_by (known_keys levels.Sip) c.args.key.now c.contains-in-Sip.result c.contains-in-Sip.ensures.value)
+
+pub returns-in-Trunk : goal.returns-in-Trunk
+returns-in-Trunk c =
+    subst (λ (level : Level). IsTrue c.contains-in-Trunk.result ↔ Contains (known_keys level) c.args.key.now) (sym c.in-Trunk.is)
+    (known_by (known_keys levels.Trunk) c.args.key.now c.contains-in-Trunk.result c.contains-in-Trunk.ensures.value)
+
+pub returns-in-Route : goal.returns-in-Route
+returns-in-Route c =
+    subst (λ (level : Level). IsTrue c.contains-in-Route.result ↔ Contains (known_keys level) c.args.key.now) (sym c.in-Route.is)
+    (known_by (known_keys levels.Route) c.args.key.now c.contains-in-Route.result c.contains-in-Route.ensures.value)

@@ -1,0 +1,50 @@
+use Rattle.std.proofs.Common.{rules, arith, ◌≡◌, ◌+◌, ◌<◌, ℕ, List, [], ◌∷◌, ◌++◌, length, get_or, take, Some, codes, sym, ◌∙◌, ap, subst}
+use Rattle.std.proofs.lemmas.Grind.{common_steps}
+use Rattle.std.proofs.lemmas.List.{length-append}
+use Rattle.toml.specs.Data.{Members, array, get_member}
+use Rattle.toml.specs.View.{array_view, items_view, table_view, view}
+use Rattle.toml.specs.declared.value.Value.{Value}
+use Rattle.toml.proofs.Views.{get_item_within}
+use Rattle.fax_config.specs.declared.sip.TrunkConfig.{TrunkConfig}
+use Rattle.fax_config.specs.SipConfigurations.{AreTrunks, IsTrunkOf}
+use Rattle.fax_config.specs.Faults.{HasTrunkMisfit}
+use Rattle.fax_config.proofs.LineLemmas.{no_table_at}
+use Rattle.fax_config.proofs.MemberLemmas.{seen_none, seen_some, is_table}
+use Rattle.fax_config.proofs.SipLemmas.{misfit_of_trunk, told_more}
+use Rattle.fax_config.proofs.trunks.trunks_of_items.Goals as goal
+
+pub returns-in_default-clause-fault : goal.returns-in_default-clause-fault
+returns-in_default-clause-fault c = λ members at.
+    let within : c.loop-item.item-index < length c.args.items.now.items = search rules in
+    let is : c.item-item.result ≡ get_or c.args.items.now.items c.loop-item.item-index c.item-item.result =
+    c.item-item.is ∙ ap (λ (values : List Value). get_or values c.loop-item.item-index c.item-item.result) c.deref-item-items.ensures.value in
+    no_table_at (get_member (codes "trunks") members) (array_view c.args.items.now) c.loop-item.item-index (view c.item-item.result) at
+    (sym (get_item_within c.args.items.now.items c.loop-item.item-index c.item-item.result within) ∙ ap (λ v. Some (view v)) (sym is))
+    (seen_none _ c.as_table.result _ c.in_default.is c.as_table.ensures)
+
+pub returns-in_err-trunk-clause-fault : goal.returns-in_err-trunk-clause-fault
+returns-in_err-trunk-clause-fault c =
+    let within : c.loop-item.item-index < length c.args.items.now.items = search rules in
+    let is : c.item-item.result ≡ get_or c.args.items.now.items c.loop-item.item-index c.item-item.result =
+    c.item-item.is ∙ ap (λ (values : List Value). get_or values c.loop-item.item-index c.item-item.result) c.deref-item-items.ensures.value in
+    let after : c.len.result ≡ c.loop-item.item-index = first_of (search rules, omega arith) in
+    let inner = seen_some _ c.as_table.result _ c.in-Some.table c.in-Some.is c.as_table.ensures in
+    let here = sym (get_item_within c.args.items.now.items c.loop-item.item-index c.item-item.result within) ∙ ap (λ v. Some (view v)) (sym is) ∙ ap (λ d. Some d) (is_table _ _ inner) in
+    let fault = λ (members : Members) (at : get_member (codes "trunks") members ≡ Some (array (array_view c.args.items.now))).
+    misfit_of_trunk members (array_view c.args.items.now) c.loop-item.item-index (table_view c.in-Some.table.now) c.in_err-trunk.field-0.0 here
+    (subst (λ (n : ℕ). HasTrunkMisfit n (table_view c.in-Some.table.now) c.in_err-trunk.field-0.0) after c.in_err-trunk.ensures.fault) at in
+    search rules
+
+pub loop-item-preserved : goal.loop-item-preserved
+loop-item-preserved c =
+    let within : c.loop-item.item-index < length c.args.items.now.items = search rules in
+    let is : c.item-item.result ≡ get_or c.args.items.now.items c.loop-item.item-index c.item-item.result =
+    c.item-item.is ∙ ap (λ (values : List Value). get_or values c.loop-item.item-index c.item-item.result) c.deref-item-items.ensures.value in
+    let trunk = c.in_ok-trunk.trunk in
+    let so_far = c.loop-item.trunks.items in
+    let pushed : c.push.new.self.items ≡ so_far ++ trunk ∷ [] = first_of (search rules, grind (arith, common_steps)) in
+    let inner = seen_some _ c.as_table.result _ c.in-Some.table c.in-Some.is c.as_table.ensures in record {
+      told = subst (λ (all : List TrunkConfig). AreTrunks (items_view (take (c.loop-item.item-index + 1) c.args.items.now.items)) all) (sym pushed)
+          (told_more IsTrunkOf c.args.items.now.items c.loop-item.item-index c.item-item.result so_far trunk within is c.loop-item.invariant.told (table_view c.in-Some.table.now, is_table _ _ inner, c.in_ok-trunk.ensures.told));
+      as_many = omega (arith, length-append so_far (trunk ∷ []), ap (λ (all : List TrunkConfig). length all) pushed, c.loop-item.invariant.as_many);
+    }
