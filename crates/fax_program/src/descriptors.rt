@@ -15,6 +15,9 @@ const ALWAYS_OPEN: usize = 5;
 /// The files of a spool, and those of what could not be delivered.
 const SPOOL_FILES: usize = 4;
 
+/// The socket of SIP, and that of all audio.
+const SIP_SOCKETS: usize = 2;
+
 /// How many descriptors a server of this configuration has open at one time, at most.
 pub fn most_descriptors(config: &Config) -> usize
     requires few { length config.now.lines.items ≤ 4000 }
@@ -29,6 +32,9 @@ pub fn most_descriptors(config: &Config) -> usize
     }
     if config.spool.is_some() {
         most += SPOOL_FILES;
+    }
+    if config.sip.is_some() {
+        most += SIP_SOCKETS;
     }
     most
 }

@@ -1,5 +1,6 @@
 //! The texts that control words are answered with.
 use crate::failures::Failures;
+use crate::sip::SipFront;
 use crate::sockets::SocketLegs;
 use crate::view::Seen;
 use fax_bits::NoMemory;
@@ -151,11 +152,12 @@ fn put_event(
     Ok(())
 }
 
-/// A line for each line of the configuration, one for the spool, where there is one, and `ok`.
+/// A line for each line of the configuration, one for the spool, where there is one, one for each trunk, and `ok`.
 pub(crate) fn status_text<W: SocketLegs + Drop, D: Disk, U: Disk>(
     alloc: Global,
     desk: &Desk,
     counters: &Counters,
+    sip: Option<&SipFront>,
     seen: &Seen<'_, W, D, U>,
 ) -> Result<Vec<u8>, NoMemory> {
     let mut text = Vec::new(alloc);
@@ -169,6 +171,11 @@ pub(crate) fn status_text<W: SocketLegs + Drop, D: Disk, U: Disk>(
     }
     if seen.store.is_some() {
         let told = spool_text(alloc, counters, seen.has_failed())?;
+        text.extend_from_slice(told.as_bytes())?;
+    }
+    if let Some(sip) = sip {
+        let mut told = String::new(alloc);
+        sip.service.put_status(&mut told)?;
         text.extend_from_slice(told.as_bytes())?;
     }
     text.extend_from_slice(b"ok\n")?;

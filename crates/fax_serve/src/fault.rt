@@ -17,6 +17,14 @@ pub enum ServeFault {
     Served,
     /// The address at which it is to be looked at over HTTP.
     Http(SocketAddr, io::Error),
+    /// The address of SIP, or that of audio.
+    Sip(SocketAddr, io::Error),
+    /// The file of the password of the trunk of this name.
+    Password(String, io::Error),
+    /// A route that is none.
+    Route,
+    /// The system gives nothing random.
+    Random(io::Error),
     /// The clock.
     Clock(io::Error),
     /// The folder of the spool.
@@ -35,6 +43,12 @@ impl fmt::Display for ServeFault {
             ServeFault::Control(error) => write!(f, "control: {error}"),
             ServeFault::Served => write!(f, "control: another process serves there"),
             ServeFault::Http(address, error) => write!(f, "http: {address}: {error}"),
+            ServeFault::Sip(address, error) => write!(f, "sip: {address}: {error}"),
+            ServeFault::Password(name, error) => {
+                write!(f, "trunk {name:?}: password_file: {error}")
+            }
+            ServeFault::Route => write!(f, "routes: one is no route"),
+            ServeFault::Random(error) => write!(f, "nothing random: {error}"),
             ServeFault::Clock(error) => write!(f, "no clock: {error}"),
             ServeFault::Spool(fault) => write!(f, "spool: {fault}"),
             ServeFault::NoMemory => write!(f, "memory was refused"),

@@ -3,6 +3,7 @@ ghost use Rattle.std.specs.Prelude.{◌≡◌, ◌-◌, [], nat_lt, IfOk, None, 
 ghost use Rattle.fax_serve.specs.Desking.{GivesOrder, given_by};
 ghost use Rattle.fax_queue.specs.SpoolStorage.{IsUnchanged};
 
+mod sip;
 mod telling;
 mod undelivered;
 mod visiting;
@@ -11,6 +12,7 @@ mod words;
 use crate::answers::{is_calm, is_idle};
 use crate::clock::Stopwatch;
 use crate::schedule::Schedule;
+use crate::sip::SipFront;
 use crate::sockets::SocketLegs;
 use crate::store::KeepingStore;
 use crate::telling::Teller;
@@ -75,6 +77,8 @@ pub struct RealPace<'a, C: Clock, I: Read + Drop, O: Write + Drop> {
     /// Who looks over HTTP, where that is configured, and from which moment on they are served again.
     visitors: Option<Visitors>,
     visits_from: u64,
+    /// SIP, where that is configured.
+    sip: Option<SipFront>,
     /// The lines that are to be woken: something may have come over their legs.
     woken: Vec<usize>,
     /// Whether it was looked which legs have datagrams since the last turn was ordered.
@@ -106,6 +110,7 @@ impl<'a, C: Clock, I: Read + Drop, O: Write + Drop> RealPace<'a, C, I, O> {
         lines: usize,
         watch: Option<Watch>,
         visitors: Option<Visitors>,
+        sip: Option<SipFront>,
         spool_failures: u64,
     ) -> Result<Self, AllocError>
         requires { desk.waits ≡ None }
@@ -123,10 +128,11 @@ impl<'a, C: Clock, I: Read + Drop, O: Write + Drop> RealPace<'a, C, I, O> {
             late_from: 0,
             desk,
             to_ask: Vec::new(alloc),
-            teller: Teller::new(alloc, clients, lines, spool_failures)?,
+            teller: Teller::new(alloc, clients, lines, spool_failures, sip.is_some())?,
             watch,
             visitors,
             visits_from: 0,
+            sip,
             woken: Vec::new(alloc),
             has_looked: false,
             put_from: None,
@@ -299,6 +305,7 @@ impl<'a, C: Clock, I: Read + Drop, O: Write + Drop> RealPace<'a, C, I, O> {
 
     /// Writes what clients are still to be told, for a while. It answers how the run ends.
     pub(crate) fn finish(&mut self) -> RunEnd {
+        self.finish_sip();
         self.teller.clients.finish();
         self.desk.end()
     }

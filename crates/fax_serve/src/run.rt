@@ -8,6 +8,7 @@ use crate::clock::Stopwatch;
 use crate::control::{close_control, open_control};
 use crate::fault::ServeFault;
 use crate::pace::RealPace;
+use crate::sip::{SipFront, open_sip};
 use crate::sockets::{ServedWire, SocketLegs, SocketWire, open_lines, open_restored_lines};
 use crate::store::KeepingStore;
 use crate::watch::Watch;
@@ -59,7 +60,7 @@ pub fn run_serve<
             let path = path.as_str();
             let listener = open_control(system, path)?;
             let clients: Clients<I, O> = Clients::of_socket(alloc, listener)?;
-            let served = serve_clients(
+            let served = serve_with_sip(
                 system,
                 alloc,
                 config,
@@ -73,7 +74,7 @@ pub fn run_serve<
         }
         None => {
             let clients = Clients::standard(alloc, input, output)?;
-            serve_clients(
+            serve_with_sip(
                 system,
                 alloc,
                 config,
@@ -86,12 +87,45 @@ pub fn run_serve<
     }
 }
 
-/// Serves the lines of a configuration until one of these clients says `stop`, or its spool has failed.
+/// The same with SIP, where the configuration tells of it.
+fn serve_with_sip<
+    N: Net + Files + Clock + Folders,
+    I: Read + Drop,
+    O: Write + Drop,
+    S: Start,
+    T: Start,
+>(
+    system: &N,
+    alloc: Global,
+    config: &Config,
+    clients: Clients<I, O>,
+    spool_failures: u64,
+    start: S,
+    undelivered: T,
+) -> Result<RunEnd, ServeFault>
+    ensures alone { OnOk result (ServedAlone (length config.now.lines.items) (is_some config.now.spool)) }
+    ensures kept { OnOk result (is_some config.now.spool ≡ true → ServedOver ⟦<SpoolFolderFile<S> as Disk>⟧.seen ⟦<SpoolFolderFile<S> as Disk>⟧.may_leave ⟦<SpoolFolderFile<S> as Disk>⟧.is_usable ⟦<SpoolFolderFile<S> as Disk>⟧.is_clean ⟦<KeepingStore<SpoolFolderFile<S>, SpoolFolderFile<T>> as RunStore>⟧.is_same ⟦<KeepingStore<SpoolFolderFile<S>, SpoolFolderFile<T>> as PageStore<PageToStore>>⟧.puts ⟦<KeepingStore<SpoolFolderFile<S>, SpoolFolderFile<T>> as RunStore>⟧.notes ⟦<KeepingStore<SpoolFolderFile<S>, SpoolFolderFile<T>> as RunStore>⟧.ends (λ store. store.storage.spool) (λ store. store.storage.queues.items) S.db S.log config.now.lines.items) }
+{
+    let sip = open_sip(system, alloc, config)?;
+    serve_clients(
+        system,
+        alloc,
+        config,
+        clients,
+        sip,
+        spool_failures,
+        start,
+        undelivered,
+    )
+}
+
+/// Serves the lines of a configuration until one of these clients says `stop`, or its spool has failed; with SIP, where that is open.
 pub fn serve_clients<N: Net + Clock + Folders, I: Read + Drop, O: Write + Drop, S: Start, T: Start>(
     system: &N,
     alloc: Global,
     config: &Config,
     clients: Clients<I, O>,
+    sip: Option<SipFront>,
     spool_failures: u64,
     start: S,
     undelivered: T,
@@ -104,6 +138,7 @@ pub fn serve_clients<N: Net + Clock + Folders, I: Read + Drop, O: Write + Drop, 
         alloc,
         config,
         clients,
+        sip,
         spool_failures,
         start,
         undelivered,
@@ -123,6 +158,7 @@ fn serve_over<
     alloc: Global,
     config: &Config,
     clients: Clients<I, O>,
+    sip: Option<SipFront>,
     spool_failures: u64,
     start: S,
     undelivered: T,
@@ -132,13 +168,14 @@ fn serve_over<
 {
     match &config.spool {
         None => serve_in_memory::<W, N, I, O, SpoolFolderFile<S>, SpoolFolderFile<T>>(
-            system, alloc, config, clients,
+            system, alloc, config, clients, sip,
         ),
         Some(folder) => serve_spooled::<W, N, I, O, S, T>(
             system,
             alloc,
             config,
             clients,
+            sip,
             folder.as_str(),
             spool_failures,
             start,
@@ -155,11 +192,17 @@ fn serve_in_memory<
     O: Write + Drop,
     D: Disk + Drop,
     U: Disk + Drop,
->(system: &N, alloc: Global, config: &Config, clients: Clients<I, O>) -> Result<RunEnd, ServeFault>
+>(
+    system: &N,
+    alloc: Global,
+    config: &Config,
+    clients: Clients<I, O>,
+    sip: Option<SipFront>,
+) -> Result<RunEnd, ServeFault>
     ensures { OnOk result (ServedAlone (length config.now.lines.items) false) }
 {
     let lines: Lines<HoldingWire<W>> = open_lines(system, alloc, config.lines.as_slice())?;
-    let mut pace = pace_of(system, alloc, config, clients, &lines, 0)?;
+    let mut pace = pace_of(system, alloc, config, clients, sip, &lines, 0)?;
     serve_new::<W, N, I, O, D, U>(lines, &mut pace);
     Ok(pace.finish())
 }
@@ -178,6 +221,7 @@ fn serve_spooled<
     alloc: Global,
     config: &Config,
     clients: Clients<I, O>,
+    sip: Option<SipFront>,
     folder: &str,
     spool_failures: u64,
     start: S,
@@ -193,6 +237,7 @@ fn serve_spooled<
         alloc,
         config,
         clients,
+        sip,
         opened,
         kept,
         spool_failures,
@@ -212,6 +257,7 @@ fn serve_opened<
     alloc: Global,
     config: &Config,
     clients: Clients<I, O>,
+    sip: Option<SipFront>,
     opened: OpenedSpool<D>,
     kept: OpenedSpool<U>,
     spool_failures: u64,
@@ -237,7 +283,7 @@ fn serve_opened<
         torn.as_slice(),
         &mut queues,
     )?;
-    let mut pace = pace_of(system, alloc, config, clients, &lines, spool_failures)?;
+    let mut pace = pace_of(system, alloc, config, clients, sip, &lines, spool_failures)?;
     let damage = Damage {
         records: older_damaged.saturating_add(newer_damaged) as u64,
         octets: older_passed_over.saturating_add(newer_passed_over) as u64,
@@ -256,6 +302,7 @@ fn pace_of<'a, W: SocketLegs + Drop, N: Net + Clock, I: Read + Drop, O: Write + 
     alloc: Global,
     config: &Config,
     clients: Clients<I, O>,
+    sip: Option<SipFront>,
     lines: &Lines<W>,
     spool_failures: u64,
 ) -> Result<RealPace<'a, N, I, O>, ServeFault>
@@ -280,6 +327,7 @@ fn pace_of<'a, W: SocketLegs + Drop, N: Net + Clock, I: Read + Drop, O: Write + 
         lines.len(),
         watch,
         visitors,
+        sip,
         spool_failures,
     )?)
 }

@@ -14,6 +14,9 @@ use std::io::{Read, Write};
 /// The most jobs that are kept for a page.
 const MOST_JOBS: usize = 20;
 
+/// The most that is told of a line at one time.
+const MOST_NEWS: usize = 16;
+
 /// Counts, and tells the clients that want events.
 #[derive(Drop)]
 pub(crate) struct Teller<I: Read + Drop, O: Write + Drop> {
@@ -28,6 +31,8 @@ pub(crate) struct Teller<I: Read + Drop, O: Write + Drop> {
     failures: Vec<Failures>,
     /// The jobs that ended last, the newest first.
     jobs: Vec<EndedJob>,
+    /// What happened on the line that was told of last, where SIP is to hear it.
+    news: Option<Vec<LineEvent>>,
 }
 
 impl<I: Read + Drop, O: Write + Drop> Teller<I, O> {
@@ -37,6 +42,7 @@ impl<I: Read + Drop, O: Write + Drop> Teller<I, O> {
         clients: Clients<I, O>,
         lines: usize,
         spool_failures: u64,
+        keeps_news: bool,
     ) -> Result<Self, AllocError> {
         let mut failures = Vec::new(alloc);
         failures.resize(lines, Failures::default())?;
@@ -52,6 +58,11 @@ impl<I: Read + Drop, O: Write + Drop> Teller<I, O> {
             aside: Vec::new(alloc),
             failures,
             jobs: Vec::with_capacity(alloc, MOST_JOBS)?,
+            news: if keeps_news {
+                Some(Vec::with_capacity(alloc, MOST_NEWS)?)
+            } else {
+                None
+            },
         })
     }
 
@@ -171,6 +182,14 @@ impl<I: Read + Drop, O: Write + Drop> Teller<I, O> {
         Ok(())
     }
 
+    /// What happened on the line that was told of last: the latest of it. It is taken.
+    pub(crate) fn next_news(&mut self) -> Option<LineEvent> {
+        match &mut self.news {
+            Some(news) if !news.is_empty() => Some(news.remove(0)),
+            Some(_) | None => None,
+        }
+    }
+
     /// The jobs that ended last, the newest first.
     pub(crate) fn jobs(&self) -> &[EndedJob] {
         self.jobs.as_slice()
@@ -201,6 +220,9 @@ impl<I: Read + Drop, O: Write + Drop> Listener for Teller<I, O> {
 
     fn tell(&mut self, line: &str, at: u64, what: LineEvent) {
         self.count(what);
+        if let Some(news) = &mut self.news {
+            let _ = news.push(what);
+        }
         if let LineEvent::Job(report, tag, cause) = what {
             let _ = self.keep_job(line, report, tag, cause);
         }

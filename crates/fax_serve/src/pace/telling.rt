@@ -99,6 +99,7 @@ impl<'a, C: Clock, I: Read + Drop, O: Write + Drop> RealPace<'a, C, I, O> {
             first: first_job(store, i),
         };
         tell_turn(&mut self.desk, i, turn, self.now, &mut self.teller);
+        self.tell_sip(i);
         if let Some(name) = self.desk.name(i) {
             self.teller.tell_failures(i, name, line, self.now);
         }

@@ -3,6 +3,7 @@ ghost use Rattle.std.specs.Prelude.{◌≡◌};
 
 use super::{BETWEEN_LATE_MS, RealPace};
 use crate::answers::counters_of;
+use crate::sip::with_counts;
 use crate::sockets::SocketLegs;
 use crate::store::KeepingStore;
 use crate::undelivered::pages_undelivered;
@@ -105,7 +106,7 @@ impl<'a, C: Clock, I: Read + Drop, O: Write + Drop> RealPace<'a, C, I, O> {
                 body: write_health(self.alloc, health)?,
             }),
             Resource::Metrics => {
-                let text = write_metrics(self.alloc, &self.counts(lines, store))?;
+                let text = self.metrics(&self.counts(lines, store))?;
                 Ok(Told {
                     status: Status::Good,
                     content: Content::OpenMetrics,
@@ -143,6 +144,12 @@ impl<'a, C: Clock, I: Read + Drop, O: Write + Drop> RealPace<'a, C, I, O> {
             has_failed_disk,
             is_late: self.late_from > 0 && self.now < late_until,
         }
+    }
+
+    /// These counts, and those of SIP, as text.
+    pub(super) fn metrics(&self, counters: &Counters) -> Result<String, NoMemory> {
+        let text = write_metrics(self.alloc, counters)?;
+        with_counts(text, self.sip.as_ref())
     }
 
     /// The counts, with what the lines and the spool count.

@@ -10,8 +10,9 @@ use crate::view::Seen;
 use fax_bits::NoMemory;
 use fax_clients::Asker;
 use fax_control::{Answer, HeardLine, Refusal, Word, read_word};
-use fax_desk::{Desk, LineView, LookOutcome, Next, Order as DeskOrder, OrderEnd, View, tell_at};
-use fax_events::write_metrics;
+use fax_desk::{
+    Desk, LineView, LookOutcome, Next, Order as DeskOrder, OrderEnd, Reply, View, tell_at,
+};
 use fax_holding_wire::LineWire;
 use fax_line::{LineAnswer, Lines, Order};
 use sqlite_disk::Disk;
@@ -30,10 +31,16 @@ impl<'a, C: Clock, I: Read + Drop, O: Write + Drop> RealPace<'a, C, I, O> {
         requires { self.old.waits ≡ None }
         ensures { GivesOrder result self.old self.new }
     {
-        let most = most.min(self.most_between_visits());
+        let most = most
+            .min(self.most_between_visits())
+            .min(self.most_between_sip());
         self.teller.clients.wait(most.min(1_000) as i32);
         self.read_clock();
         self.serve_visitors(lines, store);
+        self.serve_sip(lines, store);
+        if let Some(order) = self.say_for_sip(lines, store) {
+            return Some(order);
+        }
         if self.discard.is_some() {
             return None;
         }
@@ -74,7 +81,13 @@ impl<'a, C: Clock, I: Read + Drop, O: Write + Drop> RealPace<'a, C, I, O> {
             }
             Next::Reports(i) => self.report(asker, i, lines),
             Next::Status => {
-                let text = status_text(self.alloc, &self.desk, &self.teller.counters, &seen);
+                let text = status_text(
+                    self.alloc,
+                    &self.desk,
+                    &self.teller.counters,
+                    self.sip.as_ref(),
+                    &seen,
+                );
                 self.put(asker, text);
             }
             Next::Metrics => self.tell_metrics(asker, lines, store),
@@ -124,7 +137,7 @@ impl<'a, C: Clock, I: Read + Drop, O: Write + Drop> RealPace<'a, C, I, O> {
         ensures { self.new ≡ self.old }
     {
         let counters = self.counts(lines, store);
-        let text = match write_metrics(self.alloc, &counters) {
+        let text = match self.metrics(&counters) {
             Ok(text) => Ok(text.into_bytes()),
             Err(NoMemory) => Err(NoMemory),
         };
@@ -176,10 +189,12 @@ impl<'a, C: Clock, I: Read + Drop, O: Write + Drop> RealPace<'a, C, I, O> {
         requires { self.old.waits ≡ None }
         ensures { GivesOrder result self.old self.new }
     {
+        self.hear_question(i, line);
         match self.desk.look(i, line) {
             LookOutcome::Nothing => None,
             LookOutcome::Asks(asks) => {
                 tell_at(&self.desk, i, asks, self.now, &mut self.teller);
+                self.tell_sip(i);
                 None
             }
             LookOutcome::Orders(order) => Some(ask(order, self.now)),
@@ -200,11 +215,23 @@ impl<'a, C: Clock, I: Read + Drop, O: Write + Drop> RealPace<'a, C, I, O> {
         ensures { self.new ≡ self.old }
     {
         if let Some(asker) = done.asker {
-            let text = answer_text(self.alloc, self.desk.answer(done.reply));
-            self.put_line(asker, text);
+            self.answer_end(asker, done.reply);
         }
         if let Some(happened) = done.happened {
             tell_at(&self.desk, done.line, happened, self.now, &mut self.teller);
+            self.tell_sip(done.line);
+        }
+    }
+
+    /// Who gave an order, a client or SIP, is answered so.
+    fn answer_end(&mut self, asker: Asker, reply: Reply)
+        ensures { self.new ≡ self.old }
+    {
+        if asker.is_apart() {
+            self.answer_sip(reply);
+        } else {
+            let text = answer_text(self.alloc, self.desk.answer(reply));
+            self.put_line(asker, text);
         }
     }
 
@@ -248,7 +275,7 @@ fn ask_all<W: LineWire + Drop, D: Disk, U: Disk>(desk: &mut Desk, seen: &Seen<'_
 }
 
 /// The order of the loop that the desk gave, at this moment.
-fn ask(order: DeskOrder, now: u64) -> Order
+pub(super) fn ask(order: DeskOrder, now: u64) -> Order
     ensures { given_by (Some result) ≡ asked_by order ∷ [] }
 {
     Order::Ask {
