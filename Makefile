@@ -2,7 +2,7 @@
 RT ?= rt
 PROGRAM = crates/faxgate/out/faxgate
 
-.PHONY: all demo test play asked c-tests wrong-bodies format memory crash bench load interop serve-interop tables check-docs deb dist \
+.PHONY: all demo test play asked sip c-tests wrong-bodies format memory crash bench load interop serve-interop tables check-docs deb dist \
 	check-package
 
 # Proves and builds the program, its crates side by side, and says where it lies. What was proved is kept in the user's cache.
@@ -29,6 +29,11 @@ play:
 # 60 s. It wants half an hour.
 asked:
 	FAXGATE_TIMES=100 FAXGATE_JOBS=20 FAXGATE_RINGS=60 tools/play $(PROGRAM) --slow 4 -k asked
+
+# SIP: the plays of it with longer bounds of time, and 1,000 calls of sipp, 50 a second. It wants sipp (Debian's sip-tester), and says so
+# where it is missing.
+sip: all
+	tools/sip $(PROGRAM)
 
 # Tests the calls for C from C, through fax_c.h: crates/fax_c/tests.c. The gate proves them, and runs none of these. It wants a C
 # compiler, and no other library.

@@ -117,9 +117,9 @@ class Words(Play):
             self.assertEqual(len(server.say("status")), 101)
 
     def test_metrics_are_those_of_the_document(self):
-        """Each count that docs/OPERATING.md names is told, with its kind, and no other."""
+        """Each count that docs/OPERATING.md names is told, with its kind, and no other; those of SIP where it is spoken (sip.py)."""
         text = (TOP / "docs" / "OPERATING.md").read_text(encoding="utf-8").split("\n## Metrics\n")[1].split("\n## ")[0]
-        wanted = {name: "counter" if name.endswith("_total") else "gauge" for name in re.findall(r"`(faxgate_\w+)`", text)}
+        wanted = {name: "counter" if name.endswith("_total") else "gauge" for name in re.findall(r"`(faxgate_(?!sip_)\w+)`", text)}
         lines = self.serve(self.line("a1"), self.line("a2")).say("metrics")
         self.assertEqual(lines.pop(), "# EOF")
         told = {}
