@@ -30,8 +30,8 @@ play:
 asked:
 	FAXGATE_TIMES=100 FAXGATE_JOBS=20 FAXGATE_RINGS=60 tools/play $(PROGRAM) --slow 4 -k asked
 
-# SIP: the plays of it with longer bounds of time, and 1,000 calls of sipp, 50 a second. It wants sipp (Debian's sip-tester), and says so
-# where it is missing.
+# SIP: the plays of it with longer bounds of time, 40 calls at a time of each kind, two servers behind kamailio, mutated messages, and 1,000
+# calls of sipp, 50 a second. It wants kamailio and sipp (Debian's sip-tester), and says so where one is missing.
 sip: all
 	tools/sip $(PROGRAM)
 

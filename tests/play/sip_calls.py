@@ -1,0 +1,188 @@
+"""Calls over SIP, many at a time: each comes from a trunk of its own with a page, which goes out by a call to the same trunk."""
+import contextlib
+import subprocess
+import threading
+import time
+
+from server import address
+from sip import page, rows_of
+from sip_peer import SipPeer, audio_offer, fax_offer, media_of, port_of, user_of
+from t38 import Called, Calling, Leg, clear, losing
+
+# How long a call, and what is waited for in it, may take, in seconds.
+LONGEST = 90
+# One datagram of so many is lost on each way, where some are.
+LOST_OF = 20
+
+
+class Call(threading.Thread):
+    """A page of so many rows comes for a number from a trunk, and goes out to it."""
+
+    def __init__(self, port, server, number, rows, comes, goes_out, way):
+        super().__init__(daemon=True)
+        self.trunk, self.number, self.rows, self.way = SipPeer(port, server), number, rows, way
+        self.comes, self.goes_out = comes, goes_out
+        # what went wrong, until it is over
+        self.fault = "it is not over"
+
+    def run(self):
+        with contextlib.closing(self.trunk):
+            try:
+                self.comes(self)
+                self.trunk.answer(self.trunk.request("BYE", LONGEST), 200)
+                self.goes_out(self)
+                self.fault = ""
+            except (AssertionError, OSError) as fault:
+                self.fault = str(fault)
+
+    def leg(self):
+        """An end of a leg."""
+        return Leg(goes=self.way, comes=self.way)
+
+    def confirm(self, leg, answer):
+        """A machine has the page confirmed by the leg that an answer tells."""
+        leg.peer = port_of(answer.body, "image")
+        with contextlib.closing(leg):
+            machine = Calling(leg, [page(self.rows)])
+            machine.start()
+            machine.end(LONGEST)
+        assert machine.confirmed == 1, "the page was not confirmed"
+
+    def invited(self, kind):
+        """The INVITE by which the page goes out, with one medium."""
+        invite = self.trunk.request("INVITE", LONGEST)
+        assert user_of(invite.target) == self.number, f"a call for {invite.target}"
+        told = [it for it, _, _ in media_of(invite.body)]
+        assert told == [kind], f"an offer of {told}"
+        return invite
+
+    def take(self, invite):
+        """A machine takes the page in the call of an INVITE."""
+        self.delivered(lambda machine: self.trunk.take(invite, fax_offer(machine.leg.port)))
+
+    def delivered(self, begin):
+        """A machine takes the page, in a call that begins so."""
+        machine = Called(self.leg())
+        with contextlib.closing(machine.leg):
+            machine.start()
+            begin(machine)
+            self.trunk.answer(self.trunk.request("BYE", LONGEST), 200)
+            machine.end(LONGEST)
+        rows = [rows_of(text) for text in machine.pages]
+        assert rows == [self.rows], f"pages of {rows} rows in place of {self.rows}"
+
+
+# How a page comes.
+
+
+def over_t38(call):
+    """T.38 at once."""
+    leg = call.leg()
+    _, answer = call.trunk.call(call.number, fax_offer(leg.port), LONGEST)
+    assert answer.status == 200, f"a call was answered {answer.status}"
+    call.confirm(leg, answer)
+
+
+def over_audio(call):
+    """Audio at first, which the server changes."""
+    leg = call.leg()
+    call.trunk.call(call.number, audio_offer(9), LONGEST)
+    again = call.trunk.request("INVITE", LONGEST)
+    call.trunk.take(again, fax_offer(leg.port))
+    call.confirm(leg, again)
+
+
+def over_audio_in_glare(call):
+    """The same; the change meets one of theirs, and is made again."""
+    leg = call.leg()
+    call.trunk.call(call.number, audio_offer(9), LONGEST)
+    call.trunk.answer(call.trunk.request("INVITE", LONGEST), 491)
+    again = call.trunk.request("INVITE", LONGEST)
+    call.trunk.take(again, fax_offer(leg.port))
+    call.confirm(leg, again)
+
+
+def without_an_offer(call):
+    """The offer is the server's, and the answer is in the ACK."""
+    leg = call.leg()
+    request, dialog = call.trunk.invite(call.number, b"")
+    answer = call.trunk.final(request, LONGEST)
+    assert answer.status == 200, f"a call was answered {answer.status}"
+    dialog.theirs, dialog.target = answer.one("To"), answer.contact()
+    is_fax = bool(port_of(answer.body, "image"))
+    call.trunk.send(call.trunk.make("ACK", dialog, fax_offer(leg.port) if is_fax else audio_offer(9)))
+    if not is_fax:
+        answer = call.trunk.request("INVITE", LONGEST)
+        call.trunk.take(answer, fax_offer(leg.port))
+    call.confirm(leg, answer)
+
+
+# How it goes out.
+
+
+def to_t38(call):
+    """T.38 at once."""
+    call.take(call.invited("image"))
+
+
+def to_audio(call):
+    """Audio, which the called side changes."""
+    dialog = call.trunk.take(call.invited("audio"), audio_offer(9))
+    call.delivered(lambda machine: call.trunk.again(dialog, "INVITE", fax_offer(machine.leg.port)))
+
+
+def to_audio_since_488(call):
+    """T.38 is refused, then audio is taken and changed by the server."""
+    call.trunk.answer(call.invited("image"), 488)
+    call.trunk.take(call.invited("audio"), audio_offer(9))
+    call.take(call.trunk.request("INVITE", LONGEST))
+
+
+def to_audio_in_glare(call):
+    """Audio is taken, and the server's change of it meets one of theirs."""
+    call.trunk.take(call.invited("audio"), audio_offer(9))
+    call.trunk.answer(call.trunk.request("INVITE", LONGEST), 491)
+    call.take(call.trunk.request("INVITE", LONGEST))
+
+
+# What both calls are, and by which offer the server calls.
+KINDS = {
+    "T.38 on both sides": (over_t38, to_t38, "t38"),
+    "audio on both sides": (over_audio, to_audio, "audio"),
+    "488 to T.38, then audio": (over_t38, to_audio_since_488, "t38"),
+    "changes that meet": (over_audio_in_glare, to_audio_in_glare, "audio"),
+    "offers that come late": (without_an_offer, to_t38, "t38"),
+}
+
+
+def configuration(count, ports, call_with):
+    """A server of so many lines, each with a trunk."""
+    text = f"[sip]\nlocal = '{address(ports)}'\naudio = '{address(ports + 1)}'\n"
+    for i in range(count):
+        text += f"[[trunks]]\nname = 't{i}'\naddress = '{address(ports + 100 + i)}'\ncall_with = '{call_with}'\n"
+        text += f"[[routes]]\nprefix = '+4930{i:02}'\ntrunk = 't{i}'\n"
+        first = ports + 200 + 2 * i
+        text += f"[[lines]]\nname = 'a{i}'\ncalling = {{ local = '{address(first)}' }}\ncalled = {{ local = '{address(first + 1)}' }}\n"
+    return text
+
+
+def many_calls(program, folder, kind, count, loses, ports=25000):
+    """So many calls of a kind at a time. What went wrong; nothing where all is well."""
+    comes, goes_out, call_with = KINDS[kind]
+    way = losing(LOST_OF) if loses else clear
+    (folder / "many.toml").write_text("control = 'many'\n" + configuration(count, ports, call_with), encoding="utf-8")
+    server = subprocess.Popen([program, "serve", "--config", "many.toml"], cwd=folder, stdout=subprocess.DEVNULL)
+    try:
+        time.sleep(3)
+        numbers = [f"+4930{i:02}{7 * i}" for i in range(count)]
+        calls = [Call(ports + 100 + i, ports, number, i + 1, comes, goes_out, way) for i, number in enumerate(numbers)]
+        for call in calls:
+            call.start()
+        for call in calls:
+            call.join(2 * LONGEST)
+        faults = [f"{call.number}: {call.fault}" for call in calls if call.fault]
+        print(f"{kind}{', 5 % of the media lost' if loses else ''}: {count - len(faults)} of {count}", flush=True)
+        return faults[0] if faults else ""
+    finally:
+        server.kill()
+        server.wait()
