@@ -1,8 +1,7 @@
 //! Frames by hand, with the tables of ITU-T T.30 and T.38.
-use bitflags::Flags;
 use fax_frames::{
-    Caps, Dcs, Dis, Frame, Length, OUR_DIS, Plain, Rate, Refusal, choose, write_dcs, write_dis,
-    write_plain,
+    Caps, Dcs, Dis, Frame, FrameBytes, Length, OUR_DIS, Plain, Rate, Refusal, choose, write_dcs,
+    write_dis, write_plain,
 };
 use fax_runcodes::{Coding, Format, Width};
 
@@ -86,24 +85,31 @@ const FIELDS: &[(u8, Frame)] = &[
     (0xD8, Frame::Crp),
 ];
 
-/// Each code of bits 11 to 14 of a DCS, by the second octet, and its rate.
-const DCS_RATES: &[(u8, Option<Rate>)] = &[
-    (0b0000_0000, Some(Rate::V27At2400)),
-    (0b0000_0100, Some(Rate::V17At14400)),
-    (0b0000_1000, None),
-    (0b0000_1100, None),
-    (0b0001_0000, Some(Rate::V27At4800)),
-    (0b0001_0100, Some(Rate::V17At12000)),
-    (0b0001_1000, None),
-    (0b0001_1100, None),
-    (0b0010_0000, Some(Rate::V29At9600)),
-    (0b0010_0100, Some(Rate::V17At9600)),
-    (0b0010_1000, None),
-    (0b0010_1100, None),
-    (0b0011_0000, Some(Rate::V29At7200)),
-    (0b0011_0100, Some(Rate::V17At7200)),
-    (0b0011_1000, None),
-    (0b0011_1100, None),
+/// The second and the third octet of a DCS, and its rate and time. Each code of bits 11 to 14, and each of bits 21 to 23.
+const DCS: &[(u8, u8, Option<(Rate, u8)>)] = &[
+    (0b0000_0000, 0, Some((Rate::V27At2400, 20))),
+    (0b0000_0100, 0, Some((Rate::V17At14400, 20))),
+    (0b0000_1000, 0, None),
+    (0b0000_1100, 0, None),
+    (0b0001_0000, 0, Some((Rate::V27At4800, 20))),
+    (0b0001_0100, 0, Some((Rate::V17At12000, 20))),
+    (0b0001_1000, 0, None),
+    (0b0001_1100, 0, None),
+    (0b0010_0000, 0, Some((Rate::V29At9600, 20))),
+    (0b0010_0100, 0, Some((Rate::V17At9600, 20))),
+    (0b0010_1000, 0, None),
+    (0b0010_1100, 0, None),
+    (0b0011_0000, 0, Some((Rate::V29At7200, 20))),
+    (0b0011_0100, 0, Some((Rate::V17At7200, 20))),
+    (0b0011_1000, 0, None),
+    (0b0011_1100, 0, None),
+    (0, 0b0010, Some((Rate::V27At2400, 40))),
+    (0, 0b0100, Some((Rate::V27At2400, 10))),
+    (0, 0b0110, Some((Rate::V27At2400, 10))),
+    (0, 0b1000, Some((Rate::V27At2400, 5))),
+    (0, 0b1010, Some((Rate::V27At2400, 40))),
+    (0, 0b1100, Some((Rate::V27At2400, 20))),
+    (0, 0b1110, Some((Rate::V27At2400, 0))),
 ];
 
 /// Each rate, its bits a second, the indicators of its short and its long training, its data type.
@@ -266,51 +272,92 @@ const READINGS: &[(&str, &[u8], Option<Frame>)] = &[
     ),
 ];
 
-/// Each code of bits 21 to 23 of a DCS, by the third octet, and its time.
-const DCS_TIMES: &[(u8, u8)] = &[
-    (0b0000, 20),
-    (0b0010, 40),
-    (0b0100, 10),
-    (0b0110, 10),
-    (0b1000, 5),
-    (0b1010, 40),
-    (0b1100, 20),
-    (0b1110, 0),
-];
+/// What a DCS is written as, its time for a row, the least bits of one and its coding; or why there is none.
+type Choice = Result<(&'static [u8], u8, u32, Coding), Refusal>;
 
-/// A DIS, a format, a step of the rates, and the DCS that is chosen, written.
-const CHOICES: &[(u32, Format, u8, &[u8])] = &[
-    (0x00_77_5E, WIDEST_FINE, 0, b"\xFF\xC8\xC1\x00\x47\x5E"),
-    (0x00_77_5E, STANDARD, 0, b"\xFF\xC8\xC1\x00\x45\x1E"),
-    (0x00_77_5E, STANDARD, 1, b"\xFF\xC8\xC1\x00\x55\x1E"),
-    (0x00_77_5E, STANDARD, 2, b"\xFF\xC8\xC1\x00\x65\x1E"),
-    (0x00_77_5E, STANDARD, 3, b"\xFF\xC8\xC1\x00\x75\x1E"),
-    (0x00_77_5E, STANDARD, 4, b"\xFF\xC8\xC1\x00\x51\x1E"),
-    (0x00_77_5E, STANDARD, 5, b"\xFF\xC8\xC1\x00\x41\x1E"),
-    (0x00_42_06, STANDARD, 0, b"\xFF\xC8\xC1\x00\x40\x04"),
-    (0x00_42_06, FINE, 0, b"\xFF\xC8\xC1\x00\x42\x08"),
-    (0x00_40_A0, WIDER, 0, b"\xFF\xC8\xC1\x00\x40\xA0"),
-    (0x00_40_F0, WIDEST, 0, b"\xFF\xC8\xC1\x00\x40\x40"),
-];
-
-/// A DIS, a format, a step of the rates, and why no DCS is chosen.
-const REFUSALS: &[(u32, Format, u8, Refusal)] = &[
-    (0, WIDER_FINE, 9, Refusal::NotReceiver),
-    (0x00_40_00, WIDER_FINE, 9, Refusal::WidthLacking),
-    (0x00_40_00, WIDER, 0, Refusal::WidthLacking),
-    (0x00_40_00, WIDEST, 0, Refusal::WidthLacking),
-    (0x00_40_00, FINE, 9, Refusal::FineLacking),
-    (0x00_40_00, FINE, 0, Refusal::FineLacking),
-    (0x00_40_00, STANDARD, 1, Refusal::RatesSpent),
-    (0x00_77_5E, STANDARD, 6, Refusal::RatesSpent),
-    (0x00_77_5E, STANDARD, 255, Refusal::RatesSpent),
-];
-
-const REFUSAL_NUMBERS: &[(Refusal, u8)] = &[
-    (Refusal::NotReceiver, 1),
-    (Refusal::WidthLacking, 2),
-    (Refusal::FineLacking, 3),
-    (Refusal::RatesSpent, 4),
+/// A DIS, a format, a step of the rates, and the DCS that is chosen.
+const CHOICES: &[(u32, Format, u8, Choice)] = &[
+    (
+        0x00_77_5E,
+        WIDEST_FINE,
+        0,
+        Ok((b"\xFF\xC8\xC1\x00\x47\x5E", 0, 0, Coding::Mr)),
+    ),
+    (
+        0x00_77_5E,
+        STANDARD,
+        0,
+        Ok((b"\xFF\xC8\xC1\x00\x45\x1E", 0, 0, Coding::Mr)),
+    ),
+    (
+        0x00_77_5E,
+        STANDARD,
+        1,
+        Ok((b"\xFF\xC8\xC1\x00\x55\x1E", 0, 0, Coding::Mr)),
+    ),
+    (
+        0x00_77_5E,
+        STANDARD,
+        2,
+        Ok((b"\xFF\xC8\xC1\x00\x65\x1E", 0, 0, Coding::Mr)),
+    ),
+    (
+        0x00_77_5E,
+        STANDARD,
+        3,
+        Ok((b"\xFF\xC8\xC1\x00\x75\x1E", 0, 0, Coding::Mr)),
+    ),
+    (
+        0x00_77_5E,
+        STANDARD,
+        4,
+        Ok((b"\xFF\xC8\xC1\x00\x51\x1E", 0, 0, Coding::Mr)),
+    ),
+    (
+        0x00_77_5E,
+        STANDARD,
+        5,
+        Ok((b"\xFF\xC8\xC1\x00\x41\x1E", 0, 0, Coding::Mr)),
+    ),
+    (
+        0x00_42_06,
+        STANDARD,
+        0,
+        Ok((b"\xFF\xC8\xC1\x00\x40\x04", 10, 24, Coding::Mh)),
+    ),
+    (
+        0x00_42_06,
+        FINE,
+        0,
+        Ok((b"\xFF\xC8\xC1\x00\x42\x08", 5, 12, Coding::Mh)),
+    ),
+    (
+        0x00_40_A0,
+        WIDER,
+        0,
+        Ok((b"\xFF\xC8\xC1\x00\x40\xA0", 20, 48, Coding::Mh)),
+    ),
+    (
+        0x00_40_F0,
+        WIDEST,
+        0,
+        Ok((b"\xFF\xC8\xC1\x00\x40\x40", 20, 48, Coding::Mh)),
+    ),
+    (
+        0x00_72_A2,
+        WIDER_FINE,
+        1,
+        Ok((b"\xFF\xC8\xC1\x00\x72\xA2", 40, 288, Coding::Mh)),
+    ),
+    (0, WIDER_FINE, 9, Err(Refusal::NotReceiver)),
+    (0x00_40_00, WIDER_FINE, 9, Err(Refusal::WidthLacking)),
+    (0x00_40_00, WIDER, 0, Err(Refusal::WidthLacking)),
+    (0x00_40_00, WIDEST, 0, Err(Refusal::WidthLacking)),
+    (0x00_40_00, FINE, 9, Err(Refusal::FineLacking)),
+    (0x00_40_00, FINE, 0, Err(Refusal::FineLacking)),
+    (0x00_40_00, STANDARD, 1, Err(Refusal::RatesSpent)),
+    (0x00_77_5E, STANDARD, 6, Err(Refusal::RatesSpent)),
+    (0x00_77_5E, STANDARD, 255, Err(Refusal::RatesSpent)),
 ];
 
 /// A frame with no information field, whether its sender got a DIS, its octets, and what is read of them.
@@ -326,26 +373,6 @@ const PLAIN_FRAMES: &[(Plain, bool, &[u8], Frame)] = &[
     (Plain::Dcn, false, b"\xFF\xC8\x5F", Frame::Dcn),
     (Plain::Dcn, true, b"\xFF\xC8\xDF", Frame::Dcn),
     (Plain::Mcf, true, b"\xFF\xC8\x31", Frame::Mcf),
-];
-
-/// Each code of bits 11 to 14 of a DIS, and its rates.
-const DIS_RATES: &[&[Rate]] = &[
-    FALLBACK,
-    FALLBACK,
-    FALLBACK,
-    FALLBACK,
-    V27TER,
-    FALLBACK,
-    FALLBACK,
-    FALLBACK,
-    V29,
-    FALLBACK,
-    FALLBACK,
-    FALLBACK,
-    V29_AND_V27TER,
-    ALL_RATES,
-    V29_AND_V27TER,
-    V29_AND_V27TER,
 ];
 
 const FALLBACK: &[Rate] = &[Rate::V27At2400];
@@ -370,42 +397,79 @@ const ALL_RATES: &[Rate] = &[
     Rate::V27At2400,
 ];
 
-/// The third octet of a DIS, and whether it has the widths of 2048 and of 2432 elements.
-const DIS_WIDTHS: &[(u32, bool, bool)] = &[
-    (0x00, false, false),
-    (0x80, true, false),
-    (0x40, true, true),
-    (0xC0, true, true),
+/// What a DIS says: its rates, whether it has each width, the length of a page, the times at the standard and at the fine
+/// resolution, and whether it receives, has fine pages, and two-dimensional lines.
+type Said = (&'static [Rate], [bool; 3], Length, [u8; 2], [bool; 3]);
+
+const USUAL: [bool; 3] = [true, false, false];
+
+const UP_TO_2048: [bool; 3] = [true, true, false];
+
+const UP_TO_2432: [bool; 3] = [true, true, true];
+
+const NEITHER: [bool; 3] = [false, false, false];
+
+/// The 24 bits of a DIS, and what it says. Each code of bits 11 to 14, of 17 and 18, of 19 and 20, and of 21 to 23.
+const SAID: &[(u32, Said)] = &[
+    (0x00_00_00, (FALLBACK, USUAL, Length::A4, [20, 20], NEITHER)),
+    (0x00_04_02, (FALLBACK, USUAL, Length::A4, [40, 40], NEITHER)),
+    (0x00_08_04, (FALLBACK, USUAL, Length::A4, [10, 10], NEITHER)),
+    (0x00_0C_06, (FALLBACK, USUAL, Length::A4, [10, 5], NEITHER)),
+    (0x00_10_08, (V27TER, USUAL, Length::A4, [5, 5], NEITHER)),
+    (0x00_14_0A, (FALLBACK, USUAL, Length::A4, [40, 20], NEITHER)),
+    (0x00_18_0C, (FALLBACK, USUAL, Length::A4, [20, 10], NEITHER)),
+    (0x00_1C_0E, (FALLBACK, USUAL, Length::A4, [0, 0], NEITHER)),
+    (0x00_20_80, (V29, UP_TO_2048, Length::A4, [20, 20], NEITHER)),
+    (
+        0x00_24_40,
+        (FALLBACK, UP_TO_2432, Length::A4, [20, 20], NEITHER),
+    ),
+    (
+        0x00_28_C0,
+        (FALLBACK, UP_TO_2432, Length::A4, [20, 20], NEITHER),
+    ),
+    (
+        0x00_2C_20,
+        (FALLBACK, USUAL, Length::A4AndB4, [20, 20], NEITHER),
+    ),
+    (
+        0x00_30_10,
+        (V29_AND_V27TER, USUAL, Length::Unlimited, [20, 20], NEITHER),
+    ),
+    (
+        0x00_34_30,
+        (ALL_RATES, USUAL, Length::A4, [20, 20], NEITHER),
+    ),
+    (
+        0x00_38_00,
+        (V29_AND_V27TER, USUAL, Length::A4, [20, 20], NEITHER),
+    ),
+    (
+        0x00_3C_00,
+        (V29_AND_V27TER, USUAL, Length::A4, [20, 20], NEITHER),
+    ),
+    (
+        0x00_40_00,
+        (FALLBACK, USUAL, Length::A4, [20, 20], [true, false, false]),
+    ),
+    (
+        0x00_02_00,
+        (FALLBACK, USUAL, Length::A4, [20, 20], [false, true, false]),
+    ),
+    (
+        0x00_01_00,
+        (FALLBACK, USUAL, Length::A4, [20, 20], [false, false, true]),
+    ),
+    (
+        0x00_BC_00,
+        (V29_AND_V27TER, USUAL, Length::A4, [20, 20], NEITHER),
+    ),
 ];
 
-/// The third octet of a DIS, and its length of a page.
-const DIS_LENGTHS: &[(u32, Length)] = &[
-    (0x00, Length::A4),
-    (0x20, Length::A4AndB4),
-    (0x10, Length::Unlimited),
-    (0x30, Length::A4),
-];
-
-/// The third octet of a DIS, and its times at the standard and the fine resolution.
-const DIS_TIMES: &[(u32, u8, u8)] = &[
-    (0b0000, 20, 20),
-    (0b0010, 40, 40),
-    (0b0100, 10, 10),
-    (0b0110, 10, 5),
-    (0b1000, 5, 5),
-    (0b1010, 40, 20),
-    (0b1100, 20, 10),
-    (0b1110, 0, 0),
-];
-
-/// The bits of a DIS, and whether it receives, has fine pages, and two-dimensional lines.
-const DIS_FLAGS: &[(u32, bool, bool, bool)] = &[
-    (0x00_00_00, false, false, false),
-    (0x00_40_00, true, false, false),
-    (0x00_02_00, false, true, false),
-    (0x00_01_00, false, false, true),
-    (0x00_BC_00, false, false, false),
-];
+/// Whether octets are this frame.
+fn is_frame(octets: &[u8], wanted: Option<Frame>) -> bool {
+    Frame::read(octets) == wanted
+}
 
 /// The octets of a frame with three octets of information.
 fn octets_of(control: u8, field: u8, info: [u8; 3]) -> [u8; 6] {
@@ -413,26 +477,79 @@ fn octets_of(control: u8, field: u8, info: [u8; 3]) -> [u8; 6] {
     [0xFF, control, field, first, second, third]
 }
 
-/// The frame that octets are.
-fn frame_of(octets: &[u8]) -> Option<Frame> {
-    Frame::read(octets)
-}
-
-/// The frame with this facsimile control field and three octets of information.
-fn read(field: u8, info: [u8; 3]) -> Option<Frame> {
-    frame_of(&octets_of(0xC8, field, info))
-}
-
 /// The DIS of these 24 bits.
 fn dis_of(bits: u32) -> Dis {
-    Dis {
-        caps: Caps::from_bits_retain(bits),
+    Dis { caps: Caps(bits) }
+}
+
+/// What the DIS of these bits says.
+fn said(bits: u32) -> Said {
+    let dis = dis_of(bits);
+    let widths = [
+        dis.has_width(Width::W1728),
+        dis.has_width(Width::W2048),
+        dis.has_width(Width::W2432),
+    ];
+    let times = [dis.scan_ms(false), dis.scan_ms(true)];
+    let flags = [dis.is_receiver(), dis.has_fine(), dis.has_two_d()];
+    (dis.rates(), widths, dis.length(), times, flags)
+}
+
+#[test]
+fn dis_are_told(rt: HostRuntime) {
+    for (bits, wanted) in SAID {
+        assert!(rt; said(*bits) == *wanted, "at {bits}");
     }
 }
 
-/// The DCS that is chosen for the DIS of these bits, or why none is.
-fn chosen(bits: u32, format: Format, step: u8) -> Result<Dcs, Refusal> {
-    choose(&dis_of(bits), format, step)
+#[test]
+fn our_dis_is_written(rt: HostRuntime) {
+    let octets = b"\xFF\xC8\x01\x00\x77\x5E".as_slice();
+    assert!(rt; OUR_DIS == dis_of(0x00_77_5E) && write_dis(&OUR_DIS).as_slice() == octets);
+    assert!(rt; is_frame(octets, Some(Frame::Dis(OUR_DIS))));
+}
+
+/// The DCS that is chosen for the DIS of these bits, and its octets.
+fn chosen(bits: u32, format: Format, step: u8) -> Result<(Dcs, FrameBytes), Refusal> {
+    let dcs = choose(&dis_of(bits), format, step)?;
+    Ok((dcs, write_dcs(&dcs)))
+}
+
+/// The time for a row of a DCS, its least bits, its format and its coding.
+fn shown(dcs: &Dcs) -> (u8, u32, Format, Coding) {
+    (dcs.scan_ms, dcs.least_bits(), dcs.format(), dcs.coding())
+}
+
+/// Whether octets are a DCS, but for the length of a page, which is not read.
+fn is_read(octets: &[u8], dcs: Dcs) -> bool {
+    let read = Dcs {
+        length: Length::A4,
+        ..dcs
+    };
+    is_frame(octets, Some(Frame::Dcs(read)))
+}
+
+/// Whether that is chosen.
+fn is_chosen(bits: u32, format: Format, step: u8, wanted: &Choice) -> bool {
+    match (chosen(bits, format, step), wanted) {
+        (Ok((dcs, written)), Ok((octets, scan_ms, least_bits, coding))) => {
+            written.as_slice() == *octets
+                && shown(&dcs) == (*scan_ms, *least_bits, format, *coding)
+                && is_read(octets, dcs)
+        }
+        (Err(refusal), Err(wanted)) => refusal == *wanted,
+        _ => false,
+    }
+}
+
+#[test]
+fn dcs_are_chosen(rt: HostRuntime) {
+    for (bits, format, step, wanted) in CHOICES {
+        assert!(rt;
+            is_chosen(*bits, *format, *step, wanted),
+            "at {bits} {step}"
+        );
+    }
 }
 
 /// The frame of a facsimile control field with three zero octets after it.
@@ -446,211 +563,55 @@ fn frame_named(field: u8) -> Frame {
 }
 
 #[test]
-fn our_dis_is_written(rt: HostRuntime) {
-    let frame = write_dis(&OUR_DIS);
-    let octets = frame.as_slice();
-    assert!(rt;
-        octets == b"\xFF\xC8\x01\x00\x77\x5E".as_slice()
-            && frame_of(octets) == Some(Frame::Dis(OUR_DIS))
-    );
-}
-
-/// Whether the DCS that is chosen is written so, and is read again, but for the length of a page, which is not read.
-fn is_chosen(bits: u32, format: Format, step: u8, octets: &[u8]) -> bool {
-    let Ok(dcs) = choose(&dis_of(bits), format, step) else {
-        return false;
-    };
-    let read = Dcs {
-        length: Length::A4,
-        ..dcs
-    };
-    write_dcs(&dcs).as_slice() == octets && frame_of(octets) == Some(Frame::Dcs(read))
-}
-
-#[test]
-fn dcs_are_chosen(rt: HostRuntime) {
-    for (bits, format, step, octets) in CHOICES {
-        assert!(rt; is_chosen(*bits, *format, *step, octets));
-    }
-    for (bits, format, step, refusal) in REFUSALS {
-        assert!(rt; chosen(*bits, *format, *step).err() == Some(*refusal));
-    }
-}
-
-/// The bits of a DIS, a format, and of the DCS that is chosen the time for a row, the least bits of one and the coding.
-const TIMES: &[(u32, Format, u8, u32, Coding)] = &[
-    (0x00_42_06, STANDARD, 10, 24, Coding::Mh),
-    (0x00_42_06, FINE, 5, 12, Coding::Mh),
-    (0x00_77_5E, WIDEST, 0, 0, Coding::Mr),
-];
-
-/// The time for a row of a DCS, its least bits, its format and its coding.
-fn shown(dcs: &Dcs) -> (u8, u32, Format, Coding) {
-    (dcs.scan_ms, dcs.least_bits(), dcs.format(), dcs.coding())
-}
-
-#[test]
-fn times_are_those_of_the_resolution(rt: HostRuntime) {
-    for (bits, format, scan_ms, least_bits, coding) in TIMES {
-        let told = match chosen(*bits, *format, 0) {
-            Ok(dcs) => Some(shown(&dcs)),
-            Err(_) => None,
-        };
-        assert!(rt; told == Some((*scan_ms, *least_bits, *format, *coding)));
-    }
-}
-
-#[test]
-fn dcs_are_written(rt: HostRuntime) {
-    let dcs = Dcs {
-        rate: Rate::V29At7200,
-        fine: true,
-        two_d: false,
-        width: Width::W2048,
-        length: Length::A4AndB4,
-        scan_ms: 40,
-    };
-    let octets = write_dcs(&dcs);
-    assert!(rt;
-        octets.as_slice() == b"\xFF\xC8\xC1\x00\x72\xA2".as_slice()
-            && shown(&dcs) == (40, 288, WIDER_FINE, Coding::Mh)
-    );
-}
-
-#[test]
-fn refusals_have_numbers(rt: HostRuntime) {
-    for (refusal, number) in REFUSAL_NUMBERS {
-        assert!(rt; refusal.number() == *number);
-    }
-}
-
-#[test]
 fn fields_name_frames(rt: HostRuntime) {
     for field in 0..=255 {
         let frame = Some(frame_named(field));
-        let either = [
-            read(field, [0, 0, 0]),
-            frame_of(&octets_of(0xC0, field, [0, 0, 0])),
-        ];
-        assert!(rt; either == [frame, frame]);
+        assert!(rt; is_frame(&octets_of(0xC8, field, [0, 0, 0]), frame));
+        assert!(rt; is_frame(&octets_of(0xC0, field, [0, 0, 0]), frame));
     }
+}
+
+/// Whether a frame with no information field is written so, and read again.
+fn is_plain(plain: Plain, got_dis: bool, octets: &[u8], frame: Frame) -> bool {
+    write_plain(plain, got_dis).as_slice() == octets && is_frame(octets, Some(frame))
 }
 
 #[test]
 fn plain_frames_are_written(rt: HostRuntime) {
     for (plain, got_dis, octets, frame) in PLAIN_FRAMES {
-        let written = write_plain(*plain, *got_dis);
-        assert!(rt; written.as_slice() == *octets && frame_of(octets) == Some(*frame));
+        assert!(rt; is_plain(*plain, *got_dis, octets, *frame));
     }
 }
 
 #[test]
 fn octets_are_read(rt: HostRuntime) {
     for (name, octets, frame) in READINGS {
-        assert!(rt; frame_of(octets) == *frame, "{name}");
+        assert!(rt; is_frame(octets, *frame), "{name}");
     }
 }
 
-/// What is read of octets whose DCS has this rate.
-fn frame_at(rate: Option<Rate>) -> Frame {
-    match rate {
-        Some(rate) => Frame::Dcs(Dcs { rate, ..LEAST_DCS }),
-        None => Frame::Other,
-    }
-}
-
-#[test]
-fn rates_of_a_dcs(rt: HostRuntime) {
-    for (second, rate) in DCS_RATES {
-        let frame = Some(frame_at(*rate));
-        let either = [
-            read(0x41, [0x00, *second, 0x00]),
-            read(0xC1, [0x00, *second | 0x40, 0x00]),
-        ];
-        assert!(rt; either == [frame, frame]);
-    }
-}
-
-#[test]
-fn times_of_a_dcs(rt: HostRuntime) {
-    for (third, scan_ms) in DCS_TIMES {
-        let dcs = Dcs {
-            scan_ms: *scan_ms,
+/// Whether a DCS of these octets, its sender's or not, has such a rate and time.
+fn is_dcs(second: u8, third: u8, told: Option<(Rate, u8)>) -> bool {
+    let frame = match told {
+        Some((rate, scan_ms)) => Frame::Dcs(Dcs {
+            rate,
+            scan_ms,
             ..LEAST_DCS
-        };
-        assert!(rt; read(0xC1, [0x00, 0x00, *third]) == Some(Frame::Dcs(dcs)));
-    }
-}
-
-/// The rates of the DIS of these bits.
-fn rates_of(bits: u32) -> &'static [Rate] {
-    dis_of(bits).rates()
-}
-
-#[test]
-fn rates_of_a_dis(rt: HostRuntime) {
-    let mut code = 0u32;
-    for rates in DIS_RATES {
-        assert!(rt; rates_of(code % 16 * 0x00_04_00) == *rates);
-        code = code.wrapping_add(1);
-    }
-    assert!(rt; code == 16);
-}
-
-/// The widths that the DIS of these bits has.
-fn widths_of(bits: u32) -> [bool; 3] {
-    let dis = dis_of(bits);
-    [
-        dis.has_width(Width::W1728),
-        dis.has_width(Width::W2048),
-        dis.has_width(Width::W2432),
-    ]
+        }),
+        None => Frame::Other,
+    };
+    is_frame(&octets_of(0xC8, 0x41, [0, second, third]), Some(frame))
+        && is_frame(
+            &octets_of(0xC8, 0xC1, [0, second | 0x40, third]),
+            Some(frame),
+        )
 }
 
 #[test]
-fn widths_and_lengths_of_a_dis(rt: HostRuntime) {
-    for (third, wider, widest) in DIS_WIDTHS {
-        assert!(rt; widths_of(*third) == [true, *wider, *widest]);
+fn dcs_have_their_rates_and_times(rt: HostRuntime) {
+    for (second, third, told) in DCS {
+        assert!(rt; is_dcs(*second, *third, *told), "at {second} {third}");
     }
-    for (third, length) in DIS_LENGTHS {
-        assert!(rt; dis_of(*third).length() == *length);
-    }
-}
-
-/// The times of the DIS of these bits, at the standard and at the fine resolution.
-fn times_of(bits: u32) -> [u8; 2] {
-    let dis = dis_of(bits);
-    [dis.scan_ms(false), dis.scan_ms(true)]
-}
-
-#[test]
-fn times_of_a_dis(rt: HostRuntime) {
-    for (third, standard_ms, fine_ms) in DIS_TIMES {
-        assert!(rt; times_of(*third) == [*standard_ms, *fine_ms]);
-    }
-}
-
-/// Whether the DIS of these bits receives, has fine pages, and two-dimensional lines.
-fn flags_of(bits: u32) -> [bool; 3] {
-    let dis = dis_of(bits);
-    [dis.is_receiver(), dis.has_fine(), dis.has_two_d()]
-}
-
-#[test]
-fn flags_of_a_dis(rt: HostRuntime) {
-    for (bits, receiver, fine, two_d) in DIS_FLAGS {
-        assert!(rt; flags_of(*bits) == [*receiver, *fine, *two_d]);
-    }
-}
-
-#[test]
-fn caps_are_flags(rt: HostRuntime) {
-    let caps = dis_of(0x00_77_5E).caps;
-    let has_some = caps.contains(Caps::RECEIVER | Caps::WIDTH_2432 | Caps::LENGTH_UNLIMITED);
-    let has = (has_some, caps.contains(Caps::EXTEND), caps.bits());
-    assert!(rt;
-        has == (true, false, 0x00_77_5E) && caps == OUR_DIS.caps && Caps::flags().len() == 15
-    );
 }
 
 /// The training indicators of a rate, short and long, its bits a second, and its kind of data.

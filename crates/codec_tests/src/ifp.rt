@@ -1,4 +1,4 @@
-//! Packets worked by hand, and packets that another implementation of T.38 sent.
+//! Packets worked by hand. `explain-captured.toml` of `tests/cases` has those that another implementation of T.38 sent.
 ghost use Rattle.std.specs.Prelude.{◌≡◌, ◌≤◌, IsTrue, length};
 ghost use Rattle.fax_ifp.specs.Seen.{text_of, texts_of};
 ghost use Rattle.fax_ifp.specs.WrittenPackets.{IsWritable, IsWritableField};
@@ -11,7 +11,6 @@ use fax_ifp::{
     Field, Head, Ifp, IfpFault, data_length, write_data, write_frame, write_image, write_indicator,
 };
 use std::alloc::Global;
-use std::process::Abort;
 use std::test::Fail;
 
 /// The packet of data of a kind with fields.
@@ -220,85 +219,48 @@ const IMAGES: &[(bool, &[u8], &[u8])] = &[
     (true, &[0; 6], LAST_CHECK_PACKET),
 ];
 
-/// Octets that are no packet, and why.
-const REFUSED: &[(&[u8], IfpFault)] = &[
-    (&[], IfpFault::Short),
-    (&[0xc0, 0x03, 0x24], IfpFault::Short),
-    (&[0xe0], IfpFault::Extension),
-    (&[0xd2, 0x00], IfpFault::BadValue),
-    (&[0xc0, 0x80], IfpFault::BadCount),
-    (&[0x86], IfpFault::Short),
-    (&[0x86, 0x80], IfpFault::BadCount),
-    (&[0x26], IfpFault::Extension),
-    (&[0xd2], IfpFault::BadValue),
-    (&[0xf2], IfpFault::Extension),
-    (&[0xc0], IfpFault::Short),
-    (&[0xc0, 0x01, 0x80, 0x00], IfpFault::Short),
-    (&[0xc0, 0x01, 0x80, 0xff, 0xff], IfpFault::BadCount),
-    (&[0xc0, 0x01, 0x80, 0x00, 0x01, 0xff], IfpFault::Short),
-    (&[0x86, 0x01, 0xf0], IfpFault::Short),
-    (&[0x86, 0x02, 0x1f, 0xff, 0xff], IfpFault::BadCount),
+/// Octets, and the head of the packet that they are and how many fields it has; or why they are none.
+const READ: &[(&[u8], Result<(Head, usize), IfpFault>)] = &[
+    (&[], Err(IfpFault::Short)),
+    (&[0xc0, 0x03, 0x24], Err(IfpFault::Short)),
+    (&[0xe0], Err(IfpFault::Extension)),
+    (&[0xd2, 0x00], Err(IfpFault::BadValue)),
+    (&[0xc0, 0x80], Err(IfpFault::BadCount)),
+    (&[0x86], Err(IfpFault::Short)),
+    (&[0x86, 0x80], Err(IfpFault::BadCount)),
+    (&[0x26], Err(IfpFault::Extension)),
+    (&[0xd2], Err(IfpFault::BadValue)),
+    (&[0xf2], Err(IfpFault::Extension)),
+    (&[0xc0], Err(IfpFault::Short)),
+    (&[0xc0, 0x01, 0x80, 0x00], Err(IfpFault::Short)),
+    (&[0xc0, 0x01, 0x80, 0xff, 0xff], Err(IfpFault::BadCount)),
+    (&[0xc0, 0x01, 0x80, 0x00, 0x01, 0xff], Err(IfpFault::Short)),
+    (&[0x86, 0x01, 0xf0], Err(IfpFault::Short)),
+    (&[0x86, 0x02, 0x1f, 0xff, 0xff], Err(IfpFault::BadCount)),
     // The ninth field and the eleventh are not there: want of memory comes after that.
-    (&[0xc0, 0x09, 0x33, 0x33, 0x33, 0x33], IfpFault::Short),
-    (&[0xc0, 0x0b, 0x33, 0x33, 0x33, 0x33, 0x33], IfpFault::Short),
-];
-
-/// The faults by their numbers.
-const FAULTS: &[(IfpFault, u8)] = &[
-    (IfpFault::Short, 1),
-    (IfpFault::Extension, 2),
-    (IfpFault::BadValue, 3),
-    (IfpFault::BadCount, 4),
-    (IfpFault::NoMemory, 5),
-];
-
-/// Octets that are read, and never written so, with the packet and how many fields it has.
-const READ_ONLY: &[(&[u8], Head, usize)] = &[
+    (&[0xc0, 0x09, 0x33, 0x33, 0x33, 0x33], Err(IfpFault::Short)),
+    (
+        &[0xc0, 0x0b, 0x33, 0x33, 0x33, 0x33, 0x33],
+        Err(IfpFault::Short),
+    ),
     // An indicator with no fields, with a field of either kind, and with an octet after it.
-    (&[0x86, 0x00], Head::Indicator(3), 0),
-    (&[0x86, 0x01, 0x20], Head::Indicator(3), 0),
-    (&[0x86, 0x01, 0x80, 0x00, 0x00, 0xff], Head::Indicator(3), 0),
-    (&[0x06, 0xff], Head::Indicator(3), 0),
+    (&[0x86, 0x00], Ok((Head::Indicator(3), 0))),
+    (&[0x86, 0x01, 0x20], Ok((Head::Indicator(3), 0))),
+    (
+        &[0x86, 0x01, 0x80, 0x00, 0x00, 0xff],
+        Ok((Head::Indicator(3), 0)),
+    ),
+    (&[0x06, 0xff], Ok((Head::Indicator(3), 0))),
     // Data with a count of 0, and with octets after the fields.
-    (&[0xc0, 0x00], Head::Message { kind: 0 }, 0),
-    (&[0xc0, 0x00, 0xff], Head::Message { kind: 0 }, 0),
-    (&[0xc0, 0x02, 0x24, 0xff], Head::Message { kind: 0 }, 2),
+    (&[0xc0, 0x00], Ok((Head::Message { kind: 0 }, 0))),
+    (&[0xc0, 0x00, 0xff], Ok((Head::Message { kind: 0 }, 0))),
+    (
+        &[0xc0, 0x02, 0x24, 0xff],
+        Ok((Head::Message { kind: 0 }, 2)),
+    ),
     // Padding of ones.
-    (&[0x07], Head::Indicator(3), 0),
-    (&[0xc1, 0x01, 0x2f], Head::Message { kind: 0 }, 1),
-];
-
-/// Packets of two calls between two terminals of spandsp 0.0.6.
-const SENT: &[&[u8]] = &[
-    &[0x00],
-    &[0x02],
-    &[0x04],
-    &[0x06],
-    &[0x0e],
-    &[0xc0, 0x01, 0x80, 0x00, 0x00, 0xff],
-    &[0xc0, 0x01, 0x80, 0x00, 0x00, 0xf2],
-    &[0xc0, 0x01, 0x20],
-    &[0xc0, 0x01, 0x40],
-    &[
-        0xc8, 0x01, 0xe0, 0x00, 0x23, 0x55, 0x67, 0xa4, 0x6e, 0xb0, 0x00, 0x32, 0x55, 0x67, 0x51,
-        0x95, 0xd1, 0x22, 0xa2, 0x8f, 0xe4, 0xea, 0xdd, 0x6b, 0x9d, 0x6a, 0x3f, 0xa7, 0x28, 0x68,
-        0x91, 0x3c, 0x0d, 0x44, 0x87, 0xee, 0xb7, 0xce, 0xb7, 0x3b, 0xaf,
-    ],
-    &[
-        0xc8, 0x01, 0xe0, 0x00, 0x23, 0x41, 0xbc, 0xa2, 0x44, 0x22, 0x9d, 0x46, 0x45, 0x3d, 0x42,
-        0xf6, 0x1b, 0xea, 0x24, 0x54, 0x51, 0x56, 0xa2, 0x43, 0xf7, 0x52, 0xbb, 0x24, 0x33, 0x12,
-        0x27, 0xaa, 0x8e, 0xad, 0xf5, 0x12, 0x2a, 0x28, 0xeb, 0xa7, 0x4e,
-    ],
-    &[
-        0xc8, 0x01, 0xf0, 0x00, 0x1f, 0x00, 0x00, 0x00, 0x00, 0x00, 0x00, 0x00, 0x00, 0x00, 0x00,
-        0x00, 0x00, 0x00, 0x00, 0x00, 0x00, 0x00, 0x00, 0x00, 0x00, 0x00, 0x00, 0x00, 0x00, 0x00,
-        0x00, 0x00, 0x00, 0x00, 0x00, 0x00, 0x00,
-    ],
-    &[
-        0xc8, 0x01, 0xf0, 0x00, 0x19, 0x00, 0x00, 0x00, 0x00, 0x00, 0x00, 0x00, 0x00, 0x00, 0x00,
-        0x00, 0x00, 0x00, 0x00, 0x00, 0x00, 0x00, 0x00, 0x00, 0x00, 0x00, 0x00, 0x00, 0x00, 0x00,
-        0x00,
-    ],
+    (&[0x07], Ok((Head::Indicator(3), 0))),
+    (&[0xc1, 0x01, 0x2f], Ok((Head::Message { kind: 0 }, 1))),
 ];
 
 /// Whether fields can be written.
@@ -347,26 +309,6 @@ fn worked_packets_are_read_and_written(rt: HostRuntime) -> Result<(), Fail> {
     Ok(())
 }
 
-#[test]
-fn refused_packets_are_told(rt: HostRuntime) -> Result<(), Fail> {
-    for (octets, fault) in REFUSED {
-        assert!(rt;
-            Ifp::read(rt.alloc(), octets).err() == Some(*fault),
-            "{octets:?}"
-        );
-    }
-    Ok(())
-}
-
-#[test]
-fn faults_have_numbers(rt: HostRuntime) -> Result<(), Fail> {
-    for (fault, number) in FAULTS {
-        assert!(rt; fault.number() == *number);
-    }
-    assert!(rt; IfpFault::from(NoMemory) == IfpFault::NoMemory);
-    Ok(())
-}
-
 /// The head of a packet, and how many fields it has.
 fn shown(alloc: Global, octets: &[u8]) -> Result<(Head, usize), IfpFault> {
     let read = Ifp::read(alloc, octets)?;
@@ -374,21 +316,19 @@ fn shown(alloc: Global, octets: &[u8]) -> Result<(Head, usize), IfpFault> {
 }
 
 #[test]
-fn indicators_are_read_and_written(rt: HostRuntime) -> Result<(), Fail> {
+fn indicators_are_read_and_written(rt: HostRuntime) {
     for code in 0..16 {
         let octets = write_indicator(code);
-        let shown = shown(rt.alloc(), &octets)?;
-        assert!(rt; octets == [2 * code] && shown == (Head::Indicator(code), 0));
+        let shown = shown(rt.alloc(), &octets);
+        assert!(rt; octets == [2 * code] && shown == Ok((Head::Indicator(code), 0)));
     }
-    Ok(())
 }
 
 #[test]
-fn padding_and_what_has_no_meaning_are_passed_over(rt: HostRuntime) -> Result<(), Fail> {
-    for (octets, head, count) in READ_ONLY {
-        assert!(rt; shown(rt.alloc(), octets)? == (*head, *count), "{octets:?}");
+fn packets_are_read_or_it_is_said_why_not(rt: HostRuntime) {
+    for (octets, wanted) in READ {
+        assert!(rt; shown(rt.alloc(), octets) == *wanted, "{octets:?}");
     }
-    Ok(())
 }
 
 /// Whether the worked frame is written as its packet.
@@ -417,18 +357,6 @@ fn frames_and_images_are_written(rt: HostRuntime) -> Result<(), Fail> {
     assert!(rt; is_frame_written(rt.alloc())?);
     for (last, image, packet) in IMAGES {
         assert!(rt; is_image_written(rt.alloc(), *last, image, packet)?);
-    }
-    Ok(())
-}
-
-#[test]
-fn packets_of_others_are_read(rt: HostRuntime) -> Result<(), Fail> {
-    for octets in SENT {
-        let is_one = match shown(rt.alloc(), octets)? {
-            (Head::Indicator(_), count) => count == 0,
-            (Head::Message { .. }, count) => count == 1,
-        };
-        assert!(rt; is_one);
     }
     Ok(())
 }

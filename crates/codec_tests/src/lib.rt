@@ -1,10 +1,10 @@
-//! Tests of what is coded: bits, code words, lines and pages, frames, packets and datagrams; and of timers. All through what these crates show.
+//! Tests of what is coded: bits, code words, lines and pages, frames, packets and datagrams, through what these crates show.
 #![tactic(auto)]
 
 #[cfg(test)]
 mod bits;
 #[cfg(test)]
-mod digits;
+mod faults;
 #[cfg(test)]
 mod frames;
 #[cfg(test)]
@@ -17,7 +17,5 @@ mod mrcode;
 mod pagestore;
 #[cfg(test)]
 mod runcodes;
-#[cfg(test)]
-mod timers;
 #[cfg(test)]
 mod udptl;

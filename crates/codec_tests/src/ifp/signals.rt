@@ -1,7 +1,7 @@
 //! The pieces of slots made by hand.
 use fax_bits::NoMemory;
 use fax_ifp::{Piece, Pieces, Signals, Slot};
-use std::alloc::{AllocError, Global};
+use std::alloc::Global;
 use std::process::Abort;
 use std::test::Fail;
 
@@ -63,18 +63,9 @@ const MANY_FIELDS: Slot<'static> = Slot::Packet(&[
     0, 6, 0xe0, 0, 0, 7, 0xe0, 0, 0, 8, 0xe0, 0, 0, 9, 0x70,
 ]);
 
-/// Four to seven fields of an octet each, and the end.
+/// Four and seven fields of an octet each, and the end.
 const FIVE_FIELDS: Slot<'static> = Slot::Packet(&[
     0xc2, 0x05, 0xe0, 0, 0, 1, 0xe0, 0, 0, 2, 0xe0, 0, 0, 3, 0xe0, 0, 0, 4, 0x70,
-]);
-
-const SIX_FIELDS: Slot<'static> = Slot::Packet(&[
-    0xc2, 0x06, 0xe0, 0, 0, 1, 0xe0, 0, 0, 2, 0xe0, 0, 0, 3, 0xe0, 0, 0, 4, 0xe0, 0, 0, 5, 0x70,
-]);
-
-const SEVEN_FIELDS: Slot<'static> = Slot::Packet(&[
-    0xc2, 0x07, 0xe0, 0, 0, 1, 0xe0, 0, 0, 2, 0xe0, 0, 0, 3, 0xe0, 0, 0, 4, 0xe0, 0, 0, 5, 0xe0, 0,
-    0, 6, 0x70,
 ]);
 
 const EIGHT_FIELDS: Slot<'static> = Slot::Packet(&[
@@ -151,8 +142,9 @@ fn expect(
     Ok(())
 }
 
-/// Images, whole.
-const CUT_IMAGES: &[Case] = &[
+/// Images, frames and gaps.
+const CASES: &[Case] = &[
+    // images, whole
     (
         &[TRAINING, WHOLE_PAGE],
         &[Told::Start(1), Told::Octets(PAGE), Told::End(true)],
@@ -199,7 +191,7 @@ const CUT_IMAGES: &[Case] = &[
         &[MORE, TRAINING, LAST_PART, MORE, PREAMBLE],
         &[Told::Start(1), Told::Octets(&[0xdd]), Told::End(true)],
     ),
-    // in five to eight fields
+    // in five and in eight fields
     (
         &[TRAINING, FIVE_FIELDS],
         &[
@@ -208,31 +200,6 @@ const CUT_IMAGES: &[Case] = &[
             Told::Octets(&[2]),
             Told::Octets(&[3]),
             Told::Octets(&[4]),
-            Told::End(true),
-        ],
-    ),
-    (
-        &[TRAINING, SIX_FIELDS],
-        &[
-            Told::Start(1),
-            Told::Octets(&[1]),
-            Told::Octets(&[2]),
-            Told::Octets(&[3]),
-            Told::Octets(&[4]),
-            Told::Octets(&[5]),
-            Told::End(true),
-        ],
-    ),
-    (
-        &[TRAINING, SEVEN_FIELDS],
-        &[
-            Told::Start(1),
-            Told::Octets(&[1]),
-            Told::Octets(&[2]),
-            Told::Octets(&[3]),
-            Told::Octets(&[4]),
-            Told::Octets(&[5]),
-            Told::Octets(&[6]),
             Told::End(true),
         ],
     ),
@@ -267,10 +234,7 @@ const CUT_IMAGES: &[Case] = &[
             Told::End(true),
         ],
     ),
-];
-
-/// Images in which something is missing or has no place.
-const BROKEN_IMAGES: &[Case] = &[
+    // images in which something is missing or has no place
     (
         &[TRAINING, Slot::Lost, WHOLE_PAGE],
         &[
@@ -314,45 +278,24 @@ const BROKEN_IMAGES: &[Case] = &[
             Told::End(false),
         ],
     ),
-];
-
-#[test]
-fn starts_images_of_each_kind(rt: HostRuntime) -> Result<(), Fail> {
-    // the indicators 0 to 15 as they are written, and the data types of those that train
-    let kinds: [(&[u8], Option<u8>); 16] = [
-        (&[0x00], None),
-        (&[0x02], None),
-        (&[0x04], None),
-        (&[0x06], None),
-        (&[0x08], Some(1)),
-        (&[0x0a], Some(2)),
-        (&[0x0c], Some(3)),
-        (&[0x0e], Some(4)),
-        (&[0x10], Some(5)),
-        (&[0x12], Some(5)),
-        (&[0x14], Some(6)),
-        (&[0x16], Some(6)),
-        (&[0x18], Some(7)),
-        (&[0x1a], Some(7)),
-        (&[0x1c], Some(8)),
-        (&[0x1e], Some(8)),
-    ];
-    for (octets, kind) in kinds {
-        match kind {
-            Some(kind) => expect(
-                &rt,
-                rt.alloc(),
-                &[Slot::Packet(octets)],
-                &[Told::Start(kind)],
-            )?,
-            None => expect(&rt, rt.alloc(), &[Slot::Packet(octets)], &[])?,
-        }
-    }
-    Ok(())
-}
-
-/// Frames, whole and broken.
-const FRAMES: &[Case] = &[
+    // the indicators 0 to 15 as they are written, and the images that those that train start, by the types of their data
+    (&[Slot::Packet(&[0x00])], &[]),
+    (&[Slot::Packet(&[0x02])], &[]),
+    (&[Slot::Packet(&[0x04])], &[]),
+    (&[Slot::Packet(&[0x06])], &[]),
+    (&[Slot::Packet(&[0x08])], &[Told::Start(1)]),
+    (&[Slot::Packet(&[0x0a])], &[Told::Start(2)]),
+    (&[Slot::Packet(&[0x0c])], &[Told::Start(3)]),
+    (&[Slot::Packet(&[0x0e])], &[Told::Start(4)]),
+    (&[Slot::Packet(&[0x10])], &[Told::Start(5)]),
+    (&[Slot::Packet(&[0x12])], &[Told::Start(5)]),
+    (&[Slot::Packet(&[0x14])], &[Told::Start(6)]),
+    (&[Slot::Packet(&[0x16])], &[Told::Start(6)]),
+    (&[Slot::Packet(&[0x18])], &[Told::Start(7)]),
+    (&[Slot::Packet(&[0x1a])], &[Told::Start(7)]),
+    (&[Slot::Packet(&[0x1c])], &[Told::Start(8)]),
+    (&[Slot::Packet(&[0x1e])], &[Told::Start(8)]),
+    // frames, whole and broken
     (&[FRAME], &[WORKED_FRAME]),
     (&[BAD_FRAME, FRAME], &[WORKED_FRAME]),
     (&[HEAD, TAIL], &[WORKED_FRAME]),
@@ -364,10 +307,7 @@ const FRAMES: &[Case] = &[
     (&[HEAD, BAD_FRAME, FRAME], &[WORKED_FRAME]),
     // no octets
     (&[PREAMBLE, BARE_CHECK], &[]),
-];
-
-/// Slots that are missing, and extensions.
-const GAPS: &[Case] = &[
+    // slots that are missing, and extensions
     (
         &[Slot::Lost, CUT_OFF, EMPTY],
         &[Told::Gap, Told::Gap, Told::Gap],
@@ -386,49 +326,27 @@ const GAPS: &[Case] = &[
 ];
 
 #[test]
-fn cuts_images_and_frames_and_tells_gaps(rt: HostRuntime) -> Result<(), Fail> {
-    for cases in [CUT_IMAGES, BROKEN_IMAGES, FRAMES, GAPS] {
-        for (slots, told) in cases {
-            expect(&rt, rt.alloc(), slots, told)?;
-        }
+fn starts_and_cuts_images_and_frames_and_tells_gaps(rt: HostRuntime) -> Result<(), Fail> {
+    for (slots, told) in CASES {
+        expect(&rt, rt.alloc(), slots, told)?;
     }
-    Ok(())
-}
-
-/// A V.21 packet of so many octets of hdlc-data and a right check sequence.
-fn long_frame(alloc: Global, octets: u16) -> Result<Vec<u8>, AllocError> {
-    let [high, low] = u16::to_be_bytes(octets.saturating_sub(1));
-    let mut packet = Vec::from_slice(alloc, &[0xc0, 0x02, 0x80, high, low])?;
-    for _ in 0..octets {
-        packet.push(0x55)?;
-    }
-    packet.push(0x40)?;
-    Ok(packet)
-}
-
-/// Fails unless the next slot gives the pieces.
-fn expect_next(
-    rt: &impl Abort,
-    signals: &mut Signals,
-    slot: Slot<'_>,
-    told: &[Told<'_>],
-) -> Result<(), NoMemory> {
-    let place = place_after(rt, signals, slot, told, 0)?;
-    assert!(rt; place == told.len());
     Ok(())
 }
 
 #[test]
 fn frames_have_at_most_256_octets(rt: HostRuntime) -> Result<(), Fail> {
-    let longest = long_frame(rt.alloc(), 256)?;
-    let too_long = long_frame(rt.alloc(), 257)?;
-    let octets = longest.as_slice().get(5..261).unwrap_or(&[]);
-    assert!(rt; octets.len() == 256);
-    let mut signals = Signals::new(rt.alloc());
-    let good = Slot::Packet(longest.as_slice());
-    let bad = Slot::Packet(too_long.as_slice());
-    expect_next(&rt, &mut signals, good, &[Told::Frame(octets)])?;
-    expect_next(&rt, &mut signals, bad, &[])?;
-    expect_next(&rt, &mut signals, good, &[Told::Frame(octets)])?;
+    let mut longest = [0x55; 262];
+    longest[..5].copy_from_slice(b"\xc0\x02\x80\x00\xff");
+    longest[261] = 0x40;
+    let mut too_long = [0x55; 263];
+    too_long[..5].copy_from_slice(b"\xc0\x02\x80\x01\x00");
+    too_long[262] = 0x40;
+    let slots = [
+        Slot::Packet(&longest),
+        Slot::Packet(&too_long),
+        Slot::Packet(&longest),
+    ];
+    let frame = Told::Frame(&[0x55; 256]);
+    expect(&rt, rt.alloc(), &slots, &[frame, frame])?;
     Ok(())
 }
