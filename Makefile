@@ -112,8 +112,7 @@ bench: all bench/example bench/bench
 	bench/example
 	bench/bench bench/pages
 	bench/gateway $(PROGRAM) bench/pages/text-1728.mr
-	cd crates/codec_tests && $(RT) test > /dev/null
-	FAX_PAGE=bench/pages/text-1728.mr crates/codec_tests/out/codec_tests_tests pagestore::speed::times_pieces
+	RT=$(RT) bench/pieces bench/pages/text-1728.mr
 
 # Calls between two T.38 terminals of spandsp through the gateway: see docs/INTEROP.md. It wants a C compiler, libspandsp-dev
 # and libtiff-dev, and some minutes.

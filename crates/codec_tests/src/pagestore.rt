@@ -1,7 +1,6 @@
 //! Pages read and written, in pieces too, and stores of rows. `page.toml` of `tests/cases` has pages and faults of the standard,
 //! and pages of other programs.
 mod memory;
-mod speed;
 
 use crate::runcodes::row_of;
 use fax_bits::{NoMemory, Octets};

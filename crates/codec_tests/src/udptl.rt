@@ -95,109 +95,111 @@ const READ: &[(&[u8], u16, &[u8], &[&[u8]])] = &[
 /// A datagram that comes to a receiver, the first slot that it decides, how many are missing, and the packets after these.
 type Taken = (&'static [u8], u16, u16, &'static [&'static [u8]]);
 
-/// Datagrams in the order in which they come to a receiver.
-const TAKEN: &[&[Taken]] = &[
-    // numbers wrap
-    &[
-        (b"\xff\xfe\x01\x06\x00\x00", 65534, 0, &[b"\x06"]),
-        (
-            b"\x00\x00\x01\x00\x00\x02\x01\x08\x01\x06",
-            65535,
-            0,
-            &[b"\x08", b"\x00"],
-        ),
-        (b"\xff\xff\x01\x08\x00\x00", 1, 0, &[]),
-        (b"\x00\x01\x01\x02\x00\x00", 1, 0, &[b"\x02"]),
-        (
-            b"\x00\x05\x01\x04\x00\x01\x01\x06",
-            2,
-            2,
-            &[b"\x06", b"\x04"],
-        ),
-        (b"\x00\x06\x00\x80", 6, 0, &[b""]),
-    ],
-    // the slots begin at the oldest secondary
-    &[
-        (
-            b"\x00\x01\x01\x08\x00\x03\x01\x06\x01\x04\x01\x02",
-            65534,
-            0,
-            &[b"\x02", b"\x04", b"\x06", b"\x08"],
-        ),
-        (
-            b"\x00\x01\x01\x08\x00\x03\x01\x06\x01\x04\x01\x02",
-            2,
-            0,
-            &[],
-        ),
-    ],
-    // half of the numbers lie ahead, where 1 is expected
-    &[
-        (b"\x00\x00\x01\x06\x00\x00", 0, 0, &[b"\x06"]),
-        (b"\x80\x01\x01\x08\x00\x00", 1, 0, &[]),
-        (b"\x80\x00\x01\x08\x00\x00", 1, 32767, &[b"\x08"]),
-        (b"\x80\x00\x01\x08\x00\x00", 0x8001, 0, &[]),
-    ],
-    // four were lost on the way, and three of them come back
-    &[
-        (b"\x00\x00\x01\x04\x00\x00", 0, 0, &[b"\x04"]),
-        (
-            b"\x00\x05\x01\x06\x00\x03\x09\xc0\x02\x80\x00\x02\xff\xc8\x21\x40\x01\x06\x0c\xc0\x02\x80\x00\x05\xff\xc8\x01\x00\x77\x5e\x40",
-            1,
-            1,
-            &[
-                b"\xc0\x02\x80\x00\x05\xff\xc8\x01\x00\x77\x5e\x40",
-                b"\x06",
-                b"\xc0\x02\x80\x00\x02\xff\xc8\x21\x40",
-                b"\x06",
-            ],
-        ),
-    ],
-    // a machine that called, without secondaries; the training check is missing
-    &[
-        (
-            b"\x00\x00\x0c\xc0\x02\x80\x00\x05\xff\xc8\xc1\x00\x40\x00\x40\x00\x00",
-            0,
-            0,
-            &[b"\xc0\x02\x80\x00\x05\xff\xc8\xc1\x00\x40\x00\x40"],
-        ),
-        (b"\x00\x01\x01\x08\x00\x00", 1, 0, &[b"\x08"]),
-        (b"\x00\x03\x01\x08\x00\x00", 2, 1, &[b"\x08"]),
-        (
-            b"\x00\x04\x12\xc2\x01\xf0\x00\x0c\x00\x14\xd9\xa8\x00\x80\x08\x00\x80\x08\x00\x80\x08\x00\x00",
-            4,
-            0,
-            &[b"\xc2\x01\xf0\x00\x0c\x00\x14\xd9\xa8\x00\x80\x08\x00\x80\x08\x00\x80\x08"],
-        ),
-        (b"\x00\x05\x01\x06\x00\x00", 5, 0, &[b"\x06"]),
-        (
-            b"\x00\x06\x09\xc0\x02\x80\x00\x02\xff\xc8\xf4\x40\x00\x00",
-            6,
-            0,
-            &[b"\xc0\x02\x80\x00\x02\xff\xc8\xf4\x40"],
-        ),
-    ],
-    // the first answers of the machine that was called
-    &[
-        (
-            b"\x00\x00\x0c\xc0\x02\x80\x00\x05\xff\xc8\x01\x00\x40\x00\x40\x00\x00",
-            0,
-            0,
-            &[b"\xc0\x02\x80\x00\x05\xff\xc8\x01\x00\x40\x00\x40"],
-        ),
-        (
-            b"\x00\x01\x09\xc0\x02\x80\x00\x02\xff\xc8\x21\x40\x00\x00",
-            1,
-            0,
-            &[b"\xc0\x02\x80\x00\x02\xff\xc8\x21\x40"],
-        ),
-        (
-            b"\x00\x02\x09\xc0\x02\x80\x00\x02\xff\xc8\x31\x40\x00\x00",
-            2,
-            0,
-            &[b"\xc0\x02\x80\x00\x02\xff\xc8\x31\x40"],
-        ),
-    ],
+/// Datagrams in the order in which they come to a receiver: numbers wrap.
+const WRAPPED: &[Taken] = &[
+    (b"\xff\xfe\x01\x06\x00\x00", 65534, 0, &[b"\x06"]),
+    (
+        b"\x00\x00\x01\x00\x00\x02\x01\x08\x01\x06",
+        65535,
+        0,
+        &[b"\x08", b"\x00"],
+    ),
+    (b"\xff\xff\x01\x08\x00\x00", 1, 0, &[]),
+    (b"\x00\x01\x01\x02\x00\x00", 1, 0, &[b"\x02"]),
+    (
+        b"\x00\x05\x01\x04\x00\x01\x01\x06",
+        2,
+        2,
+        &[b"\x06", b"\x04"],
+    ),
+    (b"\x00\x06\x00\x80", 6, 0, &[b""]),
+];
+
+/// The slots begin at the oldest secondary.
+const OLDEST: &[Taken] = &[
+    (
+        b"\x00\x01\x01\x08\x00\x03\x01\x06\x01\x04\x01\x02",
+        65534,
+        0,
+        &[b"\x02", b"\x04", b"\x06", b"\x08"],
+    ),
+    (
+        b"\x00\x01\x01\x08\x00\x03\x01\x06\x01\x04\x01\x02",
+        2,
+        0,
+        &[],
+    ),
+];
+
+/// Half of the numbers lie ahead, where 1 is expected.
+const AHEAD: &[Taken] = &[
+    (b"\x00\x00\x01\x06\x00\x00", 0, 0, &[b"\x06"]),
+    (b"\x80\x01\x01\x08\x00\x00", 1, 0, &[]),
+    (b"\x80\x00\x01\x08\x00\x00", 1, 32767, &[b"\x08"]),
+    (b"\x80\x00\x01\x08\x00\x00", 0x8001, 0, &[]),
+];
+
+/// Four were lost on the way, and three of them come back.
+const BROUGHT_BACK: &[Taken] = &[
+    (b"\x00\x00\x01\x04\x00\x00", 0, 0, &[b"\x04"]),
+    (
+        b"\x00\x05\x01\x06\x00\x03\x09\xc0\x02\x80\x00\x02\xff\xc8\x21\x40\x01\x06\x0c\xc0\x02\x80\x00\x05\xff\xc8\x01\x00\x77\x5e\x40",
+        1,
+        1,
+        &[
+            b"\xc0\x02\x80\x00\x05\xff\xc8\x01\x00\x77\x5e\x40",
+            b"\x06",
+            b"\xc0\x02\x80\x00\x02\xff\xc8\x21\x40",
+            b"\x06",
+        ],
+    ),
+];
+
+/// A machine that called, without secondaries; the training check is missing.
+const CALLER: &[Taken] = &[
+    (
+        b"\x00\x00\x0c\xc0\x02\x80\x00\x05\xff\xc8\xc1\x00\x40\x00\x40\x00\x00",
+        0,
+        0,
+        &[b"\xc0\x02\x80\x00\x05\xff\xc8\xc1\x00\x40\x00\x40"],
+    ),
+    (b"\x00\x01\x01\x08\x00\x00", 1, 0, &[b"\x08"]),
+    (b"\x00\x03\x01\x08\x00\x00", 2, 1, &[b"\x08"]),
+    (
+        b"\x00\x04\x12\xc2\x01\xf0\x00\x0c\x00\x14\xd9\xa8\x00\x80\x08\x00\x80\x08\x00\x80\x08\x00\x00",
+        4,
+        0,
+        &[b"\xc2\x01\xf0\x00\x0c\x00\x14\xd9\xa8\x00\x80\x08\x00\x80\x08\x00\x80\x08"],
+    ),
+    (b"\x00\x05\x01\x06\x00\x00", 5, 0, &[b"\x06"]),
+    (
+        b"\x00\x06\x09\xc0\x02\x80\x00\x02\xff\xc8\xf4\x40\x00\x00",
+        6,
+        0,
+        &[b"\xc0\x02\x80\x00\x02\xff\xc8\xf4\x40"],
+    ),
+];
+
+/// The first answers of the machine that was called.
+const CALLED: &[Taken] = &[
+    (
+        b"\x00\x00\x0c\xc0\x02\x80\x00\x05\xff\xc8\x01\x00\x40\x00\x40\x00\x00",
+        0,
+        0,
+        &[b"\xc0\x02\x80\x00\x05\xff\xc8\x01\x00\x40\x00\x40"],
+    ),
+    (
+        b"\x00\x01\x09\xc0\x02\x80\x00\x02\xff\xc8\x21\x40\x00\x00",
+        1,
+        0,
+        &[b"\xc0\x02\x80\x00\x02\xff\xc8\x21\x40"],
+    ),
+    (
+        b"\x00\x02\x09\xc0\x02\x80\x00\x02\xff\xc8\x31\x40\x00\x00",
+        2,
+        0,
+        &[b"\xc0\x02\x80\x00\x02\xff\xc8\x31\x40"],
+    ),
 ];
 
 /// Whether these are the packets, in order.
@@ -269,15 +271,32 @@ fn says_what_is_wrong(rt: HostRuntime) {
     }
 }
 
+/// Whether a receiver takes these datagrams, and decides their slots.
+fn are_decided(taken: &[Taken]) -> bool {
+    let mut receiver = Receiver::new();
+    let mut all = true;
+    for (octets, from, lost, packets) in taken {
+        all = decides(&mut receiver, octets, *from, *lost, packets) && all;
+    }
+    all
+}
+
 #[test]
 fn decides_slots(rt: HostRuntime) {
-    for taken in TAKEN {
-        let mut receiver = Receiver::new();
-        for (octets, from, lost, packets) in *taken {
-            let is_decided = decides(&mut receiver, octets, *from, *lost, packets);
-            assert!(rt; is_decided, "{octets:?}");
-        }
-    }
+    assert!(rt; are_decided(WRAPPED));
+    assert!(rt; are_decided(OLDEST));
+}
+
+#[test]
+fn decides_slots_behind_a_loss(rt: HostRuntime) {
+    assert!(rt; are_decided(AHEAD));
+    assert!(rt; are_decided(BROUGHT_BACK));
+}
+
+#[test]
+fn decides_slots_of_other_machines(rt: HostRuntime) {
+    assert!(rt; are_decided(CALLER));
+    assert!(rt; are_decided(CALLED));
 }
 
 /// How many packets come.

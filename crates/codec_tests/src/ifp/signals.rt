@@ -142,9 +142,8 @@ fn expect(
     Ok(())
 }
 
-/// Images, frames and gaps.
-const CASES: &[Case] = &[
-    // images, whole
+/// Images, whole.
+const IMAGES: &[Case] = &[
     (
         &[TRAINING, WHOLE_PAGE],
         &[Told::Start(1), Told::Octets(PAGE), Told::End(true)],
@@ -191,7 +190,10 @@ const CASES: &[Case] = &[
         &[MORE, TRAINING, LAST_PART, MORE, PREAMBLE],
         &[Told::Start(1), Told::Octets(&[0xdd]), Told::End(true)],
     ),
-    // in five and in eight fields
+];
+
+/// Images in five, eight and ten fields.
+const FIELDS: &[Case] = &[
     (
         &[TRAINING, FIVE_FIELDS],
         &[
@@ -217,7 +219,6 @@ const CASES: &[Case] = &[
             Told::End(true),
         ],
     ),
-    // in ten fields
     (
         &[TRAINING, MANY_FIELDS],
         &[
@@ -234,7 +235,10 @@ const CASES: &[Case] = &[
             Told::End(true),
         ],
     ),
-    // images in which something is missing or has no place
+];
+
+/// Images in which something is missing or has no place.
+const BROKEN_IMAGES: &[Case] = &[
     (
         &[TRAINING, Slot::Lost, WHOLE_PAGE],
         &[
@@ -278,7 +282,10 @@ const CASES: &[Case] = &[
             Told::End(false),
         ],
     ),
-    // the indicators 0 to 15 as they are written, and the images that those that train start, by the types of their data
+];
+
+/// The indicators 0 to 15 as they are written, and the images that those that train start, by the types of their data.
+const STARTS: &[Case] = &[
     (&[Slot::Packet(&[0x00])], &[]),
     (&[Slot::Packet(&[0x02])], &[]),
     (&[Slot::Packet(&[0x04])], &[]),
@@ -295,7 +302,10 @@ const CASES: &[Case] = &[
     (&[Slot::Packet(&[0x1a])], &[Told::Start(7)]),
     (&[Slot::Packet(&[0x1c])], &[Told::Start(8)]),
     (&[Slot::Packet(&[0x1e])], &[Told::Start(8)]),
-    // frames, whole and broken
+];
+
+/// Frames, whole and broken.
+const FRAMES: &[Case] = &[
     (&[FRAME], &[WORKED_FRAME]),
     (&[BAD_FRAME, FRAME], &[WORKED_FRAME]),
     (&[HEAD, TAIL], &[WORKED_FRAME]),
@@ -307,7 +317,10 @@ const CASES: &[Case] = &[
     (&[HEAD, BAD_FRAME, FRAME], &[WORKED_FRAME]),
     // no octets
     (&[PREAMBLE, BARE_CHECK], &[]),
-    // slots that are missing, and extensions
+];
+
+/// Slots that are missing, and extensions.
+const GAPS: &[Case] = &[
     (
         &[Slot::Lost, CUT_OFF, EMPTY],
         &[Told::Gap, Told::Gap, Told::Gap],
@@ -325,12 +338,43 @@ const CASES: &[Case] = &[
     ),
 ];
 
-#[test]
-fn starts_and_cuts_images_and_frames_and_tells_gaps(rt: HostRuntime) -> Result<(), Fail> {
-    for (slots, told) in CASES {
-        expect(&rt, rt.alloc(), slots, told)?;
+/// Fails unless each case gives its pieces.
+fn expect_all(rt: &impl Abort, alloc: Global, cases: &[Case]) -> Result<(), NoMemory> {
+    for (slots, told) in cases {
+        expect(rt, alloc, slots, told)?;
     }
     Ok(())
+}
+
+// A test for each table: what a function costs grows faster than the tables that it names.
+#[test]
+fn images_are_cut(rt: HostRuntime) -> Result<(), Fail> {
+    Ok(expect_all(&rt, rt.alloc(), IMAGES)?)
+}
+
+#[test]
+fn images_are_cut_from_fields(rt: HostRuntime) -> Result<(), Fail> {
+    Ok(expect_all(&rt, rt.alloc(), FIELDS)?)
+}
+
+#[test]
+fn broken_images_are_told(rt: HostRuntime) -> Result<(), Fail> {
+    Ok(expect_all(&rt, rt.alloc(), BROKEN_IMAGES)?)
+}
+
+#[test]
+fn training_starts_images(rt: HostRuntime) -> Result<(), Fail> {
+    Ok(expect_all(&rt, rt.alloc(), STARTS)?)
+}
+
+#[test]
+fn frames_are_cut(rt: HostRuntime) -> Result<(), Fail> {
+    Ok(expect_all(&rt, rt.alloc(), FRAMES)?)
+}
+
+#[test]
+fn gaps_are_told(rt: HostRuntime) -> Result<(), Fail> {
+    Ok(expect_all(&rt, rt.alloc(), GAPS)?)
 }
 
 #[test]
