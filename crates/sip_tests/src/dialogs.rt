@@ -139,31 +139,36 @@ fn played(role: Role, steps: &[Step]) -> (usize, bool, [Option<u64>; 2]) {
     )
 }
 
+/// Whose sessions they are, whether they have ended then, and when something was due first and is last.
+const SESSIONS: &[(Role, &[Step], bool, [Option<u64>; 2])] = &[
+    (Role::Answerer, UNACKNOWLEDGED, true, [Some(500), None]),
+    (Role::Caller, HUNG_UP, true, [None, None]),
+    (Role::Answerer, CHANGED, true, [Some(500), None]),
+    (Role::Answerer, GLARE, false, [Some(500), None]),
+    (Role::Caller, REFUSED, true, [None, None]),
+    (Role::Answerer, AWAITED, true, [Some(500), None]),
+];
+
 #[test]
 fn sessions_go_by_the_standard(rt: HostRuntime) {
-    for (role, steps, has_ended, due) in [
-        (Role::Answerer, UNACKNOWLEDGED, true, [Some(500), None]),
-        (Role::Caller, HUNG_UP, true, [None, None]),
-        (Role::Answerer, CHANGED, true, [Some(500), None]),
-        (Role::Answerer, GLARE, false, [Some(500), None]),
-        (Role::Caller, REFUSED, true, [None, None]),
-        (Role::Answerer, AWAITED, true, [Some(500), None]),
-    ] {
-        assert!(rt; played(role, steps) == (steps.len(), has_ended, due));
+    for (role, steps, has_ended, due) in SESSIONS {
+        assert!(rt; played(*role, steps) == (steps.len(), *has_ended, *due));
     }
 }
 
 /// The pause after glare of who made the Call-ID is 2.1 to 4 s, and of the other end at most 2 s, in steps of 10 ms (14.1).
+const PAUSES: &[(Role, u64, u64)] = &[
+    (Role::Caller, 0, 2_100),
+    (Role::Caller, 190, 4_000),
+    (Role::Answerer, 87, 870),
+    (Role::Answerer, 200, 2_000),
+    (Role::Answerer, 201, 0),
+];
+
 #[test]
 fn glare_has_pauses(rt: HostRuntime) {
-    for (role, random, pause) in [
-        (Role::Caller, 0, 2_100),
-        (Role::Caller, 190, 4_000),
-        (Role::Answerer, 87, 870),
-        (Role::Answerer, 200, 2_000),
-        (Role::Answerer, 201, 0),
-    ] {
-        assert!(rt; glare_pause(role, random) == pause);
+    for (role, random, pause) in PAUSES {
+        assert!(rt; glare_pause(*role, *random) == *pause);
     }
 }
 
@@ -273,7 +278,7 @@ fn is_within(dialog: &Dialog, message: &Message<'_>) -> (bool, bool) {
 }
 
 #[test]
-fn a_caller_follows_loose_routers(rt: HostRuntime) -> Result<(), Fail> {
+fn a_caller_follows_loose_routers_and_a_new_target(rt: HostRuntime) -> Result<(), Fail> {
     let mut dialog = dialog_of(Role::Caller)?;
     assert!(rt; dialog.role() == Role::Caller && is_within(&dialog, &read(BOB)?) == (true, false));
     let bye = written(
@@ -285,6 +290,20 @@ fn a_caller_follows_loose_routers(rt: HostRuntime) -> Result<(), Fail> {
         &[],
     )?;
     assert!(rt; bye.as_slice() == ALICE_BYE);
+    let again = read(BOB_AGAIN)?;
+    assert!(rt; is_within(&dialog, &again) == (false, true));
+    dialog.hear(14)?;
+    dialog.refresh(&again)?;
+    let octets = written(
+        rt.alloc(),
+        &mut dialog,
+        b"BYE",
+        b"client.atlanta.example.com",
+        b"z9hG4bKnashe1",
+        &[],
+    )?;
+    let line = b"BYE sip:bob@192.0.2.204 SIP/2.0\r\n";
+    assert!(rt; octets.as_slice().starts_with(line));
     Ok(())
 }
 
@@ -311,46 +330,6 @@ fn an_answerer_follows_a_strict_router(rt: HostRuntime) -> Result<(), Fail> {
     for (number, heard) in [(314_158, low), (314_160, Ok(())), (314_159, low)] {
         assert!(rt; dialog.hear(number) == heard);
     }
-    Ok(())
-}
-
-#[test]
-fn a_re_invite_has_a_new_target(rt: HostRuntime) -> Result<(), Fail> {
-    let mut dialog = dialog_of(Role::Caller)?;
-    let again = read(BOB_AGAIN)?;
-    assert!(rt; is_within(&dialog, &again) == (false, true));
-    dialog.hear(14)?;
-    dialog.refresh(&again)?;
-    let octets = written(
-        rt.alloc(),
-        &mut dialog,
-        b"BYE",
-        b"client.atlanta.example.com",
-        b"z9hG4bKnashe1",
-        &[],
-    )?;
-    let line = b"BYE sip:bob@192.0.2.204 SIP/2.0\r\n";
-    assert!(rt; octets.as_slice().starts_with(line));
-    Ok(())
-}
-
-/// Why a request and its answer begin no dialog.
-fn fault_of_caller(request: &[u8], answer: &[u8]) -> Result<Option<DialogFault>, Fail> {
-    Ok(Dialog::of_caller(&read(request)?, &read(answer)?).err())
-}
-
-/// Why a request begins none that is answered with this tag.
-fn fault_of_answerer(request: &[u8], tag: &[u8]) -> Result<Option<DialogFault>, Fail> {
-    Ok(Dialog::of_answerer(&read(request)?, tag).err())
-}
-
-#[test]
-fn what_begins_no_dialog_is_told(rt: HostRuntime) -> Result<(), Fail> {
-    assert!(rt; fault_of_caller(BOB, BOB)? == Some(DialogFault::NoInvite));
-    assert!(rt; fault_of_caller(STRICT, BOB)? == Some(DialogFault::OtherCall));
-    assert!(rt; fault_of_answerer(BOB, b"1")? == Some(DialogFault::NoInvite));
-    assert!(rt; fault_of_answerer(BOB_AGAIN, b"1")? == Some(DialogFault::HasTag));
-    assert!(rt; fault_of_answerer(ALICE, &[b'1'; 257])? == Some(DialogFault::LongText));
     Ok(())
 }
 

@@ -93,15 +93,39 @@ CSeq: 1 INVITE\r\n\
 Contact: <sip:fax@192.0.2.1:5080>\r\n\
 Content-Length: 5\r\n\r\nv=0\r\n";
 
-/// Users of addresses: RFC 3261, 19.1.3, has some of these.
-const USERS: &[(&[u8], &[u8])] = &[
-    (b"sip:alice@atlanta.com", b"alice"),
-    (b"sip:alice:secretword@atlanta.com;transport=tcp", b"alice"),
+/// Elements of a field, their addresses, and the users of these: RFC 3261, 19.1.3, has some of them.
+const ADDRESSES: &[(&[u8], &[u8], Option<&[u8]>)] = &[
     (
-        b"sip:+1-212-555-1212:1234@gateway.com;user=phone",
-        b"+1-212-555-1212",
+        b"\"Fax, room 3\" <sips:3%2C0@gw.example;transport=udp,x> ;q=0.7; expires=3600",
+        b"sips:3%2C0@gw.example;transport=udp,x",
+        Some(b"3%2C0"),
     ),
-    (b"sip:1212;ext=3:4@gateway.com", b"1212"),
+    (
+        b"<mailto:fax@example.org>;Q=0.1",
+        b"mailto:fax@example.org",
+        None,
+    ),
+    (b"sip:gw.example;lr", b"sip:gw.example", None),
+    (
+        b"sip:alice@atlanta.com",
+        b"sip:alice@atlanta.com",
+        Some(b"alice"),
+    ),
+    (
+        b"<sip:alice:secretword@atlanta.com;transport=tcp>",
+        b"sip:alice:secretword@atlanta.com;transport=tcp",
+        Some(b"alice"),
+    ),
+    (
+        b"<sip:+1-212-555-1212:1234@gateway.com;user=phone>",
+        b"sip:+1-212-555-1212:1234@gateway.com;user=phone",
+        Some(b"+1-212-555-1212"),
+    ),
+    (
+        b"<sip:1212;ext=3:4@gateway.com>",
+        b"sip:1212;ext=3:4@gateway.com",
+        Some(b"1212"),
+    ),
 ];
 
 /// Names in full, as RFC 3261 (20) and RFC 4028 (4, 5) write them.
@@ -115,38 +139,211 @@ const NAMES: &[(Name, &str)] = &[
     (Name::MinSe, "Min-SE"),
 ];
 
-/// The request whose octets are [`INVITE`], with this header line further.
-fn invite<'a>(fields: &'a [Field<'a>]) -> Request<'a> {
-    Request {
-        method: b"INVITE",
-        uri: b"sip:+4930123@gw.example",
-        sent_by: b"192.0.2.1:5080",
-        branch: b"z9hG4bK7a",
-        from: Party {
-            uri: b"sip:fax@192.0.2.1",
-            tag: Some(b"83f"),
-        },
-        to: Party {
-            uri: b"sip:+4930123@gw.example",
-            tag: None,
-        },
-        call_id: b"5@192.0.2.1",
-        number: 1,
-        fields,
-        body: b"v=0\r\n",
-    }
-}
+/// What a message says: what is asked for, of whom, or the status; its number, the tags of its two ends, and its body.
+type Said = (
+    Option<Method>,
+    Option<&'static [u8]>,
+    u16,
+    u32,
+    Option<&'static [u8]>,
+    Option<&'static [u8]>,
+    &'static [u8],
+);
+
+/// Messages, and what they say.
+const SAID: &[(&[u8], Said)] = &[
+    (
+        TORTUOUS,
+        (
+            Some(Method::Invite),
+            Some(b"+4930123"),
+            0,
+            9,
+            Some(b"98asjd8"),
+            Some(b"19"),
+            b"abc",
+        ),
+    ),
+    (
+        BUSY,
+        (None, None, 486, 9, Some(b"98asjd8"), Some(b"19"), b""),
+    ),
+    (
+        INVITE,
+        (
+            Some(Method::Invite),
+            Some(b"+4930123"),
+            0,
+            1,
+            Some(b"83f"),
+            None,
+            b"v=0\r\n",
+        ),
+    ),
+    (
+        CHALLENGE,
+        (
+            None,
+            None,
+            401,
+            2_147_483_647,
+            Some(b"a7"),
+            Some(b"b8"),
+            b"",
+        ),
+    ),
+];
+
+/// Fields of messages of three elements, and a parameter of each of these.
+const PARAMETERS: &[(&[u8], Name, &str, &[Option<&[u8]>])] = &[
+    (
+        TORTUOUS,
+        Name::Via,
+        "branch",
+        &[
+            Some(b"z9hG4bK390"),
+            Some(b"z9hG4bK391"),
+            Some(b"z9hG4bK392"),
+        ],
+    ),
+    (
+        CHALLENGE,
+        Name::Contact,
+        "expires",
+        &[Some(b"3600"), None, None],
+    ),
+    (
+        CHALLENGE,
+        Name::Contact,
+        "q",
+        &[Some(b"0.7"), Some(b"0.1"), None],
+    ),
+    (CHALLENGE, Name::Contact, "lr", &[None, None, Some(b"")]),
+];
+
+/// Parts of the challenge, as they stand there.
+const CREDENTIALS: &[(&str, Option<&[u8]>)] = &[
+    ("realm", Some(b"\"a, b\"")),
+    ("nonce", Some(b"\"f84f1c\"")),
+    ("stale", Some(b"FALSE")),
+    ("domain", None),
+];
 
 /// What is answered that is fine.
-fn ok<'a>(fields: &'a [Field<'a>]) -> Reply<'a> {
-    Reply {
-        status: 200,
-        reason: "OK",
-        tag: "9f3",
-        fields,
-        body: b"",
-    }
-}
+const FINE: Reply<'static> = Reply {
+    status: 200,
+    reason: "OK",
+    tag: "9f3",
+    fields: &[],
+    body: b"v=0\r\n",
+};
+
+/// Header lines that nobody writes: one that goes on in another one, and one that the writer writes itself.
+const SPLIT: &[Field<'static>] = &[Field {
+    name: Name::Contact,
+    value: b"<sip:a>\r\nRecord-Route: <sip:evil.example;lr>",
+}];
+
+const OWN: &[Field<'static>] = &[Field {
+    name: Name::ContentLength,
+    value: b"0",
+}];
+
+/// Requests, what they are answered, and the octets of that, or why it is not written. One without a tag gets one.
+const ANSWERS: &[(&[u8], Reply<'static>, Result<&[u8], WriteFault>)] = &[
+    (
+        TORTUOUS,
+        Reply {
+            status: 486,
+            reason: "Busy Here",
+            tag: "x",
+            fields: &[Field {
+                name: Name::RetryAfter,
+                value: b"5",
+            }],
+            body: b"",
+        },
+        Ok(BUSY),
+    ),
+    (OPTIONS, FINE, Ok(OPTIONS_OK)),
+    (
+        OPTIONS,
+        Reply {
+            fields: SPLIT,
+            ..FINE
+        },
+        Err(WriteFault::BadField(Name::Contact)),
+    ),
+    (
+        OPTIONS,
+        Reply {
+            fields: OWN,
+            ..FINE
+        },
+        Err(WriteFault::BadField(Name::ContentLength)),
+    ),
+    (
+        OPTIONS,
+        Reply {
+            reason: "OK\r\nx: y",
+            ..FINE
+        },
+        Err(WriteFault::BadReason),
+    ),
+    (
+        OPTIONS,
+        Reply {
+            tag: "9f3\r\nx: y",
+            ..FINE
+        },
+        Err(WriteFault::BadTag),
+    ),
+];
+
+/// The request whose octets are [`INVITE`].
+const ASKED: Request<'static> = Request {
+    method: b"INVITE",
+    uri: b"sip:+4930123@gw.example",
+    sent_by: b"192.0.2.1:5080",
+    branch: b"z9hG4bK7a",
+    from: Party {
+        uri: b"sip:fax@192.0.2.1",
+        tag: Some(b"83f"),
+    },
+    to: Party {
+        uri: b"sip:+4930123@gw.example",
+        tag: None,
+    },
+    call_id: b"5@192.0.2.1",
+    number: 1,
+    fields: &[Field {
+        name: Name::Contact,
+        value: b"<sip:fax@192.0.2.1:5080>",
+    }],
+    body: b"v=0\r\n",
+};
+
+/// Requests, and their octets, or why they are not written.
+const REQUESTS: &[(Request<'static>, Result<&[u8], WriteFault>)] = &[
+    (ASKED, Ok(INVITE)),
+    (
+        Request {
+            fields: SPLIT,
+            ..ASKED
+        },
+        Err(WriteFault::BadField(Name::Contact)),
+    ),
+    (
+        Request {
+            from: Party {
+                uri: b"sip:a>\r\nx: y",
+                tag: Some(b"83f"),
+            },
+            ..ASKED
+        },
+        Err(WriteFault::BadAddress),
+    ),
+];
 
 /// A message.
 fn read(octets: &[u8]) -> Result<Message<'_>, Fail> {
@@ -158,51 +355,60 @@ fn parameter_of<'a>(value: &'a [u8], name: &str) -> Option<&'a [u8]> {
     parameter(value, name)
 }
 
-/// The user of an address.
-fn user<'a>(uri: &'a [u8]) -> Option<&'a [u8]> {
-    user_of(uri)
-}
-
-/// What is asked for, and of whom, where it is a request; the status, where it is an answer.
-fn start_of<'a>(message: &Message<'a>) -> (Option<Method>, Option<&'a [u8]>, u16) {
-    match message.start {
-        Start::Request(word, uri) => (Some(Method::of_word(word)), user(uri), 0),
+/// What a message says.
+fn said(octets: &'static [u8]) -> Result<Said, Fail> {
+    let message = read(octets)?;
+    let (method, user, status) = match message.start {
+        Start::Request(word, uri) => (Some(Method::of_word(word)), user_of(uri), 0),
         Start::Answer(status) => (None, None, status),
-    }
-}
-
-/// A message's number, the tags of its two ends, and its body.
-fn shown<'a>(message: &Message<'a>) -> (u32, Option<&'a [u8]>, Option<&'a [u8]>, &'a [u8]) {
-    (
-        message.sequence.number,
+    };
+    let (from, to) = (
         parameter_of(message.from, "tag"),
         parameter_of(message.to, "tag"),
+    );
+    Ok((
+        method,
+        user,
+        status,
+        message.sequence.number,
+        from,
+        to,
         message.body,
-    )
+    ))
 }
 
-/// The first elements of a field, and how many it has.
-fn elements_of<'a>(message: &Message<'a>, name: Name) -> ([&'a [u8]; 3], usize) {
-    let mut first: [&[u8]; 3] = [b"", b"", b""];
+#[test]
+fn messages_are_read(rt: HostRuntime) -> Result<(), Fail> {
+    for (octets, wanted) in SAID {
+        assert!(rt; said(octets)? == *wanted);
+    }
+    Ok(())
+}
+
+/// A parameter of the first elements of a field, and how many these are.
+fn parameters_of<'a>(
+    message: &Message<'a>,
+    name: Name,
+    parameter: &str,
+) -> ([Option<&'a [u8]>; 3], usize) {
+    let mut found = [None, None, None];
     let mut count = 0usize;
     for element in message.elements(name) {
-        if let Some(place) = first.get_mut(count) {
-            *place = element;
+        if let Some(place) = found.get_mut(count) {
+            *place = parameter_of(element, parameter);
         }
         count = count.saturating_add(1);
     }
-    (first, count)
+    (found, count)
 }
 
-/// The last line of a field, and how many it has.
-fn last_line<'a>(message: &Message<'a>, name: Name) -> (&'a [u8], usize) {
-    let mut last: &[u8] = b"";
+/// How many lines a field has.
+fn lines_of(message: &Message<'_>, name: Name) -> usize {
     let mut count = 0usize;
-    for line in message.values(name) {
-        last = line;
+    for _ in message.values(name) {
         count = count.saturating_add(1);
     }
-    (last, count)
+    count
 }
 
 /// The transport and the host of a hop.
@@ -212,22 +418,42 @@ fn hop(value: &[u8]) -> Option<(&[u8], &[u8])> {
 }
 
 #[test]
-fn a_tortuous_request_is_read(rt: HostRuntime) -> Result<(), Fail> {
-    let message = read(TORTUOUS)?;
-    let called: &[u8] = b"+4930123";
-    assert!(rt; start_of(&message) == (Some(Method::Invite), Some(called), 0));
-    let (from, to, body): (&[u8], &[u8], &[u8]) = (b"98asjd8", b"19", b"abc");
-    assert!(rt; shown(&message) == (9, Some(from), Some(to), body));
-    let ([first, second, third], count) = elements_of(&message, Name::Via);
-    for (value, branch) in [
-        (first, b"z9hG4bK390"),
-        (second, b"z9hG4bK391"),
-        (third, b"z9hG4bK392"),
-    ] {
-        assert!(rt; parameter_of(value, "branch") == Some(branch.as_slice()));
+fn fields_are_taken_apart(rt: HostRuntime) -> Result<(), Fail> {
+    for (octets, name, parameter, wanted) in PARAMETERS {
+        let (found, count) = parameters_of(&read(octets)?, *name, parameter);
+        assert!(rt; found.as_slice() == *wanted && count == 3, "{parameter}");
     }
+    assert!(rt; lines_of(&read(CHALLENGE)?, Name::Contact) == 2);
     let (transport, sent_by): (&[u8], &[u8]) = (b"UDP", b"192.0.2.2");
-    assert!(rt; count == 3 && hop(first) == Some((transport, sent_by)));
+    let hop = hop(b"SIP / 2.0 / UDP 192.0.2.2 ;branch=z9hG4bK390");
+    assert!(rt; hop == Some((transport, sent_by)));
+    Ok(())
+}
+
+/// The address of an element of a field, and its user.
+fn address_of(value: &[u8]) -> (&[u8], Option<&[u8]>) {
+    let uri = uri_of(value);
+    (uri, user_of(uri))
+}
+
+#[test]
+fn addresses_and_their_users_are_told(rt: HostRuntime) {
+    for (value, uri, user) in ADDRESSES {
+        assert!(rt; address_of(value) == (*uri, *user));
+    }
+}
+
+/// Part of a challenge, as it stands there.
+fn credential_of<'a>(message: &Message<'a>, name: &str) -> Option<&'a [u8]> {
+    credential(message.value(Name::WwwAuthenticate)?, name)
+}
+
+#[test]
+fn a_challenge_is_taken_apart(rt: HostRuntime) -> Result<(), Fail> {
+    for (name, wanted) in CREDENTIALS {
+        assert!(rt; credential_of(&read(CHALLENGE)?, name) == *wanted, "{name}");
+    }
+    assert!(rt; unquoted(b"\"a, b\"") == b"a, b".as_slice());
     Ok(())
 }
 
@@ -243,13 +469,29 @@ fn what_is_no_message_is_refused_by_name(rt: HostRuntime) {
     }
 }
 
+#[test]
+fn names_are_those_of_the_standard(rt: HostRuntime) {
+    for (name, text) in NAMES {
+        assert!(rt; name.long() == *text);
+    }
+}
+
+/// Whether these octets are written, or nothing for this reason.
+fn is_written(written: Result<Vec<u8>, WriteFault>, wanted: &Result<&[u8], WriteFault>) -> bool {
+    match (written, wanted) {
+        (Ok(octets), Ok(wanted)) => octets.as_slice() == *wanted,
+        (Err(fault), Err(wanted)) => fault == *wanted,
+        _ => false,
+    }
+}
+
 /// The answer to a request.
 fn answered(
     alloc: Global,
-    request: &[u8],
+    request: &Message<'_>,
     reply: &Reply<'_>,
-) -> Result<Result<Vec<u8>, WriteFault>, Fail> {
-    Ok(write_answer(alloc, &read(request)?, reply))
+) -> Result<Vec<u8>, WriteFault> {
+    write_answer(alloc, request, reply)
 }
 
 /// A request.
@@ -258,160 +500,19 @@ fn requested(alloc: Global, request: &Request<'_>) -> Result<Vec<u8>, WriteFault
 }
 
 #[test]
-fn an_answer_has_the_hops_of_its_request(rt: HostRuntime) -> Result<(), Fail> {
-    let fields = [Field {
-        name: Name::RetryAfter,
-        value: b"5",
-    }];
-    let busy = Reply {
-        status: 486,
-        reason: "Busy Here",
-        tag: "x",
-        fields: &fields,
-        body: b"",
-    };
-    let octets = answered(rt.alloc(), TORTUOUS, &busy)??;
-    assert!(rt; octets.as_slice() == BUSY);
-    let answer = read(octets.as_slice())?;
-    let (from, to, body): (&[u8], &[u8], &[u8]) = (b"98asjd8", b"19", b"");
-    assert!(rt;
-        start_of(&answer) == (None, None, 486) && shown(&answer) == (9, Some(from), Some(to), body)
-    );
-    // one without a tag gets one
-    let fine = Reply {
-        body: b"v=0\r\n",
-        ..ok(&[])
-    };
-    let octets = answered(rt.alloc(), OPTIONS, &fine)??;
-    assert!(rt; octets.as_slice() == OPTIONS_OK);
-    Ok(())
-}
-
-#[test]
-fn addresses_and_their_parameters_are_told_apart(rt: HostRuntime) -> Result<(), Fail> {
-    let message = read(CHALLENGE)?;
-    let ([room, mail, gateway], count) = elements_of(&message, Name::Contact);
-    assert!(rt; message.sequence.number == 2_147_483_647 && count == 3);
-    for (value, name, text) in [
-        (room, "expires", b"3600".as_slice()),
-        (mail, "q", b"0.1"),
-        (gateway, "lr", b""),
-    ] {
-        assert!(rt; parameter_of(value, name) == Some(text));
-    }
-    for (value, uri, name) in [
-        (
-            room,
-            b"sips:3%2C0@gw.example;transport=udp,x".as_slice(),
-            Some(b"3%2C0".as_slice()),
-        ),
-        (mail, b"mailto:fax@example.org", None),
-        (gateway, b"sip:gw.example", None),
-    ] {
-        assert!(rt; address_of(value) == (uri, name));
-    }
-    let line: &[u8] = b"sip:gw.example;lr";
-    assert!(rt; last_line(&message, Name::Contact) == (line, 2));
-    Ok(())
-}
-
-/// The address of an element of a field, and its user.
-fn address_of<'a>(value: &'a [u8]) -> (&'a [u8], Option<&'a [u8]>) {
-    let uri = uri_of(value);
-    (uri, user(uri))
-}
-
-/// Part of a challenge, as it stands there.
-fn credential_of<'a>(message: &Message<'a>, name: &str) -> Option<&'a [u8]> {
-    credential(message.value(Name::WwwAuthenticate)?, name)
-}
-
-#[test]
-fn a_challenge_is_taken_apart(rt: HostRuntime) -> Result<(), Fail> {
-    let message = read(CHALLENGE)?;
-    for (name, wanted) in [
-        ("realm", Some(b"\"a, b\"".as_slice())),
-        ("nonce", Some(b"\"f84f1c\"")),
-        ("stale", Some(b"FALSE")),
-        ("domain", None),
-    ] {
-        assert!(rt; credential_of(&message, name) == wanted);
-    }
-    assert!(rt; unquoted(b"\"a, b\"") == b"a, b".as_slice());
-    Ok(())
-}
-
-#[test]
-fn a_user_has_no_password_and_no_parameters(rt: HostRuntime) {
-    for (uri, wanted) in USERS {
-        assert!(rt; user(uri) == Some(*wanted));
-    }
-}
-
-#[test]
-fn names_are_those_of_the_standard(rt: HostRuntime) {
-    for (name, text) in NAMES {
-        assert!(rt; name.long() == *text);
-    }
-}
-
-#[test]
-fn a_request_is_written_and_read_back(rt: HostRuntime) -> Result<(), Fail> {
-    let fields = [Field {
-        name: Name::Contact,
-        value: b"<sip:fax@192.0.2.1:5080>",
-    }];
-    let octets = requested(rt.alloc(), &invite(&fields))?;
-    assert!(rt; octets.as_slice() == INVITE);
-    let message = read(octets.as_slice())?;
-    let (tag, body): (&[u8], &[u8]) = (b"83f", b"v=0\r\n");
-    assert!(rt; shown(&message) == (1, Some(tag), None, body));
-    Ok(())
-}
-
-/// Header lines that nobody writes: one that goes on in another one, and one that the writer writes itself.
-const SPLIT: &[Field<'static>] = &[Field {
-    name: Name::Contact,
-    value: b"<sip:a>\r\nRecord-Route: <sip:evil.example;lr>",
-}];
-
-const OWN: &[Field<'static>] = &[Field {
-    name: Name::ContentLength,
-    value: b"0",
-}];
-
-#[test]
-fn nobody_writes_a_header_line_of_their_own(rt: HostRuntime) -> Result<(), Fail> {
-    let reason = Reply {
-        reason: "OK\r\nx: y",
-        ..ok(&[])
-    };
-    let tag = Reply {
-        tag: "9f3\r\nx: y",
-        ..ok(&[])
-    };
-    for (reply, fault) in [
-        (ok(SPLIT), WriteFault::BadField(Name::Contact)),
-        (ok(OWN), WriteFault::BadField(Name::ContentLength)),
-        (reason, WriteFault::BadReason),
-        (tag, WriteFault::BadTag),
-    ] {
-        assert!(rt; answered(rt.alloc(), OPTIONS, &reply)?.err() == Some(fault));
-    }
-    let from = Request {
-        from: Party {
-            uri: b"sip:a>\r\nx: y",
-            tag: Some(b"83f"),
-        },
-        ..invite(&[])
-    };
-    for (request, fault) in [
-        (invite(SPLIT), WriteFault::BadField(Name::Contact)),
-        (from, WriteFault::BadAddress),
-    ] {
-        assert!(rt; requested(rt.alloc(), &request).err() == Some(fault));
+fn requests_are_answered(rt: HostRuntime) -> Result<(), Fail> {
+    for (request, reply, wanted) in ANSWERS {
+        let written = answered(rt.alloc(), &read(request)?, reply);
+        assert!(rt; is_written(written, wanted));
     }
     Ok(())
+}
+
+#[test]
+fn requests_are_written(rt: HostRuntime) {
+    for (request, wanted) in REQUESTS {
+        assert!(rt; is_written(requested(rt.alloc(), request), wanted));
+    }
 }
 
 /// A branch, as a request of RFC 2543 has one.

@@ -2,6 +2,7 @@
 use fax_sdp::{
     AudioFormats, AudioSection, FaxSection, Origin, Section, answer_sections, read_sdp, write_sdp,
 };
+use std::alloc::{AllocError, Global};
 use std::net::{IpAddr, Ipv4Addr};
 use std::test::Fail;
 
@@ -20,25 +21,25 @@ a=T38FaxUdpEC:t38UDPRedundancy\r\n";
 const AUDIO: &str = "v=0\r\no=- 7 2 IN IP4 192.0.2.1\r\ns=-\r\nc=IN IP4 192.0.2.1\r\nt=0 0\r\n\
 m=audio 40998 RTP/AVP 0 8\r\na=rtpmap:0 PCMU/8000\r\na=rtpmap:8 PCMA/8000\r\n";
 
-/// Whose descriptions they are.
-fn origin(version: u64) -> Origin {
-    Origin {
+/// The text of the description of such media.
+fn written(alloc: Global, version: u64, sections: &[Section<'_>]) -> Result<String, AllocError> {
+    let origin = Origin {
         session: 7,
         version,
         host: IpAddr::V4(Ipv4Addr::new(192, 0, 2, 1)),
-    }
+    };
+    write_sdp(alloc, &origin, sections)
 }
 
 #[test]
 fn an_answer_refuses_what_it_does_not_take(rt: HostRuntime) -> Result<(), Fail> {
-    let offer = read_sdp(OFFER).map_err(|_| "an offer")?;
-    let fax = FaxSection {
+    let offer = read_sdp(OFFER).ok().ok_or("an offer")?;
+    let fax = Section::Fax(FaxSection {
         port: 41_000,
         max_buffer: 1_800,
         max_datagram: 1_400,
-    };
-    let sections = answer_sections(&offer, 1, Section::Fax(fax));
-    let text = write_sdp(rt.alloc(), &origin(1), sections.as_slice())?;
+    });
+    let text = written(rt.alloc(), 1, answer_sections(&offer, 1, fax).as_slice())?;
     assert!(rt; text.as_str() == ANSWER);
     Ok(())
 }
@@ -49,7 +50,7 @@ fn an_offer_of_audio_names_its_formats(rt: HostRuntime) -> Result<(), Fail> {
         port: 40_998,
         formats: AudioFormats::Both,
     });
-    let text = write_sdp(rt.alloc(), &origin(2), &[audio])?;
+    let text = written(rt.alloc(), 2, &[audio])?;
     assert!(rt; text.as_str() == AUDIO);
     Ok(())
 }

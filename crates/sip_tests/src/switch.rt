@@ -8,54 +8,148 @@ use std::alloc::{AllocError, Global};
 use std::net::{IpAddr, Ipv4Addr, SocketAddr};
 use std::test::Fail;
 
-/// The call of a line.
+/// The call of a line, and the next one of that line.
 const ON: LineCall = LineCall { line: 3, call: 7 };
-/// The next call of that line.
+
 const NEXT: LineCall = LineCall { line: 3, call: 8 };
 
-/// An event at a moment, and what is to be done for the last call then.
+/// What a body says: nothing, T.38 at an address of RFC 5737, or audio there.
 #[derive(Clone, Copy)]
-struct Step {
-    now: u64,
-    event: Event,
-    sip: &'static str,
-    line: &'static str,
+enum Body {
+    Empty,
+    Fax,
+    Audio,
 }
 
-/// A step.
-fn at(now: u64, event: Event, sip: &'static str, line: &'static str) -> Step {
-    Step {
-        now,
-        event,
-        sip,
-        line,
+/// What happens to the first call, and to its line.
+#[derive(Clone, Copy)]
+enum Happening {
+    Time,
+    Came(Body),
+    Rung,
+    Dialled,
+    NextDialled,
+    Answered(u16, Body),
+    Reinvited(Body),
+    Acknowledged,
+    ByeReceived,
+    ByeDone,
+    CallOver,
+    JobOver,
+}
+
+/// When something happens, what that is, and what is to be sent and told to a line for the last call then.
+type Step = (u64, Happening, &'static str, &'static str);
+
+/// A call comes in with T.38.
+const CAME_OVER_T38: &[Step] = &[
+    (0, Happening::Came(Body::Fax), "", "ring any"),
+    (0, Happening::Rung, "200 T.38", "peer"),
+    (500, Happening::Time, "200 again", ""),
+    (510, Happening::Acknowledged, "", ""),
+    (
+        9_000,
+        Happening::Reinvited(Body::Fax),
+        "200 T.38",
+        "peer moved",
+    ),
+    (9_010, Happening::Acknowledged, "", ""),
+    (40_000, Happening::CallOver, "BYE", ""),
+    (40_020, Happening::ByeDone, "", ""),
+    (40_040, Happening::Time, "none", ""),
+];
+
+/// A call comes in with audio.
+const CAME_OVER_AUDIO: &[Step] = &[
+    (0, Happening::Came(Body::Audio), "", "ring any"),
+    (0, Happening::Rung, "200 audio", "audio"),
+    (20, Happening::Acknowledged, "", ""),
+    (40, Happening::Time, "re-INVITE", ""),
+    (90, Happening::Answered(491, Body::Empty), "", ""),
+    (2_189, Happening::Time, "", ""),
+    (2_190, Happening::Time, "re-INVITE", ""),
+    (
+        2_250,
+        Happening::Answered(488, Body::Empty),
+        "BYE",
+        "hangup",
+    ),
+];
+
+/// A call goes out.
+const WENT_OUT: &[Step] = &[
+    (0, Happening::Dialled, "INVITE T.38", ""),
+    (50, Happening::Answered(180, Body::Empty), "", ""),
+    (
+        60,
+        Happening::Answered(488, Body::Empty),
+        "INVITE audio",
+        "",
+    ),
+    (9_000, Happening::Answered(200, Body::Audio), "ACK", "audio"),
+    (12_999, Happening::Time, "", ""),
+    (13_000, Happening::Time, "re-INVITE", ""),
+    (13_050, Happening::Answered(200, Body::Fax), "ACK", "peer"),
+    (50_000, Happening::ByeReceived, "200 to BYE", "hangup"),
+    (50_001, Happening::JobOver, "none", ""),
+];
+
+/// A late answer gives no peer.
+const ANSWERED_LATE: &[Step] = &[
+    (0, Happening::Dialled, "INVITE T.38", ""),
+    (60_000, Happening::JobOver, "CANCEL", ""),
+    (60_010, Happening::Answered(200, Body::Fax), "ACK, BYE", ""),
+    (60_020, Happening::NextDialled, "", "refuse"),
+    (60_030, Happening::Reinvited(Body::Fax), "refusal", ""),
+    (92_010, Happening::Time, "", ""),
+    (92_011, Happening::Time, "none", ""),
+];
+
+/// The address of a port.
+fn address(port: u16) -> SocketAddr {
+    SocketAddr::new(IpAddr::V4(Ipv4Addr::new(192, 0, 2, 4)), port)
+}
+
+/// What a body says.
+fn described(body: Body) -> Description {
+    match body {
+        Body::Empty => Description::NothingSaid,
+        Body::Fax => Description::FaxAt(FaxEnd {
+            address: address(49_172),
+            octets: Some(238),
+        }),
+        Body::Audio => Description::AudioAt(AudioEnd {
+            address: address(49_170),
+            coding: Coding::MuLaw,
+        }),
     }
 }
 
-/// T.38 at an address of RFC 5737.
-fn fax() -> Description {
-    Description::FaxAt(FaxEnd {
-        address: SocketAddr::new(IpAddr::V4(Ipv4Addr::new(192, 0, 2, 4)), 49_172),
-        octets: Some(238),
-    })
+/// What happens in a call.
+fn within(happening: Happening) -> CallEvent {
+    match happening {
+        Happening::Answered(status, body) => {
+            CallEvent::InviteAnswered(status, 2_100, described(body))
+        }
+        Happening::Reinvited(body) => CallEvent::Reinvited(described(body)),
+        Happening::Acknowledged => CallEvent::Acknowledged(Description::NothingSaid),
+        Happening::ByeReceived => CallEvent::ByeReceived,
+        _ => CallEvent::ByeDone,
+    }
 }
 
-/// Audio there.
-fn audio() -> Description {
-    Description::AudioAt(AudioEnd {
-        address: SocketAddr::new(IpAddr::V4(Ipv4Addr::new(192, 0, 2, 4)), 49_170),
-        coding: Coding::MuLaw,
-    })
-}
-
-/// Something happens in the first call.
-fn within(event: CallEvent) -> Event {
-    Event::Within(0, event)
-}
-
-/// Our INVITE is answered with this status.
-fn answered(status: u16, said: Description) -> Event {
-    Event::Within(0, CallEvent::InviteAnswered(status, 2_100, said))
+/// What happens.
+fn event(happening: Happening) -> Event {
+    match happening {
+        Happening::Time => Event::Elapsed,
+        Happening::Came(body) => Event::Came(0, described(body)),
+        Happening::Rung => Event::Rung(0, ON),
+        Happening::Dialled => Event::Dialled(ON, Choice::Routed(1, Offer::Fax)),
+        Happening::NextDialled => Event::Dialled(NEXT, Choice::Unrouted),
+        Happening::CallOver => Event::CallOver(ON),
+        Happening::JobOver => Event::JobOver(ON),
+        _ => Event::Within(0, within(happening)),
+    }
 }
 
 /// What is to be sent, in words.
@@ -93,133 +187,32 @@ fn line(action: LineAction) -> &'static str {
     }
 }
 
-/// Whether this is to be done for the last call.
-fn is_done(last: Option<&Entry>, step: &Step) -> bool {
-    match last {
-        Some(entry) => sip(entry.sip) == step.sip && line(entry.line) == step.line,
-        None => step.sip == "none",
+/// What is to be sent for the last call, and told to a line, in words.
+fn done_last(switch: &Switch) -> (&'static str, &'static str) {
+    match switch.entries().last() {
+        Some(entry) => (sip(entry.sip), line(entry.line)),
+        None => ("none", ""),
     }
 }
 
 /// How many steps go as they are to.
 fn played(alloc: Global, steps: &[Step]) -> Result<usize, AllocError> {
     let mut switch = Switch::new(alloc, 2);
-    for (i, step) in steps.iter().enumerate() {
-        switch.hear(step.now, step.event)?;
-        if !is_done(switch.entries().last(), step) {
-            return Ok(i);
+    let mut count = 0usize;
+    for (now, happening, sent, told) in steps {
+        switch.hear(*now, event(*happening))?;
+        if done_last(&switch) == (*sent, *told) {
+            count = count.saturating_add(1);
         }
     }
-    Ok(steps.len())
+    Ok(count)
 }
 
 #[test]
-fn a_call_comes_in_with_t38(rt: HostRuntime) -> Result<(), Fail> {
-    let steps = [
-        at(0, Event::Came(0, fax()), "", "ring any"),
-        at(0, Event::Rung(0, ON), "200 T.38", "peer"),
-        at(500, Event::Elapsed, "200 again", ""),
-        at(
-            510,
-            within(CallEvent::Acknowledged(Description::NothingSaid)),
-            "",
-            "",
-        ),
-        at(
-            9_000,
-            within(CallEvent::Reinvited(fax())),
-            "200 T.38",
-            "peer moved",
-        ),
-        at(
-            9_010,
-            within(CallEvent::Acknowledged(Description::NothingSaid)),
-            "",
-            "",
-        ),
-        at(40_000, Event::CallOver(ON), "BYE", ""),
-        at(40_020, within(CallEvent::ByeDone), "", ""),
-        at(40_040, Event::Elapsed, "none", ""),
-    ];
-    assert!(rt; played(rt.alloc(), &steps)? == 9);
-    Ok(())
-}
-
-#[test]
-fn a_call_comes_in_with_audio(rt: HostRuntime) -> Result<(), Fail> {
-    let steps = [
-        at(0, Event::Came(0, audio()), "", "ring any"),
-        at(0, Event::Rung(0, ON), "200 audio", "audio"),
-        at(
-            20,
-            within(CallEvent::Acknowledged(Description::NothingSaid)),
-            "",
-            "",
-        ),
-        at(40, Event::Elapsed, "re-INVITE", ""),
-        at(90, answered(491, Description::NothingSaid), "", ""),
-        at(2_189, Event::Elapsed, "", ""),
-        at(2_190, Event::Elapsed, "re-INVITE", ""),
-        at(
-            2_250,
-            answered(488, Description::NothingSaid),
-            "BYE",
-            "hangup",
-        ),
-    ];
-    assert!(rt; played(rt.alloc(), &steps)? == 8);
-    Ok(())
-}
-
-#[test]
-fn a_call_goes_out(rt: HostRuntime) -> Result<(), Fail> {
-    let steps = [
-        at(
-            0,
-            Event::Dialled(ON, Choice::Routed(1, Offer::Fax)),
-            "INVITE T.38",
-            "",
-        ),
-        at(50, answered(180, Description::NothingSaid), "", ""),
-        at(
-            60,
-            answered(488, Description::NothingSaid),
-            "INVITE audio",
-            "",
-        ),
-        at(9_000, answered(200, audio()), "ACK", "audio"),
-        at(12_999, Event::Elapsed, "", ""),
-        at(13_000, Event::Elapsed, "re-INVITE", ""),
-        at(13_050, answered(200, fax()), "ACK", "peer"),
-        at(
-            50_000,
-            within(CallEvent::ByeReceived),
-            "200 to BYE",
-            "hangup",
-        ),
-        at(50_001, Event::JobOver(ON), "none", ""),
-    ];
-    assert!(rt; played(rt.alloc(), &steps)? == 9);
-    Ok(())
-}
-
-#[test]
-fn a_late_answer_gives_no_peer(rt: HostRuntime) -> Result<(), Fail> {
-    let steps = [
-        at(
-            0,
-            Event::Dialled(ON, Choice::Routed(1, Offer::Fax)),
-            "INVITE T.38",
-            "",
-        ),
-        at(60_000, Event::JobOver(ON), "CANCEL", ""),
-        at(60_010, answered(200, fax()), "ACK, BYE", ""),
-        at(60_020, Event::Dialled(NEXT, Choice::Unrouted), "", "refuse"),
-        at(60_030, within(CallEvent::Reinvited(fax())), "refusal", ""),
-        at(92_010, Event::Elapsed, "", ""),
-        at(92_011, Event::Elapsed, "none", ""),
-    ];
-    assert!(rt; played(rt.alloc(), &steps)? == 7);
+fn calls_go_by_the_standards(rt: HostRuntime) -> Result<(), Fail> {
+    for steps in [CAME_OVER_T38, CAME_OVER_AUDIO, WENT_OUT, ANSWERED_LATE] {
+        assert!(rt; played(rt.alloc(), steps)? == steps.len());
+    }
     Ok(())
 }
 
@@ -233,19 +226,26 @@ fn seen(body: &str) -> (&'static str, u16, u32) {
     }
 }
 
+/// Bodies, and what they describe.
+const BODIES: &[(&str, (&str, u16, u32))] = &[
+    ("", ("nothing", 0, 0)),
+    (
+        "v=0\r\no=- 1 1 IN IP4 192.0.2.4\r\ns=-\r\nc=IN IP4 192.0.2.4\r\nt=0 0\r\n",
+        ("unusable", 0, 0),
+    ),
+    (
+        "v=0\r\no=- 1 1 IN IP4 192.0.2.4\r\ns=-\r\nc=IN IP4 192.0.2.4\r\nt=0 0\r\nm=audio 49170 RTP/AVP 0\r\nm=image 49172 udptl t38\r\na=T38FaxMaxDatagram:238\r\n",
+        ("fax", 49_172, 238),
+    ),
+    (
+        "v=0\r\no=- 1 1 IN IP4 192.0.2.4\r\ns=-\r\nc=IN IP4 192.0.2.4\r\nt=0 0\r\nm=audio 49170 RTP/AVP 8 101\r\nm=image 0 udptl t38\r\n",
+        ("audio", 49_170, 0),
+    ),
+];
+
 #[test]
 fn bodies_describe_media(rt: HostRuntime) {
-    let head = "v=0\r\no=- 1 1 IN IP4 192.0.2.4\r\ns=-\r\nc=IN IP4 192.0.2.4\r\nt=0 0\r\n";
-    assert!(rt; seen("") == ("nothing", 0, 0));
-    assert!(rt; seen(head) == ("unusable", 0, 0));
-    assert!(rt;
-        seen(
-            "v=0\r\no=- 1 1 IN IP4 192.0.2.4\r\ns=-\r\nc=IN IP4 192.0.2.4\r\nt=0 0\r\nm=audio 49170 RTP/AVP 0\r\nm=image 49172 udptl t38\r\na=T38FaxMaxDatagram:238\r\n"
-        ) == ("fax", 49_172, 238)
-    );
-    assert!(rt;
-        seen(
-            "v=0\r\no=- 1 1 IN IP4 192.0.2.4\r\ns=-\r\nc=IN IP4 192.0.2.4\r\nt=0 0\r\nm=audio 49170 RTP/AVP 8 101\r\nm=image 0 udptl t38\r\n"
-        ) == ("audio", 49_170, 0)
-    );
+    for (body, wanted) in BODIES {
+        assert!(rt; seen(body) == *wanted, "{body}");
+    }
 }

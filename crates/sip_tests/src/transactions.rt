@@ -1,13 +1,8 @@
-//! Transactions by hand: the moments are those of RFC 3261, 17.1.1.2, 17.1.2.2, 17.2.1 and 17.2.2, in milliseconds.
-use fax_transactions::{
-    ClientAction, ClientEvent, ClientInvite, ClientRequest, ServerAction, ServerEvent,
-    ServerInvite, ServerRequest,
-};
+//! Client transactions by hand: the moments are those of RFC 3261, 17.1.1.2 and 17.1.2.2, in milliseconds.
+use fax_transactions::{ClientAction, ClientEvent, ClientInvite, ClientRequest};
 
 /// When something happens, what that is, what is to be done, and when something is due after it.
 type ClientStep = (u64, ClientEvent, ClientAction, Option<u64>);
-
-type ServerStep = (u64, ServerEvent, ServerAction, Option<u64>);
 
 const TIME: ClientEvent = ClientEvent::TimePassed;
 
@@ -70,75 +65,6 @@ const UNANSWERED_REQUEST: &[ClientStep] = &[
     (32_000, TIME, ClientAction::TimedOut, None),
 ];
 
-/// A refusal is sent until its ACK.
-const REFUSAL: &[ServerStep] = &[
-    (
-        10,
-        ServerEvent::Repeated,
-        ServerAction::SendAgain,
-        Some(90_000),
-    ),
-    (
-        1_000,
-        ServerEvent::Answered(486),
-        ServerAction::Send,
-        Some(1_500),
-    ),
-    (
-        1_500,
-        ServerEvent::TimePassed,
-        ServerAction::SendAgain,
-        Some(2_500),
-    ),
-    (
-        1_600,
-        ServerEvent::Answered(200),
-        ServerAction::Nothing,
-        Some(2_500),
-    ),
-    (
-        1_700,
-        ServerEvent::Acknowledged,
-        ServerAction::Nothing,
-        Some(6_700),
-    ),
-    (
-        2_500,
-        ServerEvent::TimePassed,
-        ServerAction::Nothing,
-        Some(6_700),
-    ),
-];
-
-/// A request is answered once.
-const ANSWERED_REQUEST: &[ServerStep] = &[
-    (
-        5,
-        ServerEvent::Repeated,
-        ServerAction::Nothing,
-        Some(90_000),
-    ),
-    (
-        10,
-        ServerEvent::Answered(200),
-        ServerAction::Send,
-        Some(32_010),
-    ),
-    (
-        20,
-        ServerEvent::Answered(503),
-        ServerAction::Nothing,
-        Some(32_010),
-    ),
-    (
-        510,
-        ServerEvent::Repeated,
-        ServerAction::SendAgain,
-        Some(32_010),
-    ),
-    (32_010, ServerEvent::Repeated, ServerAction::Nothing, None),
-];
-
 /// How many steps of an INVITE go as they are to, and whether it is over then.
 fn invited(steps: &[ClientStep]) -> (usize, bool) {
     let mut invite = ClientInvite::begin(0, 90_000);
@@ -165,41 +91,9 @@ fn requested(steps: &[ClientStep]) -> usize {
     count
 }
 
-/// How many steps of an INVITE that came do.
-fn answered_invite(steps: &[ServerStep]) -> usize {
-    let mut invite = ServerInvite::begin(90_000);
-    let mut count = 0usize;
-    for (now, event, action, due) in steps {
-        let done = invite.step(*now, *event);
-        if done == *action && invite.next_due() == *due {
-            count = count.saturating_add(1);
-        }
-    }
-    count
-}
-
-/// How many steps of another request that came do.
-fn answered_request(steps: &[ServerStep]) -> usize {
-    let mut request = ServerRequest::begin(90_000);
-    let mut count = 0usize;
-    for (now, event, action, due) in steps {
-        let done = request.step(*now, *event);
-        if done == *action && request.next_due() == *due {
-            count = count.saturating_add(1);
-        }
-    }
-    count
-}
-
 #[test]
 fn requests_go_out(rt: HostRuntime) {
     assert!(rt; invited(UNANSWERED_INVITE) == (UNANSWERED_INVITE.len(), true));
     assert!(rt; invited(REFUSED_INVITE) == (REFUSED_INVITE.len(), true));
     assert!(rt; requested(UNANSWERED_REQUEST) == UNANSWERED_REQUEST.len());
-}
-
-#[test]
-fn requests_come_in(rt: HostRuntime) {
-    assert!(rt; answered_invite(REFUSAL) == REFUSAL.len());
-    assert!(rt; answered_request(ANSWERED_REQUEST) == ANSWERED_REQUEST.len());
 }

@@ -8,26 +8,43 @@ use fax_trunks::{
 use std::net::IpAddr;
 use std::test::Fail;
 
-/// Addresses, and the numbers that they have.
-const CALLED: &[(&str, &str)] = &[
-    ("sip:1212@gateway.com", "1212"),
-    ("sip:+12125551212@phone2net.com;user=phone", "+12125551212"),
-    ("sips:+358-555-1234567;postd=pp22@foo.com", ""),
-    ("sip:+3585551234567;postd=pp22@foo.com", "+3585551234567"),
-    ("sip:1212:1234@gateway.com", "1212"),
+/// Addresses, and the numbers that their users are, or why they are none.
+const CALLED: &[(&str, Result<&str, NumberFault>)] = &[
+    ("sip:1212@gateway.com", Ok("1212")),
+    (
+        "sip:+12125551212@phone2net.com;user=phone",
+        Ok("+12125551212"),
+    ),
+    (
+        "sips:+358-555-1234567;postd=pp22@foo.com",
+        Err(NumberFault::NotADigit),
+    ),
+    (
+        "sip:+3585551234567;postd=pp22@foo.com",
+        Ok("+3585551234567"),
+    ),
+    ("sip:1212:1234@gateway.com", Ok("1212")),
+    ("tel:+12125551212", Err(NumberFault::NoUser)),
 ];
 
-/// Octets that are no number, and why.
-const NO_NUMBERS: &[(&str, NumberFault)] = &[
-    ("", NumberFault::NoDigits),
-    ("+", NumberFault::NoDigits),
-    ("++49", NumberFault::NotADigit),
-    ("49+", NumberFault::NotADigit),
-    ("+1-212-555-1212", NumberFault::NotADigit),
-    ("(030)1", NumberFault::NotADigit),
-    ("030.1", NumberFault::NotADigit),
-    ("alice", NumberFault::NotADigit),
-    ("012345678901234567890123456789012", NumberFault::TooLong),
+/// Octets that are a number, or why they are none.
+const NUMBERS: &[(&str, Result<&str, NumberFault>)] = &[
+    (
+        "01234567890123456789012345678901",
+        Ok("01234567890123456789012345678901"),
+    ),
+    ("", Err(NumberFault::NoDigits)),
+    ("+", Err(NumberFault::NoDigits)),
+    ("++49", Err(NumberFault::NotADigit)),
+    ("49+", Err(NumberFault::NotADigit)),
+    ("+1-212-555-1212", Err(NumberFault::NotADigit)),
+    ("(030)1", Err(NumberFault::NotADigit)),
+    ("030.1", Err(NumberFault::NotADigit)),
+    ("alice", Err(NumberFault::NotADigit)),
+    (
+        "012345678901234567890123456789012",
+        Err(NumberFault::TooLong),
+    ),
 ];
 
 /// Networks, an address within, and one that is not (`ip_address(..) in ip_network(..)`).
@@ -92,17 +109,6 @@ const CHOSEN: &[(&[u8], Option<(usize, &[u8])>)] = &[
     (b"+33123", None),
 ];
 
-/// Routes of +49, and why +49 is not dialled over them.
-const NOT_DIALLED: &[(Way, NumberFault)] = &[
-    ((b"+49", 3, b"0"), NumberFault::NoDigits),
-    ((b"+49", 0, b"0"), NumberFault::NotADigit),
-    (
-        (b"+49", 1, b"0123456789012345678901234567890"),
-        NumberFault::TooLong,
-    ),
-    ((b"+49", 0, b"0-"), NumberFault::NotADigit),
-];
-
 /// The number of octets.
 fn number(octets: &[u8]) -> Result<Number, NumberFault> {
     Number::read(octets)
@@ -142,24 +148,28 @@ fn contains(network: &Network, address: &str) -> Option<bool> {
     Some(network.contains(host(address)?))
 }
 
-/// Why the user of an address is no number.
-fn fault_of_user(uri: &str) -> Option<NumberFault> {
-    Number::of_user(user_of(uri.as_bytes())).err()
+/// The number of the user of an address.
+fn called(uri: &str) -> Result<Number, NumberFault> {
+    Number::of_user(user_of(uri.as_bytes()))
+}
+
+/// Whether this number is read, or none for this reason.
+fn is_number(read: Result<Number, NumberFault>, wanted: &Result<&str, NumberFault>) -> bool {
+    match (read, wanted) {
+        (Ok(number), Ok(text)) => octets_of(&number) == text.as_bytes(),
+        (Err(fault), Err(wanted)) => fault == *wanted,
+        _ => false,
+    }
 }
 
 #[test]
 fn numbers_are_read(rt: HostRuntime) {
     for (uri, wanted) in CALLED {
-        match Number::of_user(user_of(uri.as_bytes())) {
-            Ok(read) => assert!(rt; octets_of(&read) == wanted.as_bytes(), "{uri}"),
-            Err(fault) => assert!(rt; wanted.is_empty() && fault == NumberFault::NotADigit),
-        }
+        assert!(rt; is_number(called(uri), wanted), "{uri}");
     }
-    assert!(rt; fault_of_user("tel:+12125551212") == Some(NumberFault::NoUser));
-    for (octets, fault) in NO_NUMBERS {
-        assert!(rt; number(octets.as_bytes()).err() == Some(*fault), "{octets}");
+    for (octets, wanted) in NUMBERS {
+        assert!(rt; is_number(number(octets.as_bytes()), wanted), "{octets}");
     }
-    assert!(rt; number(b"01234567890123456789012345678901").is_ok());
 }
 
 /// The trunk over which a number goes, and what is dialled there.
@@ -195,25 +205,10 @@ fn the_longest_prefix_is_taken(rt: HostRuntime) -> Result<(), Fail> {
     Ok(())
 }
 
-/// Why nothing is dialled over a route.
-fn fault_of(way: Way) -> Option<NumberFault> {
-    match route(way, 0) {
-        Ok(route) => dialled(&route, b"+49").err(),
-        Err(fault) => Some(fault),
-    }
-}
-
-#[test]
-fn what_is_dialled_is_a_number(rt: HostRuntime) {
-    for (way, fault) in NOT_DIALLED {
-        assert!(rt; fault_of(*way) == Some(*fault));
-    }
-}
-
 #[test]
 fn networks_are_those_of_ipaddress(rt: HostRuntime) -> Result<(), Fail> {
     for (text, within, without) in NETWORKS {
-        let network = network(text).map_err(|_| "a network")?;
+        let network = network(text).ok().ok_or("a network")?;
         let contained = [contains(&network, within), contains(&network, without)];
         assert!(rt; contained == [Some(true), Some(false)], "{text}");
     }
@@ -231,11 +226,6 @@ fn allowed() -> Option<[bool; 2]> {
     ];
     let caller = "2001:db8::7".parse::<IpAddr>().ok()?;
     Some([allows(&networks[..1], caller), allows(&networks, caller)])
-}
-
-#[test]
-fn callers_are_allowed_by_networks(rt: HostRuntime) {
-    assert!(rt; allowed() == Some([false, true]));
 }
 
 /// When something happens to a registration, what that is, what is to be done, and when something is due after it, where that is said:
@@ -357,18 +347,12 @@ fn registrations_are_refreshed_and_ended(rt: HostRuntime) {
 /// Whether one is registered until 600 s after it was granted for that.
 fn is_registered_until_its_end() -> [bool; 2] {
     let mut registration = Registration::begin(1_200, 3_600);
-    for event in [TIME, RegistrationEvent::Granted(600)] {
-        stepped(&mut registration, 1_200, event);
-    }
+    stepped(&mut registration, 1_200, TIME);
+    stepped(&mut registration, 1_200, RegistrationEvent::Granted(600));
     [
         registration.is_registered(601_199),
         registration.is_registered(601_200),
     ]
-}
-
-#[test]
-fn a_registration_lasts_as_long_as_it_is_granted(rt: HostRuntime) {
-    assert!(rt; is_registered_until_its_end() == [true, false]);
 }
 
 #[test]
@@ -398,8 +382,10 @@ fn taken() -> ([bool; 4], u32) {
 }
 
 #[test]
-fn calls_are_bounded(rt: HostRuntime) {
+fn callers_are_allowed_calls_bounded_and_registrations_end(rt: HostRuntime) {
+    assert!(rt; allowed() == Some([false, true]));
     assert!(rt; taken() == ([true, true, false, true], 1));
+    assert!(rt; is_registered_until_its_end() == [true, false]);
 }
 
 /// A host fails at a moment, or succeeds.
@@ -436,20 +422,4 @@ fn failures_slow_a_host(rt: HostRuntime) -> Result<(), Fail> {
         assert!(rt; answered == *wanted && is_answered(&slow, other, 5_000));
     }
     Ok(())
-}
-
-#[test]
-fn the_host_that_failed_longest_ago_is_forgotten(rt: HostRuntime) {
-    let mut slow = SlowHosts::new();
-    for bits in 0..257u32 {
-        fail(&mut slow, host_of(bits), Some(0));
-    }
-    for (bits, is_forgotten) in [(0, true), (1, false), (256, false)] {
-        assert!(rt; is_answered(&slow, host_of(bits), 0) == is_forgotten);
-    }
-}
-
-/// The host of an IPv4 address.
-fn host_of(bits: u32) -> Host {
-    Host::of(IpAddr::from(bits.to_be_bytes()))
 }
