@@ -163,10 +163,14 @@ fn is_number(read: Result<Number, NumberFault>, wanted: &Result<&str, NumberFaul
 }
 
 #[test]
-fn numbers_are_read(rt: HostRuntime) {
+fn users_that_are_numbers_are_read(rt: HostRuntime) {
     for (uri, wanted) in CALLED {
         assert!(rt; is_number(called(uri), wanted), "{uri}");
     }
+}
+
+#[test]
+fn numbers_are_read_or_it_is_said_why_not(rt: HostRuntime) {
     for (octets, wanted) in NUMBERS {
         assert!(rt; is_number(number(octets.as_bytes()), wanted), "{octets}");
     }
@@ -205,17 +209,29 @@ fn the_longest_prefix_is_taken(rt: HostRuntime) -> Result<(), Fail> {
     Ok(())
 }
 
-#[test]
-fn networks_are_those_of_ipaddress(rt: HostRuntime) -> Result<(), Fail> {
-    for (text, within, without) in NETWORKS {
-        let network = network(text).ok().ok_or("a network")?;
-        let contained = [contains(&network, within), contains(&network, without)];
-        assert!(rt; contained == [Some(true), Some(false)], "{text}");
+/// Whether the network of a text has each of two hosts.
+fn contained(text: &str, one: &str, other: &str) -> [Option<bool>; 2] {
+    match network(text) {
+        Ok(network) => [contains(&network, one), contains(&network, other)],
+        Err(_) => [None, None],
     }
+}
+
+#[test]
+fn networks_are_those_of_ipaddress(rt: HostRuntime) {
+    for (text, within, without) in NETWORKS {
+        assert!(rt;
+            contained(text, within, without) == [Some(true), Some(false)],
+            "{text}"
+        );
+    }
+}
+
+#[test]
+fn what_is_no_network_is_told(rt: HostRuntime) {
     for (text, fault) in NO_NETWORKS {
         assert!(rt; network(text).err() == Some(*fault), "{text}");
     }
-    Ok(())
 }
 
 /// Whether an IPv6 address is allowed by a network of IPv4, and by one of IPv6 after it.
