@@ -1,19 +1,26 @@
 -- What a user agent is seen as, and how each event takes it on.
-use Rattle.std.specs.Prelude.{◌≡◌, ℕ, ◌⊎◌, List, ◌++◌}
+use Rattle.std.specs.Prelude.{◌≡◌, ℕ, ◌⊎◌, List, ◌++◌, Option, None, IsSome, Result, Ok, Err}
+use Rattle.fax_sip.specs.declared.fault.SipFault.{SipFault}
+use Rattle.fax_sip.specs.Messages.{MessageText}
 use Rattle.fax_switch.specs.declared.action.LineAction.{LineAction}
 use Rattle.fax_switch.specs.declared.event.Choice.{Choice}
 use Rattle.fax_switch.specs.declared.event.Event.{Event}
 use Rattle.fax_switch.specs.declared.event.Event.TheVariants.{Dialled}
 use Rattle.fax_switch.specs.declared.place.LineCall.{LineCall}
 use Rattle.fax_switch.specs.Tables.{Table, row, swept}
+use Rattle.fax_trunks.specs.RouteValues.{RouteValue}
 use Rattle.fax_user_agent.specs.declared.out.Datagram.{Datagram}
+use Rattle.fax_user_agent.specs.declared.out.Heard.{Heard}
+use Rattle.fax_user_agent.specs.declared.out.Heard.TheVariants as heard
 use Rattle.fax_user_agent.specs.declared.out.Told.{Told}
 use Rattle.fax_user_agent.specs.declared.settings.Trunk.{Trunk}
+use Rattle.fax_user_agent.specs.Events.{MayBe}
 use Rattle.fax_user_agent.specs.Orders.{words_of}
 
--- its trunks, the calls of its switch, and what is to come out: datagrams, words to lines, and what is told
+-- its trunks and its routes, the calls of its switch, and what is to come out: datagrams, words to lines, and what is told
 pub record Agent : Type 0 where
   pub trunks : List Trunk
+  pub routes : List RouteValue
   pub switch : Table
   pub datagrams : List Datagram
   pub words : List LineAction
@@ -23,9 +30,10 @@ pub record Agent : Type 0 where
 abbrev pub Extends : {A : Type 0} → List A → List A → Type 0
 Extends {A = A} old new = (more : List A) × (new ≡ old ++ more)
 
--- Nothing that is to come out is lost or changed, and the trunks stay.
+-- Nothing that is to come out is lost or changed, and the trunks and the routes stay.
 pub record Queues (old new : Agent) : Type 0 where
   pub trunks : new.trunks ≡ old.trunks
+  pub routes : new.routes ≡ old.routes
   pub datagrams : Extends old.datagrams new.datagrams
   pub told : Extends old.told new.told
 
@@ -47,9 +55,12 @@ pub record HearsInPart (now : ℕ) (event : Event) (old new : Agent) : Type 0 wh
 abbrev pub HearsOne : ℕ → Agent → Agent → Type 0
 HearsOne now old new = (event : Event) × Hears now event old new
 
--- one event, or none
-abbrev pub MayHear : ℕ → Agent → Agent → Type 0
-MayHear now old new = IsQuiet old new ⊎ HearsOne now old new
+-- one event that the message may be, or none
+abbrev pub MayHear : ℕ → MessageText → Agent → Agent → Type 0
+MayHear now text old new = IsQuiet old new ⊎ ((event : Event) × MayBe old.routes text event × Hears now event old new)
+
+abbrev pub MayHearMessageInPart : ℕ → MessageText → Agent → Agent → Type 0
+MayHearMessageInPart now text old new = IsQuiet old new ⊎ ((event : Event) × MayBe old.routes text event × HearsInPart now event old new)
 
 abbrev pub MayHearInPart : ℕ → Agent → Agent → Type 0
 MayHearInPart now old new = IsQuiet old new ⊎ ((event : Event) × HearsInPart now event old new)
@@ -57,3 +68,11 @@ MayHearInPart now old new = IsQuiet old new ⊎ ((event : Event) × HearsInPart 
 -- the call of a job is asked for, however it is placed
 abbrev pub HearsDial : ℕ → LineCall → Agent → Agent → Type 0
 HearsDial now on old new = (choice : Choice) × Hears now (Dialled on choice) old new
+
+-- What is answered of a datagram, whose trunk and whose message are these, and what is done. Nothing is, where it is of nobody who is heard, or no message;
+-- a message is an event for the switch that it may be, or none.
+abbrev pub HearsDatagram : {E : Type 0} → ℕ → Option ℕ → Result MessageText SipFault → Result Heard E → Agent → Agent → Type 0
+HearsDatagram now trunk message (Ok heard.Stranger) old new = (trunk ≡ None) × (new ≡ old)
+HearsDatagram now trunk message (Ok (heard.NoMessage fault)) old new = IsSome trunk × (message ≡ Err fault) × (new ≡ old)
+HearsDatagram now trunk message (Ok heard.Message) old new = IsSome trunk × (text : MessageText) × (message ≡ Ok text) × MayHear now text old new
+HearsDatagram now trunk message (Err failed) old new = IsSome trunk × (text : MessageText) × (message ≡ Ok text) × MayHearMessageInPart now text old new

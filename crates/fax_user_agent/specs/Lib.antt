@@ -1,3 +1,4 @@
 pub mod Agents
+pub mod Events
 pub mod Orders
 pub mod Senders

@@ -1,7 +1,9 @@
 //! The user agent.
 ghost use Rattle.std.specs.Prelude.{◌≡◌, [], IfOk, None, OnErr, OnOk, map};
+ghost use Rattle.fax_sip.specs.Messages.{message_of, message_text};
 ghost use Rattle.fax_switch.specs.Tables.{begun};
-ghost use Rattle.fax_user_agent.specs.Agents.{Hears, HearsDial, HearsInPart, HearsOne, IsQuiet, MayHear, MayHearInPart, Queues};
+ghost use Rattle.fax_user_agent.specs.Agents.{Hears, HearsDatagram, HearsDial, HearsInPart, HearsOne, IsQuiet, MayHear, MayHearInPart, MayHearMessageInPart, Queues};
+ghost use Rattle.fax_user_agent.specs.Events.{Brings, MayBe};
 ghost use Rattle.fax_user_agent.specs.Orders.{word_of};
 ghost use Rattle.fax_user_agent.specs.Senders.{trunk_of};
 
@@ -42,7 +44,7 @@ pub struct UserAgent {
     out: Outbox,
 }
 
-/// Contracts see its trunks, the calls of its switch, and what is to come out, of orders the words alone.
+/// Contracts see its trunks and its routes, the calls of its switch, and what is to come out, of orders the words alone.
 impl Model for UserAgent {
     ghost use Rattle.std.specs.Prelude.{map};
     ghost use Rattle.fax_user_agent.specs.Agents.{Agent};
@@ -52,6 +54,7 @@ impl Model for UserAgent {
 
     ghost view = { λ agent. record {
       trunks = agent.profile.trunks.items;
+      routes = agent.profile.routes.items;
       switch = agent.switch;
       datagrams = agent.out.datagrams.items;
       words = map word_of agent.orders.items;
@@ -64,6 +67,7 @@ impl UserAgent {
     /// `set_open`.
     pub fn new(alloc: Global, settings: Settings, seed: [u8; 32]) -> Result<Self, AllocError>
         ensures trunks { IfOk result (λ agent. agent.trunks ≡ settings.trunks.items) }
+        ensures routes { IfOk result (λ agent. agent.routes ≡ settings.routes.items) }
         ensures switch { IfOk result (λ agent. agent.switch ≡ begun settings.calls) }
         ensures nothing { IfOk result (λ agent. (agent.datagrams ≡ []) × (agent.words ≡ []) × (agent.told ≡ [])) }
     {
@@ -97,21 +101,41 @@ impl UserAgent {
     }
 
     /// A datagram came, from there.
-    pub fn hear(&mut self, now: u64, from: SocketAddr, octets: &[u8]) -> Result<Heard, AllocError> {
+    pub fn hear(&mut self, now: u64, from: SocketAddr, octets: &[u8]) -> Result<Heard, AllocError>
+        ensures heard { HearsDatagram now (trunk_of self.old.trunks from) (message_of octets.now) result self.old self.new }
+        ensures queues { Queues self.old self.new }
+    {
         let Some(trunk) = self.profile.trunk_from(from) else {
             return Ok(Heard::Stranger);
         };
-        let message = match read_message(octets) {
-            Ok(message) => message,
-            Err(fault) => return Ok(Heard::NoMessage(fault)),
-        };
-        self.book.desk.now = now;
-        let event = self.event_of(trunk, from, octets, &message)?;
-        match event {
-            Some(event) => self.tell(now, event)?,
-            None => self.hand_out()?,
+        match read_message(octets) {
+            Ok(message) => {
+                self.take(now, trunk, from, octets, &message)?;
+                Ok(Heard::Message)
+            }
+            Err(fault) => Ok(Heard::NoMessage(fault)),
         }
-        Ok(Heard::Message)
+    }
+
+    /// A message came over this trunk.
+    fn take(
+        &mut self,
+        now: u64,
+        trunk: usize,
+        from: SocketAddr,
+        octets: &[u8],
+        message: &Message<'_>,
+    ) -> Result<(), AllocError>
+        ensures ok { OnOk result (MayHear now (message_text message.now) self.old self.new) }
+        ensures err { OnErr result (MayHearMessageInPart now (message_text message.now) self.old self.new) }
+        ensures queues { Queues self.old self.new }
+    {
+        self.book.desk.now = now;
+        let event = self.event_of(trunk, from, octets, message)?;
+        match event {
+            Some(event) => self.tell(now, event),
+            None => self.hand_out(),
+        }
     }
 
     /// What a message is for the switch.
@@ -122,7 +146,8 @@ impl UserAgent {
         octets: &[u8],
         message: &Message<'_>,
     ) -> Result<Option<Event>, AllocError>
-        ensures { self.new ≡ self.old }
+        ensures unseen { self.new ≡ self.old }
+        ensures event { Brings (MayBe self.old.routes (message_text message.now)) result }
     {
         match message.start {
             Start::Answer(status) => self.book.hear_answer(&self.profile, message, status),

@@ -1,4 +1,8 @@
 //! Answers to our requests.
+ghost use Rattle.std.specs.Prelude.{◌≤◌, ◌<◌, IfSome};
+ghost use Rattle.fax_sip.specs.Messages.{message_text};
+ghost use Rattle.fax_user_agent.specs.Events.{Brings, IsRefusal, MayBeAnswer};
+
 use crate::book::Book;
 use crate::call::CallState;
 use crate::client::Purpose;
@@ -131,7 +135,9 @@ impl Book {
         profile: &Profile,
         answer: &Message<'_>,
         status: u16,
-    ) -> Result<Option<Event>, AllocError> {
+    ) -> Result<Option<Event>, AllocError>
+        ensures { Brings (MayBeAnswer (message_text answer.now) status) result }
+    {
         let Some(key) = answer.key() else {
             return Ok(None);
         };
@@ -144,8 +150,8 @@ impl Book {
         };
         let purpose = client.purpose;
         match client.step(now, ClientEvent::Answered(status)) {
-            ClientAction::Tell(status) => self.answered(profile, place, purpose, answer, status),
-            ClientAction::TellAndAcknowledge(status) => {
+            ClientAction::Tell(_) => self.answered(profile, place, purpose, answer, status),
+            ClientAction::TellAndAcknowledge(_) => {
                 self.desk.acknowledge_refusal(place, answer)?;
                 self.answered(profile, place, purpose, answer, status)
             }
@@ -158,7 +164,9 @@ impl Book {
     }
 
     /// A 2xx to an INVITE whose transaction is over came again.
-    fn answered_again(&mut self, answer: &Message<'_>, status: u16) -> Option<Event> {
+    fn answered_again(&mut self, answer: &Message<'_>, status: u16) -> Option<Event>
+        ensures { IfSome result (MayBeAnswer (message_text answer.now) status) }
+    {
         if status < 200 || status >= 300 || answer.sequence.method != b"INVITE".as_slice() {
             return None;
         }
@@ -179,7 +187,9 @@ impl Book {
         purpose: Purpose,
         answer: &Message<'_>,
         status: u16,
-    ) -> Result<Option<Event>, AllocError> {
+    ) -> Result<Option<Event>, AllocError>
+        ensures { Brings (MayBeAnswer (message_text answer.now) status) result }
+    {
         count(&mut self.desk.counts, status, false);
         match purpose {
             Purpose::Invite(id) => {
@@ -215,7 +225,9 @@ impl Book {
         place: usize,
         answer: &Message<'_>,
         status: u16,
-    ) -> Result<Option<Event>, AllocError> {
+    ) -> Result<Option<Event>, AllocError>
+        ensures { 200 ≤ status → Brings (MayBeAnswer (message_text answer.now) status) result }
+    {
         let Some(at) = self.place_of(id) else {
             return Ok(None);
         };
@@ -241,7 +253,9 @@ impl Book {
 }
 
 /// The status that is told of an INVITE that was given up since it rang too long: 408 in place of 487.
-fn given_up(call: &CallState, status: u16) -> u16 {
+fn given_up(call: &CallState, status: u16) -> u16
+    ensures { IsRefusal status result }
+{
     if call.rang && status == 487 {
         408
     } else {
@@ -256,7 +270,9 @@ fn accepted(
     place: usize,
     answer: &Message<'_>,
     status: u16,
-) -> Event {
+) -> Event
+    ensures { 200 ≤ status → status < 300 → MayBeAnswer (message_text answer.now) status result }
+{
     let unusable = Event::Within(
         call.id,
         CallEvent::InviteAnswered(500, 0, Description::NothingSaid),

@@ -1,4 +1,11 @@
 //! Requests of the other end.
+ghost use Rattle.std.specs.Prelude.{◌≡◌, true, false, List, None, IfOk, IfSome};
+ghost use Rattle.fax_sip.specs.Messages.{message_text};
+ghost use Rattle.fax_sip.specs.Starts.{method_of};
+ghost use Rattle.fax_sip.specs.declared.start.Method.TheVariants as asked;
+ghost use Rattle.fax_trunks.specs.RouteValues.{RouteValue};
+ghost use Rattle.fax_user_agent.specs.Events.{Brings, IsRouted, MayBeRequest, is_within as within_dialog};
+
 use crate::accepting::agreement_on;
 use crate::book::Book;
 use crate::call::{Asked, CallState, Inviting, nowhere, tag_of};
@@ -36,7 +43,9 @@ struct Wanted {
 }
 
 /// Whether a request is one within a dialog: its `To` has a tag.
-fn is_within(request: &Message<'_>) -> bool {
+fn is_within(request: &Message<'_>) -> bool
+    ensures { result ≡ within_dialog (message_text request.now) }
+{
     parameter(request.to, "tag").is_some()
 }
 
@@ -62,7 +71,9 @@ fn is_description(request: &Message<'_>) -> bool {
 }
 
 /// The number of a call and its route; or the status with which its INVITE is refused.
-fn wanted_of(profile: &Profile, incoming: &Incoming<'_>) -> Result<Wanted, u16> {
+fn wanted_of(profile: &Profile, incoming: &Incoming<'_>) -> Result<Wanted, u16>
+    ensures { IfOk result (λ wanted. IsRouted profile.now.routes.items incoming.now.uri.now wanted.route) }
+{
     let Ok(number) = Number::of_user(user_of(incoming.uri)) else {
         return Err(404);
     };
@@ -93,7 +104,9 @@ impl Book {
         profile: &Profile,
         incoming: &Incoming<'_>,
         word: &[u8],
-    ) -> Result<Option<Event>, AllocError> {
+    ) -> Result<Option<Event>, AllocError>
+        ensures { Brings (MayBeRequest profile.now.routes.items incoming.now.uri.now (message_text incoming.now.message.now) (method_of word.now)) result }
+    {
         if let Some(place) = self.desk.server_of(&incoming.key) {
             self.repeat(place, incoming)?;
             return Ok(None);
@@ -142,7 +155,9 @@ impl Book {
     }
 
     /// The ACK of a 2xx of ours came.
-    fn acknowledged(&mut self, incoming: &Incoming<'_>) -> Option<Event> {
+    fn acknowledged(&mut self, incoming: &Incoming<'_>) -> Option<Event>
+        ensures { (routes : List RouteValue) → IfSome result (MayBeRequest routes incoming.now.uri.now (message_text incoming.now.message.now) asked.Ack) }
+    {
         let place = self.call_taking(incoming.message)?;
         let call = self.calls.get(place)?;
         let accepted = call.accepted.as_ref()?;
@@ -154,7 +169,9 @@ impl Book {
     }
 
     /// A CANCEL came: it is answered, and is one of an INVITE that waits for a line, or of none.
-    fn cancelled(&mut self, incoming: &Incoming<'_>) -> Result<Option<Event>, AllocError> {
+    fn cancelled(&mut self, incoming: &Incoming<'_>) -> Result<Option<Event>, AllocError>
+        ensures { (routes : List RouteValue) → Brings (MayBeRequest routes incoming.now.uri.now (message_text incoming.now.message.now) asked.Cancel) result }
+    {
         let key = Key {
             branch: incoming.key.branch,
             sent_by: incoming.key.sent_by,
@@ -186,11 +203,9 @@ impl Book {
     }
 
     /// A request is refused at once.
-    fn refused(
-        &mut self,
-        incoming: &Incoming<'_>,
-        status: u16,
-    ) -> Result<Option<Event>, AllocError> {
+    fn refused(&mut self, incoming: &Incoming<'_>, status: u16) -> Result<Option<Event>, AllocError>
+        ensures { IfOk result (λ found. found ≡ None) }
+    {
         let allow = [Field {
             name: Name::Allow,
             value: ALLOW,
@@ -214,7 +229,9 @@ impl Book {
     }
 
     /// OPTIONS came.
-    fn probed(&mut self, incoming: &Incoming<'_>) -> Result<Option<Event>, AllocError> {
+    fn probed(&mut self, incoming: &Incoming<'_>) -> Result<Option<Event>, AllocError>
+        ensures { IfOk result (λ found. found ≡ None) }
+    {
         if !self.desk.is_open {
             return self.refused(incoming, 503);
         }
@@ -227,7 +244,9 @@ impl Book {
     }
 
     /// A BYE came: it is answered, where there is such a dialog.
-    fn ended(&mut self, incoming: &Incoming<'_>) -> Result<Option<Event>, AllocError> {
+    fn ended(&mut self, incoming: &Incoming<'_>) -> Result<Option<Event>, AllocError>
+        ensures { (routes : List RouteValue) → Brings (MayBeRequest routes incoming.now.uri.now (message_text incoming.now.message.now) asked.Bye) result }
+    {
         let Some(place) = self.call_taking(incoming.message) else {
             return self.refused(incoming, 481);
         };
@@ -259,7 +278,9 @@ impl Book {
     }
 
     /// An INVITE within a dialog came.
-    fn invited_again(&mut self, incoming: &Incoming<'_>) -> Result<Option<Event>, AllocError> {
+    fn invited_again(&mut self, incoming: &Incoming<'_>) -> Result<Option<Event>, AllocError>
+        ensures { (routes : List RouteValue) → within_dialog (message_text incoming.now.message.now) ≡ true → Brings (MayBeRequest routes incoming.now.uri.now (message_text incoming.now.message.now) asked.Invite) result }
+    {
         let Some(place) = self.call_taking(incoming.message) else {
             return self.refused(incoming, 481);
         };
@@ -308,7 +329,9 @@ impl Book {
         &mut self,
         profile: &Profile,
         incoming: &Incoming<'_>,
-    ) -> Result<Option<Event>, AllocError> {
+    ) -> Result<Option<Event>, AllocError>
+        ensures { within_dialog (message_text incoming.now.message.now) ≡ false → Brings (MayBeRequest profile.now.routes.items incoming.now.uri.now (message_text incoming.now.message.now) asked.Invite) result }
+    {
         if self.is_accepted(incoming) {
             return Ok(None);
         }
@@ -325,11 +348,9 @@ impl Book {
     }
 
     /// A call that comes in is opened, where its trunk has room.
-    fn open(
-        &mut self,
-        incoming: &Incoming<'_>,
-        wanted: Wanted,
-    ) -> Result<Option<Event>, AllocError> {
+    fn open(&mut self, incoming: &Incoming<'_>, wanted: Wanted) -> Result<Option<Event>, AllocError>
+        ensures { (routes : List RouteValue) → within_dialog (message_text incoming.now.message.now) ≡ false → IsRouted routes incoming.now.uri.now wanted.route → Brings (MayBeRequest routes incoming.now.uri.now (message_text incoming.now.message.now) asked.Invite) result }
+    {
         let tag = self.desk.random.token();
         let Ok(dialog) = Dialog::of_answerer(incoming.message, tag.as_slice()) else {
             return self.refused(incoming, 400);

@@ -1,5 +1,6 @@
 //! What a user agent is, as long as it runs.
 ghost use Rattle.std.specs.Prelude.{◌≡◌, ◌⊎◌, true, IfOk, IfSome};
+ghost use Rattle.fax_trunks.specs.Routes.{IsChoice, fits_of};
 ghost use Rattle.fax_user_agent.specs.Senders.{is_of_trunk, is_one_host, trunk_of};
 
 use crate::settings::{Settings, Trunk};
@@ -67,7 +68,8 @@ fn destination_over(trunk: &Trunk, wanted: Option<SocketAddr>) -> SocketAddr
 impl Profile {
     /// The profile of settings.
     pub fn new(alloc: Global, settings: Settings) -> Result<Self, AllocError>
-        ensures { IfOk result (λ profile. profile.trunks.items ≡ settings.trunks.items) }
+        ensures trunks { IfOk result (λ profile. profile.trunks.items ≡ settings.trunks.items) }
+        ensures routes { IfOk result (λ profile. profile.routes.items ≡ settings.routes.items) }
     {
         let Settings {
             local,
@@ -104,7 +106,9 @@ impl Profile {
     }
 
     /// The route of a number.
-    pub fn route_of(&self, number: &Number) -> Option<usize> {
+    pub fn route_of(&self, number: &Number) -> Option<usize>
+        ensures { IfSome result (IsChoice (fits_of self.now.routes.items number.now)) }
+    {
         choose(self.routes.as_slice(), number)
     }
 }
