@@ -19,13 +19,13 @@ outcome_at PageRefused = refl
 outcome_at HungUp = refl
 outcome_at NotPlaced = refl
 
-card_same : (o : Outcome) (cause : List ℕ) (t u a b : ℕ) → t ≡ u → a ≡ b → card_with (Some o) cause t a ≡ card_with (Some o) cause u b
-card_same o cause t u a b tries at = cc
+card_same : (o : Outcome) (cause : List ℕ) (t u a b d e : ℕ) → t ≡ u → a ≡ b → d ≡ e → card_with (Some o) cause t a d ≡ card_with (Some o) cause u b e
+card_same o cause t u a b d e tries at delivered = cc
 
 pub cards_back : CardsAreReadBack
 cards_back card fits =
-    ap (λ (o : Option Outcome). card_with o card.cause (from_be_bytes w32 (to_be_bytes w32 card.tries)) (from_be_bytes w64 (to_be_bytes w64 card.at))) (outcome_at card.outcome)
-    ∙ card_same card.outcome card.cause _ card.tries _ card.at (from_be_bytes-to_be_bytes_4 card.tries fits.tries) (from_be_bytes-to_be_bytes_8 card.at fits.at)
+    ap (λ (o : Option Outcome). card_with o card.cause (from_be_bytes w32 (to_be_bytes w32 card.tries)) (from_be_bytes w64 (to_be_bytes w64 card.at)) (from_be_bytes w32 (to_be_bytes w32 card.delivered))) (outcome_at card.outcome)
+    ∙ card_same card.outcome card.cause _ card.tries _ card.at _ card.delivered (from_be_bytes-to_be_bytes_4 card.tries fits.tries) (from_be_bytes-to_be_bytes_8 card.at fits.at) (from_be_bytes-to_be_bytes_4 card.delivered fits.delivered)
 
 -- no outcome has a number beyond these
 pub no_outcome : (n : ℕ) → 10 ≤ n → slice_get outcomes n ≡ None

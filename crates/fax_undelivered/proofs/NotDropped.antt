@@ -16,7 +16,7 @@ use Rattle.fax_undelivered.specs.Cards.{CardValue, card_octets}
 use Rattle.fax_undelivered.specs.Calls.{card_records, end_from, end_of, with_its_card}
 use Rattle.fax_undelivered.specs.Keeps.{Keeps}
 use Rattle.fax_undelivered.specs.KeptEnds.{EndsKept, KeepsLeft, MayEnd, MayEndWith, PutsIf}
-use Rattle.fax_undelivered.specs.Dropped.{AreKept, AreNotDelivered, Befell, Comes, Discards, Ends, EndsAs, Event, FailedPutsLeaveJobs, Goes, IsIn, IsNotDropped, KeptEndsAreEvents, MayPut, NothingIsDropped, Pairs, Puts, Rests, put_in, with_if}
+use Rattle.fax_undelivered.specs.Dropped.{AreKept, AreNotDelivered, Arrives, Befell, Comes, Discards, Ends, EndsAs, Event, FailedPutsLeaveJobs, Goes, IsIn, IsNotDropped, KeptEndsAreEvents, MayPut, NothingIsDropped, Pairs, Puts, Rests, put_in, with_if}
 use Rattle.fax_undelivered.specs.declared.undelivered.Undelivered.{Undelivered}
 use Rattle.fax_undelivered.proofs.Ending.{wait_still}
 
@@ -77,6 +77,10 @@ module _ (page : PageValue) (events : List Event) (old new : Pairs) where
   after_discard name goes is false un = inr (inl (moved page _ new.second goes.1 (in_without (end_of name) page old.second un is)))
   after_discard name goes is true so = inr (inr (inr (inl so)))
 
+  after_try : (name : CallName) → Goes (Arrives name) old new → IsIn page old.second → (b : Bool) → ends (end_of name) (name_of page) ≡ b → IsNotDropped page (Arrives name ∷ events) new
+  after_try name goes is false un = inr (inl (moved page _ new.second goes.1 (in_without (end_of name) page old.second un is)))
+  after_try name goes is true so = inr (inr (inl (inl so)))
+
   -- a page that was not dropped before is not by it
   still : (event : Event) → Goes event old new → IsNotDropped page events old → IsNotDropped page (event ∷ events) new
   still (Puts pages) goes (inl is) = inl (moved page _ new.first goes.0 (in_front page old.first pages is))
@@ -99,6 +103,10 @@ module _ (page : PageValue) (events : List Event) (old new : Pairs) where
   still (Discards name) goes (inr (inl is)) = after_discard name goes is (ends (end_of name) (name_of page)) refl
   still (Discards name) goes (inr (inr (inl is))) = inr (inr (inl is))
   still (Discards name) goes (inr (inr (inr is))) = inr (inr (inr (inr is)))
+  still (Arrives name) goes (inl is) = inl (moved page _ new.first goes.0 is)
+  still (Arrives name) goes (inr (inl is)) = after_try name goes is (ends (end_of name) (name_of page)) refl
+  still (Arrives name) goes (inr (inr (inl is))) = inr (inr (inl (inr is)))
+  still (Arrives name) goes (inr (inr (inr is))) = inr (inr (inr is))
   still Rests goes (inl is) = inl (moved page _ new.first goes.0 is)
   still Rests goes (inr (inl is)) = inr (inl (moved page _ new.second goes.1 is))
   still Rests goes (inr (inr (inl is))) = inr (inr (inl is))
@@ -119,6 +127,7 @@ nothing_is_dropped begun now (MayPut pages b ∷ events) page befell is = still 
 nothing_is_dropped begun now (Comes pages b ∷ events) page befell is = still page events befell.0 now (Comes pages b) befell.2 (nothing_is_dropped begun befell.0 events page befell.1 is)
 nothing_is_dropped begun now (Ends e left ∷ events) page befell is = still page events befell.0 now (Ends e left) befell.2 (nothing_is_dropped begun befell.0 events page befell.1 is)
 nothing_is_dropped begun now (Discards name ∷ events) page befell is = still page events befell.0 now (Discards name) befell.2 (nothing_is_dropped begun befell.0 events page befell.1 is)
+nothing_is_dropped begun now (Arrives name ∷ events) page befell is = still page events befell.0 now (Arrives name) befell.2 (nothing_is_dropped begun befell.0 events page befell.1 is)
 nothing_is_dropped begun now (Rests ∷ events) page befell is = still page events befell.0 now Rests befell.2 (nothing_is_dropped begun befell.0 events page befell.1 is)
 
 -- ---- the end of a job

@@ -39,6 +39,8 @@ pub data Event : Type 0 where
   Ends : (ended left : EndedValue) → Event
   -- a word drops the pages of a call from the second pair
   Discards : (name : CallName) → Event
+  -- a try delivered those that were left of a call, and that is noted in the second pair
+  Arrives : (name : CallName) → Event
   -- nothing is written; or the machine stops, and another life begins
   Rests : Event
 
@@ -55,6 +57,7 @@ Goes (MayPut pages are_there) old new = (new.first ≡ with_if are_there old.fir
 Goes (Comes pages are_there) old new = (new.first ≡ old.first) × (new.second ≡ with_if are_there old.second pages)
 Goes (Ends ended left) old new = (new.first ≡ without ended old.first) × (new.second ≡ old.second) × AreKept ended left old
 Goes (Discards name) old new = (new.first ≡ old.first) × (new.second ≡ without (end_of name) old.second)
+Goes (Arrives name) old new = (new.first ≡ old.first) × (new.second ≡ without (end_of name) old.second)
 Goes Rests old new = (new.first ≡ old.first) × (new.second ≡ old.second)
 
 -- these befell, from where the files held anything
@@ -70,9 +73,10 @@ put_in begun (MayPut pages are_there ∷ events) = put_in begun events
 put_in begun (Comes pages are_there ∷ events) = put_in begun events
 put_in begun (Ends ended left ∷ events) = put_in begun events
 put_in begun (Discards name ∷ events) = put_in begun events
+put_in begun (Arrives name ∷ events) = put_in begun events
 put_in begun (Rests ∷ events) = put_in begun events
 
--- a page was in a job whose end was noted as delivered up to and with it
+-- a page was in a job whose end was noted as delivered up to and with it, or a try delivered what was left of its call
 abbrev pub WasDelivered : PageValue → List Event → Type 0
 WasDelivered page [] = ⊥
 WasDelivered page (Puts pages ∷ events) = WasDelivered page events
@@ -80,6 +84,7 @@ WasDelivered page (MayPut pages are_there ∷ events) = WasDelivered page events
 WasDelivered page (Comes pages are_there ∷ events) = WasDelivered page events
 WasDelivered page (Ends ended left ∷ events) = ((ends ended (name_of page) ≡ true) × (ends left (name_of page) ≡ false)) ⊎ WasDelivered page events
 WasDelivered page (Discards name ∷ events) = WasDelivered page events
+WasDelivered page (Arrives name ∷ events) = (ends (end_of name) (name_of page) ≡ true) ⊎ WasDelivered page events
 WasDelivered page (Rests ∷ events) = WasDelivered page events
 
 -- or a word dropped it
@@ -90,6 +95,7 @@ WasDiscarded page (MayPut pages are_there ∷ events) = WasDiscarded page events
 WasDiscarded page (Comes pages are_there ∷ events) = WasDiscarded page events
 WasDiscarded page (Ends ended left ∷ events) = WasDiscarded page events
 WasDiscarded page (Discards name ∷ events) = (ends (end_of name) (name_of page) ≡ true) ⊎ WasDiscarded page events
+WasDiscarded page (Arrives name ∷ events) = WasDiscarded page events
 WasDiscarded page (Rests ∷ events) = WasDiscarded page events
 
 -- where a page is: it waits in the first pair or in the second, or was delivered, or was dropped by a word

@@ -33,7 +33,7 @@ NotesCause line cause olds news = (news ≡ olds ++ record { line = line; cause 
 
 -- the card of a job that ended with this report
 abbrev pub card_for : Report → (cause : List ℕ) → (at : ℕ) → CardValue
-card_for report cause at = record { outcome = report.outcome; cause = cause; tries = 1; at = at }
+card_for report cause at = record { outcome = report.outcome; cause = cause; tries = 1; at = at; delivered = 0 }
 
 -- Pages were put into the second pair, with a card, all of them at once: at an `Ok` they wait there; else each crash leaves them there or not.
 pub record PutsPages {U : Type 0} (seen : U → List ℕ) (may_leave : U → List ℕ → Type 0) (is_usable : U → Bool) (pages : List PageValue) (card : CardValue) (is_ok : Bool) (old new : Undelivered U) : Type 0 where

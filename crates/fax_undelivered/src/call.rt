@@ -110,6 +110,7 @@ fn unknown_card(alloc: Global) -> Result<Card, AllocError>
         cause: b"unknown".to_vec(alloc)?,
         tries: 0,
         at: 0,
+        delivered: 0,
     })
 }
 

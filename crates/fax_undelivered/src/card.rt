@@ -17,6 +17,8 @@ pub struct Card {
     pub tries: u32,
     /// When it ended, in seconds since 1970.
     pub at: u64,
+    /// How many of its pages, from the first that waits on, were delivered by tries since they were put.
+    pub delivered: u32,
 }
 
 impl Model for Card {
@@ -24,7 +26,7 @@ impl Model for Card {
 
     ghost Value = { CardValue };
 
-    ghost view = { λ c. record { outcome = c.outcome; cause = c.cause.items; tries = c.tries; at = c.at } };
+    ghost view = { λ c. record { outcome = c.outcome; cause = c.cause.items; tries = c.tries; at = c.at; delivered = c.delivered } };
 }
 
 impl Card {
@@ -37,6 +39,7 @@ impl Card {
             cause: self.cause.as_slice().to_vec(alloc)?,
             tries: self.tries,
             at: self.at,
+            delivered: self.delivered,
         })
     }
 }
@@ -49,6 +52,7 @@ pub fn write_card(alloc: Global, card: &Card) -> Result<Vec<u8>, AllocError>
     octets.push(card.outcome.number())?;
     octets.extend_from_slice(&card.tries.to_be_bytes())?;
     octets.extend_from_slice(&card.at.to_be_bytes())?;
+    octets.extend_from_slice(&card.delivered.to_be_bytes())?;
     octets.extend_from_slice(card.cause.as_slice())?;
     Ok(octets)
 }
@@ -72,6 +76,10 @@ pub fn read_card(alloc: Global, octets: &[u8]) -> Result<Option<Card>, AllocErro
             a5,
             a6,
             a7,
+            d0,
+            d1,
+            d2,
+            d3,
             cause @ ..,
         ] => {
             let Some(outcome) = outcome_of(*n) else {
@@ -82,6 +90,7 @@ pub fn read_card(alloc: Global, octets: &[u8]) -> Result<Option<Card>, AllocErro
                 cause: cause.to_vec(alloc)?,
                 tries: u32::from_be_bytes([*t0, *t1, *t2, *t3]),
                 at: u64::from_be_bytes([*a0, *a1, *a2, *a3, *a4, *a5, *a6, *a7]),
+                delivered: u32::from_be_bytes([*d0, *d1, *d2, *d3]),
             }))
         }
         _ => Ok(None),

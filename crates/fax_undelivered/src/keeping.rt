@@ -220,6 +220,7 @@ fn card_for(alloc: Global, ending: &Ending<'_>) -> Result<Card, AllocError>
         cause: ending.cause.to_vec(alloc)?,
         tries: 1,
         at: ending.day,
+        delivered: 0,
     })
 }
 

@@ -10,7 +10,7 @@ pub fn cards_are_read_back()
 {}
 
 /// Whatever befalls both pairs of files over any number of lives, each page that was put with an `Ok`, or lay there at first, was delivered in
-/// a job whose end was noted, or waits in the first pair, or waits in the second, or was dropped by a word.
+/// a job whose end was noted or by a try of it, or waits in the first pair, or waits in the second, or was dropped by a word.
 pub fn nothing_is_dropped()
     ensures { NothingIsDropped }
 {}
