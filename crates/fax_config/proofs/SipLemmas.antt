@@ -1,17 +1,13 @@
 -- What a document tells of SIP, and what is wrong with it.
-use Rattle.std.proofs.Common.{◌≡◌, ℕ, ◌+◌, ◌<◌, ◌⊎◌, List, [], ◌∷◌, ◌++◌, length, codes, get_or, take, Bool, Option, None, Some, IsSomeAnd, inl, inr, refl, sym, ◌∙◌, ap, subst, arith}
+use Rattle.std.proofs.Common.{◌≡◌, ℕ, ◌⊎◌, List, codes, Bool, Some, IsSomeAnd, inl, inr, sym, subst}
 use Rattle.std.specs.declared.net.socket_addr.SocketAddr.{SocketAddr}
-use Rattle.std.proofs.lemmas.List.{take_more}
 use Rattle.toml.specs.Data.{Data, string, integer, float, boolean, datetime, array, table, Items, Members, get_item, get_member, as_bool}
-use Rattle.toml.specs.View.{view, items_view}
-use Rattle.toml.specs.declared.value.Value.{Value}
 use Rattle.fax_config.specs.declared.sip.TrunkConfig.{TrunkConfig}
 use Rattle.fax_config.specs.declared.sip_fault.SipMisfit.{SipMisfit}
 use Rattle.fax_config.specs.declared.sip_fault.SipMisfit.TheVariants as sips
 use Rattle.fax_config.specs.Faults.{HasHeadMisfit, HasRouteMisfit, HasTrunkMisfit, IsNoNetwork, IsSipMisfitOf, IsTaken}
 use Rattle.fax_config.specs.Members.{IsAddressAt, IsTableAt}
 use Rattle.fax_config.specs.SipConfigurations.{AreTrunksAt, IsHead}
-use Rattle.fax_config.specs.SipMembers.{AreTold}
 
 pub is_boolean : (d : Data) (b : Bool) → as_bool d ≡ Some b → d ≡ boolean b
 is_boolean (string t) b e = absurd (cc)
@@ -21,19 +17,6 @@ is_boolean (boolean c) b e = cc
 is_boolean (datetime dt) b e = absurd (cc)
 is_boolean (array items) b e = absurd (cc)
 is_boolean (table inner) b e = absurd (cc)
-
--- one more item, and what it tells
-told_push : {X : Type 0} (tells : Data → X → Type 0) (vs : List Value) (xs : List X) (v : Value) (x : X) → AreTold tells (items_view vs) xs → tells (view v) x → AreTold tells (items_view (vs ++ v ∷ [])) (xs ++ x ∷ [])
-told_push tells [] [] v x h k = (k, tt)
-told_push tells [] (y ∷ xs) v x h k = absurd h
-told_push tells (w ∷ vs) [] v x h k = absurd h
-told_push tells (w ∷ vs) (y ∷ xs) v x h k = (h.0, told_push tells vs xs v x h.1 k)
-
-pub told_more : {X : Type 0} (tells : Data → X → Type 0) (vs : List Value) (i : ℕ) (v : Value) (xs : List X) (x : X) → i < length vs → v ≡ get_or vs i v
-    → AreTold tells (items_view (take i vs)) xs → tells (view v) x → AreTold tells (items_view (take (i + 1) vs)) (xs ++ x ∷ [])
-told_more tells vs i v xs x within is h k =
-    let more : take (i + 1) vs ≡ take i vs ++ v ∷ [] = take_more vs i v within ∙ ap (λ y. take i vs ++ y ∷ []) (sym is) in
-    subst (λ some. AreTold tells (items_view some) (xs ++ x ∷ [])) (sym more) (told_push tells (take i vs) xs v x h k)
 
 -- a fact of an item
 pub item_with : (P : Data → Type 0) (items : Items) (i : ℕ) (value : Data) → get_item i items ≡ Some value → P value → IsSomeAnd (get_item i items) P

@@ -9,6 +9,7 @@ use Rattle.toml.specs.Parse.{parse_document}
 use Rattle.toml.specs.Errors.{span_start}
 use Rattle.fax_gateway.specs.LegNames.{leg_text}
 use Rattle.fax_config.specs.declared.config.LineConfig.{LineConfig}
+use Rattle.fax_config.specs.declared.config.RedialConfig.{RedialConfig}
 use Rattle.fax_config.specs.declared.config.Repeat.{Repeat}
 use Rattle.fax_config.specs.declared.fault.ConfigFault.{ConfigFault}
 use Rattle.fax_config.specs.declared.fault.ConfigFault.TheVariants as faults
@@ -26,7 +27,7 @@ use Rattle.fax_config.specs.declared.sip.CallWith.{CallWith}
 use Rattle.fax_config.specs.declared.sip.TrunkConfig.{TrunkConfig}
 use Rattle.fax_config.specs.declared.sip_fault.SipMisfit.{SipMisfit}
 use Rattle.fax_config.specs.declared.sip_fault.SipMisfit.TheVariants as sips
-use Rattle.fax_config.specs.Configurations.{AreLinesAt, names_of_lines}
+use Rattle.fax_config.specs.Configurations.{AreLinesAt, AreRedialsAt, names_of_all}
 use Rattle.fax_config.specs.Members.{IsAddressAt, IsLineName, IsTableAt, keys_of, known_keys, repeat_text}
 use Rattle.fax_config.specs.SipConfigurations.{AreTrunksAt, names_of_trunks, place_of_trunk}
 use Rattle.fax_config.specs.SipMembers.{IsUser, call_with_text}
@@ -39,6 +40,15 @@ use Rattle.fax_trunks.specs.Routes.{route_of}
 abbrev pub IsNoListOfTables : Data → Type 0
 IsNoListOfTables value =
     (as_array value ≡ None) ⊎ ((items : Items) × (i : ℕ) × (value ≡ array items) × IsSomeAnd (get_item i items) (λ one. as_table one ≡ None))
+
+-- the value is no list, or an item of it is no number
+abbrev pub IsNoListOfNumbers : Data → Type 0
+IsNoListOfNumbers value =
+    (as_array value ≡ None) ⊎ ((items : Items) × (i : ℕ) × (value ≡ array items) × IsSomeAnd (get_item i items) (λ one. as_integer one ≡ None))
+
+abbrev pub count_items : Items → ℕ
+count_items no_items = 0
+count_items (item value items) = 1 + count_items items
 
 -- the value is no text, or one that is no network, for this reason
 abbrev pub IsNoNetwork : Data → Type 0
@@ -58,6 +68,10 @@ IsTrouble troubles.NotText found = IsSomeAnd found (λ value. as_str value ≡ N
 IsTrouble troubles.NotNumber found = IsSomeAnd found (λ value. as_integer value ≡ None)
 IsTrouble troubles.NotTable found = IsSomeAnd found (λ value. as_table value ≡ None)
 IsTrouble troubles.NotTables found = IsSomeAnd found IsNoListOfTables
+IsTrouble troubles.NotNumbers found = IsSomeAnd found IsNoListOfNumbers
+IsTrouble (troubles.TooMany most) found = (items : Items) × (found ≡ Some (array items)) × (most < count_items items)
+IsTrouble (troubles.ItemOutOfRange least most) found =
+    (items : Items) × (i : ℕ) × (number : ℤ) × (found ≡ Some (array items)) × (get_item i items ≡ Some (integer number)) × ((n : ℕ) → number ≡ pos n → least ≤ n → n ≤ most → ⊥)
 IsTrouble troubles.NotAddress found = (text : List ℕ) × (found ≡ Some (string text)) × ((address : SocketAddr) → ¬ (IsSocketText text address))
 IsTrouble troubles.NoPort found =
     (text : List ℕ) × (address : SocketAddr) × (found ≡ Some (string text)) × IsSocketText text address × (socket_port address ≡ 0)
@@ -98,6 +112,18 @@ HasMisfit after line _ = ⊥
 abbrev pub SomeLineHasMisfit : Items → Misfit → Type 0
 SomeLineHasMisfit items misfit = (i : ℕ) × (line : Members) × (get_item i items ≡ Some (table line)) × HasMisfit i line misfit
 
+-- the table of a redial line, after so many others, has the flaw, or the table of its leg
+abbrev pub HasRedialMisfit : ℕ → Members → Misfit → Type 0
+HasRedialMisfit after redial (misfits.Redial name flaw) = IsToldAs after redial name × HasFlaw levels.Redial redial flaw
+HasRedialMisfit after redial (misfits.RedialLeg name flaw) =
+    IsToldAs after redial name × ((inner : Members) × IsTableAt (codes "called") redial inner × HasFlaw levels.Leg inner flaw)
+HasRedialMisfit after redial misfits.NoMemory = Unit {0}
+HasRedialMisfit after redial _ = ⊥
+
+-- some table of the list has the flaw
+abbrev pub SomeRedialHasMisfit : Items → Misfit → Type 0
+SomeRedialHasMisfit items misfit = (i : ℕ) × (redial : Members) × (get_item i items ≡ Some (table redial)) × HasRedialMisfit i redial misfit
+
 -- two places of the list have it
 abbrev pub HasTwice : {X : Type 0} → List X → X → Type 0
 HasTwice xs x = (i : ℕ) × (j : ℕ) × (i < j) × (j < length xs) × (get_or xs i x ≡ x) × (get_or xs j x ≡ x)
@@ -105,10 +131,6 @@ HasTwice xs x = (i : ℕ) × (j : ℕ) × (i < j) × (j < length xs) × (get_or 
 -- the element stands at a place of the list, after one that is like it by this test
 abbrev pub IsRepeated : {X : Type 0} → (X → X → Bool) → List X → X → Type 0
 IsRepeated eq xs x = (j : ℕ) × (j < length xs) × (get_or xs j x ≡ x) × (list_any (eq x) (take j xs) ≡ true)
-
-abbrev pub count_items : Items → ℕ
-count_items no_items = 0
-count_items (item value items) = 1 + count_items items
 
 -- the table of `sip` has the flaw, or one address for SIP and audio
 abbrev pub HasHeadMisfit : Members → SipMisfit → Type 0
@@ -161,8 +183,16 @@ IsSipMisfitOf document sips.NoMemory = Unit {0}
 abbrev pub IsMisfitOf : Members → Misfit → Type 0
 IsMisfitOf document (misfits.Top flaw) = HasFlaw levels.Top document flaw
 IsMisfitOf document (misfits.Sip misfit) = IsSipMisfitOf document misfit
-IsMisfitOf document (misfits.DoubledName name) = (lines : List LineConfig) × AreLinesAt document lines × HasTwice (names_of_lines lines) (string_bytes name)
-IsMisfitOf document (misfits.DoubledAddress name leg) = (lines : List LineConfig) × AreLinesAt document lines
+IsMisfitOf document (misfits.Retry flaw) = (inner : Members) × IsTableAt (codes "retry") document inner × HasFlaw levels.Retry inner flaw
+IsMisfitOf document (misfits.Redial name flaw) =
+    (items : Items) × (get_member (codes "redial") document ≡ Some (array items)) × SomeRedialHasMisfit items (misfits.Redial name flaw)
+IsMisfitOf document (misfits.RedialLeg name flaw) =
+    (items : Items) × (get_member (codes "redial") document ≡ Some (array items)) × SomeRedialHasMisfit items (misfits.RedialLeg name flaw)
+IsMisfitOf document (misfits.DoubledName name) =
+    (lines : List LineConfig) × (redials : List RedialConfig) × AreLinesAt document lines × AreRedialsAt document redials × HasTwice (names_of_all lines redials) (string_bytes name)
+IsMisfitOf document (misfits.DoubledAddress name leg) =
+    (lines : List LineConfig) × (redials : List RedialConfig) × AreLinesAt document lines × AreRedialsAt document redials
+IsMisfitOf document misfits.TooManyRedials = (items : Items) × (get_member (codes "redial") document ≡ Some (array items)) × (4000 < count_items items)
 IsMisfitOf document misfits.TooManyLines = (items : Items) × (get_member (codes "lines") document ≡ Some (array items)) × (4000 < count_items items)
 IsMisfitOf document misfits.NoMemory = Unit {0}
 IsMisfitOf document misfit = (items : Items) × (get_member (codes "lines") document ≡ Some (array items)) × SomeLineHasMisfit items misfit

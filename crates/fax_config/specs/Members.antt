@@ -3,17 +3,20 @@ use Rattle.std.specs.Prelude.{◌≡◌, ◌≢◌, ℕ, ◌<◌, ◌≤◌, ◌
 use Rattle.std.specs.Net.Grammar.{IsSocketText}
 use Rattle.std.specs.Net.Socket.{socket_port}
 use Rattle.std.specs.declared.net.socket_addr.SocketAddr.{SocketAddr}
-use Rattle.toml.specs.Data.{string, integer, table, Members, no_members, member, get_member}
+use Rattle.toml.specs.Data.{Data, string, integer, array, table, Items, no_items, item, Members, no_members, member, get_member}
 use Rattle.fax_config.specs.declared.config.Repeat.{Repeat}
 use Rattle.fax_config.specs.declared.config.Repeat.TheVariants as repeat
 use Rattle.fax_config.specs.declared.keys.Level.{Level}
 use Rattle.fax_config.specs.declared.keys.Level.TheVariants as levels
 
--- the keys that a table may have: the document, a line, a leg of a line, and those of SIP
+-- the keys that a table may have: the document, a line, a leg of a line, what says when jobs are tried again, a redial line, and those of SIP
 abbrev pub known_keys : Level → List (List ℕ)
-known_keys levels.Top = codes "control" ∷ codes "spool" ∷ codes "http" ∷ codes "stop_seconds" ∷ codes "lines" ∷ codes "sip" ∷ codes "trunks" ∷ codes "routes" ∷ []
+known_keys levels.Top =
+    codes "control" ∷ codes "spool" ∷ codes "http" ∷ codes "stop_seconds" ∷ codes "lines" ∷ codes "retry" ∷ codes "redial" ∷ codes "sip" ∷ codes "trunks" ∷ codes "routes" ∷ []
 known_keys levels.Line = codes "name" ∷ codes "calling" ∷ codes "called" ∷ codes "redundancy" ∷ codes "preamble_ms" ∷ codes "repeat" ∷ codes "dial_seconds" ∷ []
 known_keys levels.Leg = codes "local" ∷ codes "peer" ∷ []
+known_keys levels.Retry = codes "after_seconds" ∷ []
+known_keys levels.Redial = codes "name" ∷ codes "called" ∷ []
 known_keys levels.Sip = codes "local" ∷ codes "audio" ∷ codes "ring_seconds" ∷ []
 known_keys levels.Trunk = codes "name" ∷ codes "address" ∷ codes "allow" ∷ codes "user" ∷ codes "password_file" ∷ codes "register" ∷ codes "call_with" ∷ codes "calls" ∷ []
 known_keys levels.Route = codes "prefix" ∷ codes "trunk" ∷ codes "strip" ∷ codes "add" ∷ []
@@ -52,6 +55,11 @@ IsAddressAt key members (Some address) =
 abbrev pub IsTableAt : List ℕ → Members → Members → Type 0
 IsTableAt key members inner = get_member key members ≡ Some (table inner)
 
+-- the same, or that there is none
+abbrev pub IsTableIfAt : List ℕ → Members → Option Members → Type 0
+IsTableIfAt key members None = get_member key members ≡ None
+IsTableIfAt key members (Some inner) = IsTableAt key members inner
+
 abbrev pub repeat_text : Repeat → List ℕ
 repeat_text repeat.Full = codes "full"
 repeat_text repeat.Last = codes "last"
@@ -65,3 +73,15 @@ IsRepeatAt members kind =
 -- the text can be the name of a line: 1 to 64 octets, none of them a space or a control character of ASCII below it, and not `any`
 abbrev pub IsLineName : List ℕ → Type 0
 IsLineName text = (0 < length text) × (length text ≤ 64) × (text ≢ codes "any") × All (λ octet. 32 < octet) text
+
+-- each item tells the one at its place, and there are as many
+abbrev pub AreTold : {X : Type 0} → (Data → X → Type 0) → Items → List X → Type 0
+AreTold tells no_items [] = Unit {0}
+AreTold tells no_items (one ∷ others) = ⊥
+AreTold tells (item value items) [] = ⊥
+AreTold tells (item value items) (one ∷ others) = tells value one × AreTold tells items others
+
+-- what the list at a key tells: none, where there is none
+abbrev pub AreToldAt : {X : Type 0} → (Data → X → Type 0) → List ℕ → Members → List X → Type 0
+AreToldAt tells key members all =
+    ((get_member key members ≡ None) × (all ≡ [])) ⊎ ((items : Items) × (get_member key members ≡ Some (array items)) × AreTold tells items all)

@@ -9,8 +9,8 @@ use Rattle.fax_config.specs.declared.sip.RouteConfig.{RouteConfig}
 use Rattle.fax_config.specs.declared.sip.SipConfig.{SipConfig}
 use Rattle.fax_config.specs.declared.sip.TrunkConfig.{TrunkConfig}
 use Rattle.fax_config.specs.declared.keys.Level.TheVariants as levels
-use Rattle.fax_config.specs.Members.{HasKnownKeys, IsAddressAt, IsLineName, IsNumberAt, IsPathAt, IsTableAt, IsTextAt}
-use Rattle.fax_config.specs.SipMembers.{AreNetworksAt, AreTold, AreToldAt, IsCallWithAt, IsTruthAt, IsUserAt}
+use Rattle.fax_config.specs.Members.{AreTold, AreToldAt, HasKnownKeys, IsAddressAt, IsLineName, IsNumberAt, IsPathAt, IsTableAt, IsTextAt}
+use Rattle.fax_config.specs.SipMembers.{AreNetworksAt, IsCallWithAt, IsTruthAt, IsUserAt}
 
 -- no two of these names are alike
 abbrev pub AreUnlikeNames : List (List ℕ) → Type 0

@@ -2,11 +2,12 @@
 use Rattle.std.specs.Prelude.{◌≡◌, ◌≢◌, ℕ, ◌<◌, ◌≤◌, ◌⊎◌, Bool, true, false, ◌||◌, IsTrue, List, [], ◌∷◌, length, codes, Option, None, Some, All, nat_eq}
 use Rattle.std.specs.Char.{is_ascii_alphanumeric}
 use Rattle.std.specs.List.{list_any}
-use Rattle.toml.specs.Data.{Data, string, boolean, array, Items, no_items, item, Members, get_member}
+use Rattle.toml.specs.Data.{Data, string, boolean, Items, Members, get_member}
 use Rattle.fax_trunks.specs.declared.network.Network.{Network}
 use Rattle.fax_trunks.specs.Networks.{IsNetwork}
 use Rattle.fax_config.specs.declared.sip.CallWith.{CallWith}
 use Rattle.fax_config.specs.declared.sip.CallWith.TheVariants as with
+use Rattle.fax_config.specs.Members.{AreTold, AreToldAt}
 
 -- what is said at a key is so; where nothing is said, it is not
 abbrev pub IsTruthAt : List ℕ → Members → Bool → Type 0
@@ -37,18 +38,6 @@ IsUserAt members (Some user) = (get_member (codes "user") members ≡ Some (stri
 -- the item tells this network
 abbrev pub IsNetworkOf : Data → Network → Type 0
 IsNetworkOf value network = (text : List ℕ) × (value ≡ string text) × IsNetwork text network
-
--- each item tells what stands at its place, and there are as many
-abbrev pub AreTold : {X : Type 0} → (Data → X → Type 0) → Items → List X → Type 0
-AreTold tells no_items [] = Unit {0}
-AreTold tells no_items (x ∷ xs) = ⊥
-AreTold tells (item value items) [] = ⊥
-AreTold tells (item value items) (x ∷ xs) = tells value x × AreTold tells items xs
-
--- what the list at a key tells: nothing, where there is none
-abbrev pub AreToldAt : {X : Type 0} → (Data → X → Type 0) → List ℕ → Members → List X → Type 0
-AreToldAt {X} tells key members xs =
-    ((get_member key members ≡ None) × (xs ≡ [])) ⊎ ((items : Items) × (get_member key members ≡ Some (array items)) × AreTold tells items xs)
 
 abbrev pub AreNetworks : Items → List Network → Type 0
 AreNetworks items networks = AreTold IsNetworkOf items networks

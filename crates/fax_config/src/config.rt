@@ -24,6 +24,14 @@ pub const MOST_DIAL_SECONDS: u32 = 3_600;
 /// The longest stop, in seconds: a day.
 pub const MOST_STOP_SECONDS: u32 = 86_400;
 
+/// The most times at which a job that could not be delivered is tried again.
+pub const MOST_RETRIES: usize = 16;
+
+/// The least and the most that it waits for one of them, in seconds: a second, and a week.
+pub const LEAST_RETRY_SECONDS: u32 = 1;
+
+pub const MOST_RETRY_SECONDS: u32 = 604_800;
+
 /// Which datagrams are sent again.
 #[derive(Clone, Copy, PartialEq, Eq, Debug)]
 pub enum Repeat {
@@ -57,6 +65,20 @@ pub struct LineConfig {
     pub dial_seconds: u32,
 }
 
+/// A redial line: a line without a calling leg, over which jobs that could not be delivered are tried again.
+#[derive(Debug, Drop)]
+pub struct RedialConfig {
+    pub name: String,
+    pub called: LegConfig,
+}
+
+/// When a job that could not be delivered is tried again.
+#[derive(Debug, Drop)]
+pub struct RetryConfig {
+    /// How long after its end, for each time in turn: at most 16, each 1 to 604,800 seconds.
+    pub after_seconds: Vec<u32>,
+}
+
 /// A configuration.
 #[derive(Debug, Drop)]
 pub struct Config {
@@ -69,6 +91,8 @@ pub struct Config {
     /// How long a stop waits for calls and jobs, in seconds.
     pub stop_seconds: u32,
     pub lines: Vec<LineConfig>,
+    pub retry: RetryConfig,
+    pub redial: Vec<RedialConfig>,
     /// How SIP is spoken, where it is.
     pub sip: Option<SipConfig>,
 }

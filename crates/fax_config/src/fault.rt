@@ -12,6 +12,11 @@ pub enum Trouble {
     NotNumber,
     NotTable,
     NotTables,
+    NotNumbers,
+    /// It has more items than this.
+    TooMany(u32),
+    /// An item of it is less than the least that it may be, or more than the most.
+    ItemOutOfRange(u32, u32),
     NotAddress,
     /// It is neither true nor false.
     NotTruth,
@@ -75,12 +80,20 @@ pub enum Misfit {
     Line(LineName, Flaw),
     /// What lies in the table of a line's leg.
     Leg(LineName, Leg, Flaw),
-    /// Two lines have this name.
+    /// What lies in the table that says when jobs are tried again.
+    Retry(Flaw),
+    /// What lies in a redial line's table.
+    Redial(LineName, Flaw),
+    /// What lies in the table of a redial line's leg.
+    RedialLeg(LineName, Flaw),
+    /// Two lines have this name, redial lines among them.
     DoubledName(String),
     /// The local address of this line's leg is one of an earlier leg too.
     DoubledAddress(LineName, Leg),
     /// There are more than 4,000 lines.
     TooManyLines,
+    /// There are more than 4,000 redial lines.
+    TooManyRedials,
     NoMemory,
 }
 
@@ -92,6 +105,11 @@ impl fmt::Display for Trouble {
             Trouble::NotNumber => write!(f, "is no number"),
             Trouble::NotTable => write!(f, "is no table"),
             Trouble::NotTables => write!(f, "is no list of tables"),
+            Trouble::NotNumbers => write!(f, "is no list of numbers"),
+            Trouble::TooMany(most) => write!(f, "has more than {most} items"),
+            Trouble::ItemOutOfRange(least, most) => {
+                write!(f, "has an item that is not from {least} to {most}")
+            }
             Trouble::NotAddress => write!(f, "is no address with a port"),
             Trouble::NotTruth => write!(f, "is neither true nor false"),
             Trouble::NotNetworks => write!(f, "is no list of networks as 192.0.2.0/28"),
@@ -163,6 +181,9 @@ impl fmt::Display for Misfit {
                 let leg = leg.name();
                 write!(f, "{name}: {leg}: {flaw}")
             }
+            Misfit::Retry(flaw) => write!(f, "retry: {flaw}"),
+            Misfit::Redial(name, flaw) => write!(f, "redial: {name}: {flaw}"),
+            Misfit::RedialLeg(name, flaw) => write!(f, "redial: {name}: called: {flaw}"),
             Misfit::DoubledName(name) => write!(
                 f,
                 "line {name:?}: name is that of an earlier line"
@@ -172,6 +193,7 @@ impl fmt::Display for Misfit {
                 write!(f, "{name}: {leg}: local is that of an earlier leg")
             }
             Misfit::TooManyLines => write!(f, "lines has more than 4000"),
+            Misfit::TooManyRedials => write!(f, "redial has more than 4000"),
             Misfit::NoMemory => write!(f, "memory was refused"),
         }
     }
@@ -184,6 +206,17 @@ impl From<AllocError> for Flaw {
     ghost from_gives = { λ _ e. e ≡ flaws.NoMemory };
 
     fn from(_: AllocError) -> Self {
+        Flaw::NoMemory
+    }
+}
+
+impl<T: Drop> From<AllocFailed<T>> for Flaw {
+    ghost use Rattle.std.specs.Prelude.{◌≡◌};
+    ghost use Rattle.fax_config.specs.declared.fault.Flaw.TheVariants as flaws;
+
+    ghost from_gives = { λ _ e. e ≡ flaws.NoMemory };
+
+    fn from(_: AllocFailed<T>) -> Self {
         Flaw::NoMemory
     }
 }

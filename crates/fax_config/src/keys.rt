@@ -15,6 +15,10 @@ pub enum Level {
     Top,
     Line,
     Leg,
+    /// When jobs are tried again.
+    Retry,
+    /// A redial line.
+    Redial,
     Sip,
     Trunk,
     Route,
@@ -32,6 +36,8 @@ impl Level {
                 "http",
                 "stop_seconds",
                 "lines",
+                "retry",
+                "redial",
                 "sip",
                 "trunks",
                 "routes",
@@ -48,6 +54,8 @@ impl Level {
             ]
             .contains(&key),
             Level::Leg => ["local", "peer"].contains(&key),
+            Level::Retry => ["after_seconds"].contains(&key),
+            Level::Redial => ["name", "called"].contains(&key),
             Level::Sip => ["local", "audio", "ring_seconds"].contains(&key),
             Level::Trunk => [
                 "name",

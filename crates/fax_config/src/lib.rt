@@ -6,6 +6,8 @@ mod fault;
 mod keys;
 mod member;
 mod reading;
+mod redial;
+mod retry;
 mod routes;
 mod sip;
 mod sip_fault;
@@ -14,7 +16,7 @@ mod sip_reading;
 mod trunks;
 mod unlike;
 
-pub use config::{Config, LegConfig, LineConfig, Repeat};
+pub use config::{Config, LegConfig, LineConfig, RedialConfig, Repeat, RetryConfig};
 pub use fault::{ConfigFault, Flaw, LineName, Misfit, Trouble};
 pub use reading::read_config;
 pub use sip::{CallWith, RouteConfig, SipConfig, TrunkConfig};

@@ -4,7 +4,7 @@ ghost use Rattle.toml.specs.Data.{get_member};
 ghost use Rattle.toml.specs.View.{table_view, view};
 ghost use Rattle.fax_config.specs.declared.keys.Level.{Level};
 ghost use Rattle.fax_config.specs.Faults.{HasFlaw};
-ghost use Rattle.fax_config.specs.Members.{IsAddressAt, IsLineName, IsNumberAt, IsPathAt, IsRepeatAt, IsTableAt, IsTextAt};
+ghost use Rattle.fax_config.specs.Members.{IsAddressAt, IsLineName, IsNumberAt, IsPathAt, IsRepeatAt, IsTableAt, IsTableIfAt, IsTextAt};
 
 use crate::config::{MOST_NAME_OCTETS, Repeat};
 use crate::fault::{Flaw, Trouble};
@@ -47,7 +47,7 @@ pub fn path_at<'a>(table: &'a Table, key: &'static str) -> Result<Option<&'a str
 }
 
 /// A number that has to lie in a range, if it does.
-fn in_range(number: i64, least: u32, most: u32) -> Option<u32>
+pub fn in_range(number: i64, least: u32, most: u32) -> Option<u32>
     ensures same { IfSome result (λ found. number ≡ pos found) }
     ensures within { IfSome result (λ found. (least ≤ found) × (found ≤ most)) }
     ensures without { IfNone result ((n : ℕ) → number ≡ pos n → least ≤ n → n ≤ most → ⊥) }
@@ -114,6 +114,20 @@ pub fn table_at<'a>(table: &'a Table, key: &'static str) -> Result<&'a Table, Fl
     };
     match value.as_table() {
         Some(inner) => Ok(inner),
+        None => Err(Flaw::At(key, Trouble::NotTable)),
+    }
+}
+
+/// The table at a key, if there is one.
+pub fn table_if_at<'a>(table: &'a Table, key: &'static str) -> Result<Option<&'a Table>, Flaw>
+    ensures ok { IfOk result (λ inner. IsTableIfAt key.now (table_view table.now) (option_map (λ found. table_view found.now) inner)) }
+    ensures fault { IfErr result (λ flaw. (level : Level) → HasFlaw level (table_view table.now) flaw) }
+{
+    let Some(value) = value_at(table, key) else {
+        return Ok(None);
+    };
+    match value.as_table() {
+        Some(inner) => Ok(Some(inner)),
         None => Err(Flaw::At(key, Trouble::NotTable)),
     }
 }

@@ -11,11 +11,13 @@ ghost use Rattle.fax_config.specs.Faults.{HasFlaw, HasMisfit, IsFaultOf, IsMisfi
 
 use crate::config::{
     Config, LEAST_DIAL_SECONDS, LEAST_PREAMBLE_MS, LegConfig, LineConfig, MOST_DIAL_SECONDS,
-    MOST_LINES, MOST_PREAMBLE_MS, MOST_REDUNDANCY, MOST_STOP_SECONDS,
+    MOST_LINES, MOST_PREAMBLE_MS, MOST_REDUNDANCY, MOST_STOP_SECONDS, RedialConfig,
 };
 use crate::fault::{ConfigFault, Flaw, LineName, Misfit, Trouble};
 use crate::keys::{Level, only_known_keys};
 use crate::member::{address_at, name_of, number_at, path_at, repeat_of, table_at, value_at};
+use crate::redial::redials_of;
+use crate::retry::retry_of;
 use crate::sip::SipConfig;
 use crate::sip_reading::sip_of;
 use crate::unlike::{locals_unlike, names_unlike, sip_unlike};
@@ -32,6 +34,7 @@ pub fn read_config(alloc: Global, text: &str) -> Result<Config, ConfigFault>
     // A name can be said in a control word, settings are in their ranges, and there are at most 4,000 lines.
     ensures in_range { IfOk result (λ config. All IsInRange config.lines.items) }
     ensures few { IfOk result (λ config. length config.lines.items ≤ 4000) }
+    ensures few_redials { IfOk result (λ config. length config.redial.items ≤ 4000) }
     ensures stop_in_range { IfOk result (λ config. config.stop_seconds ≤ 86400) }
     // No two lines have one name, and no two legs one local address.
     ensures names_unlike { IfOk result (λ config. AreUnlike (names_of config)) }
@@ -77,9 +80,11 @@ fn config_of(alloc: Global, table: &Table) -> Result<Config, Misfit>
     ensures fault { IfErr result (IsMisfitOf (table_view table.now)) }
 {
     let lines = lines_of(alloc, table)?;
-    names_unlike(alloc, lines.as_slice())?;
-    locals_unlike(alloc, lines.as_slice())?;
-    let sip = sip_with(alloc, table, lines.as_slice())?;
+    let redial = redials_of(alloc, table)?;
+    names_unlike(alloc, lines.as_slice(), redial.as_slice())?;
+    locals_unlike(alloc, lines.as_slice(), redial.as_slice())?;
+    let retry = retry_of(alloc, table)?;
+    let sip = sip_with(alloc, table, lines.as_slice(), redial.as_slice())?;
     match top_of(alloc, table) {
         Ok(top) => Ok(Config {
             control: top.control,
@@ -87,20 +92,27 @@ fn config_of(alloc: Global, table: &Table) -> Result<Config, Misfit>
             http: top.http,
             stop_seconds: top.stop_seconds,
             lines,
+            retry,
+            redial,
             sip,
         }),
         Err(flaw) => Err(Misfit::Top(flaw)),
     }
 }
 
-/// What a document with these lines tells of SIP.
-fn sip_with(alloc: Global, table: &Table, lines: &[LineConfig]) -> Result<Option<SipConfig>, Misfit>
+/// What a document with these lines and redial lines tells of SIP.
+fn sip_with(
+    alloc: Global,
+    table: &Table,
+    lines: &[LineConfig],
+    redials: &[RedialConfig],
+) -> Result<Option<SipConfig>, Misfit>
     ensures told { IfOk result (IsSipAt (table_view table.now)) }
-    ensures unlike { IfOk result (IsUnlikeSip lines.now) }
+    ensures unlike { IfOk result (IsUnlikeSip lines.now redials.now) }
     ensures fault { IfErr result (IsMisfitOf (table_view table.now)) }
 {
     match sip_of(alloc, table) {
-        Ok(Some(sip)) => match sip_unlike(lines, sip.local, sip.audio) {
+        Ok(Some(sip)) => match sip_unlike(lines, redials, sip.local, sip.audio) {
             Ok(()) => Ok(Some(sip)),
             Err(misfit) => Err(Misfit::Sip(misfit)),
         },
@@ -255,7 +267,7 @@ fn leg_of_line(alloc: Global, table: &Table, leg: Leg, after: usize) -> Result<L
 }
 
 /// The leg that a table tells.
-fn leg_of(alloc: Global, table: &Table) -> Result<LegConfig, Flaw>
+pub(crate) fn leg_of(alloc: Global, table: &Table) -> Result<LegConfig, Flaw>
     ensures told { IfOk result (IsLeg (table_view table.now)) }
     ensures fault { IfErr result (HasFlaw levels.Leg (table_view table.now)) }
 {

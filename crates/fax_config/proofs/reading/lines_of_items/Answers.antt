@@ -7,9 +7,9 @@ use Rattle.toml.specs.View.{array_view, items_view, table_view, view}
 use Rattle.toml.specs.declared.value.Value.{Value}
 use Rattle.toml.proofs.Views.{get_item_within}
 use Rattle.fax_config.specs.declared.config.LineConfig.{LineConfig}
-use Rattle.fax_config.specs.Configurations.{AreLines, IsInRange}
+use Rattle.fax_config.specs.Configurations.{AreLines, IsInRange, IsLineOf}
 use Rattle.fax_config.specs.Faults.{HasMisfit}
-use Rattle.fax_config.proofs.LineLemmas.{lines_more, misfit_of_line, no_table_at}
+use Rattle.fax_config.proofs.LineLemmas.{misfit_of_line, no_table_at, told_more}
 use Rattle.fax_config.proofs.MemberLemmas.{seen_none, seen_some, is_table}
 use Rattle.fax_config.proofs.reading.lines_of_items.Goals as goal
 
@@ -45,7 +45,7 @@ loop-item-preserved c =
     let pushed : c.push.new.self.items ≡ so_far ++ line ∷ [] = first_of (search rules, grind (arith, common_steps)) in
     let inner = seen_some _ c.as_table.result _ c.in-Some.table c.in-Some.is c.as_table.ensures in record {
       told = subst (λ (lines : List LineConfig). AreLines (items_view (take (c.loop-item.item-index + 1) c.args.items.now.items)) lines) (sym pushed)
-          (lines_more c.args.items.now.items c.loop-item.item-index c.item-item.result so_far line within is c.loop-item.invariant.told (table_view c.in-Some.table.now, is_table _ _ inner, c.in_ok-line.ensures.told));
+          (told_more IsLineOf c.args.items.now.items c.loop-item.item-index c.item-item.result so_far line within is c.loop-item.invariant.told (table_view c.in-Some.table.now, is_table _ _ inner, c.in_ok-line.ensures.told));
       in_range = subst (λ (lines : List LineConfig). All IsInRange lines) (sym pushed) (All-append IsInRange so_far (line ∷ []) c.loop-item.invariant.in_range (All-cons IsInRange line [] c.in_ok-line.ensures.told.in_range (All-nil IsInRange)));
       as_many = omega (arith, length-append so_far (line ∷ []), ap (λ (lines : List LineConfig). length lines) pushed, c.loop-item.invariant.as_many);
     }

@@ -8,9 +8,9 @@ use Rattle.toml.proofs.Views.{get_item_within}
 use Rattle.fax_config.specs.declared.sip.RouteConfig.{RouteConfig}
 use Rattle.fax_config.specs.SipConfigurations.{AreRoutes, AreTrunksAt, IsRouteOf}
 use Rattle.fax_config.specs.Faults.{HasRouteMisfit}
-use Rattle.fax_config.proofs.LineLemmas.{no_table_at}
+use Rattle.fax_config.proofs.LineLemmas.{no_table_at, told_more}
 use Rattle.fax_config.proofs.MemberLemmas.{seen_none, seen_some, is_table}
-use Rattle.fax_config.proofs.SipLemmas.{misfit_of_route, told_more}
+use Rattle.fax_config.proofs.SipLemmas.{misfit_of_route}
 use Rattle.fax_config.proofs.routes.routes_of_items.Goals as goal
 
 pub returns-in_default-clause-fault : goal.returns-in_default-clause-fault

@@ -8,7 +8,8 @@ use Rattle.toml.proofs.Views.{get_item_within}
 use Rattle.fax_trunks.specs.declared.network.Network.{Network}
 use Rattle.fax_config.specs.Faults.{IsNoNetwork}
 use Rattle.fax_config.specs.SipMembers.{AreNetworks, IsNetworkOf}
-use Rattle.fax_config.proofs.SipLemmas.{item_with, told_more}
+use Rattle.fax_config.proofs.LineLemmas.{told_more}
+use Rattle.fax_config.proofs.SipLemmas.{item_with}
 use Rattle.fax_config.proofs.sip_member.networks_of.Goals as goal
 
 pub returns-in_default-clause-none : goal.returns-in_default-clause-none

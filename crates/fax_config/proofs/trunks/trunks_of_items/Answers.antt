@@ -8,9 +8,9 @@ use Rattle.toml.proofs.Views.{get_item_within}
 use Rattle.fax_config.specs.declared.sip.TrunkConfig.{TrunkConfig}
 use Rattle.fax_config.specs.SipConfigurations.{AreTrunks, IsTrunkOf}
 use Rattle.fax_config.specs.Faults.{HasTrunkMisfit}
-use Rattle.fax_config.proofs.LineLemmas.{no_table_at}
+use Rattle.fax_config.proofs.LineLemmas.{no_table_at, told_more}
 use Rattle.fax_config.proofs.MemberLemmas.{seen_none, seen_some, is_table}
-use Rattle.fax_config.proofs.SipLemmas.{misfit_of_trunk, told_more}
+use Rattle.fax_config.proofs.SipLemmas.{misfit_of_trunk}
 use Rattle.fax_config.proofs.trunks.trunks_of_items.Goals as goal
 
 pub returns-in_default-clause-fault : goal.returns-in_default-clause-fault

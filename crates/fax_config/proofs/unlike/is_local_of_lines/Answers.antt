@@ -3,8 +3,8 @@ use Rattle.std.proofs.lemmas.Grind.{common_steps}
 use Rattle.std.proofs.lemmas.List.{take_all, take_more}
 use Rattle.std.proofs.lemmas.List.Elements.{All-append, All-cons, All-nil}
 use Rattle.fax_config.specs.declared.config.LineConfig.{LineConfig}
-use Rattle.fax_config.specs.Configurations.{IsAtNoLeg}
-use Rattle.fax_config.proofs.unlike.is_local.Goals as goal
+use Rattle.fax_config.specs.Configurations.{IsAtNoLegOfLines}
+use Rattle.fax_config.proofs.unlike.is_local_of_lines.Goals as goal
 
 pub loop-line-preserved : goal.loop-line-preserved
 loop-line-preserved c =

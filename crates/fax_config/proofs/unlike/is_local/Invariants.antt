@@ -1,7 +1,0 @@
-use Rattle.std.proofs.Common.{take}
-use Rattle.fax_config.specs.Configurations.{IsAtNoLeg}
-use Rattle.fax_config.proofs.unlike.is_local.Given as goal
-
--- none of the lines so far has a leg there
-abbrev pub invariant-loop-line : goal.invariant-loop-line
-invariant-loop-line l = IsAtNoLeg (take l.line-index l.lines) l.address
