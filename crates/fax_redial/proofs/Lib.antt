@@ -1,2 +1,7 @@
 pub mod Befalling
+pub mod Counting
+pub mod Noted
+pub mod Obeying
+pub mod Redialling
+pub mod Restoring
 pub mod Trying

@@ -1,5 +1,5 @@
 -- A try goes on.
-use Rattle.std.proofs.Common.{◌≡◌, ◌+◌, ◌-◌, ℕ, max, Bool, true, false, nat_eq, if◌then◌else◌, List, [], ◌∷◌, ◌++◌, append-nil, Option, Some, None, refl, sym, ◌∙◌, ap, subst, arith}
+use Rattle.std.proofs.Common.{◌≡◌, ◌+◌, ℕ, max, Bool, true, false, nat_eq, if◌then◌else◌, List, [], ◌∷◌, ◌++◌, Option, refl, sym, ◌∙◌, ap, subst, arith}
 use Rattle.std.proofs.lemmas.Bool.{eqb-true}
 use Rattle.fax_gateway.specs.Restored.{RestoredCall}
 use Rattle.fax_line.specs.Actions.{BeginsWith, LineValue}
@@ -7,9 +7,8 @@ use Rattle.fax_line.specs.declared.asked.LineAnswer.{LineAnswer}
 use Rattle.fax_line.specs.declared.asked.LineRequest.{LineRequest}
 use Rattle.fax_line.specs.Operations.{AllStayHeld, AskFrees, AsksLine, IsAdded, LinesValue, LinesWent, SlotTells, TurnsSlot, WakesLine, slot_after, slot_before}
 use Rattle.fax_line.specs.Places.{PlaceValue}
-use Rattle.fax_line.specs.Runs.{AskedOf, DoneOrder, Turned, Woken, latest, next_slot, operations_of}
+use Rattle.fax_line.specs.Runs.{AskedOf, Turned, Woken, latest, next_slot, operations_of}
 use Rattle.fax_line.specs.Settling.{LetsOutSlot}
-use Rattle.fax_line.specs.StoredRuns.{RanWithout}
 use Rattle.fax_line.proofs.Running.{went_more, went_none, went_settled}
 use Rattle.fax_redial.specs.Tries.{GoesOn, IsTried, TryValue}
 

@@ -24,6 +24,12 @@ AreApart tries = (i k : ℕ) (one other : TryValue) → slice_get tries i ≡ So
 abbrev pub is_under_way : CallName → Tries → Bool
 is_under_way name tries = list_any (is_of name) tries
 
+-- the job of the try on one of them
+abbrev pub job_at : Option (Option TryValue) → Option RetryJob
+job_at None = None
+job_at (Some None) = None
+job_at (Some (Some held)) = Some held.job
+
 -- ---- whether a try begins
 
 abbrev pub fault_of_job : (is_tried : Bool) → (waiting : ℕ) → Option BeginFault

@@ -7,7 +7,6 @@ use Rattle.fax_line.specs.Actions.{BeginsWith, LineValue}
 use Rattle.fax_line.specs.Runs.{DoneOrder}
 use Rattle.fax_redial.specs.Befalls.{AreApart, Asked, Befall, Befell, Begun, Ended, Tries, Turned}
 use Rattle.fax_redial.specs.Tries.{IsTried, TryValue, is_of, same_name}
-use Rattle.fax_redial.specs.declared.job.RetryEnd.{RetryEnd}
 use Rattle.fax_redial.specs.declared.job.RetryJob.{RetryJob}
 use Rattle.fax_spool.specs.Torn.{CallName}
 

@@ -1,5 +1,11 @@
 pub mod Befalls
+pub mod Begun
 pub mod Laws
+pub mod Noting
+pub mod Picking
 pub mod Retrying
+pub mod Seeing
+pub mod Telling
 pub mod Totals
 pub mod Tries
+pub mod Words

@@ -1,5 +1,5 @@
 -- A try of a job: one line, restored with its pages. Lists of what was done have the newest first. (This project's profile.)
-use Rattle.std.specs.Prelude.{◌≡◌, ℕ, ◌+◌, ◌&&◌, ◌||◌, Bool, true, false, nat_eq, bytes_eq, is_some, not, List, [], ◌∷◌, ◌++◌, length, slice_get, option_map, Option, Some, None}
+use Rattle.std.specs.Prelude.{◌≡◌, ℕ, ◌&&◌, Bool, true, false, nat_eq, bytes_eq, is_some, not, List, [], ◌∷◌, ◌++◌, length, slice_get, Option, Some, None}
 use Rattle.fax_desk.specs.declared.questions.Cause.{Cause}
 use Rattle.fax_gateway.specs.Restored.{RestoredCall}
 use Rattle.fax_gateway.specs.declared.turn_report.TurnReport.{TurnReport}

@@ -1,4 +1,5 @@
 //! Why no try begins.
+use fax_bits::NoMemory;
 use thiserror::Error;
 
 /// Why no try of a job begins (this project's profile). Where several causes hold, the first of these is told.
@@ -17,4 +18,15 @@ pub enum BeginFault {
     NoPage,
     #[error("out of memory")]
     NoMemory,
+}
+
+impl From<NoMemory> for BeginFault {
+    ghost use Rattle.std.specs.Prelude.{◌≡◌};
+    ghost use Rattle.fax_redial.specs.declared.fault.BeginFault.TheVariants as faults;
+
+    ghost from_gives = { λ _ e. e ≡ faults.NoMemory };
+
+    fn from(_: NoMemory) -> Self {
+        BeginFault::NoMemory
+    }
 }

@@ -120,10 +120,15 @@ impl<W: TimedWire + Drop> JobTry<W> {
     pub fn is_of(&self, name: &CallName) -> bool
         ensures { result ≡ same_name self.now.job.name name.now }
     {
+        self.is_named(name.line.as_slice(), name.life, name.call)
+    }
+
+    /// The same, by the name of its line, its life and its number.
+    pub fn is_named(&self, line: &[u8], life: u32, call: u32) -> bool
+        ensures { result ≡ same_name self.now.job.name (record { life = life; call = call; line = line.now }) }
+    {
         let own = &self.job.name;
-        own.life == name.life
-            && own.call == name.call
-            && own.line.as_slice() == name.line.as_slice()
+        own.life == life && own.call == call && own.line.as_slice() == line
     }
 
     /// How it ended.

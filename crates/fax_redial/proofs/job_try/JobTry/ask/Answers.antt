@@ -1,4 +1,4 @@
-use Rattle.std.proofs.Common.{[], ◌∷◌, refl, subst}
+use Rattle.std.proofs.Common.{refl, subst}
 use Rattle.fax_redial.specs.Tries.{IsAsked, TryValue}
 use Rattle.fax_redial.proofs.Trying.{tried_asked}
 use Rattle.fax_redial.proofs.job_try.JobTry.ask.Goals as goal

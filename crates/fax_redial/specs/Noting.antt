@@ -1,0 +1,53 @@
+-- What is noted of a try that ended. (This project's profile.)
+use Rattle.std.specs.Prelude.{◌≡◌, ℕ, ◌+◌, ◌-◌, ◌^◌, min, Bool, List, [], ◌∷◌, ◌++◌, Option, Some, None, if◌then◌else◌}
+use Rattle.std.specs.Bool.{MatchBool}
+use Rattle.std.specs.List.{list_any}
+use Rattle.std.specs.Str.{IsUtf8}
+use Rattle.fax_desk.specs.Questions.{cause_text}
+use Rattle.fax_desk.specs.declared.questions.Cause.{Cause}
+use Rattle.fax_redial.specs.declared.job.RetryEnd.{RetryEnd}
+use Rattle.fax_spool.specs.RecordOctets.{PageValue}
+use Rattle.fax_spool.specs.Torn.{CallName}
+use Rattle.fax_spool.specs.Waits.{without}
+use Rattle.fax_undelivered.specs.Calls.{CallValue, end_of, is_named}
+use Rattle.fax_undelivered.specs.Cards.{CardValue, card_page}
+use Rattle.fax_undelivered.specs.Keeps.{Keeps, KeepsStill}
+use Rattle.fax_undelivered.specs.declared.undelivered.Undelivered.{Undelivered}
+
+-- the card of a call, of those that are listed
+abbrev pub card_named : CallName → List CallValue → Option CardValue
+card_named name [] = None
+card_named name (call ∷ calls) = if is_named name call then Some call.card else card_named name calls
+
+-- why its call was not placed, where that was told
+abbrev pub IsCauseOf : Option Cause → List ℕ → Type 0
+IsCauseOf None told = told ≡ []
+IsCauseOf (Some cause) told = IsUtf8 (cause_text cause) → told ≡ cause_text cause
+
+-- ONE TRY MORE: how it ended, and why, and when; and so many pages more were delivered, from the first that waited on.
+pub record IsOneTryMore (before : CardValue) (end : RetryEnd) (at : ℕ) (card : CardValue) : Type 0 where
+  pub outcome : card.outcome ≡ end.outcome
+  pub cause : IsCauseOf end.cause card.cause
+  pub tries : card.tries ≡ min (before.tries + 1) (2 ^ 32 - 1)
+  pub at_is : card.at ≡ at
+  pub delivered : card.delivered ≡ min (before.delivered + end.delivered) (2 ^ 32 - 1)
+
+-- A JOB THAT WAS DELIVERED waits no more: its pages and its cards end, all at once.
+abbrev pub NotesDelivered : {D : Type 0} → (D → List ℕ) → (D → List ℕ → Type 0) → (D → Bool) → CallName → (was : Bool) → (old new : Undelivered D) → Type 0
+NotesDelivered seen may_leave is_usable name was old new =
+    (list_any (is_named name) old.calls.items ≡ was)
+    × MatchBool was ((waits : List PageValue) → Keeps seen may_leave is_usable old waits → KeepsStill seen may_leave is_usable new (without (end_of name) waits)) (new ≡ old)
+
+-- ONE THAT FAILED AGAIN waits as it did, with one card more, which tells of the try: it is put by itself, so that whatever crash comes the job
+-- is there, tried once more or not.
+pub record NotesTry {D : Type 0} (seen : D → List ℕ) (may_leave : D → List ℕ → Type 0) (is_usable : D → Bool) (end : RetryEnd) (at : ℕ) (old new : Undelivered D) : Type 0 where
+  pub before : CardValue
+  pub was : card_named end.name old.calls.items ≡ Some before
+  pub card : CardValue
+  pub is_next : IsOneTryMore before end at card
+  pub tag : List ℕ
+  pub keeps : (waits : List PageValue) → Keeps seen may_leave is_usable old waits → Keeps seen may_leave is_usable new (waits ++ card_page end.name tag card ∷ [])
+
+abbrev pub NotesFailed : {D : Type 0} → (D → List ℕ) → (D → List ℕ → Type 0) → (D → Bool) → RetryEnd → (at : ℕ) → (was : Bool) → (old new : Undelivered D) → Type 0
+NotesFailed seen may_leave is_usable end at was old new =
+    (list_any (is_named end.name) old.calls.items ≡ was) × MatchBool was (NotesTry seen may_leave is_usable end at old new) (new ≡ old)
