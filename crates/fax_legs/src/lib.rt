@@ -6,10 +6,12 @@ mod hang_up;
 pub mod laws;
 mod leg_peer;
 mod leg_socket;
+mod lent_socket;
 mod sending;
 mod socket;
 mod udp_wire;
 
 pub use leg_socket::{LegCounts, LegSocket};
+pub use lent_socket::LentSocket;
 pub use socket::DatagramSocket;
 pub use udp_wire::UdpWire;

@@ -46,6 +46,16 @@ pub trait DatagramSocket {
     fn descriptor(&self) -> RawFd;
 }
 
+/// From now on datagrams come to a socket from everywhere.
+pub(crate) fn disconnect(socket: &UdpSocket) -> io::Result<()> {
+    let none = [0u8; libc::net::_SS_SIZE];
+    if unsafe { libc::net::connect(socket.as_raw_fd(), &none, NO_ADDRESS_OCTETS) } == 0 {
+        Ok(())
+    } else {
+        Err(io::Error::other("a socket stays connected"))
+    }
+}
+
 /// The system's socket tells nothing.
 impl DatagramSocket for UdpSocket {
     fn wait_not(&mut self) -> io::Result<()> {
@@ -57,12 +67,7 @@ impl DatagramSocket for UdpSocket {
     }
 
     fn disconnect(&mut self) -> io::Result<()> {
-        let none = [0u8; libc::net::_SS_SIZE];
-        if unsafe { libc::net::connect(self.as_raw_fd(), &none, NO_ADDRESS_OCTETS) } == 0 {
-            Ok(())
-        } else {
-            Err(io::Error::other("a socket stays connected"))
-        }
+        disconnect(self)
     }
 
     fn send_octets(&mut self, octets: &[u8]) -> io::Result<usize> {

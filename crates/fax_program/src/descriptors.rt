@@ -21,9 +21,10 @@ const SIP_SOCKETS: usize = 2;
 /// How many descriptors a server of this configuration has open at one time, at most.
 pub fn most_descriptors(config: &Config) -> usize
     requires few { length config.now.lines.items ≤ 4000 }
+    requires few_redials { length config.now.redial.items ≤ 4000 }
     ensures { result ≡ most_descriptors config.now }
 {
-    let mut most = 2 * config.lines.len() + ALWAYS_OPEN;
+    let mut most = 2 * config.lines.len() + config.redial.len() + ALWAYS_OPEN;
     if config.control.is_some() {
         most += 1 + MOST_CLIENTS;
     }

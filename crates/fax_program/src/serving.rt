@@ -171,6 +171,7 @@ fn config_at<R: Eprint + AllocGlobal, N: Files + AllocGlobal>(
     path: &str,
 ) -> Result<Config, Status>
     ensures few { IfOk result (λ config. length config.lines.items ≤ 4000) }
+    ensures few_redials { IfOk result (λ config. length config.redial.items ≤ 4000) }
 {
     let text = match fs::read_to_string(system, path) {
         Ok(text) => text,

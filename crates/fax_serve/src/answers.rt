@@ -1,5 +1,6 @@
 //! The texts that control words are answered with.
 use crate::failures::Failures;
+use crate::redials::RedialLines;
 use crate::sip::SipFront;
 use crate::sockets::SocketLegs;
 use crate::view::Seen;
@@ -77,6 +78,7 @@ pub(crate) fn state_text<W: LineWire + Drop, D: Disk, U: Disk>(
     alloc: Global,
     aside: &[Vec<u8>],
     desk: &Desk,
+    redials: &mut RedialLines<'_>,
     seen: &Seen<'_, W, D, U>,
     at: u64,
 ) -> Result<Vec<u8>, NoMemory> {
@@ -88,6 +90,7 @@ pub(crate) fn state_text<W: LineWire + Drop, D: Disk, U: Disk>(
     for i in 0..seen.lines.len() {
         put_state(alloc, desk, seen, i, at, &mut text)?;
     }
+    redials.put_states(at, &mut text)?;
     text.extend_from_slice(b"ok\n")?;
     Ok(text)
 }
@@ -140,7 +143,7 @@ fn put_happened(
 }
 
 /// Adds the line of what happens on the line of this name, or to all of them.
-fn put_event(
+pub(crate) fn put_event(
     alloc: Global,
     line: Option<&str>,
     at: u64,
@@ -152,11 +155,12 @@ fn put_event(
     Ok(())
 }
 
-/// A line for each line of the configuration, one for the spool, where there is one, one for each trunk, and `ok`.
+/// A line for each line of the configuration, one for each redial line, one for the spool, where there is one, one for each trunk, and `ok`.
 pub(crate) fn status_text<W: SocketLegs + Drop, D: Disk, U: Disk>(
     alloc: Global,
     desk: &Desk,
     counters: &Counters,
+    redials: &RedialLines<'_>,
     sip: Option<&SipFront>,
     seen: &Seen<'_, W, D, U>,
 ) -> Result<Vec<u8>, NoMemory> {
@@ -169,6 +173,7 @@ pub(crate) fn status_text<W: SocketLegs + Drop, D: Disk, U: Disk>(
             text.extend_from_slice(told.as_bytes())?;
         }
     }
+    redials.put_status(&mut text)?;
     if seen.store.is_some() {
         let told = spool_text(alloc, counters, seen.has_failed())?;
         text.extend_from_slice(told.as_bytes())?;
@@ -224,7 +229,7 @@ fn leg_text(alloc: Global, what: &str, call: Option<u32>) -> Result<String, Allo
 }
 
 /// A tag, where there is one.
-fn tag_text(alloc: Global, what: &str, tag: Option<Tag>) -> Result<String, AllocError> {
+pub(crate) fn tag_text(alloc: Global, what: &str, tag: Option<Tag>) -> Result<String, AllocError> {
     match tag {
         Some(tag) => {
             let text = tag.text();

@@ -8,6 +8,7 @@ mod failures;
 mod fault;
 pub mod laws;
 mod pace;
+mod redials;
 mod run;
 mod schedule;
 mod secrets;

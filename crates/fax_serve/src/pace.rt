@@ -3,6 +3,7 @@ ghost use Rattle.std.specs.Prelude.{◌≡◌, ◌-◌, [], nat_lt, IfOk, None, 
 ghost use Rattle.fax_serve.specs.Desking.{GivesOrder, given_by};
 ghost use Rattle.fax_queue.specs.SpoolStorage.{IsUnchanged};
 
+mod redials;
 mod sip;
 mod telling;
 mod undelivered;
@@ -11,12 +12,13 @@ mod words;
 
 use crate::answers::{is_calm, is_idle};
 use crate::clock::Stopwatch;
+use crate::redials::RedialLines;
 use crate::schedule::Schedule;
 use crate::sip::SipFront;
 use crate::sockets::SocketLegs;
 use crate::store::KeepingStore;
 use crate::telling::Teller;
-use crate::undelivered::Discard;
+use crate::undelivered::SaidCall;
 use crate::view::has_failed;
 use crate::watch::Watch;
 use fax_clients::Clients;
@@ -88,7 +90,11 @@ pub struct RealPace<'a, C: Clock, I: Read + Drop, O: Write + Drop> {
     /// The lines whose pages could not be stored in the turn that was ordered.
     not_stored: Vec<usize>,
     /// The word `discard` that is done at the end of the next turn.
-    discard: Option<Discard>,
+    discard: Option<SaidCall>,
+    /// The word `retry` that is done then.
+    retry: Option<SaidCall>,
+    /// The redial lines.
+    redials: RedialLines<'a>,
 }
 
 /// Contracts see what the desk waits to be told of.
@@ -111,6 +117,7 @@ impl<'a, C: Clock, I: Read + Drop, O: Write + Drop> RealPace<'a, C, I, O> {
         watch: Option<Watch>,
         visitors: Option<Visitors>,
         sip: Option<SipFront>,
+        redials: RedialLines<'a>,
         spool_failures: u64,
     ) -> Result<Self, AllocError>
         requires { desk.waits ≡ None }
@@ -138,6 +145,8 @@ impl<'a, C: Clock, I: Read + Drop, O: Write + Drop> RealPace<'a, C, I, O> {
             put_from: None,
             not_stored,
             discard: None,
+            retry: None,
+            redials,
         })
     }
 
@@ -166,10 +175,9 @@ impl<'a, C: Clock, I: Read + Drop, O: Write + Drop> RealPace<'a, C, I, O> {
             self.desk.stop(self.now);
         }
         let may_end = self.desk.is_stopping() || self.desk.has_failed();
-        may_end
-            && self
-                .desk
-                .is_over(self.now, are_idle(lines), are_calm(lines))
+        let are_idle = are_idle(lines) && self.redials.are_idle();
+        let are_calm = are_calm(lines) && self.redials.are_idle();
+        may_end && self.desk.is_over(self.now, are_idle, are_calm)
     }
 
     /// Looks whether the spool has failed, and tells that once.
@@ -189,7 +197,7 @@ impl<'a, C: Clock, I: Read + Drop, O: Write + Drop> RealPace<'a, C, I, O> {
     /// For how many milliseconds words are waited for: until the next turn that finds something to do.
     fn most_waited<W: LineWire + Drop>(&self, lines: &Lines<W>) -> u64 {
         let left = self.schedule.left(self.now);
-        let quiet = if left == 0 {
+        let quiet = if left == 0 || !self.redials.are_idle() {
             0
         } else {
             self.quiet_ms(left, lines)
@@ -269,9 +277,9 @@ impl<'a, C: Clock, I: Read + Drop, O: Write + Drop> RealPace<'a, C, I, O> {
         if late > LATE_MS {
             self.tell_late(slot, late);
         }
-        Order::Turn {
-            now: moment_of(self.now, late),
-        }
+        let now = moment_of(self.now, late);
+        self.turn_redials(now);
+        Order::Turn { now }
     }
 
     /// What is to be done next, where nothing waits at the desk.
@@ -487,7 +495,9 @@ impl<'a, C: Clock, I: Read + Drop, O: Write + Drop, W: SocketLegs + Drop, D: Dis
         };
         store.begin_slot();
         self.see_undelivered(store);
-        set_causes(store, self.clock.day(), &self.desk, slot, lines);
+        let day = self.clock.day();
+        self.see_redials(day, store);
+        set_causes(store, day, &self.desk, slot, lines);
         if set_tags(store, &self.desk, slot, lines) {
             self.put_from = Some(self.clock.micros().unwrap_or(0));
         }

@@ -8,6 +8,7 @@ use crate::clock::Stopwatch;
 use crate::control::{close_control, open_control};
 use crate::fault::ServeFault;
 use crate::pace::RealPace;
+use crate::redials::{RedialLines, open_redials};
 use crate::sip::{SipFront, open_sip};
 use crate::sockets::{ServedWire, SocketLegs, SocketWire, open_lines, open_restored_lines};
 use crate::store::KeepingStore;
@@ -166,9 +167,11 @@ fn serve_over<
     ensures alone { OnOk result (ServedAlone (length config.now.lines.items) (is_some config.now.spool)) }
     ensures kept { OnOk result (is_some config.now.spool ≡ true → ServedOver ⟦<SpoolFolderFile<S> as Disk>⟧.seen ⟦<SpoolFolderFile<S> as Disk>⟧.may_leave ⟦<SpoolFolderFile<S> as Disk>⟧.is_usable ⟦<SpoolFolderFile<S> as Disk>⟧.is_clean ⟦<KeepingStore<SpoolFolderFile<S>, SpoolFolderFile<T>> as RunStore>⟧.is_same ⟦<KeepingStore<SpoolFolderFile<S>, SpoolFolderFile<T>> as PageStore<PageToStore>>⟧.puts ⟦<KeepingStore<SpoolFolderFile<S>, SpoolFolderFile<T>> as RunStore>⟧.notes ⟦<KeepingStore<SpoolFolderFile<S>, SpoolFolderFile<T>> as RunStore>⟧.ends (λ store. store.storage.spool) (λ store. store.storage.queues.items) S.db S.log config.now.lines.items) }
 {
+    let sockets = open_redials(system, alloc, config.redial.as_slice())?;
+    let redials = RedialLines::new(alloc, config, sockets.as_slice())?;
     match &config.spool {
         None => serve_in_memory::<W, N, I, O, SpoolFolderFile<S>, SpoolFolderFile<T>>(
-            system, alloc, config, clients, sip,
+            system, alloc, config, clients, sip, redials,
         ),
         Some(folder) => serve_spooled::<W, N, I, O, S, T>(
             system,
@@ -176,6 +179,7 @@ fn serve_over<
             config,
             clients,
             sip,
+            redials,
             folder.as_str(),
             spool_failures,
             start,
@@ -186,6 +190,7 @@ fn serve_over<
 
 /// The same where pages are stored in memory alone, and on no disk of this type.
 fn serve_in_memory<
+    'a,
     W: SocketWire + Drop,
     N: Net + Clock,
     I: Read + Drop,
@@ -193,16 +198,17 @@ fn serve_in_memory<
     D: Disk + Drop,
     U: Disk + Drop,
 >(
-    system: &N,
+    system: &'a N,
     alloc: Global,
     config: &Config,
     clients: Clients<I, O>,
     sip: Option<SipFront>,
+    redials: RedialLines<'a>,
 ) -> Result<RunEnd, ServeFault>
     ensures { OnOk result (ServedAlone (length config.now.lines.items) false) }
 {
     let lines: Lines<HoldingWire<W>> = open_lines(system, alloc, config.lines.as_slice())?;
-    let mut pace = pace_of(system, alloc, config, clients, sip, &lines, 0)?;
+    let mut pace = pace_of(system, alloc, config, clients, sip, &lines, redials, 0)?;
     serve_new::<W, N, I, O, D, U>(lines, &mut pace);
     Ok(pace.finish())
 }
@@ -210,6 +216,7 @@ fn serve_in_memory<
 /// The same where pages are stored in the spool of this folder: each line begins with those of its own that wait there, but for calls that
 /// lack a page.
 fn serve_spooled<
+    'a,
     W: SocketWire + Drop,
     N: Net + Clock + Folders,
     I: Read + Drop,
@@ -217,11 +224,12 @@ fn serve_spooled<
     S: Start,
     T: Start,
 >(
-    system: &N,
+    system: &'a N,
     alloc: Global,
     config: &Config,
     clients: Clients<I, O>,
     sip: Option<SipFront>,
+    redials: RedialLines<'a>,
     folder: &str,
     spool_failures: u64,
     start: S,
@@ -238,6 +246,7 @@ fn serve_spooled<
         config,
         clients,
         sip,
+        redials,
         opened,
         kept,
         spool_failures,
@@ -246,6 +255,7 @@ fn serve_spooled<
 
 /// The same where the spool is open.
 fn serve_opened<
+    'a,
     W: SocketWire + Drop,
     N: Net + Clock,
     I: Read + Drop,
@@ -253,11 +263,12 @@ fn serve_opened<
     D: Disk + Drop,
     U: Disk + Drop,
 >(
-    system: &N,
+    system: &'a N,
     alloc: Global,
     config: &Config,
     clients: Clients<I, O>,
     sip: Option<SipFront>,
+    redials: RedialLines<'a>,
     opened: OpenedSpool<D>,
     kept: OpenedSpool<U>,
     spool_failures: u64,
@@ -283,7 +294,16 @@ fn serve_opened<
         torn.as_slice(),
         &mut queues,
     )?;
-    let mut pace = pace_of(system, alloc, config, clients, sip, &lines, spool_failures)?;
+    let mut pace = pace_of(
+        system,
+        alloc,
+        config,
+        clients,
+        sip,
+        &lines,
+        redials,
+        spool_failures,
+    )?;
     let damage = Damage {
         records: older_damaged.saturating_add(newer_damaged) as u64,
         octets: older_passed_over.saturating_add(newer_passed_over) as u64,
@@ -304,6 +324,7 @@ fn pace_of<'a, W: SocketLegs + Drop, N: Net + Clock, I: Read + Drop, O: Write + 
     clients: Clients<I, O>,
     sip: Option<SipFront>,
     lines: &Lines<W>,
+    redials: RedialLines<'a>,
     spool_failures: u64,
 ) -> Result<RealPace<'a, N, I, O>, ServeFault>
     ensures { IfOk result (λ pace. pace.waits ≡ None) }
@@ -328,6 +349,7 @@ fn pace_of<'a, W: SocketLegs + Drop, N: Net + Clock, I: Read + Drop, O: Write + 
         watch,
         visitors,
         sip,
+        redials,
         spool_failures,
     )?)
 }

@@ -1,8 +1,8 @@
 //! SIP over its sockets.
 use crate::fault::ServeFault;
-use crate::secrets::read_secrets;
+use crate::secrets::{Secrets, read_secrets};
 use fax_bits::NoMemory;
-use fax_config::Config;
+use fax_config::{Config, SipConfig};
 use fax_sip_service::{SetupFault, SipService};
 use std::alloc::{AllocError, Global};
 use std::fs::Files;
@@ -67,8 +67,7 @@ pub(crate) fn open_sip<N: Net + Files>(
     let secrets = read_secrets(system, alloc, told)?;
     let sip = socket_at(system, told.local)?;
     let audio = socket_at(system, told.audio)?;
-    let lines = config.lines.as_slice();
-    let service = match SipService::new(alloc, told, lines, &secrets.passwords, secrets.seed) {
+    let service = match service_of(alloc, config, told, &secrets) {
         Ok(service) => service,
         Err(SetupFault::NoMemory) => return Err(ServeFault::NoMemory),
         Err(SetupFault::Route) => return Err(ServeFault::Route),
@@ -84,6 +83,24 @@ pub(crate) fn open_sip<N: Net + Files>(
         open_due: 0,
         has_said: false,
     }))
+}
+
+/// SIP beside the lines of a configuration.
+fn service_of(
+    alloc: Global,
+    config: &Config,
+    told: &SipConfig,
+    secrets: &Secrets,
+) -> Result<SipService, SetupFault> {
+    let (lines, redials) = (config.lines.as_slice(), config.redial.as_slice());
+    SipService::new(
+        alloc,
+        told,
+        lines,
+        redials,
+        &secrets.passwords,
+        secrets.seed,
+    )
 }
 
 impl SipFront {

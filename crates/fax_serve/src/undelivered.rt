@@ -12,19 +12,19 @@ use sqlite_disk::Disk;
 use std::alloc::{AllocError, Global};
 use std::io::{Read, Write};
 
-/// A word `discard`, and who said it.
+/// A word `discard` or `retry`, and who said it.
 #[derive(Drop)]
-pub(crate) struct Discard {
+pub(crate) struct SaidCall {
     pub asker: Asker,
     pub line: String,
     pub life: u32,
     pub call: u32,
 }
 
-impl Discard {
+impl SaidCall {
     /// This word.
     pub(crate) fn new(alloc: Global, asker: Asker, call: CallWord<'_>) -> Result<Self, AllocError> {
-        Ok(Discard {
+        Ok(SaidCall {
             asker,
             line: String::from_str(alloc, call.line)?,
             life: call.life,
@@ -78,9 +78,14 @@ pub(crate) fn drop_call<D: Disk, U: Disk>(
 pub(crate) fn pages_undelivered<D: Disk, U: Disk>(store: Option<&KeepingStore<D, U>>) -> u64 {
     let mut pages: u64 = 0;
     for call in calls_of(store) {
-        pages = pages.saturating_add(u64::from(call.pages));
+        pages = pages.saturating_add(u64::from(pages_left(call)));
     }
     pages
+}
+
+/// How many pages of a call were not delivered by tries since.
+pub(crate) fn pages_left(call: &UndeliveredCall) -> u32 {
+    call.pages.saturating_sub(call.card.delivered)
 }
 
 /// What is told of a call of which pages could not be delivered.
@@ -89,7 +94,7 @@ pub(crate) fn event_of(call: &UndeliveredCall) -> What<'_> {
         UndeliveredJob {
             life: call.life,
             call: call.call,
-            pages: call.pages,
+            pages: pages_left(call),
             outcome: call.card.outcome,
             tries: call.card.tries,
             at: call.card.at,

@@ -1,5 +1,5 @@
 //! Lines, as SIP knows them.
-use fax_config::LineConfig;
+use fax_config::{LineConfig, RedialConfig};
 use fax_switch::Leg;
 use std::alloc::{AllocError, Global};
 use std::net::SocketAddr;
@@ -22,8 +22,12 @@ impl SipLine {
     }
 }
 
-/// The lines of a configuration.
-pub(crate) fn lines_of(alloc: Global, configs: &[LineConfig]) -> Result<Vec<SipLine>, AllocError> {
+/// The lines of a configuration, and after them its redial lines, whose calling legs nobody rings.
+pub(crate) fn lines_of(
+    alloc: Global,
+    configs: &[LineConfig],
+    redials: &[RedialConfig],
+) -> Result<Vec<SipLine>, AllocError> {
     let mut lines = Vec::new(alloc);
     for config in configs {
         lines.push(SipLine {
@@ -32,5 +36,22 @@ pub(crate) fn lines_of(alloc: Global, configs: &[LineConfig]) -> Result<Vec<SipL
             called: config.called.local,
         })?;
     }
+    add_redials(alloc, redials, &mut lines)?;
     Ok(lines)
+}
+
+/// Adds redial lines.
+fn add_redials(
+    alloc: Global,
+    redials: &[RedialConfig],
+    lines: &mut Vec<SipLine>,
+) -> Result<(), AllocError> {
+    for config in redials {
+        lines.push(SipLine {
+            name: String::from_str(alloc, config.name.as_str())?,
+            calling: config.called.local,
+            called: config.called.local,
+        })?;
+    }
+    Ok(())
 }

@@ -84,7 +84,7 @@ fn bounds_of(end: FaxEnd) -> Bounds
 
 impl Said {
     /// Of which leg's call it is said; none: of a call that no leg has yet.
-    pub(crate) fn place(&self) -> Option<Place>
+    pub fn place(&self) -> Option<Place>
         ensures { result ≡ place_of self.now }
     {
         match self {

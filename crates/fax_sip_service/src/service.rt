@@ -4,7 +4,7 @@ use crate::said::{Said, said_of};
 use crate::setup::{Passwords, SetupFault, routes_of, settings_of};
 use crate::sounds::{AudioPacket, Sounds};
 use crate::trunk::{SipTrunk, trunks_of};
-use fax_config::{LineConfig, SipConfig};
+use fax_config::{LineConfig, RedialConfig, SipConfig};
 use fax_control::Word;
 use fax_desk::{LineEvent, Reply, Tag, View};
 use fax_switch::{Leg, LineCall, Place};
@@ -57,12 +57,13 @@ pub struct SipService {
 }
 
 impl SipService {
-    /// SIP of this configuration, whose trunks have these passwords, beside these lines. What is random comes of the seed, which nobody
-    /// knows.
+    /// SIP of this configuration, whose trunks have these passwords, beside these lines and redial lines, which are counted after them.
+    /// What is random comes of the seed, which nobody knows.
     pub fn new(
         alloc: Global,
         config: &SipConfig,
         lines: &[LineConfig],
+        redials: &[RedialConfig],
         passwords: &Passwords,
         seed: [u8; 32],
     ) -> Result<Self, SetupFault> {
@@ -74,7 +75,7 @@ impl SipService {
             alloc,
             agent: UserAgent::new(alloc, settings, agent_seed)?,
             routes: routes_of(alloc, config.routes.as_slice())?,
-            lines: lines_of(alloc, lines)?,
+            lines: lines_of(alloc, lines, redials)?,
             trunks: trunks_of(alloc, config.trunks.as_slice())?,
             to_say: VecDeque::new(alloc),
             waits: None,

@@ -4,6 +4,7 @@ ghost use Rattle.fax_serve.specs.Desking.{GivesOrder};
 
 use super::RealPace;
 use super::words::ask;
+use crate::redials::SeenRedials;
 use crate::sip::BETWEEN_SIP_MS;
 use crate::sockets::SocketLegs;
 use crate::store::KeepingStore;
@@ -147,8 +148,49 @@ impl<'a, C: Clock, I: Read + Drop, O: Write + Drop> RealPace<'a, C, I, O> {
         }
     }
 
-    /// SIP says this: the word comes in at the desk as one of a client does, where the call that it is about is on.
+    /// SIP says this: of a redial line at its desk, else at that of the lines.
     fn say<W: SocketLegs + Drop, D: Disk, U: Disk>(
+        &mut self,
+        said: Said,
+        lines: &Lines<W>,
+        store: Option<&KeepingStore<D, U>>,
+    ) -> Option<Order>
+        requires { self.old.waits ≡ None }
+        ensures { GivesOrder result self.old self.new }
+    {
+        match said.place() {
+            Some(place) if place.line as usize >= lines.len() => {
+                self.say_of_redial(said, lines.len());
+                None
+            }
+            Some(_) | None => self.say_of_line(said, lines, store),
+        }
+    }
+
+    /// SIP says this of a redial line, of which the first is counted so: the word comes in at their desk as one of a client does, where the
+    /// call that it is about is on.
+    fn say_of_redial(&mut self, said: Said, first: usize)
+        ensures { self.new ≡ self.old }
+    {
+        let Some(sip) = &mut self.sip else {
+            return;
+        };
+        let seen = SeenRedials {
+            first,
+            redials: self.redials.redials(),
+        };
+        let Some(word) = sip.service.word(&said, &seen) else {
+            return;
+        };
+        let (asker, now) = (Asker::apart(), self.now);
+        if let Some((i, reply)) = self.redials.step(asker, word, now, &mut self.teller) {
+            sip.service.answered(now, &said, reply);
+            self.tell_sip(first.saturating_add(i));
+        }
+    }
+
+    /// SIP says this: the word comes in at the desk as one of a client does, where the call that it is about is on.
+    fn say_of_line<W: SocketLegs + Drop, D: Disk, U: Disk>(
         &mut self,
         said: Said,
         lines: &Lines<W>,
@@ -232,6 +274,14 @@ impl<'a, C: Clock, I: Read + Drop, O: Write + Drop> RealPace<'a, C, I, O> {
             (Some(sip), Some(job), Some(card)) => {
                 sip.service.places(&card.job_tag(line.first, job.call))
             }
+            _ => false,
+        }
+    }
+
+    /// Whether SIP places the call of the try on redial line i.
+    pub(super) fn is_try_placed(&self, i: usize) -> bool {
+        match (&self.sip, self.redials.redials().job(i)) {
+            (Some(sip), Some(job)) => sip.service.places(&job.tag),
             _ => false,
         }
     }

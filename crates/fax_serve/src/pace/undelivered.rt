@@ -4,7 +4,7 @@ ghost use Rattle.std.specs.Prelude.{◌≡◌};
 use super::RealPace;
 use crate::store::KeepingStore;
 use crate::undelivered::{
-    Discard, calls_of, drop_call, event_of, place_of, tell_discarded, undelivered_text,
+    SaidCall, calls_of, drop_call, event_of, place_of, tell_discarded, undelivered_text,
 };
 use fax_clients::Asker;
 use fax_control::{Answer, CallWord, Refusal};
@@ -41,7 +41,7 @@ impl<'a, C: Clock, I: Read + Drop, O: Write + Drop> RealPace<'a, C, I, O> {
             self.answer(asker, Answer::Refused(Refusal::NoCall));
             return;
         }
-        match Discard::new(self.alloc, asker, call) {
+        match SaidCall::new(self.alloc, asker, call) {
             Ok(discard) => self.discard = Some(discard),
             Err(_) => self.answer(asker, Answer::Refused(Refusal::NoMemory)),
         }
@@ -85,11 +85,11 @@ impl<'a, C: Clock, I: Read + Drop, O: Write + Drop> RealPace<'a, C, I, O> {
     }
 
     /// Drops the pages of a call, and answers who said so.
-    fn do_discard<D: Disk, U: Disk>(&mut self, discard: Discard, store: &mut KeepingStore<D, U>)
+    fn do_discard<D: Disk, U: Disk>(&mut self, discard: SaidCall, store: &mut KeepingStore<D, U>)
         ensures same { self.new ≡ self.old }
         ensures storage { store.new.storage ≡ store.old.storage }
     {
-        let Discard {
+        let SaidCall {
             asker,
             line,
             life,
@@ -104,6 +104,10 @@ impl<'a, C: Clock, I: Read + Drop, O: Write + Drop> RealPace<'a, C, I, O> {
             Some(found) => found.tag.as_slice().to_vec(self.alloc).ok(),
             None => None,
         };
+        if self.redials.has(line.as_bytes(), life, call) {
+            self.answer(asker, Answer::Refused(Refusal::InCall));
+            return;
+        }
         let answer = drop_call(self.alloc, store, line.as_str(), life, call);
         if answer == Answer::Done {
             let counters = &mut self.teller.counters;

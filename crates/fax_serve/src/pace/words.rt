@@ -41,7 +41,7 @@ impl<'a, C: Clock, I: Read + Drop, O: Write + Drop> RealPace<'a, C, I, O> {
         if let Some(order) = self.say_for_sip(lines, store) {
             return Some(order);
         }
-        if self.discard.is_some() {
+        if self.discard.is_some() || self.retry.is_some() {
             return None;
         }
         let (asker, heard) = self.teller.clients.hear()?;
@@ -71,6 +71,12 @@ impl<'a, C: Clock, I: Read + Drop, O: Write + Drop> RealPace<'a, C, I, O> {
         requires { self.old.waits ≡ None }
         ensures { GivesOrder result self.old self.new }
     {
+        if let Some((i, reply)) = self.redials.step(asker, word, self.now, &mut self.teller) {
+            self.tell_sip(lines.len().saturating_add(i));
+            let text = answer_text(self.alloc, self.desk.answer(reply));
+            self.put_line(asker, text);
+            return None;
+        }
         let seen = Seen { lines, store };
         let next = self.desk.step(asker, word, &seen, self.now);
         match next {
@@ -85,6 +91,7 @@ impl<'a, C: Clock, I: Read + Drop, O: Write + Drop> RealPace<'a, C, I, O> {
                     self.alloc,
                     &self.desk,
                     &self.teller.counters,
+                    &self.redials,
                     self.sip.as_ref(),
                     &seen,
                 );
@@ -99,7 +106,7 @@ impl<'a, C: Clock, I: Read + Drop, O: Write + Drop> RealPace<'a, C, I, O> {
         None
     }
 
-    /// A word about calls of which pages could not be delivered. No line tries one again.
+    /// A word about calls of which pages could not be delivered.
     fn see_call_word<D: Disk, U: Disk>(
         &mut self,
         asker: Asker,
@@ -111,6 +118,7 @@ impl<'a, C: Clock, I: Read + Drop, O: Write + Drop> RealPace<'a, C, I, O> {
         match word {
             Word::Undelivered(line) => self.list_undelivered(asker, line, store),
             Word::Discard(call) => self.note_discard(asker, call, store),
+            Word::Retry(call) => self.note_retry(asker, call, store),
             _ => self.answer(asker, Answer::Refused(Refusal::NoLine)),
         }
     }
@@ -155,7 +163,14 @@ impl<'a, C: Clock, I: Read + Drop, O: Write + Drop> RealPace<'a, C, I, O> {
         let text = match self.teller.clients.want_events(asker) {
             Ok(()) => {
                 ask_all(&mut self.desk, seen);
-                state_text(self.alloc, self.teller.aside(), &self.desk, seen, self.now)
+                state_text(
+                    self.alloc,
+                    self.teller.aside(),
+                    &self.desk,
+                    &mut self.redials,
+                    seen,
+                    self.now,
+                )
             }
             Err(NoMemory) => Err(NoMemory),
         };

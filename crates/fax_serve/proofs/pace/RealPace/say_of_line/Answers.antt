@@ -1,8 +1,8 @@
 use Rattle.std.proofs.Common.{None, Some, sym, refl, ap, ◌∙◌}
 use Rattle.fax_desk.specs.declared.next.Next.TheVariants as next
 use Rattle.fax_serve.proofs.Passings.{none_given, said_given}
-use Rattle.fax_serve.proofs.pace.RealPace.say.Goals as goal
-use Rattle.fax_serve.proofs.pace.RealPace.say.Goals.{in-Replies, in-Reports, in-Undelivered, in-Discards, in-Retries, in-Status, in-Metrics, in-Events}
+use Rattle.fax_serve.proofs.pace.RealPace.say_of_line.Goals as goal
+use Rattle.fax_serve.proofs.pace.RealPace.say_of_line.Goals.{in-Replies, in-Reports, in-Undelivered, in-Discards, in-Retries, in-Status, in-Metrics, in-Events}
 
 pub returns-in-Orders : goal.returns-in-Orders
 returns-in-Orders g c = said_given c.apart.result (next.Orders c.in-Orders.order) (Some c.ask.result) c.args.self.now _ c.in-Orders.ensures.waits (sym c.ask.ensures)

@@ -1,0 +1,264 @@
+//! Jobs that could not be delivered are tried again.
+ghost use Rattle.std.specs.Prelude.{◌≡◌};
+
+use super::RealPace;
+use crate::store::KeepingStore;
+use crate::undelivered::{SaidCall, calls_of, event_of, place_of};
+use crate::view::has_failed;
+use fax_clients::Asker;
+use fax_control::{Answer, CallWord, Refusal};
+use fax_jobs::Outcome;
+use fax_redial::{BeginFault, RetryEnd, first_due, is_owed, note_end};
+use fax_spool::CallName;
+use fax_undelivered::Undelivered;
+use sqlite_disk::Disk;
+use std::alloc::Global;
+use std::io::{Read, Write};
+use std::rt::Clock;
+
+/// It is looked so often what is due, in milliseconds.
+const BETWEEN_LOOKS_MS: u64 = 1_000;
+
+impl<'a, C: Clock, I: Read + Drop, O: Write + Drop> RealPace<'a, C, I, O> {
+    /// The redial lines that have a try have the turn of their next slot, at this moment.
+    pub(super) fn turn_redials(&mut self, moment: u64)
+        ensures { self.new ≡ self.old }
+    {
+        for k in 0..self.redials.tries() {
+            if let Some(i) = self.redials.line_of_try(k) {
+                self.turn_redial(i, moment);
+            }
+        }
+    }
+
+    /// Redial line i has the turn of its next slot, and SIP hears what happened there. Its question is asked where a client hears events, or
+    /// where SIP places the call.
+    fn turn_redial(&mut self, i: usize, moment: u64)
+        ensures { self.new ≡ self.old }
+    {
+        let is_heard = self.teller.clients.tell_events() || self.is_try_placed(i);
+        self.redials.turn(i, moment, is_heard, &mut self.teller);
+        let first = self.desk.cards.len();
+        self.tell_sip(first.saturating_add(i));
+    }
+
+    /// A job is to be tried again at once, at the end of the next turn. No other word is heard before that.
+    pub(super) fn note_retry<D: Disk, U: Disk>(
+        &mut self,
+        asker: Asker,
+        call: CallWord<'_>,
+        store: Option<&KeepingStore<D, U>>,
+    )
+        ensures { self.new ≡ self.old }
+    {
+        if self.redials.len() == 0 {
+            self.answer(asker, Answer::Refused(Refusal::NoLine));
+            return;
+        }
+        if store.is_none() {
+            self.answer(asker, Answer::Refused(Refusal::NoCall));
+            return;
+        }
+        match SaidCall::new(self.alloc, asker, call) {
+            Ok(said) => self.retry = Some(said),
+            Err(_) => self.answer(asker, Answer::Refused(Refusal::NoMemory)),
+        }
+    }
+
+    /// Notes the tries that ended, and begins those that words named or whose time has come by this second since 1970. Without one nothing
+    /// is tried by time.
+    pub(super) fn see_redials<D: Disk, U: Disk>(
+        &mut self,
+        day: Option<u64>,
+        store: &mut KeepingStore<D, U>,
+    )
+        ensures same { self.new ≡ self.old }
+        ensures storage { store.new.storage ≡ store.old.storage }
+    {
+        self.redials.take_end();
+        if let Some(end) = self.redials.ended.take() {
+            self.note_end(end, day.unwrap_or(0), store);
+        }
+        if let Some(said) = self.retry.take() {
+            let answer = self.do_retry(&said, store);
+            self.answer(said.asker, answer);
+        }
+        if let Some(day) = day
+            && self.redials.look_from <= self.now
+        {
+            self.redials.look_from = self.now.saturating_add(BETWEEN_LOOKS_MS);
+            self.try_due(day, store);
+        }
+    }
+
+    /// Notes how a try ended, and tells what waits still. What could not be noted is noted later.
+    fn note_end<D: Disk, U: Disk>(
+        &mut self,
+        end: RetryEnd,
+        day: u64,
+        store: &mut KeepingStore<D, U>,
+    )
+        ensures same { self.new ≡ self.old }
+        ensures storage { store.new.storage ≡ store.old.storage }
+    {
+        let Some(kept) = &mut store.undelivered else {
+            return;
+        };
+        match note_end(self.alloc, kept, &end, day) {
+            Ok(_) => self.tell_try(&end.name, kept),
+            Err(_) => self.redials.ended = Some(end),
+        }
+    }
+
+    /// Tells that the pages of a call wait still, where they do.
+    fn tell_try<U: Disk>(&mut self, name: &CallName, kept: &Undelivered<U>)
+        ensures { self.new ≡ self.old }
+    {
+        let calls = kept.calls();
+        if let Some(k) = place_of(calls, name.line.as_slice(), name.life, name.call)
+            && let Some(call) = calls.get(k)
+        {
+            let line = std::str::from_utf8(call.line.as_slice()).ok();
+            self.teller.tell_event(line, self.now, event_of(call));
+        }
+    }
+
+    /// Tries the job that a word named, and says how the word is answered.
+    fn do_retry<D: Disk, U: Disk>(
+        &mut self,
+        said: &SaidCall,
+        store: &mut KeepingStore<D, U>,
+    ) -> Answer<'static>
+        ensures same { self.new ≡ self.old }
+        ensures storage { store.new.storage ≡ store.old.storage }
+    {
+        if self.desk.is_stopping() {
+            return Answer::Refused(Refusal::Stopping);
+        }
+        if has_failed(Some(&*store)) {
+            return Answer::Refused(Refusal::NoSpool);
+        }
+        let line = said.line.as_bytes();
+        let Some(k) = place_of(calls_of(Some(&*store)), line, said.life, said.call) else {
+            return Answer::Refused(Refusal::NoCall);
+        };
+        if self.is_held(line, said.life, said.call, store) {
+            return Answer::Refused(Refusal::InCall);
+        }
+        let Some(i) = self.redials.redials().free() else {
+            return Answer::Refused(Refusal::Busy);
+        };
+        match self.try_call(i, k, store) {
+            Ok(()) => Answer::Done,
+            Err(BeginFault::NoMemory) => Answer::Refused(Refusal::NoMemory),
+            Err(_) => Answer::Refused(Refusal::NoSpool),
+        }
+    }
+
+    /// Whether a job is under way: a try of it is on or to be noted, or its line owes it.
+    pub(super) fn is_held<D: Disk, U: Disk>(
+        &self,
+        line: &[u8],
+        life: u32,
+        call: u32,
+        store: &KeepingStore<D, U>,
+    ) -> bool {
+        self.redials.has(line, life, call) || is_owed(store.storage.queues(), line, life, call)
+    }
+
+    /// Tries those whose time has come, while a redial line is idle.
+    fn try_due<D: Disk, U: Disk>(&mut self, day: u64, store: &mut KeepingStore<D, U>)
+        ensures same { self.new ≡ self.old }
+        ensures storage { store.new.storage ≡ store.old.storage }
+    {
+        if self.desk.is_stopping() || has_failed(Some(&*store)) || self.redials.ended.is_some() {
+            return;
+        }
+        for _ in 0..self.redials.len() {
+            let Some(i) = self.redials.redials().free() else {
+                return;
+            };
+            let Some(k) = self.due(day, store) else {
+                return;
+            };
+            match self.try_call(i, k, store) {
+                Ok(()) => {}
+                Err(BeginFault::NoMemory) => return,
+                Err(_) => {
+                    self.give_up(k, day, store);
+                    return;
+                }
+            }
+        }
+    }
+
+    /// The first call whose time has come.
+    fn due<D: Disk, U: Disk>(&self, day: u64, store: &KeepingStore<D, U>) -> Option<usize> {
+        let calls = calls_of(Some(store));
+        let queues = store.storage.queues();
+        let after_seconds = self.redials.after_seconds();
+        first_due(calls, queues, self.redials.redials(), day, after_seconds)
+    }
+
+    /// A try of call k begins on redial line i.
+    fn try_call<D: Disk, U: Disk>(
+        &mut self,
+        i: usize,
+        k: usize,
+        store: &mut KeepingStore<D, U>,
+    ) -> Result<(), BeginFault>
+        ensures same { self.new ≡ self.old }
+        ensures storage { store.new.storage ≡ store.old.storage }
+    {
+        let Some(kept) = &mut store.undelivered else {
+            return Err(BeginFault::NoPage);
+        };
+        let name = name_at(self.alloc, kept, k)?;
+        let pages = kept.pages_of(self.alloc, name.line.as_slice(), name.life, name.call);
+        let Ok(pages) = pages else {
+            return Err(BeginFault::NoMemory);
+        };
+        match kept.calls().get(k) {
+            Some(call) => self.redials.begin(i, call, pages.as_slice()),
+            None => Err(BeginFault::NoPage),
+        }
+    }
+
+    /// No try of call k can begin: that counts as one, so that it waits for its next time.
+    fn give_up<D: Disk, U: Disk>(&mut self, k: usize, day: u64, store: &mut KeepingStore<D, U>)
+        ensures same { self.new ≡ self.old }
+        ensures storage { store.new.storage ≡ store.old.storage }
+    {
+        let Some(kept) = &mut store.undelivered else {
+            return;
+        };
+        if let Ok(name) = name_at(self.alloc, kept, k) {
+            let end = RetryEnd {
+                name,
+                delivered: 0,
+                outcome: Outcome::NotPlaced,
+                cause: None,
+            };
+            self.note_end(end, day, store);
+        }
+    }
+}
+
+/// The name of call k.
+fn name_at<U: Disk>(
+    alloc: Global,
+    kept: &Undelivered<U>,
+    k: usize,
+) -> Result<CallName, BeginFault> {
+    let Some(call) = kept.calls().get(k) else {
+        return Err(BeginFault::NoPage);
+    };
+    match call.line.as_slice().to_vec(alloc) {
+        Ok(line) => Ok(CallName {
+            life: call.life,
+            call: call.call,
+            line,
+        }),
+        Err(_) => Err(BeginFault::NoMemory),
+    }
+}
