@@ -31,8 +31,8 @@ def rows_of(text):
 class AtATrunk(Play):
     """Plays with a server whose lines have no peers, and a trunk."""
 
-    def begin(self, lines=1, spool=False, sip="", trunk="", files=None):
-        """A server of so many lines, its trunk, and who hears its events."""
+    def begin(self, lines=1, spool=False, sip="", trunk="", files=None, redial=()):
+        """A server of so many lines, its trunk, redial lines that try a job after so many seconds, and who hears its events."""
         self.sip_port, self.audio_port, trunk_port = self.ports.take(), self.ports.take(), self.ports.take()
         self.lines = [self.line(f"a{i}", calling_peer=False, called_peer=False) for i in range(lines)]
         text = f"""
@@ -50,6 +50,8 @@ trunk = 't'
 strip = 1
 add = '00'
 """
+        if redial:
+            text += f"[retry]\nafter_seconds = {list(redial)}\n[[redial]]\nname = 'r1'\ncalled = {{ local = '{address(self.ports.take())}' }}\n"
         server = Server("".join(line.text() for line in self.lines) + text, spool=spool)
         for name, octets in (files or {}).items():
             with open(server.path(name), "w", encoding="utf-8") as file:
@@ -162,6 +164,48 @@ class FaxesOverT38(AtATrunk):
         self.trunk.take(invite, fax_offer(machine.leg.port, octets=238))
         self.taken(machine, 5)
         self.assertLessEqual(max(len(octets) for _, octets, _ in leg.came + machine.leg.came), 238)
+
+
+class TriedAgain(AtATrunk):
+    """A job whose call was refused goes out over a redial line, by the same route."""
+
+    def refuse(self, status):
+        """The call of the job is refused."""
+        invite = self.goes_out("004930123")
+        answer = self.trunk.answer(invite, status)
+        self.assertEqual(self.trunk.request("ACK").tag("To"), answer.tag("To"))
+
+    def test_a_machine_that_is_busy_twice(self):
+        """It gets the page at the third try."""
+        self.begin(spool=True, redial=(1, 1))
+        self.comes("+4930123", 3)
+        self.refuse(486)
+        job = self.client.event("job", line="a0", outcome="NotPlaced", delivered=0)
+        self.client.event("undelivered", line="a0", cause="486", tries=1)
+        self.refuse(486)
+        self.client.event("job", line="r1", tag=job["tag"], outcome="NotPlaced", cause="486")
+        self.client.event("undelivered", line="a0", tag=job["tag"], cause="486", tries=2)
+        invite = self.goes_out("004930123")
+        machine = self.machine()
+        self.trunk.take(invite, fax_offer(machine.leg.port))
+        self.taken(machine, 3, line="r1", tag=job["tag"])
+        until(lambda: self.server.say("undelivered") == ["ok"], what="nothing that is undelivered")
+
+    def test_a_crash_before_it_is_tried_again(self):
+        """Nobody hears events after it: SIP alone answers the question of the redial line."""
+        self.begin(spool=True, redial=(1,))
+        self.comes("+4930123", 4)
+        self.refuse(480)
+        self.client.event("undelivered", line="a0", cause="480", tries=1)
+        self.server.kill()
+        self.server.start()
+        invite = self.goes_out("004930123")
+        machine = self.machine()
+        self.trunk.take(invite, fax_offer(machine.leg.port))
+        self.trunk.answer(self.trunk.request("BYE"), 200)
+        machine.end(LONGEST)
+        self.assertEqual([rows_of(text) for text in machine.pages], [4])
+        until(lambda: self.server.say("undelivered") == ["ok"], what="nothing that is undelivered")
 
 
 class Counts(AtATrunk):

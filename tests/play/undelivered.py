@@ -10,8 +10,8 @@ from spooled import GATE, HEAD
 NO_CALL = ["refused 11 NoCall"]
 
 
-class Undelivered(Asked):
-    """A line whose called leg has no peer, over a spool."""
+class Failing(Asked):
+    """A line whose called leg has no peer, over a spool, and jobs of it that fail."""
 
     def refuse(self, tag, cause="busy"):
         """The call of the job of this tag, of one page, cannot be placed."""
@@ -25,6 +25,8 @@ class Undelivered(Asked):
         self.assertEqual(last, "ok")
         return [json.loads(line) for line in lines]
 
+
+class Undelivered(Failing):
     def test_a_page_that_was_refused_is_kept(self):
         """It is told, counted, found by the next start, and dropped by a word alone."""
         self.begin(spool=True)

@@ -162,9 +162,9 @@ class Sockets(Play):
         self.assertEqual(server.output(), "")
 
     def test_the_sample_is_served(self):
-        """samples/serve.toml, with other ports: three lines, of which the second waits for 1 s after a preamble."""
+        """samples/serve.toml, with other ports: three lines, of which the second waits for 1 s after a preamble, and a redial line."""
         text = (TOP / "samples" / "serve.toml").read_text(encoding="utf-8")
-        for port in (40000, 40002, 40004, 40006, 40008, 40010, 6000, 6002, 6004, 6006):
+        for port in (40000, 40002, 40004, 40006, 40008, 40010, 40012, 6000, 6002, 6004, 6006):
             text = text.replace(address(port), address(self.ports.take()))
         server = self.enterContext(Server(text, control="faxgate.sock"))
-        self.assertEqual(server.say("status"), [IDLE[0].replace("a1", name) for name in ("a1", "a2", "a3")] + ["ok"])
+        self.assertEqual(server.say("status"), [IDLE[0].replace("a1", name) for name in ("a1", "a2", "a3")] + ["redial r1 called idle", "ok"])

@@ -1,0 +1,338 @@
+"""Jobs that could not be delivered, tried again over redial lines: after a while that the configuration says, or since a word says so."""
+import contextlib
+import json
+import os
+import random
+import threading
+import time
+
+from asked import NO_CALL, page, rows_of
+from calls import CALLED_DIS, CALLER_DCN, CALLER_EOP, CED, CFR, CHECK, GATEWAY_DIS, MCF, PREAMBLE, TRAINING, Called, Caller, image
+from server import LONGEST, Peer, address, event_line, until
+from undelivered import Failing
+
+BUSY, IN_CALL, NO_LINE = ["refused 1 Busy"], ["refused 6 InCall"], ["refused 7 NoLine"]
+CALLER_MPS = "c002800002ffc8f240"
+KILLS = int(os.environ.get("FAXGATE_KILLS", "3"))
+# How long it is seen that nothing is tried, in seconds: longer than what is waited for where something is.
+QUIET = 3
+
+
+class Redial:
+    """A redial line of a configuration, with a port of its own; its peer is known or not."""
+
+    def __init__(self, ports, name="r1", has_peer=False):
+        self.name, self.called, self.called_peer = name, ports.take(), ports.take()
+        self._has_peer = has_peer
+
+    def text(self):
+        """The redial line in a configuration."""
+        peer = f", peer = '{address(self.called_peer)}'" if self._has_peer else ""
+        return f"[[redial]]\nname = '{self.name}'\ncalled = {{ local = '{address(self.called)}'{peer} }}\n"
+
+
+class Retry:
+    """After how many seconds a job is tried again, in a configuration."""
+
+    def __init__(self, *after_seconds):
+        self._after_seconds = list(after_seconds)
+
+    def text(self):
+        """The table in a configuration."""
+        return f"[retry]\nafter_seconds = {json.dumps(self._after_seconds)}\n"
+
+
+class Redialled(Failing):
+    """A line whose called leg has no peer, and redial lines, over a spool."""
+
+    def begin_redial(self, *after_seconds, redials=1, has_peer=False, spool=True):
+        """A server of the line and of so many redial lines."""
+        self.redials = [Redial(self.ports, f"r{number + 1}", has_peer) for number in range(redials)]
+        self.a1 = self.line(called_peer=False)
+        settings = [Retry(*after_seconds)] if after_seconds else []
+        self.server = self.serve(self.a1, *settings, *self.redials, spool=spool)
+        self.client = self.server.events()
+        self.caller = Caller(self.peer(self.a1, "calling"))
+
+    def start_again(self):
+        """The server is killed, and another one begins."""
+        self.server.kill()
+        self.server.start()
+        self.client = self.server.events()
+
+    def asked_again(self, tag, number, line="r1", pages=1):
+        """The question of the try of this number about the job of this tag."""
+        return self.client.event("dial", tag=tag, line=line, pages=pages, **{"try": number})
+
+    def refuse_again(self, tag, number, cause, line="r1"):
+        """The call of a try cannot be placed."""
+        self.asked_again(tag, number, line)
+        self.assertEqual(self.client.say(f"refuse {line} {cause}"), ["ok"])
+        self.client.event("job", line=line, tag=tag, outcome="NotPlaced", pages=1, delivered=0, cause=cause)
+        self.client.event("undelivered", line="a1", tag=tag, outcome="NotPlaced", cause=cause, tries=number)
+
+    def redial_peer(self, redial):
+        """A machine that calls of a redial line may go to."""
+        peer = Peer(self.ports.take(), redial.called)
+        peer.port = peer.socket.getsockname()[1]
+        self.addCleanup(peer.close)
+        return peer
+
+    def deliver_again(self, tag, number, rows, redial=None):
+        """A try delivers the job of this tag, whose page has so many rows."""
+        redial = redial or self.redials[0]
+        self.asked_again(tag, number, redial.name)
+        peer = self.redial_peer(redial)
+        self.assertEqual(self.client.say(f"peer {redial.name} called {address(peer.port)}"), ["ok"])
+        self.client.event("connected", line=redial.name, tag=tag)
+        self.take(tag, peer, rows)
+
+    def fail(self, rows, tag, cause="busy"):
+        """A page of so many rows comes, and its call cannot be placed."""
+        self.confirm(rows, tag)
+        self.refuse(tag, cause)
+        self.client.event("undelivered", tag=tag, tries=1)
+
+    def none_waits(self):
+        """Nothing is undelivered, now and after a crash."""
+        until(lambda: self.server.metrics()["faxgate_pages_undelivered"] == 0, what="nothing that is undelivered")
+        self.assertEqual(self.told(), [])
+        self.server.kill()
+        self.server.start()
+        self.assertEqual(self.told(), [])
+
+
+class AfterAWhile(Redialled):
+    def test_a_machine_that_is_busy_twice(self):
+        """It gets the page at the third try."""
+        self.begin_redial(1, 1)
+        self.fail(2, "49/1", "486")
+        self.refuse_again("49/1", 2, "486")
+        self.deliver_again("49/1", 3, 2)
+        self.none_waits()
+
+    def test_what_is_told(self):
+        """The question of a try, octet for octet but for its moment, and what the redial line is meanwhile."""
+        self.begin_redial(1)
+        self.assertIn("redial r1 called idle", self.server.say("status"))
+        self.fail(1, "49/1")
+        dial = self.asked_again("49/1", 2)
+        self.assertEqual(
+            event_line(dial), '{"event":"dial","line":"r1","at":N,"call":0,"tag":"49/1","try":2,"pages":1,"seconds":180}'
+        )
+        self.assertIn("redial r1 called job-0 of a1 life 1 called_tag=49/1", self.server.say("status"))
+        other = self.server.events()
+        other.event("dial", line="r1", tag="49/1", **{"try": 2})
+
+    def test_no_more_tries_than_are_configured(self):
+        """After the last of them it waits for a word."""
+        self.begin_redial(1)
+        self.fail(1, "tag")
+        self.refuse_again("tag", 2, "486")
+        self.client.no_event("dial", QUIET)
+        self.assertEqual([told["tries"] for told in self.told()], [2])
+        self.assertEqual(self.server.say("retry a1 1 0"), ["ok"])
+        self.deliver_again("tag", 3, 1)
+        self.none_waits()
+
+    def test_a_server_that_is_killed_between_tries(self):
+        """The next one goes on with the tries where they were, by the clock of the day."""
+        self.begin_redial(1, 2)
+        self.fail(3, "tag")
+        self.refuse_again("tag", 2, "486")
+        self.start_again()
+        self.deliver_again("tag", 3, 3)
+        self.none_waits()
+
+    def test_a_server_that_is_killed_in_a_try(self):
+        """The try counts for nothing, and is made again."""
+        self.begin_redial(1)
+        self.fail(1, "tag")
+        self.asked_again("tag", 2)
+        self.start_again()
+        self.deliver_again("tag", 2, 1)
+        self.none_waits()
+
+    def test_a_redial_line_with_a_peer(self):
+        """Its calls are not asked for."""
+        self.begin_redial(1, has_peer=True)
+        peer = Peer(self.redials[0].called_peer, self.redials[0].called)
+        self.addCleanup(peer.close)
+        self.fail(2, "tag")
+        self.client.event("dial", line="r1", tag="tag")
+        self.take("tag", peer, 2)
+        self.none_waits()
+
+
+class TwoRedialLines(Redialled):
+    def test_no_job_is_tried_on_both(self):
+        """Two jobs go out side by side, and a job alone goes over one of them."""
+        self.begin_redial(1, redials=2)
+        self.fail(1, "one")
+        dial = self.client.event("dial", tag="one", **{"try": 2})
+        self.client.no_event("dial", QUIET)
+        self.fail(2, "two")
+        other = self.client.event("dial", tag="two", **{"try": 2})
+        self.assertEqual({dial["line"], other["line"]}, {"r1", "r2"})
+        self.client.no_event("dial", QUIET)
+        self.assertEqual(self.server.say("retry a1 1 0"), IN_CALL)
+        for event, rows in ((dial, 1), (other, 2)):
+            self.client.events.append(event)
+            redial = self.redials[int(event["line"][1]) - 1]
+            self.deliver_again(event["tag"], 2, rows, redial)
+        self.none_waits()
+
+
+class ByAWord(Redialled):
+    def test_a_job_is_tried_at_once(self):
+        """Where a redial line is idle; and while it is under way it is neither tried again nor dropped."""
+        self.begin_redial()
+        self.fail(1, "one")
+        self.fail(2, "two")
+        self.client.no_event("dial", QUIET)
+        self.assertEqual(self.server.say("retry a1 1 7"), NO_CALL)
+        self.assertEqual(self.server.say("retry a1 1 1"), ["ok"])
+        self.client.events.append(self.asked_again("two", 2))
+        self.assertEqual(self.server.say("retry a1 1 1"), IN_CALL)
+        self.assertEqual(self.server.say("discard a1 1 1"), IN_CALL)
+        self.assertEqual(self.server.say("retry a1 1 0"), BUSY)
+        self.deliver_again("two", 2, 2)
+        self.assertEqual(self.server.say("retry a1 1 1"), NO_CALL)
+        until(lambda: self.server.say("retry a1 1 0") == ["ok"], what="a redial line that is idle")
+        self.refuse_again("one", 2, "486")
+        until(lambda: self.server.say("discard a1 1 0") == ["ok"], what="a job that is under way no more")
+        self.none_waits()
+
+    def test_words_that_no_redial_line_takes(self):
+        """It has no calling leg, and keeps no reports."""
+        self.begin_redial()
+        self.assertEqual(self.server.say("ring r1"), ["refused 4 NoPeer"])
+        self.assertEqual(self.server.say(f"peer r1 calling {address(9)}"), NO_CALL)
+        self.assertEqual(self.server.say("hangup r1 calling"), NO_CALL)
+        self.assertEqual(self.server.say("hangup r1 called"), NO_CALL)
+        self.assertEqual(self.server.say("refuse r1 486"), NO_CALL)
+        self.assertEqual(self.server.say("report r1"), ["ok"])
+        self.assertEqual(self.server.say("ring r2"), NO_LINE)
+
+    def test_without_a_redial_line(self):
+        """Nothing is tried again, and the word says so."""
+        self.begin(spool=True)
+        self.confirm(1, "tag")
+        self.refuse("tag")
+        self.client.event("undelivered", tag="tag")
+        self.assertEqual(self.server.say("retry a1 1 0"), NO_LINE)
+        self.assertEqual(len(self.told()), 1)
+
+
+class SomePages(Redialled):
+    def test_what_was_delivered_is_not_sent_again(self):
+        """Of two pages the first try delivers one: the next one sends the other alone, also after a crash."""
+        self.begin_redial(1, 1)
+        self.confirm_two("tag")
+        self.client.event("dial", tag="tag", pages=2)
+        self.client.say("refuse a1 busy")
+        self.client.event("undelivered", tag="tag", pages=2, tries=1)
+        self.asked_again("tag", 2, pages=2)
+        peer = self.redial_peer(self.redials[0])
+        self.client.say(f"peer r1 called {address(peer.port)}")
+        machine = self.begun(peer)
+        machine.send(CED, PREAMBLE, CALLED_DIS)
+        machine.confirm_check()
+        self.assertEqual(rows_of(machine.wait_for_image()), 1)
+        machine.wait_for(CALLER_MPS)
+        machine.send(PREAMBLE, MCF)
+        self.assertEqual(rows_of(machine.wait_for_image()), 2)
+        self.client.say("hangup r1 called")
+        self.client.event("job", line="r1", tag="tag", outcome="HungUp", pages=2, delivered=1)
+        self.client.event("undelivered", tag="tag", pages=1, outcome="HungUp", tries=2)
+        self.start_again()
+        self.deliver_again("tag", 3, 2)
+        self.none_waits()
+
+    def confirm_two(self, tag):
+        """A machine calls with this tag, and has pages of one row and of two confirmed."""
+        self.assertRegex(self.server.say(f"ring a1 {tag}")[0], "^ok [0-9]+$")
+        self.caller.begin_anew()
+        self.caller.train()
+        self.caller.send(TRAINING, image(page(1)), PREAMBLE, CALLER_MPS)
+        self.caller.wait_for(MCF)
+        self.caller.send(TRAINING, image(page(2)), PREAMBLE, CALLER_EOP)
+        self.caller.wait_for(MCF)
+        self.caller.send(PREAMBLE, CALLER_DCN)
+
+
+class Killed(Redialled):
+    """Servers that are killed at random moments while jobs fail, are tried again and are delivered. FAXGATE_KILLS says how many."""
+
+    def test_no_page_is_lost_by_servers_that_are_killed(self):
+        """Each page whose MCF its caller saw comes in the end."""
+        self.begin_redial(*[1] * 16, redials=2)
+        self.confirmed, self.got, self.rows = set(), set(), {}
+        self.ports_of = {"a1": self.a1.called, **{redial.name: redial.called for redial in self.redials}}
+        for number in range(KILLS):
+            caller = threading.Thread(target=self.call_once, args=(f"page-{number}", 1 + number % 5), daemon=True)
+            caller.start()
+            self.live(time.monotonic() + random.uniform(0.1, 3), lambda: random.random() < 0.5)
+            self.server.kill()
+            caller.join()
+            self.client.close()
+            self.server.start()
+            self.client = self.server.events()
+        end = time.monotonic() + LONGEST + KILLS
+        while not self.confirmed <= self.got and time.monotonic() < end:
+            self.live(time.monotonic() + 1, lambda: False)
+            for told in self.told():
+                if told["tag"] not in self.got:
+                    self.server.say(f"retry a1 {told['life']} {told['call']}")
+        self.assertEqual(self.confirmed - self.got, set(), "pages that are lost")
+
+    def call_once(self, tag, rows):
+        """A machine calls with this tag; a page of so many rows is confirmed, or the server is killed before."""
+        self.rows[tag] = rows
+        with contextlib.suppress(OSError, AssertionError, TimeoutError):
+            caller = Caller(self.caller.peer)
+            caller.forget()
+            if not self.server.say(f"ring a1 {tag}")[0].startswith("ok"):
+                return
+            caller.wait_for(GATEWAY_DIS, within=3)
+            caller.send(caller.dcs, TRAINING, CHECK)
+            caller.wait_for(CFR, within=3)
+            caller.send(TRAINING, image(page(rows)), PREAMBLE, CALLER_EOP)
+            caller.wait_for(MCF, within=3)
+            self.confirmed.add(tag)
+            caller.send(PREAMBLE, CALLER_DCN)
+
+    def live(self, end, is_refused):
+        """Answers the questions of the server up to a moment: each call is refused, or goes to a machine that takes the page."""
+        while time.monotonic() < end:
+            line = self.client.line(0.05)
+            if line is not None:
+                self.client.events.append(json.loads(line))
+            events, self.client.events = self.client.events, []
+            for event in events:
+                if event["event"] == "dial" and "seconds" in event:
+                    self.answer(event, is_refused())
+
+    def answer(self, event, is_refused):
+        """A question is answered."""
+        line = event["line"]
+        if is_refused:
+            self.client.say(f"refuse {line} busy")
+            return
+        peer = Peer(0, self.ports_of[line])
+        machine = threading.Thread(target=self.take_page, args=(Called(peer), event["tag"]), daemon=True)
+        machine.start()
+        self.client.say(f"peer {line} called {address(peer.socket.getsockname()[1])}")
+
+    def take_page(self, machine, tag):
+        """A machine takes the page of this tag, and has it before it confirms it."""
+        with contextlib.closing(machine.peer), contextlib.suppress(OSError, AssertionError, ValueError):
+            machine.answer()
+            machine.wait_for_image()
+            machine.send(PREAMBLE, CFR)
+            rows = rows_of(machine.wait_for_image())
+            machine.wait_for(CALLER_EOP)
+            if rows == self.rows[tag]:
+                self.got.add(tag)
+            machine.send(PREAMBLE, MCF)
+            machine.wait_for(CALLER_DCN)
