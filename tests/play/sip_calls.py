@@ -18,10 +18,10 @@ LOST_OF = 20
 class Call(threading.Thread):
     """A page of so many rows comes for a number from a trunk, and goes out to it."""
 
-    def __init__(self, port, server, number, rows, comes, goes_out, way):
+    def __init__(self, port, server, number, rows, comes, goes_out, way, waits=None):
         super().__init__(daemon=True)
         self.trunk, self.number, self.rows, self.way = SipPeer(port, server), number, rows, way
-        self.comes, self.goes_out = comes, goes_out
+        self.comes, self.goes_out, self.waits = comes, goes_out, waits
         # what went wrong, until it is over
         self.fault = "it is not over"
 
@@ -30,9 +30,14 @@ class Call(threading.Thread):
             try:
                 self.comes(self)
                 self.trunk.answer(self.trunk.request("BYE", LONGEST), 200)
+                if self.waits:
+                    # all calls are so far, and the server is another one
+                    self.trunk.request("INVITE", LONGEST)
+                    self.waits.wait(2 * LONGEST)
+                    self.waits.wait(2 * LONGEST)
                 self.goes_out(self)
                 self.fault = ""
-            except (AssertionError, OSError) as fault:
+            except (AssertionError, OSError, threading.BrokenBarrierError) as fault:
                 self.fault = str(fault)
 
     def leg(self):
@@ -183,6 +188,39 @@ def many_calls(program, folder, kind, count, loses, ports=25000):
         faults = [f"{call.number}: {call.fault}" for call in calls if call.fault]
         print(f"{kind}{', 5 % of the media lost' if loses else ''}: {count - len(faults)} of {count}", flush=True)
         return faults[0] if faults else ""
+    finally:
+        server.kill()
+        server.wait()
+
+
+def survive(program, folder, count, ports=27000):
+    """So many pages are confirmed and their calls asked for when the server is killed; the next one sends them. What went wrong; nothing
+    where all is well. Nobody says a word."""
+    spool = folder / "survive-spool"
+    spool.mkdir()
+    text = f"control = 'survive'\nspool = '{spool.name}'\n" + configuration(count, ports, "t38")
+    (folder / "survive.toml").write_text(text, encoding="utf-8")
+    words = [program, "serve", "--config", "survive.toml"]
+    server = subprocess.Popen(words, cwd=folder, stdout=subprocess.DEVNULL)
+    waits = threading.Barrier(count + 1)
+    try:
+        time.sleep(3)
+        numbers = [f"+4930{i:02}{7 * i}" for i in range(count)]
+        calls = [Call(ports + 100 + i, ports, number, i + 1, over_t38, to_t38, clear, waits) for i, number in enumerate(numbers)]
+        for call in calls:
+            call.start()
+        waits.wait(2 * LONGEST)
+        server.kill()
+        server.wait()
+        server = subprocess.Popen(words, cwd=folder, stdout=subprocess.DEVNULL)
+        waits.wait(2 * LONGEST)
+        for call in calls:
+            call.join(2 * LONGEST)
+        faults = [f"{call.number}: {call.fault}" for call in calls if call.fault]
+        print(f"a server killed with {count} jobs: {count - len(faults)} of {count} came", flush=True)
+        return faults[0] if faults else ""
+    except threading.BrokenBarrierError:
+        return next((f"{call.number}: {call.fault}" for call in calls if call.fault), "a call is not over")
     finally:
         server.kill()
         server.wait()
