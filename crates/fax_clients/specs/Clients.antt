@@ -23,10 +23,11 @@ pub record ClientValue : Type 0 where
   pub said : ClientInput
   pub told : ClientOutput
 
--- All clients: whether they come by a control socket, each of them, and how many lines of events were lost by clients,
--- as far as they were counted.
+-- All clients: whether they come by a control socket, what is still to be recorded of events, where they are, each client, and
+-- how many lines of events were lost, as far as they were counted.
 pub record ClientsValue : Type 0 where
   pub has_socket : Bool
+  pub journal : Option ClientOutput
   pub clients : List ClientValue
   pub lost : ℕ
 
@@ -48,11 +49,16 @@ wanting client = record { said = client.said; told = record { due = client.told.
 
 -- standard input and output: one client, which wants events
 abbrev pub standard_alone : ClientsValue
-standard_alone = record { has_socket = false; clients = wanting silent ∷ []; lost = 0 }
+standard_alone = record { has_socket = false; journal = None; clients = wanting silent ∷ []; lost = 0 }
 
--- a control socket, and no client
-abbrev pub socket_alone : ClientsValue
-socket_alone = record { has_socket = true; clients = []; lost = 0 }
+-- a record of events in which nothing is
+abbrev pub new_journal : ClientOutput
+new_journal = record { due = []; events = Some []; lost = 0 }
+
+-- a control socket, and no client; events are recorded or not
+abbrev pub socket_alone : Bool → ClientsValue
+socket_alone true = record { has_socket = true; journal = Some new_journal; clients = []; lost = 0 }
+socket_alone false = record { has_socket = true; journal = None; clients = []; lost = 0 }
 
 -- ---- questions
 
@@ -77,7 +83,7 @@ changed_at change zero (client ∷ others) = change client ∷ others
 changed_at change (suc place) (client ∷ others) = client ∷ changed_at change place others
 
 abbrev pub with_client : (ClientValue → ClientValue) → ℕ → ClientsValue → ClientsValue
-with_client change place clients = record { has_socket = clients.has_socket; clients = changed_at change place clients.clients; lost = clients.lost }
+with_client change place clients = record { has_socket = clients.has_socket; journal = clients.journal; clients = changed_at change place clients.clients; lost = clients.lost }
 
 -- the text is what a client is told now, from its beginning
 abbrev pub answered : List ℕ → ClientValue → ClientValue
@@ -210,3 +216,26 @@ HasTold line old new = MatchOption old.events (new ≡ old)
 pub record IsTold (line : List ℕ) (old new : ClientValue) : Type 0 where
   pub said : new.said ≡ old.said
   pub told : HasTold line old.told new.told
+
+-- ---- events that are recorded
+
+-- one after the other, each as the next text, some octets of it are written
+abbrev pub WritesTimes : ℕ → ClientOutput → ClientOutput → Type 0
+WritesTimes zero old new = new ≡ old
+WritesTimes (suc times) old new = (before asked : ClientOutput) × WritesTimes times old before × GoesOn before asked × IsWritten asked new
+
+abbrev pub WritesOn : ClientOutput → ClientOutput → Type 0
+WritesOn old new = (times : ℕ) × WritesTimes times old new
+
+abbrev pub counted_output : ClientOutput → ClientOutput
+counted_output output = record { due = output.due; events = output.events; lost = 0 }
+
+-- What is to be recorded is written as it is taken, and what was lost is counted.
+abbrev pub JournalGoesOn : Option ClientOutput → Option ClientOutput → Type 0
+JournalGoesOn None new = new ≡ None
+JournalGoesOn (Some old) new = (written : ClientOutput) × WritesOn old written × (new ≡ Some (counted_output written))
+
+-- A line of an event is recorded after the others, or is lost for want of memory.
+abbrev pub JournalTold : List ℕ → Option ClientOutput → Option ClientOutput → Type 0
+JournalTold line None new = new ≡ None
+JournalTold line (Some old) new = (told : ClientOutput) × (new ≡ Some told) × HasTold line old told

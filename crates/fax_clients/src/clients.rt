@@ -1,9 +1,10 @@
 //! All clients.
-ghost use Rattle.std.specs.Prelude.{◌≡◌, ℕ, ◌+◌, ◌≤◌, ◌⊎◌, false, [], ◌∷◌, ◌++◌, length, map, nat_eq, is_some, IfNone, IfOk, IfSome, OnErr, OnOk};
+ghost use Rattle.std.specs.Prelude.{◌≡◌, ℕ, ◌+◌, ◌≤◌, ◌⊎◌, ◌||◌, false, [], ◌∷◌, ◌++◌, length, map, nat_eq, is_some, IfNone, IfOk, IfSome, OnErr, OnOk};
 ghost use Rattle.std.specs.List.{AllZip};
-ghost use Rattle.fax_clients.specs.Clients.{AreLeft, AreServed, AreWaitedFor, Hears, HearsNoLine, IsAsked, IsCounted, IsServed, IsTold, all_said, answered, changed_at, one_says_more, one_wants_events, silent, socket_alone, standard_alone, wanting, with_client};
+ghost use Rattle.fax_clients.specs.Clients.{AreLeft, AreServed, AreWaitedFor, Hears, HearsNoLine, IsAsked, IsCounted, IsServed, IsTold, JournalGoesOn, JournalTold, all_said, answered, changed_at, one_says_more, one_wants_events, silent, socket_alone, standard_alone, wanting, with_client};
 
 use crate::client::Client;
+use crate::journal::Journal;
 use crate::ready::Ready;
 use crate::stream::Stream;
 use fax_bits::NoMemory;
@@ -59,6 +60,8 @@ impl Asker {
 pub struct Clients<I: Read + Drop, O: Write + Drop> {
     alloc: Global,
     listener: Option<UnixListener>,
+    /// What keeps a record of all events, where something does.
+    journal: Option<Journal<O>>,
     clients: Vec<Client<I, O>>,
     ready: Ready,
     /// How many lines were heard of all clients.
@@ -67,14 +70,14 @@ pub struct Clients<I: Read + Drop, O: Write + Drop> {
     lost: u64,
 }
 
-/// Contracts see whether there is a control socket, each client, and the count of lost lines.
+/// Contracts see whether there is a control socket, the record of events, each client, and the count of lost lines.
 impl<I: Read + Drop, O: Write + Drop> Model for Clients<I, O> {
     ghost use Rattle.std.specs.Prelude.{◌≤◌, is_some, length};
     ghost use Rattle.fax_clients.specs.Clients.{ClientsValue};
 
     ghost Value = { ClientsValue };
 
-    ghost view = { λ c. record { has_socket = is_some c.listener; clients = c.clients.items; lost = c.lost } };
+    ghost view = { λ c. record { has_socket = is_some c.listener; journal = c.journal; clients = c.clients.items; lost = c.lost } };
 
     ghost invariant = { λ c. length c.clients.items ≤ 64 };
 }
@@ -91,6 +94,7 @@ impl<I: Read + Drop, O: Write + Drop> Clients<I, O> {
         Ok(Clients {
             alloc,
             listener: None,
+            journal: None,
             clients,
             ready: Ready::new(alloc)?,
             lines: 0,
@@ -98,13 +102,23 @@ impl<I: Read + Drop, O: Write + Drop> Clients<I, O> {
         })
     }
 
-    /// The clients of a control socket that does not wait; none yet.
-    pub fn of_socket(alloc: Global, listener: UnixListener) -> Result<Self, NoMemory>
-        ensures { IfOk result (λ clients. clients ≡ socket_alone) }
+    /// The clients of a control socket that does not wait; none yet. Where there is a standard output, it has all events too; nobody
+    /// hears them there.
+    pub fn of_socket(
+        alloc: Global,
+        listener: UnixListener,
+        output: Option<O>,
+    ) -> Result<Self, NoMemory>
+        ensures { IfOk result (λ clients. clients ≡ socket_alone (is_some output)) }
     {
+        let journal = match output {
+            Some(output) => Some(Journal::new(alloc, output)?),
+            None => None,
+        };
         Ok(Clients {
             alloc,
             listener: Some(listener),
+            journal,
             clients: Vec::new(alloc),
             ready: Ready::new(alloc)?,
             lines: 0,
@@ -132,7 +146,21 @@ impl<I: Read + Drop, O: Write + Drop> Clients<I, O> {
         ensures socket { self.new.has_socket ≡ self.old.has_socket }
         ensures lost { self.old.lost ≤ self.new.lost }
         ensures clients { AreWaitedFor self.old.clients self.new.clients }
+        ensures journal { JournalGoesOn self.old.journal self.new.journal }
         // Clients come in by the socket alone.
+        ensures no_more { self.old.has_socket ≡ false → length self.new.clients ≤ length self.old.clients }
+        ensures few { length self.new.clients ≤ MOST_CLIENTS }
+    {
+        self.wait_for_clients(most_ms);
+        self.write_journal();
+    }
+
+    /// The same, but that nothing is recorded.
+    fn wait_for_clients(&mut self, most_ms: i32)
+        ensures socket { self.new.has_socket ≡ self.old.has_socket }
+        ensures lost { self.old.lost ≤ self.new.lost }
+        ensures clients { AreWaitedFor self.old.clients self.new.clients }
+        ensures journal { self.new.journal ≡ self.old.journal }
         ensures no_more { self.old.has_socket ≡ false → length self.new.clients ≤ length self.old.clients }
         ensures few { length self.new.clients ≤ MOST_CLIENTS }
     {
@@ -143,6 +171,20 @@ impl<I: Read + Drop, O: Write + Drop> Clients<I, O> {
         self.forget();
         if self.ready.is_ready(0) {
             self.let_in();
+        }
+    }
+
+    /// The record of events takes what it can.
+    fn write_journal(&mut self)
+        ensures socket { self.new.has_socket ≡ self.old.has_socket }
+        ensures lost { self.old.lost ≤ self.new.lost }
+        ensures clients { self.new.clients ≡ self.old.clients }
+        ensures few { length self.new.clients ≤ MOST_CLIENTS }
+        ensures journal { JournalGoesOn self.old.journal self.new.journal }
+    {
+        if let Some(journal) = &mut self.journal {
+            journal.go_on();
+            self.lost = self.lost.saturating_add(journal.take_lost());
         }
     }
 
@@ -159,6 +201,7 @@ impl<I: Read + Drop, O: Write + Drop> Clients<I, O> {
         ensures socket { self.new.has_socket ≡ self.old.has_socket }
         ensures lost { self.old.lost ≤ self.new.lost }
         ensures clients { AreLeft self.old.clients self.new.clients }
+        ensures journal { self.new.journal ≡ self.old.journal }
         ensures no_more { length self.new.clients ≤ length self.old.clients }
     {
         let lost = take_lost(self.clients.as_mut_slice());
@@ -170,6 +213,7 @@ impl<I: Read + Drop, O: Write + Drop> Clients<I, O> {
     fn let_in(&mut self)
         ensures socket { self.new.has_socket ≡ self.old.has_socket }
         ensures lost { self.new.lost ≡ self.old.lost }
+        ensures journal { self.new.journal ≡ self.old.journal }
         ensures one { (self.new.clients ≡ self.old.clients) ⊎ (self.new.clients ≡ self.old.clients ++ silent ∷ []) }
         ensures none { self.old.has_socket ≡ false → self.new.clients ≡ self.old.clients }
         ensures few { length self.new.clients ≤ MOST_CLIENTS }
@@ -194,6 +238,7 @@ impl<I: Read + Drop, O: Write + Drop> Clients<I, O> {
         ensures none { IfNone result (AllZip HearsNoLine self.old.clients self.new.clients) }
         ensures heard { IfSome result (λ said. Hears said.0 said.1 self.old.clients self.new.clients) }
         ensures told { map (λ client. client.told) self.new.clients ≡ map (λ client. client.told) self.old.clients }
+        ensures journal { self.new.journal ≡ self.old.journal }
         ensures socket { self.new.has_socket ≡ self.old.has_socket }
         ensures lost { self.new.lost ≡ self.old.lost }
     {
@@ -224,13 +269,24 @@ impl<I: Read + Drop, O: Write + Drop> Clients<I, O> {
         self.clients.iter().any(|client| client.tells_events())
     }
 
-    /// Each client that wants events is told this line.
+    /// Whether an event is told to anyone, or recorded.
+    pub fn takes_events(&self) -> bool
+        ensures { result ≡ is_some self.now.journal || one_wants_events self.now.clients }
+    {
+        self.journal.is_some() || self.tell_events()
+    }
+
+    /// Each client that wants events is told this line, and it is recorded.
     pub fn tell(&mut self, line: &[u8])
         ensures told { AllZip (IsTold line.now) self.old.clients self.new.clients }
+        ensures journal { JournalTold line.now self.old.journal self.new.journal }
         ensures socket { self.new.has_socket ≡ self.old.has_socket }
         ensures lost { self.new.lost ≡ self.old.lost }
     {
         tell(self.clients.as_mut_slice(), line);
+        if let Some(journal) = &mut self.journal {
+            journal.tell(line);
+        }
     }
 
     /// Writes what clients are still to be told, for half a second at most.
@@ -240,10 +296,18 @@ impl<I: Read + Drop, O: Write + Drop> Clients<I, O> {
         ensures no_more { self.old.has_socket ≡ false → length self.new.clients ≤ length self.old.clients }
     {
         for _ in 0..MOST_FINISHING {
-            if !are_told(self.clients.as_mut_slice()) {
+            if !are_told(self.clients.as_mut_slice()) && !self.is_recording() {
                 return;
             }
             self.wait(FINISHING_MS);
+        }
+    }
+
+    /// Whether an event is to be recorded still.
+    fn is_recording(&self) -> bool {
+        match &self.journal {
+            Some(journal) => journal.is_writing(),
+            None => false,
         }
     }
 

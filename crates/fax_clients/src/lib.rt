@@ -6,6 +6,7 @@
 mod client;
 mod clients;
 mod inbox;
+mod journal;
 mod outbox;
 mod ready;
 mod stream;

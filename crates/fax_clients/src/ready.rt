@@ -64,3 +64,13 @@ impl Ready {
         }
     }
 }
+
+/// Whether a descriptor takes octets now.
+pub(crate) fn is_writable(descriptor: RawFd) -> bool {
+    let mut asked = [pollfd {
+        fd: descriptor,
+        events: POLLOUT,
+        revents: 0,
+    }];
+    poll(&mut asked, 0) > 0
+}

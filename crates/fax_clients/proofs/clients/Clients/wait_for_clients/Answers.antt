@@ -1,7 +1,7 @@
 use Rattle.std.proofs.Common.{◌≡◌, List, length, ap, subst, ◌∙◌, arith}
 use Rattle.fax_clients.specs.Clients.{AreLeft, AreServed, ClientValue, ClientsValue}
 use Rattle.fax_clients.proofs.WaitLemmas.{left_none, left_one, slice_back}
-use Rattle.fax_clients.proofs.clients.Clients.wait.Goals as goal
+use Rattle.fax_clients.proofs.clients.Clients.wait_for_clients.Goals as goal
 
 pub returns-then-is_ready-clause-clients : goal.returns-then-is_ready-clause-clients
 returns-then-is_ready-clause-clients g c =
