@@ -4,11 +4,12 @@ import json
 import os
 import signal
 import struct
+import subprocess
 import termios
 import time
 
 from calls import CALLER_DCN, CALLER_EOP, FINE_DCS, FINE_DIS, MCF, PAGE, PREAMBLE, RTN, TRAINING, Called, Caller, image
-from server import Play, event_line, on_time, until
+from server import Play, Server, event_line, on_time, until
 
 # The most lines that wait for a client, beside the one that is being written.
 MOST_WAITING = 1024
@@ -31,6 +32,30 @@ class Told(Play):
             self.assertEqual(
                 event_line(client.event("rung")), '{"event":"rung","line":"a1","at":N,"call":1,"tag":null}'
             )
+
+    def test_events_are_recorded(self):
+        """All events go to standard output beside a control socket; nobody hears them there, so no question is asked."""
+        server = self.serve(self.line(called_peer=False))
+        self.assertEqual(server.say("ring a1 tag"), ["ok 0"])
+        recorded = until(lambda: server.output().splitlines()[1:])
+        self.assertEqual(
+            [event_line(json.loads(line)) for line in recorded],
+            ['{"event":"rung","line":"a1","at":N,"call":0,"tag":"tag"}'],
+        )
+
+    def test_a_record_that_nobody_takes_holds_up_nobody(self):
+        """Where standard output takes nothing any more, the server goes on."""
+        reader, writer = os.pipe()
+        server = Server([self.line()])
+        self.addCleanup(server.close)
+        server.process = server._begin(["serve", "--config", server.path("lines.toml")], stdin=subprocess.DEVNULL, stdout=writer)
+        os.close(writer)
+        until(server._answers)
+        os.close(reader)
+        for number in range(3):
+            self.assertEqual(server.say("ring a1"), [f"ok {number}"])
+            self.assertEqual(server.say("hangup a1 calling"), ["ok"])
+            until(lambda: "calling idle" in server.say("status")[0])
 
     def test_moments_are_milliseconds_since_the_begin(self):
         server = self.serve(self.line())

@@ -35,7 +35,7 @@ const SECOND_MS: u64 = 1_000;
 
 /// Serves the lines of a configuration until it is told to stop, or its spool has failed and no line has a call, 10 s after the failure
 /// at the earliest: then it is to be served by another run, over a spool that is opened anew. Words come on the control socket where
-/// the configuration has one, and else on the input, whose answers and events go to the output. The spool has failed so often in runs
+/// the configuration has one, and else on the input, whose answers go to the output; events go there in any case. The spool has failed so often in runs
 /// before this one. An `Err` tells why nothing was served.
 pub fn run_serve<
     N: Net + Files + Clock + Folders,
@@ -60,7 +60,7 @@ pub fn run_serve<
         Some(path) => {
             let path = path.as_str();
             let listener = open_control(system, path)?;
-            let clients: Clients<I, O> = Clients::of_socket(alloc, listener)?;
+            let clients: Clients<I, O> = Clients::of_socket(alloc, listener, Some(output))?;
             let served = serve_with_sip(
                 system,
                 alloc,

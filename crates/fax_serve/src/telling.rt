@@ -76,7 +76,7 @@ impl<I: Read + Drop, O: Write + Drop> Teller<I, O> {
 
     /// Tells an event of the line of this name, or of all of them. Without memory it is lost.
     pub(crate) fn tell_event(&mut self, line: Option<&str>, at: u64, what: What<'_>) {
-        if !self.clients.tell_events() {
+        if !self.clients.takes_events() {
             return;
         }
         match write_event(self.alloc, &Event { line, at, what }) {

@@ -35,7 +35,7 @@ pub fn answer_unserved<N: Net + Files + Clock>(
         Err(error) => return Err(ServeFault::Clock(error)),
     };
     let listener = open_control(system, path)?;
-    let mut clients: Clients<UnixStream, UnixStream> = Clients::of_socket(alloc, listener)?;
+    let mut clients: Clients<UnixStream, UnixStream> = Clients::of_socket(alloc, listener, None)?;
     let said = answer_until(&watch, alloc, &mut clients, within_ms);
     clients.finish();
     close_control(system, path);

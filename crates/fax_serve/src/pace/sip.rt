@@ -99,7 +99,7 @@ impl<'a, C: Clock, I: Read + Drop, O: Write + Drop> RealPace<'a, C, I, O> {
         let Some(told) = sip.service.next_told() else {
             return false;
         };
-        if self.teller.clients.tell_events()
+        if self.teller.clients.takes_events()
             && let Ok(line) = sip.service.event_line(&told, self.now)
         {
             self.teller.clients.tell(line.as_slice());
