@@ -1,10 +1,14 @@
 //! The control socket.
 use crate::fault::ServeFault;
-use std::fs::Files;
+use std::fs::{Files, Permissions};
 use std::io::ErrorKind;
 use std::net::Net;
+use std::os::unix::fs::PermissionsExt;
 use std::os::unix::net::{UnixListener, UnixStream};
 use std::{fs, io};
+
+/// Its owner and its group read and write, and nobody else.
+const OWNER_AND_GROUP: u32 = 0o660;
 
 /// Opens the control socket at this path. A file that a server left there which is gone is removed.
 pub(crate) fn open_control<N: Net + Files>(
@@ -26,9 +30,10 @@ pub(crate) fn open_control<N: Net + Files>(
     }
 }
 
-/// A listener that does not wait.
+/// A listener that does not wait. Its owner and its group may connect, where the folder lets them.
 fn bind<N: Net + Files>(system: &N, path: &str) -> io::Result<UnixListener> {
     let listener = UnixListener::bind(system, path)?;
+    fs::set_permissions(system, path, Permissions::from_mode(OWNER_AND_GROUP))?;
     listener.set_nonblocking(true)?;
     Ok(listener)
 }
