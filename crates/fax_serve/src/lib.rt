@@ -7,6 +7,7 @@ mod control;
 mod failures;
 mod fault;
 pub mod laws;
+mod named_fault;
 mod pace;
 mod redials;
 mod run;
@@ -24,6 +25,7 @@ mod watch;
 
 pub use fault::ServeFault;
 pub use fax_desk::RunEnd;
+pub use named_fault::NamedFault;
 pub use pace::RealPace;
 pub use run::{run_serve, serve_clients};
 pub use schedule::Schedule;
