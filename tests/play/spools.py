@@ -3,6 +3,7 @@ import contextlib
 import hashlib
 import os
 import resource
+import stat
 import struct
 import time
 import unittest
@@ -529,7 +530,19 @@ class Folders(Spooling):
         self.refused(other, "another process has this spool")
         server.kill()
         os.rename(server.spool, server.path("away"))
-        self.refused(server, "spool: ")
+        self.refused(server, f"spool: {server.spool}: ")
+
+    def test_its_user_alone_reads_it(self):
+        server = self.serve(Line(self.ports))
+        for name in ("pages", "pages-wal", "undelivered", "undelivered-wal"):
+            self.assertEqual(stat.S_IMODE(os.stat(os.path.join(server.spool, name)).st_mode), 0o600, name)
+
+    def test_nobody_else_may_write_to_it(self):
+        for rights in (0o720, 0o702):
+            server = Server([Line(self.ports)], spool=True)
+            self.addCleanup(server.close)
+            os.chmod(server.spool, rights)
+            self.refused(server, f"spool: {server.spool}: others may write to the folder")
 
 
 if __name__ == "__main__":

@@ -8,6 +8,7 @@ mod failures;
 mod looking;
 mod pictures;
 mod refusals;
+mod rights;
 mod run;
 mod saying;
 mod serving;

@@ -4,9 +4,10 @@ ghost use Rattle.fax_program.specs.Statuses.{IsEndedBy, IsToldAs};
 
 use crate::descriptors::{descriptor_limit, most_descriptors};
 use crate::failures::tell_unprinted;
+use crate::rights::{RightsFault, keep_from_others};
 use fax_command::Status;
 use fax_config::{Config, ConfigFault, Misfit, read_config};
-use fax_serve::{RunEnd, ServeFault, answer_unserved, run_serve};
+use fax_serve::{NamedFault, RunEnd, ServeFault, answer_unserved, run_serve};
 use fax_spool_folder::{FolderFault, Folders};
 use sqlite_disk::Start;
 use std::fmt::Display;
@@ -41,6 +42,9 @@ impl Service {
         S: Start,
         T: Start,
     >(&mut self, rt: &R, system: &N, start: S, undelivered: T) -> Option<u8> {
+        if let Some(status) = self.tell_shared(rt, system) {
+            return Some(status.code());
+        }
         let ran = run_serve(
             system,
             rt.alloc(),
@@ -61,6 +65,22 @@ impl Service {
         }
     }
 
+    /// Where others may write to the folder of the spool, or read its files, and that cannot be changed, it is told, and the status
+    /// that says it. A folder that is not there, and a disk that has failed before, are told when the spool is opened.
+    fn tell_shared<R: Eprint + AllocGlobal, N: Files>(&self, rt: &R, system: &N) -> Option<Status> {
+        let folder = self.config.spool.as_ref()?.as_str();
+        let fault = match keep_from_others(system, rt.alloc(), folder) {
+            Ok(()) => return None,
+            Err(RightsFault::Io(error))
+                if self.failures > 0 || error.kind() == io::ErrorKind::NotFound => {
+                return None;
+            }
+            Err(fault) => fault,
+        };
+        let told = format_args!("spool: {folder}: {fault}");
+        Some(tell(rt, self.path.as_str(), told, Status::Usage))
+    }
+
     /// A run over a spool that was opened has ended so.
     fn end<R: Eprint>(&mut self, rt: &R, end: RunEnd) -> Option<Status> {
         self.told.clear();
@@ -78,11 +98,11 @@ impl Service {
         fault: ServeFault,
     ) -> Option<Status> {
         if self.failures == 0 {
-            return Some(tell_fault(rt, self.path.as_str(), fault));
+            return Some(self.tell_fault(rt, fault));
         }
         match fault {
             ServeFault::Spool(fault) => self.wait(rt, system, fault),
-            fault => Some(tell_fault(rt, self.path.as_str(), fault)),
+            fault => Some(self.tell_fault(rt, fault)),
         }
     }
 
@@ -100,7 +120,7 @@ impl Service {
         match answer_unserved(system, rt.alloc(), control.as_str(), BETWEEN_OPENINGS_MS) {
             Ok(true) => Some(Status::Done),
             Ok(false) => None,
-            Err(fault) => Some(tell_fault(rt, self.path.as_str(), fault)),
+            Err(fault) => Some(self.tell_fault(rt, fault)),
         }
     }
 
@@ -111,9 +131,23 @@ impl Service {
             Err(_) => String::new(rt.alloc()),
         };
         if text.is_empty() || self.told.as_str() != text.as_str() {
-            let _ = tell_fault(rt, self.path.as_str(), ServeFault::Spool(fault));
+            let _ = self.tell_fault(rt, ServeFault::Spool(fault));
         }
         self.told = text;
+    }
+
+    /// Tells why a run did not begin, and gives the status that says it.
+    fn tell_fault<R: Eprint>(&self, rt: &R, fault: ServeFault) -> Status {
+        let status = match &fault {
+            ServeFault::NoMemory => Status::NoMemory,
+            ServeFault::Spool(_) => Status::Usage,
+            _ => Status::Stream,
+        };
+        let named = NamedFault {
+            fault: &fault,
+            config: &self.config,
+        };
+        tell(rt, self.path.as_str(), named, status)
     }
 }
 
@@ -204,16 +238,6 @@ fn ended_by<R: Eprint>(rt: &R, path: &str, has_control: bool, end: RunEnd) -> Op
     }
     let status = tell(rt, path, "spool: its disk failed", Status::Usage);
     if has_control { None } else { Some(status) }
-}
-
-/// Tells why a run did not begin, and gives the status that says it.
-fn tell_fault<R: Eprint>(rt: &R, path: &str, fault: ServeFault) -> Status {
-    let status = match &fault {
-        ServeFault::NoMemory => Status::NoMemory,
-        ServeFault::Spool(_) => Status::Usage,
-        _ => Status::Stream,
-    };
-    tell(rt, path, fault, status)
 }
 
 /// Tells that memory was wanted and refused.
