@@ -1,14 +1,18 @@
 """Jobs that could not be delivered, tried again over redial lines: after a while that the configuration says, or since a word says so."""
 import contextlib
+import itertools
 import json
 import os
 import random
+import re
 import threading
 import time
 
+import t4
+import tiff6
 from asked import NO_CALL, page, rows_of
 from calls import CALLED_DIS, CALLER_DCN, CALLER_EOP, CED, CFR, CHECK, GATEWAY_DIS, MCF, PREAMBLE, TRAINING, Called, Caller, image
-from server import LONGEST, Peer, address, event_line, until
+from server import LONGEST, Peer, Server, address, event_line, until
 from undelivered import Failing
 
 BUSY, IN_CALL, NO_LINE = ["refused 1 Busy"], ["refused 6 InCall"], ["refused 7 NoLine"]
@@ -261,49 +265,100 @@ class SomePages(Redialled):
         self.caller.send(PREAMBLE, CALLER_DCN)
 
 
-class Killed(Redialled):
-    """Servers that are killed at random moments while jobs fail, are tried again and are delivered. FAXGATE_KILLS says how many."""
+class Driven(Redialled):
+    """Lines and redial lines, machines that call with pages of which no two are alike, and such as take them or are busy; and which pages
+    were confirmed, came, and are listed."""
 
-    def test_no_page_is_lost_by_servers_that_are_killed(self):
-        """Each page whose MCF its caller saw comes in the end."""
-        self.begin_redial(*[1] * 16, redials=2)
-        self.confirmed, self.got, self.rows = set(), set(), {}
-        self.ports_of = {"a1": self.a1.called, **{redial.name: redial.called for redial in self.redials}}
-        for number in range(KILLS):
-            caller = threading.Thread(target=self.call_once, args=(f"page-{number}", 1 + number % 5), daemon=True)
-            caller.start()
-            self.live(time.monotonic() + random.uniform(0.1, 3), lambda: random.random() < 0.5)
-            self.server.kill()
-            caller.join()
-            self.client.close()
-            self.server.start()
-            self.client = self.server.events()
-        end = time.monotonic() + LONGEST + KILLS
-        while not self.confirmed <= self.got and time.monotonic() < end:
+    LINES, REDIALS = 3, 6
+
+    def begin_driven(self, *after_seconds, set_up=None):
+        """A server of some lines and redial lines, which begins once its folder is set up."""
+        # pages, by the tag of their call and their number in it: those that were confirmed, and those that came
+        self.confirmed, self.got, self.wrong = set(), set(), []
+        # the tags of calls that a word dropped, and of those of which the server did not say so before it was killed
+        self.dropped, self.said, self.retried = set(), set(), 0
+        self.numbers, self.rows = itertools.count(), {}
+        self.redials = [Redial(self.ports, f"r{number + 1}") for number in range(self.REDIALS)]
+        self.lines = [self.line(f"a{number + 1}", called_peer=False) for number in range(self.LINES)]
+        self.callers = {line.name: Caller(self.peer(line, "calling")) for line in self.lines}
+        retry = [Retry(*after_seconds)] if after_seconds else []
+        self.server = Server([*self.lines, *retry, *self.redials], spool=True)
+        self.addCleanup(self.server.close)
+        if set_up:
+            set_up(self.server.spool)
+        self.server.start()
+        self.client = self.server.events()
+        self.ports_of = {line.name: line.called for line in (*self.lines, *self.redials)}
+
+    @staticmethod
+    def begin_thread(what, *words):
+        """A thread that does this, and ends by itself."""
+        thread = threading.Thread(target=what, args=words, daemon=True)
+        thread.start()
+        return thread
+
+    def missing(self):
+        """The pages that were confirmed, did not come, and were not dropped."""
+        return {page for page in self.confirmed - self.got if page[0] not in self.dropped | self.said}
+
+    def listed(self, told=""):
+        """The pages that `faxgate spool` lists, which stand in a TIFF of it as they were sent; what is harmed is told so, an expression."""
+        path = self.server.path("listed.tif")
+        process = self.server.run("spool", self.server.spool, "--tiff", path)
+        output, errors = process.communicate(timeout=LONGEST)
+        self.assertEqual(process.returncode, 0)
+        self.assertRegex(errors, f"^{told}$")
+        jobs = [json.loads(line) for line in output.splitlines()]
+        if not jobs:
+            return set()
+        with open(path, "rb") as file:
+            pages = [page.strip for page in tiff6.read(file.read())]
+        os.unlink(path)
+        self.assertEqual(len(pages), sum(job["pages"] for job in jobs))
+        sent = {tiff6.strip_of(rows): of_call for of_call, rows in self.rows.items()}
+        found = {sent[page] for page in pages}
+        self.assertEqual({of_call[0] for of_call in found}, {job["tag"] for job in jobs})
+        return found
+
+    def drain(self, within, aside=frozenset()):
+        """No call is refused any more, and what is undelivered is tried again by words, until all is there but for pages that are set aside."""
+        end = time.monotonic() + within
+        while self.missing() - aside and time.monotonic() < end:
             self.live(time.monotonic() + 1, lambda: False)
             for told in self.told():
-                if told["tag"] not in self.got:
-                    self.server.say(f"retry a1 {told['life']} {told['call']}")
-        self.assertEqual(self.confirmed - self.got, set(), "pages that are lost")
+                self.server.say(f"retry {told['line']} {told['life']} {told['call']}")
+        self.assertEqual((self.missing() - aside, self.wrong), (set(), []), "pages that are lost, and such as were not sent")
 
-    def call_once(self, tag, rows):
-        """A machine calls with this tag; a page of so many rows is confirmed, or the server is killed before."""
-        self.rows[tag] = rows
+    def call_once(self, line, tag):
+        """A machine calls with this tag, and sends a page or two; each is confirmed, or the server is killed before."""
         with contextlib.suppress(OSError, AssertionError, TimeoutError):
-            caller = Caller(self.caller.peer)
+            caller = self.callers[line.name]
             caller.forget()
-            if not self.server.say(f"ring a1 {tag}")[0].startswith("ok"):
+            if not self.server.say(f"ring {line.name} {tag}")[0].startswith("ok"):
                 return
             caller.wait_for(GATEWAY_DIS, within=3)
             caller.send(caller.dcs, TRAINING, CHECK)
             caller.wait_for(CFR, within=3)
-            caller.send(TRAINING, image(page(rows)), PREAMBLE, CALLER_EOP)
-            caller.wait_for(MCF, within=3)
-            self.confirmed.add(tag)
+            commands = random.choice([(CALLER_EOP,), (CALLER_MPS, CALLER_EOP)])
+            for number, command in enumerate(commands, 1):
+                self.send_page(caller, (tag, number), command)
             caller.send(PREAMBLE, CALLER_DCN)
 
+    def send_page(self, caller, of_call, command):
+        """A page that no other is like is sent and confirmed."""
+        self.rows[of_call] = rows = self.rows_of(next(self.numbers))
+        caller.send(TRAINING, image(t4.text(rows).hex()), PREAMBLE, command)
+        caller.wait_for(MCF, within=3)
+        self.confirmed.add(of_call)
+
+    @staticmethod
+    def rows_of(number):
+        """The rows of the page of this number, which no other has."""
+        high, low = divmod(number, 1_600)
+        return 3 * [[low + 1, high + 1, 1_726 - low - high]]
+
     def live(self, end, is_refused):
-        """Answers the questions of the server up to a moment: each call is refused, or goes to a machine that takes the page."""
+        """Answers the questions of the server up to a moment: each call is refused, or goes to a machine that takes its pages."""
         while time.monotonic() < end:
             line = self.client.line(0.05)
             if line is not None:
@@ -311,28 +366,91 @@ class Killed(Redialled):
             events, self.client.events = self.client.events, []
             for event in events:
                 if event["event"] == "dial" and "seconds" in event:
-                    self.answer(event, is_refused())
+                    self.answer(event["line"], event["tag"], is_refused)
 
-    def answer(self, event, is_refused):
-        """A question is answered."""
-        line = event["line"]
-        if is_refused:
+    def answer(self, line, tag, is_refused):
+        """A question is answered. A machine that takes the first page may be gone after it."""
+        if is_refused():
             self.client.say(f"refuse {line} busy")
             return
         peer = Peer(0, self.ports_of[line])
-        machine = threading.Thread(target=self.take_page, args=(Called(peer), event["tag"]), daemon=True)
-        machine.start()
+        self.begin_thread(self.take_pages, Called(peer), line, tag, is_refused())
         self.client.say(f"peer {line} called {address(peer.socket.getsockname()[1])}")
 
-    def take_page(self, machine, tag):
-        """A machine takes the page of this tag, and has it before it confirms it."""
+    def take_pages(self, machine, line, tag, leaves):
+        """A machine takes the pages of this tag, and has each before it confirms it."""
         with contextlib.closing(machine.peer), contextlib.suppress(OSError, AssertionError, ValueError):
             machine.answer()
             machine.wait_for_image()
             machine.send(PREAMBLE, CFR)
-            rows = rows_of(machine.wait_for_image())
-            machine.wait_for(CALLER_EOP)
-            if rows == self.rows[tag]:
-                self.got.add(tag)
-            machine.send(PREAMBLE, MCF)
+            command = CALLER_MPS
+            while command == CALLER_MPS:
+                text = machine.wait_for_image()
+                command = machine.wait_for(CALLER_MPS, CALLER_EOP)
+                self.come(tag, text)
+                machine.send(PREAMBLE, MCF)
+                if leaves and command == CALLER_MPS:
+                    self.server.say(f"hangup {line} called")
+                    return
             machine.wait_for(CALLER_DCN)
+
+    def come(self, tag, text):
+        """A page came in a call of this tag."""
+        pages = [of_call for of_call, rows in list(self.rows.items()) if of_call[0] == tag and marks(t4.text(rows).hex()) == marks(text)]
+        self.got.update(pages)
+        if len(pages) != 1:
+            self.wrong.append((tag, text))
+
+
+def marks(text):
+    """The text of a page, each EOL of which is a mark, whatever fill stands before it."""
+    return re.sub("0{11,}1", "E", f"{int(text, 16):0{4 * len(text)}b}").rstrip("0")
+
+
+class Killed(Driven):
+    """Servers that are killed at random moments while jobs fail, are tried again by the clock and by words, are dropped by a word, and are
+    delivered. FAXGATE_KILLS says how many."""
+
+    def test_no_page_is_lost_by_servers_that_are_killed(self):
+        """After each kill each page whose MCF its caller saw has come, is listed by `faxgate spool` as it was sent, or is of a call that a
+        word dropped; in the end each has come, or was dropped."""
+        self.begin_driven(*[1] * 16)
+        for number in range(KILLS):
+            callers = [self.begin_thread(self.call_once, line, f"page-{number}-{line.name}") for line in self.lines]
+            operator = self.begin_thread(self.say_words)
+            self.live(time.monotonic() + random.uniform(0.1, 4), lambda: random.random() < 0.5)
+            self.server.kill()
+            for thread in (*callers, operator):
+                thread.join()
+            self.client.close()
+            self.assertEqual(self.missing() - self.listed(), set(), "pages that are lost")
+            self.server.start()
+            self.client = self.server.events()
+        self.drain(LONGEST + 3 * KILLS)
+        if KILLS > 3:
+            print(
+                f"{KILLS} kills: {len(self.confirmed)} pages confirmed, {len(self.confirmed & self.got)} came, {len(self.dropped)} calls dropped,"
+                f" and {len(self.said)} by a word that was not answered; {self.retried} tried again by a word",
+                flush=True,
+            )
+
+    def say_words(self):
+        """Somebody looks at what is undelivered, and tries a job again or drops it, until the server is gone."""
+        with contextlib.suppress(OSError, AssertionError):
+            while True:
+                time.sleep(random.uniform(0, 1))
+                undelivered = self.told()
+                if undelivered:
+                    self.say_of(random.choice(undelivered))
+
+    def say_of(self, told):
+        """A word about a job that is undelivered: one of three drops it."""
+        call = f"{told['line']} {told['life']} {told['call']}"
+        if random.random() < 0.67:
+            self.retried += self.server.say(f"retry {call}") == ["ok"]
+            return
+        self.said.add(told["tag"])
+        answer = self.server.say(f"discard {call}")
+        self.said.discard(told["tag"])
+        if answer == ["ok"]:
+            self.dropped.add(told["tag"])
