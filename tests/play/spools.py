@@ -2,6 +2,7 @@
 import contextlib
 import hashlib
 import os
+import random
 import resource
 import stat
 import struct
@@ -257,6 +258,55 @@ class FilesTakeTurns(Spooling):
         self.assertEqual((counts["faxgate_records_damaged_total"], counts["faxgate_pages_kept"]), (1, 2))
         called.end()
         self.assertEqual(called.pages, [t4.text(ROW), t4.text(OTHER_ROW)])
+
+
+class SomethingElse(Spooling):
+    """A folder that has a file of the name of a spool's, which is none."""
+
+    OTHERS = {
+        "noise": random.Random(1).randbytes(5000),
+        "a database": b"SQLite format 3\0" + bytes(84) + random.Random(2).randbytes(4000),
+        "a text": b"Where do we go from here? " * 20,
+    }
+
+    def refused(self, **files):
+        """A server over these files, which ends at once, and writes nothing."""
+        server = Server([Line(self.ports)], spool=True)
+        self.addCleanup(server.close)
+        for name, octets in files.items():
+            self.write(server, name, octets)
+        process = server.run("serve", "--config", server.path("lines.toml"))
+        output, errors = process.communicate(timeout=PATIENCE)
+        self.assertEqual((process.returncode, output), (2, ""))
+        self.assertEqual(errors, f"faxgate: {server.path('lines.toml')}: spool: the folder has files of something else\n")
+        self.assertEqual({name: self.file(server, name) for name in files}, files)
+        return sorted(os.listdir(server.spool))
+
+    def test_it_is_not_written_over(self):
+        """In either file of the first pair; where it stands in the second one, the first has been opened before."""
+        for what, octets in self.OTHERS.items():
+            with self.subTest(what):
+                self.assertEqual(self.refused(pages=octets), ["pages"])
+                self.assertEqual(self.refused(**{"pages": b"", "pages-wal": octets}), ["pages", "pages-wal"])
+                self.assertEqual(self.refused(undelivered=octets), ["pages", "pages-wal", "undelivered"])
+
+    def test_what_a_crash_within_the_first_start_leaves_is_opened(self):
+        """An empty file, zeros, and any octets up to the length of what the first start writes."""
+        whole = file_of(*epochs(1))
+        draw = random.Random(3)
+        for number, octets in enumerate((b"", bytes(3), bytes(4096), b"\x07\x08\x09" + draw.randbytes(len(whole) - 3), SHUT + whole[3:50], whole)):
+            with self.subTest(number):
+                server = self.serve(Line(self.ports), files={"pages": octets})
+                self.assertEqual(server.say("status")[-2][:11], "spool keeps")
+                server.close()
+
+    def test_a_file_beside_a_spool_is_passed_over(self):
+        """The other one has records."""
+        line = Line(self.ports)
+        self.silent(line)
+        server = self.serve(line, files={"pages": self.OTHERS["noise"], "pages-wal": file_of(*epochs(1), page(b"a1", 1, 0, 1, kept(ROW)))})
+        counts = server.metrics()
+        self.assertEqual((counts["faxgate_pages_kept"], counts["faxgate_octets_passed_over_total"]), (1, 5000))
 
 
 class DamagedRecords(Spooling):

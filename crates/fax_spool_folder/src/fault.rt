@@ -12,7 +12,7 @@ pub enum FolderFault {
     Io(io::Error),
     /// Memory was refused.
     NoMemory,
-    /// A file that SQLite left stands beside it: the folder is no spool's.
+    /// Nothing of a spool can be read in its files, or one that SQLite left stands beside them: the folder is no spool's.
     Foreign,
 }
 

@@ -5,6 +5,7 @@ ghost use Rattle.fax_spool.specs.Spools.{AreClean, files_of};
 ghost use Rattle.fax_spool.specs.Opened.{IsOpened};
 
 use crate::fault::FolderFault;
+use crate::foreign::{are_foreign, beginning_of};
 use fax_spool::{OpenedSpool, open_spool};
 use sqlite_disk::{Disk, Files, Start};
 use sqlite_std_file::{FileFrom, open};
@@ -42,7 +43,7 @@ pub fn open_undelivered_folder<S: Start>(
     open_pair(rt, path.as_str(), start)
 }
 
-/// Opens a spool over the file of this path and the one beside it.
+/// Opens a spool over the file of this path and the one beside it, unless they are something else's: then nothing is written.
 fn open_pair<S: Start>(
     rt: &HostRuntime,
     path: &str,
@@ -52,6 +53,12 @@ fn open_pair<S: Start>(
         → IsOpened ⟦<FileFrom<S> as Disk>⟧.seen ⟦<FileFrom<S> as Disk>⟧.may_leave ⟦<FileFrom<S> as Disk>⟧.is_usable S.db S.log opened) }
     ensures accepts { IfOk result (λ opened. Accepts opened.spool) }
 {
+    let beside = format!(in rt.alloc(); "{path}-wal")?;
+    let one = beginning_of(rt, rt.alloc(), path)?;
+    let other = beginning_of(rt, rt.alloc(), beside.as_str())?;
+    if are_foreign(one.as_slice(), other.as_slice()) {
+        return Err(FolderFault::Foreign);
+    }
     let files = open(rt, path, start)?;
     let Files { log, db } = files;
     Ok(open_spool(rt.alloc(), db, log)?)

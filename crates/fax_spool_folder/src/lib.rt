@@ -3,6 +3,7 @@
 
 mod fault;
 mod folder;
+mod foreign;
 mod pages;
 
 pub use fault::FolderFault;
