@@ -320,14 +320,14 @@ class Driven(Redialled):
         self.assertEqual({of_call[0] for of_call in found}, {job["tag"] for job in jobs})
         return found
 
-    def drain(self, within, aside=frozenset()):
-        """No call is refused any more, and what is undelivered is tried again by words, until all is there but for pages that are set aside."""
+    def drain(self, within):
+        """No call is refused any more, and what is undelivered is tried again by words, until all is there."""
         end = time.monotonic() + within
-        while self.missing() - aside and time.monotonic() < end:
+        while self.missing() and time.monotonic() < end:
             self.live(time.monotonic() + 1, lambda: False)
             for told in self.told():
                 self.server.say(f"retry {told['line']} {told['life']} {told['call']}")
-        self.assertEqual((self.missing() - aside, self.wrong), (set(), []), "pages that are lost, and such as were not sent")
+        self.assertEqual((self.missing(), self.wrong), (set(), []), "pages that are lost, and such as were not sent")
 
     def call_once(self, line, tag):
         """A machine calls with this tag, and sends a page or two; each is confirmed, or the server is killed before."""

@@ -11,7 +11,7 @@ import t4
 import tiff6
 from looking import LISTED, NEWER, NONE_OF_ROWS, OLDER, WIDE, InASpool
 from playing import OTHER_PAGE, OTHER_ROWS, PAGE, ROWS
-from spools import OTHER_ROW, ROW, epochs, file_of, page
+from spools import OTHER_ROW, ROW, epochs, file_of, kept, page
 from t4 import picture
 from t38 import EOM, EOP, MPS
 from terminals import STANDARD, InAFolder
@@ -89,6 +89,19 @@ class OneTiff(InASpool):
     def test_tiffinfo_tells_nothing_wrong(self):
         self.look("spool", "--tiff", "all.tif")
         self.assertEqual(libtiff_tool("tiffinfo", "-D", self.path("all.tif")).count(b"CCITT Group 3"), len(WAITING))
+
+    def test_tiff2pdf_makes_a_document_of_it(self):
+        self.look("spool", "--tiff", "all.tif")
+        self.assertEqual(libtiff_tool("tiff2pdf", self.path("all.tif")).count(b"/Type /Page "), len(WAITING))
+
+    def test_what_could_not_be_delivered_stands_after_it(self):
+        """And its card is no page."""
+        card = page(b"a5", 1, 0, 0, b"\x09" + bytes(16) + b"busy")
+        self.write("undelivered", file_of(*epochs(1), page(b"a5", 1, 0, 1, kept(OTHER_ROW)), card))
+        self.assertEqual(self.look("spool", "--tiff", "all.tif")[0], 0)
+        wanted = [*WAITING, (OTHER_ROW, 98)]
+        self.assertEqual(pages_by_libtiff(self.path("all.tif")), [(picture(rows), lines) for rows, lines in wanted])
+        self.assertEqual(libtiff_tool("tiffinfo", "-D", self.path("all.tif")).count(b"CCITT Group 3"), len(wanted))
 
     def test_those_of_one_job(self):
         self.assertEqual(self.look("spool", "a1", "1", "0", "--tiff", "a1.tif"), (0, LISTED[0], ""))
