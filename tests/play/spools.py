@@ -270,7 +270,7 @@ class SomethingElse(Spooling):
     }
 
     def refused(self, **files):
-        """A server over these files, which ends at once, and writes nothing."""
+        """A server over these files, which ends at once, and writes nothing: which of the spool's files have something then."""
         server = Server([Line(self.ports)], spool=True)
         self.addCleanup(server.close)
         for name, octets in files.items():
@@ -278,16 +278,17 @@ class SomethingElse(Spooling):
         process = server.run("serve", "--config", server.path("lines.toml"))
         output, errors = process.communicate(timeout=PATIENCE)
         self.assertEqual((process.returncode, output), (2, ""))
-        self.assertEqual(errors, f"faxgate: {server.path('lines.toml')}: spool: the folder has files of something else\n")
+        why = f"spool: {server.spool}: the folder has files of something else"
+        self.assertEqual(errors, f"faxgate: {server.path('lines.toml')}: {why}\n")
         self.assertEqual({name: self.file(server, name) for name in files}, files)
-        return sorted(os.listdir(server.spool))
+        return sorted(name for name in os.listdir(server.spool) if self.file(server, name))
 
     def test_it_is_not_written_over(self):
         """In either file of the first pair; where it stands in the second one, the first has been opened before."""
         for what, octets in self.OTHERS.items():
             with self.subTest(what):
                 self.assertEqual(self.refused(pages=octets), ["pages"])
-                self.assertEqual(self.refused(**{"pages": b"", "pages-wal": octets}), ["pages", "pages-wal"])
+                self.assertEqual(self.refused(**{"pages": b"", "pages-wal": octets}), ["pages-wal"])
                 self.assertEqual(self.refused(undelivered=octets), ["pages", "pages-wal", "undelivered"])
 
     def test_what_a_crash_within_the_first_start_leaves_is_opened(self):
