@@ -1,1 +1,4 @@
+pub mod Laws
+pub mod Numbers
+pub mod Services
 pub mod Words

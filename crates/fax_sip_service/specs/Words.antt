@@ -1,5 +1,5 @@
 -- What SIP says at the desk, and when (this project's profile).
-use Rattle.std.specs.Prelude.{◌≡◌, ℕ, min, max, nat_eq, Bool, true, false, List, Option, None, Some, option_map, slice_get, string_bytes}
+use Rattle.std.specs.Prelude.{◌≡◌, ℕ, ◌+◌, ◌/◌, ◌%◌, min, max, nat_eq, Bool, true, false, List, [], ◌∷◌, Option, None, Some, option_map, slice_get, string_bytes}
 use Rattle.fax_control.specs.declared.word.Bounds.{Bounds}
 use Rattle.fax_control.specs.declared.word.Word.{Word}
 use Rattle.fax_control.specs.declared.word.Word.TheVariants as word
@@ -11,9 +11,24 @@ use Rattle.fax_switch.specs.declared.media.FaxEnd.{FaxEnd}
 use Rattle.fax_switch.specs.declared.place.Leg.{Leg}
 use Rattle.fax_switch.specs.declared.place.Leg.TheVariants as places
 use Rattle.fax_switch.specs.declared.place.Place.{Place}
+use Rattle.fax_user_agent.specs.declared.out.LineOrder.{LineOrder}
+use Rattle.fax_user_agent.specs.declared.out.LineOrder.TheVariants as order
 use Rattle.fax_sip_service.specs.declared.line.SipLine.{SipLine}
 use Rattle.fax_sip_service.specs.declared.said.Said.{Said}
 use Rattle.fax_sip_service.specs.declared.said.Said.TheVariants as said
+
+-- the last three digits of a status
+abbrev pub digits_of : ℕ → List ℕ
+digits_of status = (48 + (status / 100) % 10) ∷ (48 + (status / 10) % 10) ∷ (48 + status % 10) ∷ []
+
+-- WHAT AN ORDER OF THE AGENT SAYS at the desk; audio is no word
+abbrev pub said_of : LineOrder → Option Said
+said_of (order.Ring call tag) = Some (said.Ring call tag)
+said_of (order.Peer place end is_moved) = Some (said.Peer place end is_moved)
+said_of (order.AudioOn place end) = None
+said_of (order.AudioOff place) = None
+said_of (order.Refuse place status) = Some (said.Refuse place (digits_of status))
+said_of (order.HangUp place) = Some (said.HangUp place)
 
 abbrev pub leg_of : Leg → LineLeg
 leg_of places.Calling = legs.Calling

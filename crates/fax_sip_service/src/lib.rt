@@ -5,7 +5,9 @@
 #![tactic(auto)]
 
 mod counting;
+pub mod laws;
 mod line;
+mod placing;
 mod said;
 mod service;
 mod setup;

@@ -1,4 +1,7 @@
 //! Lines, as SIP knows them.
+ghost use Rattle.std.specs.Prelude.{◌≡◌};
+ghost use Rattle.fax_sip_service.specs.Services.{leg_address};
+
 use fax_config::{LineConfig, RedialConfig};
 use fax_switch::Leg;
 use std::alloc::{AllocError, Global};
@@ -14,7 +17,9 @@ pub struct SipLine {
 
 impl SipLine {
     /// Where a leg of it is heard.
-    pub(crate) fn leg(&self, leg: Leg) -> SocketAddr {
+    pub(crate) fn leg(&self, leg: Leg) -> SocketAddr
+        ensures { result ≡ leg_address leg self.now }
+    {
         match leg {
             Leg::Calling => self.calling,
             Leg::Called => self.called,

@@ -1,6 +1,6 @@
 //! What SIP says at the desk: the words of a client.
 ghost use Rattle.std.specs.Prelude.{◌≡◌, true, option_map, IfSome, OnSome};
-ghost use Rattle.fax_sip_service.specs.Words.{Says, bounds_of, is_now, is_on_leg, leg_of, name_of, place_of};
+ghost use Rattle.fax_sip_service.specs.Words.{Says, bounds_of, digits_of, is_now, is_on_leg, leg_of, name_of, place_of, said_of};
 
 use crate::line::SipLine;
 use fax_control::{Bounds, PeerWord, RingWord, Word};
@@ -27,16 +27,10 @@ pub enum Said {
     HangUp(Place),
 }
 
-/// The digits of a status.
-fn digits_of(status: u16) -> [u8; 3] {
-    let hundreds = (status / 100 % 10) as u8;
-    let tens = (status / 10 % 10) as u8;
-    let ones = (status % 10) as u8;
-    [b'0' + hundreds, b'0' + tens, b'0' + ones]
-}
-
 /// What an order of the agent says; none where it says nothing of a line.
-pub(crate) fn said_of(order: LineOrder) -> Option<Said> {
+pub(crate) fn said_of(order: LineOrder) -> Option<Said>
+    ensures { result ≡ said_of order }
+{
     match order {
         LineOrder::Ring(call, tag) => Some(Said::Ring(call, tag)),
         LineOrder::Peer(place, end, is_moved) => Some(Said::Peer(place, end, is_moved)),
@@ -44,6 +38,16 @@ pub(crate) fn said_of(order: LineOrder) -> Option<Said> {
         LineOrder::HangUp(place) => Some(Said::HangUp(place)),
         LineOrder::AudioOn(_, _) | LineOrder::AudioOff(_) => None,
     }
+}
+
+/// The last three digits of a status.
+fn digits_of(status: u16) -> [u8; 3]
+    ensures { result ≡ digits_of status }
+{
+    let hundreds = (status / 100 % 10) as u8;
+    let tens = (status / 10 % 10) as u8;
+    let ones = (status % 10) as u8;
+    [b'0' + hundreds, b'0' + tens, b'0' + ones]
 }
 
 /// The leg, as words name it.

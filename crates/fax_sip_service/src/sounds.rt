@@ -1,6 +1,7 @@
 //! The audio of calls.
 use fax_audio::{Coding, PACKET_OCTETS, Signal, Start, Stream};
 use fax_switch::{AudioEnd, Leg, Place};
+use fax_user_agent::LineOrder;
 use rand_chacha::ChaCha20Rng;
 use rand_core::Rng;
 use std::alloc::{AllocError, Global};
@@ -69,7 +70,7 @@ impl Sounds {
     }
 
     /// From now on audio goes there, from this leg of a call. Where some went there before, it goes on.
-    pub fn begin(&mut self, place: Place, end: AudioEnd, now: u64) -> Result<(), AllocError> {
+    fn begin(&mut self, place: Place, end: AudioEnd, now: u64) -> Result<(), AllocError> {
         let coding = coding_of(end.coding);
         let before = self
             .sounds
@@ -89,6 +90,21 @@ impl Sounds {
             stream,
         })?;
         Ok(())
+    }
+
+    /// Audio begins as an order of the user agent says, and ends where it says a word of a leg.
+    pub fn obey(&mut self, order: &LineOrder, now: u64) -> Result<(), AllocError> {
+        match order {
+            LineOrder::AudioOn(place, end) => self.begin(*place, *end, now),
+            LineOrder::Ring(_, _) => Ok(()),
+            LineOrder::Peer(place, _, _)
+            | LineOrder::AudioOff(place)
+            | LineOrder::Refuse(place, _)
+            | LineOrder::HangUp(place) => {
+                self.end(*place);
+                Ok(())
+            }
+        }
     }
 
     /// No more audio goes out for this leg of a call.

@@ -1,0 +1,304 @@
+-- Each word of the switch is said.
+use Rattle.std.proofs.Common.{◌≡◌, ℕ, suc, zero, ◌+◌, ◌≤◌, ◌⊎◌, min, Bool, true, false, List, [], ◌∷◌, ◌++◌, map, Option, Some, None, Result, Ok, Err, inl, inr, ap, sym, subst, refl, ◌∙◌, append_assoc, arith}
+use Rattle.std.proofs.lemmas.List.{append-nil, map-append}
+use Rattle.std.proofs.lemmas.List.Concat.{flat_map-append}
+use Rattle.std.specs.Option.{option_to_list}
+use Rattle.std.specs.declared.net.socket_addr.SocketAddr.{SocketAddr}
+use Rattle.fax_desk.specs.declared.next.Reply.{Reply}
+use Rattle.fax_desk.specs.declared.next.Reply.TheVariants as reply
+use Rattle.fax_desk.specs.declared.tag.Tag.{Tag}
+use Rattle.fax_desk.specs.declared.told.LineEvent.{LineEvent}
+use Rattle.fax_desk.specs.declared.told.LineEvent.TheVariants as happened
+use Rattle.fax_sip.specs.declared.fault.SipFault.{SipFault}
+use Rattle.fax_sip.specs.Messages.{MessageText}
+use Rattle.fax_switch.specs.declared.action.LineAction.{LineAction}
+use Rattle.fax_switch.specs.declared.event.Event.{Event}
+use Rattle.fax_switch.specs.declared.event.Event.TheVariants.{Dialled}
+use Rattle.fax_switch.specs.declared.place.LineCall.{LineCall}
+use Rattle.fax_switch.specs.declared.place.Place.{Place}
+use Rattle.fax_switch.specs.Histories.{table_after}
+use Rattle.fax_switch.specs.Places.{called_place}
+use Rattle.fax_switch.specs.Tables.{Table, row}
+use Rattle.fax_user_agent.specs.declared.out.Heard.{Heard}
+use Rattle.fax_user_agent.specs.declared.out.Heard.TheVariants as heard
+use Rattle.fax_user_agent.specs.declared.out.LineOrder.{LineOrder}
+use Rattle.fax_user_agent.specs.declared.out.LineOrder.TheVariants as order
+use Rattle.fax_user_agent.specs.declared.out.Told.{Told}
+use Rattle.fax_user_agent.specs.Agents.{Agent, Hears, HearsDatagram, HearsDial, IsQuiet, MayHear}
+use Rattle.fax_user_agent.specs.Orders.{word_of, words_of}
+use Rattle.fax_sip_service.specs.declared.said.Said.{Said}
+use Rattle.fax_sip_service.specs.declared.said.Said.TheVariants as said
+use Rattle.fax_sip_service.specs.Laws.{Step, Came, Passed, Spoke, Waited, Ended, Answered, Happened, Stops, Stopped, Emptied, StepsBy, Passes, SaysItsWords, said_by, said_in, says, words_since}
+use Rattle.fax_sip_service.specs.Services.{Service, AndCollects, Answers, AnswersIf, Asks, Collects, Dials, DialsFrom, DialsIf, Does, DoesPart, DoesWhole, Ends, EndsEach, EndsIf, GoesOn, GoesOnTimes, Happens, HearsFrom, Holds, HoldsAndDials, IsNoted, IsRung, Keeps, KeepsIf, KeepsNews, Leaves, Refuses, RingsIf, RingsOn, TakesNews, TakesOrder, TakesOrders, Tells, counted, without_words, without_news}
+use Rattle.fax_sip_service.specs.Words.{said_of}
+
+-- what was said so far is right, if no memory was refused
+abbrev IsRight : ℕ → List Said → Service → Type 0
+IsRight most told service = service.lost ≡ 0 → SaysItsWords most told service
+
+none_counted : {P : Type 0} (lost : ℕ) → counted lost ≡ 0 → P
+none_counted lost h = absurd (omega (arith, h))
+
+-- ---- while no memory is refused, none was before
+
+does_lost : (whole part : Agent → Agent → Type 0) (old new : Service) → Does whole part old new → new.lost ≡ 0 → old.lost ≡ 0
+does_lost whole part old new (inl w) none = sym (ap (λ (s : Service). s.lost) w.rest) ∙ none
+does_lost whole part old new (inr p) none = none_counted old.lost (sym (ap (λ (s : Service). s.lost) p.rest) ∙ none)
+
+refuses_lost : (now : ℕ) (it : Said) (old new : Service) → Refuses now it old new → new.lost ≡ 0 → old.lost ≡ 0
+refuses_lost now (said.Ring call tag) old new r none = does_lost _ _ old new r none
+refuses_lost now (said.Peer place end is_moved) old new r none = does_lost _ _ _ new r none
+refuses_lost now (said.Refuse place digits) old new r none = sym (ap (λ (s : Service). s.lost) r) ∙ none
+refuses_lost now (said.HangUp place) old new r none = sym (ap (λ (s : Service). s.lost) r) ∙ none
+
+-- ---- orders are taken
+
+record Kept (told : List Said) (old new : Service) : Type 0 where
+  lost : old.lost ≡ 0
+  agent : new.agent ≡ old.agent
+  to_say : new.to_say ≡ old.to_say ++ told
+
+same_kept : (old new : Service) → new ≡ old → new.lost ≡ 0 → Kept [] old new
+same_kept old new is none = subst (λ (s : Service). Kept [] s new) is (record { lost = none; agent = refl; to_say = sym (append-nil new.to_say) })
+
+noted_kept : (old new : Service) → IsNoted old new → new.lost ≡ 0 → Kept [] old new
+noted_kept old new (inl is) none = same_kept old new is none
+noted_kept old new (inr is) none = none_counted old.lost (sym (ap (λ (s : Service). s.lost) is) ∙ none)
+
+keeps_kept : (now : ℕ) (it : Said) (old new : Service) → Keeps now it old new → new.lost ≡ 0 → Kept (it ∷ []) old new
+keeps_kept now it old new (inl is) none = record {
+  lost = sym (ap (λ (s : Service). s.lost) is) ∙ none;
+  agent = ap (λ (s : Service). s.agent) is;
+  to_say = ap (λ (s : Service). s.to_say) is;
+}
+keeps_kept now it old new (inr refused) none = none_counted old.lost (refuses_lost now it (record old { lost = counted old.lost }) new refused none)
+
+keeps_if_kept : (now : ℕ) (it : Option Said) (old new : Service) → KeepsIf now it old new → new.lost ≡ 0 → Kept (option_to_list it) old new
+keeps_if_kept now None old new is none = same_kept old new is none
+keeps_if_kept now (Some it) old new k none = keeps_kept now it old new k none
+
+then_kept : (one other : List Said) (old mid new : Service) → Kept one old mid → Kept other mid new → Kept (one ++ other) old new
+then_kept one other old mid new first second = record {
+  lost = first.lost;
+  agent = second.agent ∙ first.agent;
+  to_say = second.to_say ∙ ap (λ (l : List Said). l ++ other) first.to_say ∙ append_assoc old.to_say one other;
+}
+
+order_kept : (now : ℕ) (given : LineOrder) (old new : Service) → TakesOrder now given old new → new.lost ≡ 0 → Kept (option_to_list (said_of given)) old new
+order_kept now given old new (mid, noted, keeps) none =
+    let second = keeps_if_kept now (said_of given) mid new keeps none in
+    then_kept [] (option_to_list (said_of given)) old mid new (noted_kept old mid noted second.lost) second
+
+orders_kept : (now : ℕ) (orders : List LineOrder) (old new : Service) → TakesOrders now orders old new → new.lost ≡ 0 → Kept (says orders) old new
+orders_kept now [] old new is none = same_kept old new is none
+orders_kept now (given ∷ others) old new (mid, first, rest) none =
+    let later = orders_kept now others mid new rest none in
+    then_kept (option_to_list (said_of given)) (says others) old mid new (order_kept now given old mid first later.lost) later
+
+news_kept : (told : List Told) (old new : Service) → TakesNews told old new → new.lost ≡ 0 → Kept [] old new
+news_kept [] old new is none = same_kept old new is none
+news_kept (first ∷ others) old new (mid, inl is, rest) none =
+    let later = news_kept others mid new rest none in
+    then_kept [] [] old mid new (record { lost = sym (ap (λ (s : Service). s.lost) is) ∙ later.lost; agent = ap (λ (s : Service). s.agent) is; to_say = ap (λ (s : Service). s.to_say) is ∙ sym (append-nil old.to_say) }) later
+news_kept (first ∷ others) old new (mid, inr is, rest) none =
+    none_counted old.lost (sym (ap (λ (s : Service). s.lost) is) ∙ (news_kept others mid new rest none).lost)
+
+-- ---- each step
+
+-- what is not of the switch and says nothing
+same_right : (most : ℕ) (told : List Said) (old new : Service)
+    → new.agent.switch ≡ old.agent.switch → new.agent.words ≡ old.agent.words → new.to_say ≡ old.to_say → SaysItsWords most told old → SaysItsWords most told new
+same_right most told old new switch words to_say right = record {
+  past = right.past;
+  orders = right.orders;
+  switch = switch ∙ right.switch;
+  words = ap (λ (l : List LineAction). map word_of right.orders ++ l) words ∙ right.words;
+  same = ap (λ (l : List Said). told ++ l) to_say ∙ right.same;
+}
+
+collected : (most : ℕ) (told : List Said) (now : ℕ) (old new : Service) → IsRight most told old → Collects now old new → IsRight most told new
+collected most told now old new right collects none =
+    let news = news_kept collects.taken.agent.told (without_news collects.taken) new collects.tells none in
+    let kept = orders_kept now collects.orders (without_words old) collects.taken collects.takes news.lost in
+    let before = right kept.lost in
+    record {
+      past = before.past;
+      orders = before.orders ++ collects.orders;
+      switch = ap (λ (a : Agent). a.switch) news.agent ∙ ap (λ (a : Agent). a.switch) kept.agent ∙ before.switch;
+      words = ap (λ (l : List LineAction). map word_of (before.orders ++ collects.orders) ++ l) (ap (λ (a : Agent). a.words) news.agent ∙ ap (λ (a : Agent). a.words) kept.agent)
+          ∙ append-nil (map word_of (before.orders ++ collects.orders))
+          ∙ map-append word_of before.orders collects.orders
+          ∙ ap (λ (l : List LineAction). map word_of before.orders ++ l) collects.given
+          ∙ before.words;
+      same = ap (λ (l : List Said). told ++ l) (news.to_say ∙ append-nil collects.taken.to_say ∙ kept.to_say)
+          ∙ sym (append_assoc told old.to_say (says collects.orders))
+          ∙ ap (λ (l : List Said). l ++ says collects.orders) before.same
+          ∙ sym (flat_map-append (λ (given : LineOrder). option_to_list (said_of given)) before.orders collects.orders);
+    }
+
+-- the switch hears an event
+hears_right : (most : ℕ) (told : List Said) (now : ℕ) (event : Event) (old new : Service)
+    → new.to_say ≡ old.to_say → Hears now event old.agent new.agent → SaysItsWords most told old → SaysItsWords most told new
+hears_right most told now event old new to_say hears right =
+    let switch = hears.switch ∙ ap (λ (t : Table). row t now event) right.switch in
+    record {
+      past = (now, event) ∷ right.past;
+      orders = right.orders;
+      switch = switch;
+      words = ap (λ (l : List LineAction). map word_of right.orders ++ l) hears.words
+          ∙ sym (append_assoc (map word_of right.orders) old.agent.words (words_of new.agent.switch.entries))
+          ∙ ap (λ (l : List LineAction). l ++ words_of new.agent.switch.entries) right.words
+          ∙ ap (λ (t : Table). words_since most right.past ++ words_of t.entries) switch;
+      same = ap (λ (l : List Said). told ++ l) to_say ∙ right.same;
+    }
+
+-- what the agent does keeps what is right
+abbrev IsKept : (Agent → Agent → Type 0) → Type 0
+IsKept does = (most : ℕ) (told : List Said) (old new : Service) → new.to_say ≡ old.to_say → does old.agent new.agent → SaysItsWords most told old → SaysItsWords most told new
+
+does_right : (most : ℕ) (told : List Said) (whole part : Agent → Agent → Type 0) (old new : Service) → IsKept whole → IsRight most told old → Does whole part old new → IsRight most told new
+does_right most told whole part old new kept right (inl w) none =
+    kept most told old new (ap (λ (s : Service). s.to_say) w.rest) w.done (right (sym (ap (λ (s : Service). s.lost) w.rest) ∙ none))
+does_right most told whole part old new kept right (inr p) none = none_counted old.lost (sym (ap (λ (s : Service). s.lost) p.rest) ∙ none)
+
+event_kept : (now : ℕ) (event : Event) → IsKept (Hears now event)
+event_kept now event most told old new to_say hears right = hears_right most told now event old new to_say hears right
+
+one_kept : (now : ℕ) → IsKept (λ old new. (event : Event) × Hears now event old new)
+one_kept now most told old new to_say (event, hears) right = hears_right most told now event old new to_say hears right
+
+dial_kept : (now : ℕ) (on : LineCall) → IsKept (HearsDial now on)
+dial_kept now on most told old new to_say (choice, hears) right = hears_right most told now (Dialled on choice) old new to_say hears right
+
+quiet_kept : IsKept IsQuiet
+quiet_kept most told old new to_say quiet right = same_right most told old new quiet.switch quiet.words to_say right
+
+may_kept : (now : ℕ) (text : MessageText) → IsKept (MayHear now text)
+may_kept now text most told old new to_say (inl quiet) right = quiet_kept most told old new to_say quiet right
+may_kept now text most told old new to_say (inr (event, may, hears)) right = hears_right most told now event old new to_say hears right
+
+nothing_kept : (most : ℕ) (told : List Said) (old new : Service) → new.to_say ≡ old.to_say → new.agent ≡ old.agent → SaysItsWords most told old → SaysItsWords most told new
+nothing_kept most told old new to_say is right = same_right most told old new (ap (λ (a : Agent). a.switch) is) (ap (λ (a : Agent). a.words) is) to_say right
+
+datagram_kept : (now : ℕ) (trunk : Option ℕ) (message : Result MessageText SipFault) → IsKept (λ old new. (it : Heard) × HearsDatagram {E = Unit {0}} now trunk message (Ok it) old new)
+datagram_kept now trunk message most told old new to_say (heard.Stranger, (strange, is)) right = nothing_kept most told old new to_say is right
+datagram_kept now trunk message most told old new to_say (heard.NoMessage fault, (known, reads, is)) right = nothing_kept most told old new to_say is right
+datagram_kept now trunk message most told old new to_say (heard.Message, (known, text, reads, hears)) right = may_kept now text most told old new to_say hears right
+
+tells_right : (most : ℕ) (told : List Said) (now : ℕ) (event : Event) (old new : Service) → IsRight most told old → Tells now event old new → IsRight most told new
+tells_right most told now event old new right tells = does_right most told _ _ old new (event_kept now event) right tells
+
+times_right : (most : ℕ) (told : List Said) (now count : ℕ) (old new : Service) → IsRight most told old → GoesOnTimes now count old new → IsRight most told new
+times_right most told now zero old new right is = subst (λ s. IsRight most told s) (sym is) right
+times_right most told now (suc count) old new right (mid, earlier, once) = does_right most told _ _ mid new (one_kept now) (times_right most told now count old mid right earlier) once
+
+is_right : (most : ℕ) (told : List Said) (old new : Service) → IsRight most told old → new ≡ old → IsRight most told new
+is_right most told old new right is = subst (λ s. IsRight most told s) (sym is) right
+
+holds_right : (most : ℕ) (told : List Said) (place : Place) (old new : Service) → IsRight most told old → Holds place old new → IsRight most told new
+holds_right most told place old new right (inl is) none =
+    nothing_kept most told old new (ap (λ (s : Service). s.to_say) is) (ap (λ (s : Service). s.agent) is) (right (sym (ap (λ (s : Service). s.lost) is) ∙ none))
+holds_right most told place old new right (inr is) none = none_counted old.lost (sym (ap (λ (s : Service). s.lost) is) ∙ none)
+
+refuses_right : (most : ℕ) (told : List Said) (now : ℕ) (it : Said) (old new : Service) → IsRight most told old → Refuses now it old new → IsRight most told new
+refuses_right most told now (said.Ring call tag) old new right r = tells_right most told now _ old new right r
+refuses_right most told now (said.Peer place end is_moved) old new right r = tells_right most told now _ _ new (λ none. nothing_kept most told old _ refl refl (right none)) r
+refuses_right most told now (said.Refuse place digits) old new right r = is_right most told old new right r
+refuses_right most told now (said.HangUp place) old new right r = is_right most told old new right r
+
+rings_right : (most : ℕ) (told : List Said) (now call : ℕ) (on : LineCall) (leg : Option SocketAddr) (old new : Service) → IsRight most told old → RingsOn now call on leg old new → IsRight most told new
+rings_right most told now call on None old new right is = is_right most told old new right is
+rings_right most told now call on (Some address) old new right (mid, holds, tells) = tells_right most told now _ mid new (holds_right most told _ old mid right holds) tells
+
+rings_if_right : (most : ℕ) (told : List Said) (now call : ℕ) (on : Option LineCall) (old new : Service) → IsRight most told old → RingsIf now call on old new → IsRight most told new
+rings_if_right most told now call None old new right is = is_right most told old new right is
+rings_if_right most told now call (Some on) old new right rings = rings_right most told now call on _ old new right rings
+
+rung_right : (most : ℕ) (told : List Said) (now : ℕ) (it : Said) (on : Option LineCall) (old new : Service) → IsRight most told old → IsRung now it on old new → IsRight most told new
+rung_right most told now (said.Ring call tag) on old new right rings = rings_if_right most told now call on old new right rings
+rung_right most told now (said.Peer place end is_moved) on old new right is = is_right most told old new right is
+rung_right most told now (said.Refuse place digits) on old new right is = is_right most told old new right is
+rung_right most told now (said.HangUp place) on old new right is = is_right most told old new right is
+
+answers_right : (most : ℕ) (told : List Said) (now : ℕ) (it : Said) (answer : Reply) (old new : Service) → IsRight most told old → Answers now it answer old new → IsRight most told new
+answers_right most told now it reply.Done old new right is = is_right most told old new right is
+answers_right most told now it (reply.Rung call) old new right is = is_right most told old new right is
+answers_right most told now it (reply.RungOn rung) old new right rings = rung_right most told now it _ old new right rings
+answers_right most told now it (reply.Refused why) old new right refuses = refuses_right most told now it old new right refuses
+
+waited_right : (most : ℕ) (told : List Said) (now : ℕ) (waits : Option Said) (answer : Reply) (old new : Service) → IsRight most told old → AnswersIf now waits answer old new → IsRight most told new
+waited_right most told now None answer old new right is = is_right most told old new right is
+waited_right most told now (Some it) answer old new right (mid, answers, collects) =
+    collected most told now mid new (answers_right most told now it answer _ mid (λ none. nothing_kept most told old _ refl refl (right none)) answers) collects
+
+dials_right : (most : ℕ) (told : List Said) (now : ℕ) (on : LineCall) (old new : Service) → IsRight most told old → Dials now on old new → IsRight most told new
+dials_right most told now on old new right (inl w) none = dial_kept now on most told old new (ap (λ (s : Service). s.to_say) w.rest) w.done (right (sym (ap (λ (s : Service). s.lost) w.rest) ∙ none))
+dials_right most told now on old new right (inr (mid, part, takes)) none =
+    none_counted old.lost (sym (ap (λ (s : Service). s.lost) part.rest) ∙ (order_kept now (order.Refuse (called_place on) 500) mid new takes none).lost)
+
+dials_from_right : (most : ℕ) (told : List Said) (now : ℕ) (on : LineCall) (leg : Option SocketAddr) (old new : Service) → IsRight most told old → DialsFrom now on leg old new → IsRight most told new
+dials_from_right most told now on None old new right is = is_right most told old new right is
+dials_from_right most told now on (Some address) old new right (mid, (held, holds, dials), collects) =
+    collected most told now mid new (dials_right most told now on held mid (holds_right most told _ old held right holds) dials) collects
+
+dials_if_right : (most : ℕ) (told : List Said) (now : ℕ) (on : LineCall) (number : Option (List ℕ)) (leg : Option SocketAddr) (old new : Service) → IsRight most told old → DialsIf now on number leg old new → IsRight most told new
+dials_if_right most told now on None leg old new right is = is_right most told old new right is
+dials_if_right most told now on (Some number) leg old new right dials = dials_from_right most told now on leg old new right dials
+
+asks_right : (most : ℕ) (told : List Said) (now : ℕ) (on : Option LineCall) (tag : Option Tag) (old new : Service) → IsRight most told old → Asks now on tag old new → IsRight most told new
+asks_right most told now None tag old new right is = is_right most told old new right is
+asks_right most told now (Some on) tag old new right dials = dials_if_right most told now on _ _ old new right dials
+
+ends_right : (most : ℕ) (told : List Said) (now : ℕ) (place : Option Place) (old new : Service) → IsRight most told old → EndsIf now place old new → IsRight most told new
+ends_right most told now None old new right is = is_right most told old new right is
+ends_right most told now (Some place) old new right (mid, ends, collects) =
+    collected most told now mid new (tells_right most told now _ _ mid (λ none. nothing_kept most told old _ refl refl (right none)) ends) collects
+
+happens_right : (most : ℕ) (told : List Said) (now line : ℕ) (what : LineEvent) (old new : Service) → IsRight most told old → Happens now line what old new → IsRight most told new
+happens_right most told now line (happened.Asked job tag) old new right asks = asks_right most told now _ tag old new right asks
+happens_right most told now line (happened.Ended ended ending) old new right ends = ends_right most told now _ old new right ends
+happens_right most told now line (happened.Job report tag cause) old new right ends = ends_right most told now _ old new right ends
+happens_right most told now line (happened.Rung rung) old new right is = is_right most told old new right is
+happens_right most told now line (happened.NotKept lost) old new right is = is_right most told old new right is
+happens_right most told now line (happened.Page page tag) old new right is = is_right most told old new right is
+happens_right most told now line (happened.RefusedPage page tag) old new right is = is_right most told old new right is
+happens_right most told now line (happened.Dial dialled) old new right is = is_right most told old new right is
+happens_right most told now line (happened.Connected connected) old new right is = is_right most told old new right is
+
+leaves_right : (most : ℕ) (told : List Said) (now : ℕ) (before : Bool) (old new : Service) → IsRight most told old → Leaves now before old new → IsRight most told new
+leaves_right most told now true old new right is = is_right most told old new right is
+leaves_right most told now false old new right (mid, quiet, collects) =
+    collected most told now mid new (does_right most told _ _ _ mid quiet_kept (λ none. nothing_kept most told old _ refl refl (right none)) quiet) collects
+
+each_right : (most : ℕ) (told : List Said) (now : ℕ) (places : List Place) (old new : Service) → IsRight most told old → EndsEach now places old new → IsRight most told new
+each_right most told now [] old new right is = is_right most told old new right is
+each_right most told now (place ∷ others) old new right (mid, tells, rest) = each_right most told now others mid new (tells_right most told now _ old mid right tells) rest
+
+spoken : (most : ℕ) (told : List Said) (it : List Said) (old new : Service) → old.to_say ≡ it ++ new.to_say → new ≡ record old { to_say = new.to_say } → IsRight most told old → IsRight most (told ++ it) new
+spoken most told it old new first rest right none =
+    let before = right (sym (ap (λ (s : Service). s.lost) rest) ∙ none) in
+    record {
+      past = before.past;
+      orders = before.orders;
+      switch = ap (λ (s : Service). s.agent.switch) rest ∙ before.switch;
+      words = ap (λ (s : Service). map word_of before.orders ++ s.agent.words) rest ∙ before.words;
+      same = append_assoc told it new.to_say ∙ ap (λ (l : List Said). told ++ l) (sym first) ∙ before.same;
+    }
+
+step_right : (most : ℕ) (told : List Said) (step : Step) (old new : Service) → IsRight most told old → StepsBy step old new → IsRight most (told ++ said_by step) new
+step_right most told (Came now trunk message) old new right (mid, hears, collects) =
+    rw append-nil (collected most told now mid new (does_right most told _ _ old mid (datagram_kept now trunk message) right hears) collects)
+step_right most told (Passed now) old new right (mid, goes, collects) = rw append-nil (collected most told now mid new (times_right most told now goes.0 old mid right goes.1) collects)
+step_right most told (Spoke it) old new right speaks = spoken most told (option_to_list it) old new speaks.first speaks.rest right
+step_right most told (Waited it) old new right is = rw append-nil (subst (λ s. IsRight most told s) (sym is) (λ none. nothing_kept most told old _ refl refl (right none)))
+step_right most told (Ended now answer) old new right answers = rw append-nil (waited_right most told now old.waits answer old new right answers)
+step_right most told (Answered now it answer) old new right (mid, answers, collects) = rw append-nil (collected most told now mid new (answers_right most told now it answer old mid right answers) collects)
+step_right most told (Happened now line what) old new right happens = rw append-nil (happens_right most told now line what old new right happens)
+step_right most told (Stops now) old new right leaves = rw append-nil (leaves_right most told now old.is_leaving old new right leaves)
+step_right most told (Stopped now) old new right (mid, each, collects) =
+    rw append-nil (collected most told now mid new (each_right most told now old.places _ mid (λ none. nothing_kept most told old _ refl refl (right none)) each) collects)
+step_right most told Emptied old new right empties = rw append-nil (λ none. same_right most told old new empties.switch empties.words empties.to_say (right (sym empties.lost ∙ none)))
+
+pub each_word : (most : ℕ) (passed : List Step) (service : Service) → Passes most passed service → service.lost ≡ 0 → SaysItsWords most (said_in passed) service
+each_word most [] service (switch, words, to_say) none = record { past = []; orders = []; switch = switch; words = words; same = to_say }
+each_word most (step ∷ earlier) service (before, passes, steps) none = step_right most (said_in earlier) step before service (each_word most earlier before passes) steps none

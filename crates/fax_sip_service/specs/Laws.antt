@@ -1,0 +1,100 @@
+-- What SIP says at the desk, over whatever happens to it. Lists of steps have the newest first. (This project's profile.)
+use Rattle.std.specs.Prelude.{◌≡◌, ℕ, List, [], ◌∷◌, ◌++◌, map, Option, Some, Result}
+use Rattle.std.specs.List.{flat_map}
+use Rattle.std.specs.Option.{option_to_list}
+use Rattle.fax_desk.specs.declared.next.Reply.{Reply}
+use Rattle.fax_desk.specs.declared.told.LineEvent.{LineEvent}
+use Rattle.fax_sip.specs.declared.fault.SipFault.{SipFault}
+use Rattle.fax_sip.specs.Messages.{MessageText}
+use Rattle.fax_switch.specs.declared.action.LineAction.{LineAction}
+use Rattle.fax_switch.specs.declared.event.Event.{Event}
+use Rattle.fax_switch.specs.Histories.{table_after}
+use Rattle.fax_switch.specs.Tables.{begun}
+use Rattle.fax_user_agent.specs.declared.out.LineOrder.{LineOrder}
+use Rattle.fax_user_agent.specs.Orders.{word_of, words_of}
+use Rattle.fax_sip_service.specs.declared.said.Said.{Said}
+use Rattle.fax_sip_service.specs.Services.{Service, AndCollects, Answers, AnswersIf, EndsAll, GoesOn, Happens, HearsFrom, Leaves}
+use Rattle.fax_sip_service.specs.Words.{said_of}
+
+-- A datagram of this trunk came, which is this message, or none; time passed; what is to be said next was taken; what was said waits for the end of its order;
+-- that ended so; what was said was answered so; this happened on this line; the server stops; it has stopped; what is to be sent or told was taken.
+pub data Step : Type 0 where
+  Came : (now : ℕ) → (trunk : Option ℕ) → (message : Result MessageText SipFault) → Step
+  Passed : (now : ℕ) → Step
+  Spoke : (it : Option Said) → Step
+  Waited : (it : Said) → Step
+  Ended : (now : ℕ) → (answer : Reply) → Step
+  Answered : (now : ℕ) → (it : Said) → (answer : Reply) → Step
+  Happened : (now : ℕ) → (line : ℕ) → (what : LineEvent) → Step
+  Stops : (now : ℕ) → Step
+  Stopped : (now : ℕ) → Step
+  Emptied : Step
+
+-- what is to be said is taken from its head
+pub record Speaks (it : Option Said) (old new : Service) : Type 0 where
+  pub first : old.to_say ≡ option_to_list it ++ new.to_say
+  pub rest : new ≡ record old { to_say = new.to_say }
+
+-- what is to be sent, or told, is taken
+pub record Empties (old new : Service) : Type 0 where
+  pub switch : new.agent.switch ≡ old.agent.switch
+  pub words : new.agent.words ≡ old.agent.words
+  pub to_say : new.to_say ≡ old.to_say
+  pub lost : new.lost ≡ old.lost
+
+-- so each step is, by the contracts of the service
+abbrev pub StepsBy : Step → Service → Service → Type 0
+StepsBy (Came now trunk message) old new = AndCollects now (HearsFrom now trunk message) old new
+StepsBy (Passed now) old new = AndCollects now (GoesOn now) old new
+StepsBy (Spoke it) old new = Speaks it old new
+StepsBy (Waited it) old new = new ≡ record old { waits = Some it }
+StepsBy (Ended now answer) old new = AnswersIf now old.waits answer old new
+StepsBy (Answered now it answer) old new = AndCollects now (Answers now it answer) old new
+StepsBy (Happened now line what) old new = Happens now line what old new
+StepsBy (Stops now) old new = Leaves now old.is_leaving old new
+StepsBy (Stopped now) old new = EndsAll now old new
+StepsBy Emptied old new = Empties old new
+
+abbrev pub Passes : ℕ → List Step → Service → Type 0
+Passes most [] service = (service.agent.switch ≡ begun most) × (service.agent.words ≡ []) × (service.to_say ≡ [])
+Passes most (step ∷ earlier) service = (before : Service) × Passes most earlier before × StepsBy step before service
+
+-- what was said, oldest first
+abbrev pub said_by : Step → List Said
+said_by (Came now trunk message) = []
+said_by (Passed now) = []
+said_by (Spoke it) = option_to_list it
+said_by (Waited it) = []
+said_by (Ended now answer) = []
+said_by (Answered now it answer) = []
+said_by (Happened now line what) = []
+said_by (Stops now) = []
+said_by (Stopped now) = []
+said_by Emptied = []
+
+abbrev pub said_in : List Step → List Said
+said_in [] = []
+said_in (step ∷ earlier) = said_in earlier ++ said_by step
+
+-- the words of the switch to lines, oldest first, since what happened to it, newest first
+abbrev pub words_since : ℕ → List (ℕ × Event) → List LineAction
+words_since most [] = []
+words_since most (happening ∷ past) = words_since most past ++ words_of (table_after most (happening ∷ past)).entries
+
+-- what orders say
+abbrev pub says : List LineOrder → List Said
+says orders = flat_map (λ given. option_to_list (said_of given)) orders
+
+-- What happened to the switch, and the orders of the agent, which are its words: those that are taken say what was said and what is to be said.
+pub record SaysItsWords (most : ℕ) (said : List Said) (service : Service) : Type 0 where
+  pub past : List (ℕ × Event)
+  pub orders : List LineOrder
+  pub switch : service.agent.switch ≡ table_after most past
+  pub words : map word_of orders ++ service.agent.words ≡ words_since most past
+  pub same : said ++ service.to_say ≡ says orders
+
+-- EACH WORD OF THE SWITCH IS SAID, each once and in its order, while memory is not refused: the calls are those of the switch after what it heard, of which its
+-- own laws speak; what it has to say to lines since then is what the agent ordered; and these orders, in their order, are what was said at the desk and then what
+-- is still to be said.
+abbrev pub EachWordIsSaid : Type 0
+EachWordIsSaid = (most : ℕ) (passed : List Step) (service : Service) → Passes most passed service → service.lost ≡ 0 → SaysItsWords most (said_in passed) service
