@@ -34,6 +34,14 @@ pub record HearingValue : Type 0 where
 abbrev pub HasBegun : Option (List ℕ) → List ℕ → Type 0
 HasBegun part octets = (line : List ℕ) × IsBegun octets line × (part ≡ fitting line)
 
+-- this is so of each octets that have begun so
+abbrev pub EachBegun : Option (List ℕ) → (List ℕ → Type 0) → Type 0
+EachBegun part IsSo = (before : List ℕ) → HasBegun part before → IsSo before
+
+-- octets came, and no answer ended in them: after each that had begun
+abbrev pub GoesOnWith : (octets : List ℕ) → (old new : Option (List ℕ)) → Type 0
+GoesOnWith octets old new = EachBegun old (λ before. HasBegun new (before ++ octets))
+
 -- what octets are with whose end a line ended: an answer, where that was its last line, or one that is begun
 abbrev pub IsEnded : Option Last → Option (List ℕ) → List ℕ → Type 0
 IsEnded None part octets = HasBegun part octets
@@ -46,6 +54,10 @@ HasComeTo stays part (Some last) octets = IsTold stays last octets
 
 abbrev pub HasHeard : HearingValue → List ℕ → Type 0
 HasHeard hearing octets = HasComeTo hearing.stays hearing.part hearing.last octets
+
+-- more octets were heard: after each that had come to this
+abbrev pub HearsMore : (octets : List ℕ) → (old new : HearingValue) → Type 0
+HearsMore octets old new = (before : List ℕ) → HasHeard old before → HasHeard new (before ++ octets)
 
 -- what the last line said, where nothing more is waited for
 abbrev pub over : Bool → Option Last → Option Last

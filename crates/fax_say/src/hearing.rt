@@ -1,7 +1,7 @@
 //! How far an answer has come.
 ghost use Rattle.std.specs.Prelude.{◌≡◌, ◌<◌, ℕ, List, [], ◌++◌, None, Some, length, IfNone, IfSome, if◌then◌else◌};
 ghost use Rattle.fax_say.specs.Answers.{IsAnswer};
-ghost use Rattle.fax_say.specs.Hearings.{HasBegun, HasHeard, IsEnded, ending_after, over, waits};
+ghost use Rattle.fax_say.specs.Hearings.{EachBegun, GoesOnWith, HasHeard, HearsMore, IsEnded, ending_after, over, waits};
 
 use crate::ending::Ending;
 use crate::last::{Last, last_of};
@@ -41,7 +41,7 @@ impl Hearing {
 
     /// Takes octets that came, and gives the front of them that belongs to the answer, or is waited for after it.
     pub(crate) fn take<'a>(&mut self, octets: &'a [u8]) -> &'a [u8]
-        ensures heard { (before : List ℕ) → HasHeard self.old before → HasHeard self.new (before ++ result.now) }
+        ensures heard { HearsMore result.now self.old self.new }
         ensures front { (dropped : List ℕ) × (octets.now ≡ result.now ++ dropped) }
         ensures whole { over self.new.stays self.new.last ≡ None → result.now ≡ octets.now }
         ensures stays { self.new.stays ≡ self.old.stays }
@@ -55,7 +55,7 @@ impl Hearing {
     /// The same while the answer goes on.
     fn hear<'a>(&mut self, octets: &'a [u8]) -> &'a [u8]
         requires { self.old.last ≡ None }
-        ensures heard { (before : List ℕ) → HasHeard self.old before → HasHeard self.new (before ++ result.now) }
+        ensures heard { HearsMore result.now self.old self.new }
         ensures front { (dropped : List ℕ) × (octets.now ≡ result.now ++ dropped) }
         ensures whole { over self.new.stays self.new.last ≡ None → result.now ≡ octets.now }
         ensures stays { self.new.stays ≡ self.old.stays }
@@ -108,9 +108,9 @@ fn told<'a>(stays: bool, last: Last, octets: &'a [u8], front: &'a [u8]) -> &'a [
 
 /// The first line that ends in these octets and is the last of its answer: what it says, and the octets after it.
 fn last_line<'a>(lines: &mut ClientLines, octets: &'a [u8]) -> Option<(Last, &'a [u8])>
-    ensures none { IfNone result ((before : List ℕ) → HasBegun lines.old before → HasBegun lines.new (before ++ octets.now)) }
+    ensures none { IfNone result (GoesOnWith octets.now lines.old lines.new) }
     ensures some { IfSome result (λ found. (front : List ℕ) × (octets.now ≡ front ++ found.1.now)
-        × ((before : List ℕ) → HasBegun lines.old before → IsAnswer (before ++ front) found.0)) }
+        × EachBegun lines.old (λ before. IsAnswer (before ++ front) found.0)) }
 {
     let mut rest = octets;
     while let Some((last, after)) = next_line(lines, rest) {
@@ -124,9 +124,9 @@ fn last_line<'a>(lines: &mut ClientLines, octets: &'a [u8]) -> Option<(Last, &'a
 
 /// The first line that ends in these octets: what it says, if it is the last of its answer, and the octets after it.
 fn next_line<'a>(lines: &mut ClientLines, octets: &'a [u8]) -> Option<(Option<Last>, &'a [u8])>
-    ensures none { IfNone result ((before : List ℕ) → HasBegun lines.old before → HasBegun lines.new (before ++ octets.now)) }
+    ensures none { IfNone result (GoesOnWith octets.now lines.old lines.new) }
     ensures line { IfSome result (λ found. (front : List ℕ) × (octets.now ≡ front ++ found.1.now)
-        × ((before : List ℕ) → HasBegun lines.old before → IsEnded found.0 lines.new (before ++ front))) }
+        × EachBegun lines.old (λ before. IsEnded found.0 lines.new (before ++ front))) }
     ensures shorter { IfSome result (λ found. length found.1.now < length octets.now) }
 {
     let (heard, after) = lines.hear(octets);

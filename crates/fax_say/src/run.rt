@@ -2,7 +2,7 @@
 ghost use Rattle.std.specs.Prelude.{◌≡◌, ◌≢◌, ◌≤◌, ◌⊎◌, ◌++◌, ℕ, List, [], None, false, true, IfOk, OnErr, OnOk};
 ghost use Rattle.std.specs.Io.KnownBytes.{Appends};
 ghost use Rattle.fax_command.specs.Streams.{failed_after_write, greatest_count};
-ghost use Rattle.fax_say.specs.Hearings.{HasHeard, HasPrinted, HasPrintedAll, over};
+ghost use Rattle.fax_say.specs.Hearings.{HasPrinted, HasPrintedAll, HearsMore, over};
 ghost use Rattle.fax_say.specs.Sayings.{ended, waits_after};
 
 use crate::ending::Ending;
@@ -88,7 +88,7 @@ fn print<O: Sink>(
 ) -> Result<Option<Last>, WriteFault>
     ensures heard { OnOk result ((front dropped : List ℕ) × (octets.now ≡ front ++ dropped)
         × Appends (O.contents output.old) (O.contents output.new) front
-        × ((before : List ℕ) → HasHeard hearing.old before → HasHeard hearing.new (before ++ front))
+        × HearsMore front hearing.old hearing.new
         × (over hearing.new.stays hearing.new.last ≡ None → dropped ≡ [])) }
     ensures over { IfOk result (λ last. last ≡ over hearing.new.stays hearing.new.last) }
     ensures stays { hearing.new.stays ≡ hearing.old.stays }
