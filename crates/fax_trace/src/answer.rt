@@ -1,12 +1,12 @@
 //! What is answered to a script.
-ghost use Rattle.std.specs.Prelude.{ℕ, ◌≡◌, ◌++◌, false, List, Err, OnOk, OnErr};
+ghost use Rattle.std.specs.Prelude.{◌≡◌, ◌++◌, false, Err, OnOk, OnErr};
 ghost use Rattle.std.specs.Io.KnownBytes.{Appends};
-ghost use Rattle.fax_gateway.specs.declared.settings.Settings.{Settings as GatewaySettings};
 ghost use Rattle.fax_gateway.specs.Setups.{AreAllowed};
 ghost use Rattle.fax_command.specs.Statuses.{status_code};
 ghost use Rattle.fax_command.specs.Streams.{failed_after_write};
 ghost use Rattle.fax_command.specs.RowLines.{text_of_lines};
 ghost use Rattle.fax_trace.specs.Answers.{AnswersAfter, fault_lines};
+ghost use Rattle.fax_trace.specs.EachScript.{EachPlay};
 ghost use Rattle.fax_trace.specs.Rep.{HasPlayed, IsNew, status_of_answer, text_of_answer};
 
 use crate::event::event_of_line;
@@ -81,8 +81,8 @@ pub(crate) fn play(alloc: Global, script: &[u8], settings: Settings) -> PlayedSc
 
 /// The answer where playing ended so, after this text.
 fn answer_of(alloc: Global, outcome: Result<(), ScriptFault>, mut text: Vec<u8>) -> Answer
-    ensures { (set : GatewaySettings) (script : List ℕ) (lines : ℕ) → HasPlayed set script outcome lines text.items
-        → AnswersAfter set script lines (status_of_answer result) (text_of_answer result) }
+    ensures { EachPlay outcome text.items (λ settings script lines.
+        AnswersAfter settings script lines (status_of_answer result) (text_of_answer result)) }
 {
     match outcome {
         Ok(()) => Answer::Done(text),

@@ -1,10 +1,9 @@
 //! The playing of a script, event by event.
-ghost use Rattle.std.specs.Prelude.{ℕ, ◌≡◌, List, [], IfOk, OnOk, OnErr};
-ghost use Rattle.fax_call.specs.Writings.{IsWriting, Writing};
-ghost use Rattle.fax_gateway.specs.Setups.{AreAllowed, Setup};
+ghost use Rattle.std.specs.Prelude.{◌≡◌, IfOk, OnOk, OnErr};
+ghost use Rattle.fax_gateway.specs.Setups.{AreAllowed};
 ghost use Rattle.fax_trace.specs.declared.event.ScriptEvent.TheVariants as script;
-ghost use Rattle.fax_trace.specs.Playing.{PlayedScript};
-ghost use Rattle.fax_trace.specs.Rep.{HasAnswered, IsNew, IsPlaying, PlaysOn};
+ghost use Rattle.fax_trace.specs.EachScript.{AnswersByWriting, AnswersEvent, PlaysEvent};
+ghost use Rattle.fax_trace.specs.Rep.{IsNew};
 
 use crate::event::ScriptEvent;
 use crate::told::{lines_of_given, numbered_line, push_asked};
@@ -42,8 +41,7 @@ impl Player {
     /// Plays an event, and tells what the gateway answers, and the call that it asks for from then on. An `Err` leaves the text as
     /// it was.
     pub fn play(&mut self, event: ScriptEvent) -> Result<(), NoMemory>
-        ensures played { OnOk result ((setup : Setup) (writes : Writing) (old : PlayedScript) → IsWriting writes → IsPlaying setup writes old self.old
-            → PlaysOn setup writes old event self.new) }
+        ensures played { OnOk result (PlaysEvent self.old event self.new) }
         ensures err { OnErr result (self.new.text.items ≡ self.old.text.items) }
     {
         let was_asked = self.gateway.asked();
@@ -69,8 +67,8 @@ impl Player {
 
     /// Hands an event to the gateway: the lines of what it answers.
     fn answer(&mut self, event: ScriptEvent) -> Result<Vec<u8>, NoMemory>
-        ensures answered { IfOk result (λ lines. (setup : Setup) (writes : Writing) (old : PlayedScript) → IsWriting writes → IsPlaying setup writes old self.old
-            → HasAnswered setup writes old event lines.items self.new) }
+        ensures answered { IfOk result (λ lines.
+            AnswersByWriting self.old event lines.items self.new) }
         ensures text { self.new.text ≡ self.old.text }
     {
         match event {
@@ -85,8 +83,8 @@ impl Player {
 
     /// It rings at the last moment.
     fn ring(&mut self) -> Result<Vec<u8>, NoMemory>
-        ensures answered { IfOk result (λ lines. (setup : Setup) (writes : Writing) (old : PlayedScript) → IsPlaying setup writes old self.old
-            → HasAnswered setup writes old script.Ring lines.items self.new) }
+        ensures answered { IfOk result (λ lines.
+            AnswersEvent self.old script.Ring lines.items self.new) }
         ensures text { self.new.text ≡ self.old.text }
     {
         let alloc = self.alloc;
@@ -100,8 +98,8 @@ impl Player {
 
     /// The octets of a datagram come on the calling leg, at the last moment.
     fn hear_calling(&mut self, octets: &[u8]) -> Result<Vec<u8>, NoMemory>
-        ensures answered { IfOk result (λ lines. (setup : Setup) (writes : Writing) (old : PlayedScript) → IsPlaying setup writes old self.old
-            → HasAnswered setup writes old (script.FromCalling octets.now) lines.items self.new) }
+        ensures answered { IfOk result (λ lines.
+            AnswersEvent self.old (script.FromCalling octets.now) lines.items self.new) }
         ensures text { self.new.text ≡ self.old.text }
     {
         self.gateway.from_calling(octets, self.moment)?;
@@ -110,8 +108,8 @@ impl Player {
 
     /// The same on the called leg.
     fn hear_called(&mut self, octets: &[u8]) -> Result<Vec<u8>, NoMemory>
-        ensures answered { IfOk result (λ lines. (setup : Setup) (writes : Writing) (old : PlayedScript) → IsPlaying setup writes old self.old
-            → HasAnswered setup writes old (script.FromCalled octets.now) lines.items self.new) }
+        ensures answered { IfOk result (λ lines.
+            AnswersEvent self.old (script.FromCalled octets.now) lines.items self.new) }
         ensures text { self.new.text ≡ self.old.text }
     {
         self.gateway.from_called(octets, self.moment)?;
@@ -120,8 +118,8 @@ impl Player {
 
     /// Time goes on to a moment.
     fn tick(&mut self, moment: u64) -> Result<Vec<u8>, NoMemory>
-        ensures answered { IfOk result (λ lines. (setup : Setup) (writes : Writing) (old : PlayedScript) → IsWriting writes → IsPlaying setup writes old self.old
-            → HasAnswered setup writes old (script.Tick moment) lines.items self.new) }
+        ensures answered { IfOk result (λ lines.
+            AnswersByWriting self.old (script.Tick moment) lines.items self.new) }
         ensures text { self.new.text ≡ self.old.text }
     {
         self.go_on_to(moment);
@@ -131,8 +129,8 @@ impl Player {
 
     /// The call of the job that is asked for is placed at a moment.
     fn connect(&mut self, moment: u64) -> Result<Vec<u8>, NoMemory>
-        ensures answered { IfOk result (λ lines. (setup : Setup) (writes : Writing) (old : PlayedScript) → IsPlaying setup writes old self.old
-            → HasAnswered setup writes old (script.Connected moment) lines.items self.new) }
+        ensures answered { IfOk result (λ lines.
+            AnswersEvent self.old (script.Connected moment) lines.items self.new) }
         ensures text { self.new.text ≡ self.old.text }
     {
         let alloc = self.alloc;
@@ -149,8 +147,8 @@ impl Player {
 
     /// It could not be placed, at a moment.
     fn not_connected(&mut self, moment: u64) -> Result<Vec<u8>, NoMemory>
-        ensures answered { IfOk result (λ lines. (setup : Setup) (writes : Writing) (old : PlayedScript) → IsPlaying setup writes old self.old
-            → HasAnswered setup writes old (script.NotConnected moment) lines.items self.new) }
+        ensures answered { IfOk result (λ lines.
+            AnswersEvent self.old (script.NotConnected moment) lines.items self.new) }
         ensures text { self.new.text ≡ self.old.text }
     {
         let alloc = self.alloc;
