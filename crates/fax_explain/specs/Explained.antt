@@ -30,6 +30,13 @@ pub record HasTold (settings : Settings) (script : List ℕ) (outcome : Outcome)
   pub told : (setup : Setup) (writes : Writing) → AreSet setup settings → IsWriting writes → AreExplained setup writes events lines
   pub text_is : text ≡ text_of_lines lines
 
+-- this is so of the settings and the octets of each script that was told in this text, up to such
+-- an end
+abbrev pub EachTold : Outcome → (text : List ℕ) → (Settings → (script : List ℕ) → Type 0) → Type 0
+EachTold outcome text IsSo =
+    (settings : Settings) (script : List ℕ) → HasTold settings script outcome text
+    → IsSo settings script
+
 -- The exit status and the text that a run with these settings may answer to an input: its events are told, up to where playing
 -- ends, with the line of a fault that ends it.
 pub record Explains (settings : Settings) (input : List ℕ) (status : ℕ) (text : List ℕ) : Type 0 where

@@ -5,7 +5,7 @@ use Rattle.fax_udptl.specs.Datagrams.{DatagramValue}
 use Rattle.fax_udptl.specs.Slots.{newest_slots}
 use Rattle.fax_udptl.specs.Taking.{DecidedValue, Decides, IsAfter}
 use Rattle.fax_ifp.specs.Elements.{Slot}
-use Rattle.fax_ifp.specs.Pieces.{pieces}
+use Rattle.fax_ifp.specs.Pieces.{Piece, pieces}
 use Rattle.fax_ifp.specs.Tracked.{IsTracked}
 use Rattle.fax_explain.specs.declared.listener.Listener.{Listener}
 use Rattle.fax_explain.specs.Openings.{Opening, datagram_openings, octets_counted, unread_opening}
@@ -78,3 +78,39 @@ abbrev pub TellsDatagram : List DatagramValue → Result DatagramValue UdptlFaul
 TellsDatagram arrived (Ok datagram) lane old new =
     (decided : DecidedValue) × Decides arrived datagram decided × Adds lane (datagram_openings (newest_slots arrived) datagram.number decided) old new
 TellsDatagram arrived (Err fault) lane old new = Adds lane (unread_opening ∷ []) old new
+
+-- ---- over whatever came
+
+-- this is so of each list of datagrams that came to a listener, the newest first
+abbrev pub EachHearing : Listener → (List DatagramValue → Type 0) → Type 0
+EachHearing listener IsSo =
+    (arrived : List DatagramValue) → IsHearing arrived listener → IsSo arrived
+
+-- A DATAGRAM CAME: after each of them the new listener has heard it too, where it can be read
+abbrev pub HearsOn : (old : Listener) → Result DatagramValue UdptlFault → (new : Listener) → Type 0
+HearsOn old datagram new =
+    EachHearing old (λ arrived. IsHearing (arrived_with arrived datagram) new)
+
+-- what it brings after them is told in the lane of the listener
+abbrev pub TellsComing : Listener → Result DatagramValue UdptlFault → (old new : List Description)
+    → Type 0
+TellsComing listener datagram old new =
+    EachHearing listener (λ arrived. TellsDatagram arrived datagram listener.lane old new)
+
+-- and its lane stays
+abbrev pub StaysInLane : (old new : Listener) → Type 0
+StaysInLane old new = EachHearing old (λ arrived. new.lane ≡ old.lane)
+
+-- this is so of each list of slots that a listener has heard, the newest first
+abbrev pub EachHeard : Listener → (List Slot → Type 0) → Type 0
+EachHeard listener IsSo = (slots : List Slot) → HasHeard slots listener → IsSo slots
+
+-- SLOTS CAME: after each of them the new listener has heard these too, the newest first
+abbrev pub HearsSlots : (old : Listener) → List Slot → (new : Listener) → Type 0
+HearsSlots old came new = EachHeard old (λ slots. HasHeard (came ++ slots) new)
+
+-- this is so of each list of pieces, the newest first, whose octets since the last start a listener
+-- has counted
+abbrev pub EachCounted : Listener → (List Piece → Type 0) → Type 0
+EachCounted listener IsSo =
+    (before : List Piece) → listener.image.octets ≡ octets_counted before → IsSo before

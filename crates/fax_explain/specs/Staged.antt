@@ -5,6 +5,7 @@ use Rattle.fax_gateway.specs.Setups.{AreSet, Setup}
 use Rattle.fax_gateway.specs.Events.{Event, moment_of}
 use Rattle.fax_gateway.specs.Reached.{GatewayValue, IsReachedBy}
 use Rattle.fax_trace.specs.declared.event.ScriptEvent.{ScriptEvent}
+use Rattle.fax_trace.specs.declared.event.ScriptEvent.TheVariants.{Tick}
 use Rattle.fax_trace.specs.Playing.{PlayedScript, IsRefusal, moment_at, scripted}
 use Rattle.fax_explain.specs.declared.stage.Stage.{Stage}
 use Rattle.fax_explain.specs.Ladders.{HasAnswer, TellsPlay}
@@ -44,9 +45,66 @@ pub record PlaysOn (setup : Setup) (writes : Writing) (old : PlayedScript) (even
 abbrev pub IsNew : Stage → Type 0
 IsNew stage = (setup : Setup) (writes : Writing) → AreSet setup stage.gateway.settings → IsReachedBy setup writes [] stage.gateway
 
+-- ---- over whatever was played
+
+-- this is so of each setup, writing and script that led to a gateway
+abbrev pub EachScript : GatewayValue → (Setup → Writing → PlayedScript → Type 0) → Type 0
+EachScript gateway IsSo =
+    (setup : Setup) (writes : Writing) (played : PlayedScript)
+    → IsReachedBy setup writes played.trace gateway → IsSo setup writes played
+
+-- the same of those that told this moment last
+abbrev pub EachScriptTo : (moment : ℕ) → GatewayValue → (Setup → Writing → PlayedScript → Type 0)
+    → Type 0
+EachScriptTo moment gateway IsSo =
+    (setup : Setup) (writes : Writing) (played : PlayedScript) → moment ≡ played.moment
+    → IsReachedBy setup writes played.trace gateway → IsSo setup writes played
+
+-- the same of those after which an event comes at this moment, where pages are written as a right
+-- writing has them
+abbrev pub EachScriptBefore : ScriptEvent → (moment : ℕ) → GatewayValue
+    → (Setup → Writing → PlayedScript → Type 0) → Type 0
+EachScriptBefore event moment gateway IsSo =
+    (setup : Setup) (writes : Writing) (played : PlayedScript) → IsWriting writes
+    → moment ≡ moment_at event played.moment
+    → IsReachedBy setup writes played.trace gateway → IsSo setup writes played
+
+-- AN EVENT WAS ANSWERED: after each script that led to the old gateway this is told of the answer,
+-- and the new one has taken it
+abbrev pub AnswersEvent : (old : GatewayValue) → ScriptEvent → (told : List Description)
+    → (new : GatewayValue) → Type 0
+AnswersEvent old event told new =
+    EachScript old (λ setup writes played. HasAnswered setup writes played event told new)
+
+-- the same of an event that comes at the moment that was told last
+abbrev pub AnswersAt : (moment : ℕ) → (old : GatewayValue) → ScriptEvent → (told : List Description)
+    → (new : GatewayValue) → Type 0
+AnswersAt moment old event told new =
+    EachScriptTo moment old (λ setup writes played. HasAnswered setup writes played event told new)
+
+-- the same of a tick, where pages are written as a right writing has them
+abbrev pub AnswersTick : (moment : ℕ) → (old : GatewayValue) → (told : List Description)
+    → (new : GatewayValue) → Type 0
+AnswersTick moment old told new =
+    (setup : Setup) (writes : Writing) (played : PlayedScript) → IsWriting writes
+    → IsReachedBy setup writes played.trace old
+    → HasAnswered setup writes played (Tick moment) told new
+
+-- the same of any event, at its moment
+abbrev pub AnswersAny : ScriptEvent → (moment : ℕ) → (old : GatewayValue)
+    → (told : List Description) → (new : GatewayValue) → Type 0
+AnswersAny event moment old told new =
+    EachScriptBefore event moment old (λ setup writes played. HasAnswered setup writes played event told new)
+
+-- AN EVENT WAS PLAYED at its moment: this is told of it, and of the call that is asked for from
+-- then on
+abbrev pub PlaysEvent : ScriptEvent → (moment : ℕ) → (old : GatewayValue)
+    → (told : List Description) → (new : GatewayValue) → Type 0
+PlaysEvent event moment old told new =
+    EachScriptBefore event moment old (λ setup writes played. PlaysOn setup writes played event told new)
+
 -- one event more is played on a gateway, and a text tells it, all at this moment
 pub record TellsOn (event : ScriptEvent) (moment : ℕ) (text : List ℕ) (before after : GatewayValue) : Type 0 where
   pub told : List Description
   pub text_is : text ≡ paragraph_text moment told
-  pub plays : (setup : Setup) (writes : Writing) (old : PlayedScript) → IsWriting writes → moment ≡ moment_at event old.moment → IsReachedBy setup writes old.trace before
-      → PlaysOn setup writes old event told after
+  pub plays : PlaysEvent event moment before told after

@@ -1,10 +1,9 @@
 //! What is answered to a script.
-ghost use Rattle.std.specs.Prelude.{ℕ, ◌≡◌, ◌++◌, List, [], IfOk, OnOk, OnErr};
-ghost use Rattle.fax_gateway.specs.declared.settings.Settings.{Settings as GatewaySettings};
+ghost use Rattle.std.specs.Prelude.{◌≡◌, ◌++◌, [], IfOk, OnOk, OnErr};
 ghost use Rattle.fax_gateway.specs.Setups.{AreAllowed};
 ghost use Rattle.fax_trace.specs.Rep.{status_of_answer, text_of_answer};
 ghost use Rattle.fax_trace.specs.Playing.{moment_at};
-ghost use Rattle.fax_explain.specs.Explained.{Explains, HasTold};
+ghost use Rattle.fax_explain.specs.Explained.{EachTold, Explains, HasTold};
 ghost use Rattle.fax_explain.specs.Staged.{IsNew, TellsOn};
 
 use crate::stage::{FoundPage, Stage};
@@ -37,8 +36,8 @@ pub(crate) fn explain(alloc: Global, script: &[u8], settings: Settings) -> Expla
 
 /// The answer where playing ended so, after this text.
 fn answer_of(alloc: Global, outcome: Result<(), ScriptFault>, mut text: Vec<u8>) -> Answer
-    ensures { (set : GatewaySettings) (script : List ℕ) → HasTold set script outcome text.items
-        → Explains set script (status_of_answer result) (text_of_answer result) }
+    ensures { EachTold outcome text.items (λ settings script.
+        Explains settings script (status_of_answer result) (text_of_answer result)) }
 {
     match outcome {
         Ok(()) => Answer::Done(text),

@@ -1,8 +1,8 @@
 //! What is heard on the called leg.
-ghost use Rattle.std.specs.Prelude.{◌≡◌, ◌≢◌, ◌+◌, ◌-◌, ◌^◌, min, List, None, Some, OnOk};
-ghost use Rattle.fax_udptl.specs.Datagrams.{DatagramValue, datagram_of};
+ghost use Rattle.std.specs.Prelude.{◌≡◌, ◌≢◌, ◌+◌, ◌-◌, ◌^◌, min, None, Some, OnOk};
+ghost use Rattle.fax_udptl.specs.Datagrams.{datagram_of};
 ghost use Rattle.fax_explain.specs.Given.{GoesOnInLine, TellsGiven, arrived_after};
-ghost use Rattle.fax_explain.specs.Heard.{IsHearing, TellsDatagram, arrived_with};
+ghost use Rattle.fax_explain.specs.Heard.{EachHearing, HearsOn, IsHearing, StaysInLane, TellsComing};
 ghost use Rattle.fax_explain.specs.Places.{found_at, sent_place};
 
 use crate::listener::Listener;
@@ -101,11 +101,11 @@ impl CalledLeg {
 
     /// The octets of a datagram come from the called machine: what it brings is told.
     pub(crate) fn hear(&mut self, octets: &[u8], tale: &mut Tale) -> Result<(), NoMemory>
-        ensures told { OnOk result ((arrived : List DatagramValue) → IsHearing arrived self.old.theirs
-            → TellsDatagram arrived (datagram_of octets.now) self.old.theirs.lane tale.old tale.new) }
-        ensures hearing { OnOk result ((arrived : List DatagramValue) → IsHearing arrived self.old.theirs
-            → IsHearing (arrived_with arrived (datagram_of octets.now)) self.new.theirs) }
-        ensures lane { OnOk result ((arrived : List DatagramValue) → IsHearing arrived self.old.theirs → self.new.theirs.lane ≡ self.old.theirs.lane) }
+        ensures told { OnOk result
+            (TellsComing self.old.theirs (datagram_of octets.now) tale.old tale.new) }
+        ensures hearing { OnOk result
+            (HearsOn self.old.theirs (datagram_of octets.now) self.new.theirs) }
+        ensures lane { OnOk result (StaysInLane self.old.theirs self.new.theirs) }
         ensures call { self.new.call ≡ self.old.call }
         ensures before { self.new.before ≡ self.old.before }
     {
@@ -132,11 +132,11 @@ impl CalledLeg {
 
     /// The octets of a datagram come from the called machine while no call is on.
     pub(crate) fn hear_outside(&mut self, octets: &[u8], tale: &mut Tale) -> Result<(), NoMemory>
-        ensures told { OnOk result ((arrived : List DatagramValue) → IsHearing arrived self.old.theirs
-            → TellsDatagram arrived (datagram_of octets.now) self.old.theirs.lane tale.old tale.new) }
-        ensures hearing { OnOk result ((arrived : List DatagramValue) → IsHearing arrived self.old.theirs
-            → IsHearing (arrived_with arrived (datagram_of octets.now)) self.new.theirs) }
-        ensures lane { OnOk result ((arrived : List DatagramValue) → IsHearing arrived self.old.theirs → self.new.theirs.lane ≡ self.old.theirs.lane) }
+        ensures told { OnOk result
+            (TellsComing self.old.theirs (datagram_of octets.now) tale.old tale.new) }
+        ensures hearing { OnOk result
+            (HearsOn self.old.theirs (datagram_of octets.now) self.new.theirs) }
+        ensures lane { OnOk result (StaysInLane self.old.theirs self.new.theirs) }
         ensures left { self.new ≡ record self.old { theirs = self.new.theirs } }
     {
         self.theirs.end_call();
@@ -145,11 +145,11 @@ impl CalledLeg {
 
     /// What a tick gives on this leg is told.
     pub(crate) fn give(&mut self, given: &Given, tale: &mut Tale) -> Result<(), NoMemory>
-        ensures told { OnOk result ((arrived : List DatagramValue) → IsHearing arrived self.old.ours
-            → TellsGiven arrived given.now.called self.old.ours.lane tale.old tale.new) }
-        ensures hearing { OnOk result ((arrived : List DatagramValue) → IsHearing arrived self.old.ours
-            → IsHearing (arrived_after arrived given.now.called) self.new.ours) }
-        ensures lane { OnOk result ((arrived : List DatagramValue) → IsHearing arrived self.old.ours → self.new.ours.lane ≡ self.old.ours.lane) }
+        ensures told { OnOk result (EachHearing self.old.ours (λ arrived.
+            TellsGiven arrived given.now.called self.old.ours.lane tale.old tale.new)) }
+        ensures hearing { OnOk result (EachHearing self.old.ours (λ arrived.
+            IsHearing (arrived_after arrived given.now.called) self.new.ours)) }
+        ensures lane { OnOk result (StaysInLane self.old.ours self.new.ours) }
         ensures place { sent_place self.new ≡ sent_place self.old }
     {
         let Some(octets) = &given.called else {
@@ -160,11 +160,11 @@ impl CalledLeg {
 
     /// A datagram is given: what it brings is told.
     fn give_datagram(&mut self, octets: &[u8], tale: &mut Tale) -> Result<(), NoMemory>
-        ensures told { OnOk result ((arrived : List DatagramValue) → IsHearing arrived self.old.ours
-            → TellsDatagram arrived (datagram_of octets.now) self.old.ours.lane tale.old tale.new) }
-        ensures hearing { OnOk result ((arrived : List DatagramValue) → IsHearing arrived self.old.ours
-            → IsHearing (arrived_with arrived (datagram_of octets.now)) self.new.ours) }
-        ensures lane { OnOk result ((arrived : List DatagramValue) → IsHearing arrived self.old.ours → self.new.ours.lane ≡ self.old.ours.lane) }
+        ensures told { OnOk result
+            (TellsComing self.old.ours (datagram_of octets.now) tale.old tale.new) }
+        ensures hearing { OnOk result
+            (HearsOn self.old.ours (datagram_of octets.now) self.new.ours) }
+        ensures lane { OnOk result (StaysInLane self.old.ours self.new.ours) }
         ensures place { sent_place self.new ≡ sent_place self.old }
     {
         self.ours.hear(octets, tale)?;

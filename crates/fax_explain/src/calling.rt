@@ -1,9 +1,9 @@
 //! What is heard on the calling leg.
-ghost use Rattle.std.specs.Prelude.{◌≡◌, ◌++◌, List, IfOk, OnOk};
-ghost use Rattle.fax_udptl.specs.Datagrams.{DatagramValue, datagram_of};
+ghost use Rattle.std.specs.Prelude.{◌≡◌, ◌++◌, IfOk, OnOk};
+ghost use Rattle.fax_udptl.specs.Datagrams.{datagram_of};
 ghost use Rattle.fax_descriptions.specs.Tales.{last_with};
 ghost use Rattle.fax_explain.specs.Given.{GoesOnInLine, TellsTimed, arrived_after, timer_lines};
-ghost use Rattle.fax_explain.specs.Heard.{IsHearing, TellsDatagram, arrived_with};
+ghost use Rattle.fax_explain.specs.Heard.{EachHearing, HearsOn, IsHearing, StaysInLane, TellsComing};
 ghost use Rattle.fax_explain.specs.Places.{confirmed_page, confirmed_text, next_number, page_of};
 
 use crate::listener::Listener;
@@ -45,11 +45,11 @@ impl CallingLeg {
 
     /// The octets of a datagram come from the caller: what it brings is told.
     pub(crate) fn hear(&mut self, octets: &[u8], tale: &mut Tale) -> Result<(), NoMemory>
-        ensures told { OnOk result ((arrived : List DatagramValue) → IsHearing arrived self.old.theirs
-            → TellsDatagram arrived (datagram_of octets.now) self.old.theirs.lane tale.old tale.new) }
-        ensures hearing { OnOk result ((arrived : List DatagramValue) → IsHearing arrived self.old.theirs
-            → IsHearing (arrived_with arrived (datagram_of octets.now)) self.new.theirs) }
-        ensures lane { OnOk result ((arrived : List DatagramValue) → IsHearing arrived self.old.theirs → self.new.theirs.lane ≡ self.old.theirs.lane) }
+        ensures told { OnOk result
+            (TellsComing self.old.theirs (datagram_of octets.now) tale.old tale.new) }
+        ensures hearing { OnOk result
+            (HearsOn self.old.theirs (datagram_of octets.now) self.new.theirs) }
+        ensures lane { OnOk result (StaysInLane self.old.theirs self.new.theirs) }
         ensures pages { self.new.pages ≡ self.old.pages }
     {
         self.theirs.hear(octets, tale)?;
@@ -63,11 +63,11 @@ impl CallingLeg {
 
     /// The octets of a datagram come from the caller while no call is on.
     pub(crate) fn hear_outside(&mut self, octets: &[u8], tale: &mut Tale) -> Result<(), NoMemory>
-        ensures told { OnOk result ((arrived : List DatagramValue) → IsHearing arrived self.old.theirs
-            → TellsDatagram arrived (datagram_of octets.now) self.old.theirs.lane tale.old tale.new) }
-        ensures hearing { OnOk result ((arrived : List DatagramValue) → IsHearing arrived self.old.theirs
-            → IsHearing (arrived_with arrived (datagram_of octets.now)) self.new.theirs) }
-        ensures lane { OnOk result ((arrived : List DatagramValue) → IsHearing arrived self.old.theirs → self.new.theirs.lane ≡ self.old.theirs.lane) }
+        ensures told { OnOk result
+            (TellsComing self.old.theirs (datagram_of octets.now) tale.old tale.new) }
+        ensures hearing { OnOk result
+            (HearsOn self.old.theirs (datagram_of octets.now) self.new.theirs) }
+        ensures lane { OnOk result (StaysInLane self.old.theirs self.new.theirs) }
         ensures left { self.new ≡ record self.old { theirs = self.new.theirs } }
     {
         self.theirs.end_call();
@@ -81,11 +81,12 @@ impl CallingLeg {
         given: &Given,
         tale: &mut Tale,
     ) -> Result<Option<FoundPage>, NoMemory>
-        ensures told { OnOk result ((arrived : List DatagramValue) → IsHearing arrived self.old.ours
-            → TellsTimed arrived given.now.calling given.now.gave_up self.old.ours.lane tale.old tale.new) }
-        ensures hearing { OnOk result ((arrived : List DatagramValue) → IsHearing arrived self.old.ours
-            → IsHearing (arrived_after arrived given.now.calling) self.new.ours) }
-        ensures lane { OnOk result ((arrived : List DatagramValue) → IsHearing arrived self.old.ours → self.new.ours.lane ≡ self.old.ours.lane) }
+        ensures told { OnOk result (EachHearing self.old.ours (λ arrived.
+            TellsTimed arrived given.now.calling given.now.gave_up self.old.ours.lane
+            tale.old tale.new)) }
+        ensures hearing { OnOk result (EachHearing self.old.ours (λ arrived.
+            IsHearing (arrived_after arrived given.now.calling) self.new.ours)) }
+        ensures lane { OnOk result (StaysInLane self.old.ours self.new.ours) }
         ensures found { IfOk result (λ found. found ≡ confirmed_page given.now.calling given.now.kept self.old) }
     {
         let Some(octets) = &given.calling else {
@@ -113,11 +114,11 @@ impl CallingLeg {
         kept: Option<Kept>,
         tale: &mut Tale,
     ) -> Result<(), NoMemory>
-        ensures told { OnOk result ((arrived : List DatagramValue) → IsHearing arrived self.old.ours
-            → TellsDatagram arrived (datagram_of octets.now) self.old.ours.lane tale.old tale.new) }
-        ensures hearing { OnOk result ((arrived : List DatagramValue) → IsHearing arrived self.old.ours
-            → IsHearing (arrived_with arrived (datagram_of octets.now)) self.new.ours) }
-        ensures lane { OnOk result ((arrived : List DatagramValue) → IsHearing arrived self.old.ours → self.new.ours.lane ≡ self.old.ours.lane) }
+        ensures told { OnOk result
+            (TellsComing self.old.ours (datagram_of octets.now) tale.old tale.new) }
+        ensures hearing { OnOk result
+            (HearsOn self.old.ours (datagram_of octets.now) self.new.ours) }
+        ensures lane { OnOk result (StaysInLane self.old.ours self.new.ours) }
         ensures pages { self.new.pages ≡ self.old.pages }
         ensures page { self.new.theirs.page ≡ self.old.theirs.page }
     {

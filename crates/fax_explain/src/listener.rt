@@ -1,15 +1,13 @@
 //! What is read of the datagrams of one direction of a leg.
-ghost use Rattle.std.specs.Prelude.{◌≡◌, ◌<◌, ◌+◌, ◌-◌, ◌≤◌, ◌++◌, ◌∷◌, [], List, Some, codes, decimal, length, map, nat_lt, nat_le, not, ◌&&◌, reverse, slice_get, IfOk, OnOk, string_bytes};
+ghost use Rattle.std.specs.Prelude.{◌≡◌, ◌<◌, ◌+◌, ◌-◌, ◌≤◌, ◌++◌, ◌∷◌, [], Some, codes, decimal, length, map, nat_lt, nat_le, not, ◌&&◌, reverse, slice_get, IfOk, OnOk, string_bytes};
 ghost use Rattle.fax_frames.specs.Frames.{frame_of};
-ghost use Rattle.fax_udptl.specs.Datagrams.{DatagramValue, datagram_of};
+ghost use Rattle.fax_udptl.specs.Datagrams.{datagram_of};
 ghost use Rattle.fax_udptl.specs.Taking.{slots_in};
-ghost use Rattle.fax_ifp.specs.Elements.{Slot as SlotShown};
 ghost use Rattle.fax_ifp.specs.Packets.{packet_of};
-ghost use Rattle.fax_ifp.specs.Pieces.{Piece as PieceShown};
 ghost use Rattle.fax_ifp.specs.Shown.{piece_of, pieces_shown};
 ghost use Rattle.fax_ifp.specs.Tracked.{lost_slots};
 ghost use Rattle.fax_explain.specs.FrameEnds.{AreEnds};
-ghost use Rattle.fax_explain.specs.Heard.{AddsLine, BeginsAsOneOf, HasHeard, Hears, IsHearing, Stays, TellsDatagram, arrived_with};
+ghost use Rattle.fax_explain.specs.Heard.{AddsLine, BeginsAsOneOf, EachCounted, EachHeard, EachHearing, HasHeard, Hears, HearsOn, HearsSlots, IsHearing, Stays, StaysInLane, TellsComing};
 ghost use Rattle.fax_explain.specs.Listening.{attention_while, dis_after, due_after_cfr, is_command, is_heard, is_page_due, signal_name, verdict_name, words_after};
 ghost use Rattle.fax_explain.specs.Openings.{back_openings, check_opening, datagram_openings, end_opening, frame_opening, head_openings, late_openings, line_if, lost_openings, octets_counted, packet_openings, packets_openings, piece_openings, pieces_openings, start_opening, tone_openings};
 
@@ -113,13 +111,12 @@ impl Listener {
 
     /// The octets of a datagram come: what it brings is told, a line for each thing.
     pub(crate) fn hear(&mut self, octets: &[u8], tale: &mut Tale) -> Result<(), NoMemory>
-        ensures told { OnOk result ((arrived : List DatagramValue) → IsHearing arrived self.old
-            → TellsDatagram arrived (datagram_of octets.now) self.old.lane tale.old tale.new) }
-        ensures hearing { OnOk result ((arrived : List DatagramValue) → IsHearing arrived self.old
-            → IsHearing (arrived_with arrived (datagram_of octets.now)) self.new) }
-        ensures lane { OnOk result ((arrived : List DatagramValue) → IsHearing arrived self.old → self.new.lane ≡ self.old.lane) }
-        ensures frames { OnOk result ((arrived : List DatagramValue) → IsHearing arrived self.old
-            → length self.new.frames.items + length tale.old ≤ length tale.new) }
+        ensures told { OnOk result
+            (TellsComing self.old (datagram_of octets.now) tale.old tale.new) }
+        ensures hearing { OnOk result (HearsOn self.old (datagram_of octets.now) self.new) }
+        ensures lane { OnOk result (StaysInLane self.old self.new) }
+        ensures frames { OnOk result (EachHearing self.old (λ arrived.
+            length self.new.frames.items + length tale.old ≤ length tale.new)) }
     {
         self.frames.clear();
         self.rests = false;
@@ -145,9 +142,11 @@ impl Listener {
         decided: &Decided<'_>,
         tale: &mut Tale,
     ) -> Result<(), NoMemory>
-        ensures told { OnOk result ((slots : List SlotShown) → HasHeard slots self.old
-            → Hears (datagram_openings slots number decided.now) self.old self.new tale.old tale.new) }
-        ensures heard { OnOk result ((slots : List SlotShown) → HasHeard slots self.old → HasHeard (reverse (slots_in decided.now) ++ slots) self.new) }
+        ensures told { OnOk result (EachHeard self.old (λ slots.
+            Hears (datagram_openings slots number decided.now)
+            self.old self.new tale.old tale.new)) }
+        ensures heard { OnOk result
+            (HearsSlots self.old (reverse (slots_in decided.now)) self.new) }
     {
         let from = decided.from();
         if decided.is_empty() {
@@ -167,9 +166,11 @@ impl Listener {
         packets: Packets<'_>,
         tale: &mut Tale,
     ) -> Result<(), NoMemory>
-        ensures told { OnOk result ((slots : List SlotShown) → HasHeard slots self.old
-            → Hears (packets_openings slots first packets.entry) self.old self.new tale.old tale.new) }
-        ensures heard { OnOk result ((slots : List SlotShown) → HasHeard slots self.old → HasHeard (reverse (map Some packets.entry) ++ slots) self.new) }
+        ensures told { OnOk result (EachHeard self.old (λ slots.
+            Hears (packets_openings slots first packets.entry)
+            self.old self.new tale.old tale.new)) }
+        ensures heard { OnOk result (EachHeard self.old (λ slots.
+            HasHeard (reverse (map Some packets.entry) ++ slots) self.new)) }
     {
         let mut at = first;
         for packet in packets {
@@ -270,7 +271,7 @@ impl Listener {
     /// So many datagrams from a number on are lost.
     fn lose(&mut self, from: u16, count: u16, tale: &mut Tale) -> Result<(), NoMemory>
         ensures told { OnOk result (Hears (lost_openings from count) self.old self.new tale.old tale.new) }
-        ensures heard { OnOk result ((slots : List SlotShown) → HasHeard slots self.old → HasHeard (lost_slots count ++ slots) self.new) }
+        ensures heard { OnOk result (HearsSlots self.old (lost_slots count) self.new) }
     {
         self.signals.lose(count);
         if count == 0 {
@@ -305,9 +306,10 @@ impl Listener {
 
     /// The packet of the datagram of this number comes.
     fn hear_packet(&mut self, number: u16, packet: &[u8], tale: &mut Tale) -> Result<(), NoMemory>
-        ensures told { OnOk result ((slots : List SlotShown) → HasHeard slots self.old
-            → Hears (packet_openings slots number packet.now) self.old self.new tale.old tale.new) }
-        ensures heard { OnOk result ((slots : List SlotShown) → HasHeard slots self.old → HasHeard (Some packet.now ∷ slots) self.new) }
+        ensures told { OnOk result (EachHeard self.old (λ slots.
+            Hears (packet_openings slots number packet.now) self.old self.new tale.old tale.new)) }
+        ensures heard { OnOk result (EachHeard self.old (λ slots.
+            HasHeard (Some packet.now ∷ slots) self.new)) }
     {
         let ends = self.hear_head(number, packet, tale)?;
         let pieces = self.signals.slot(Slot::Packet(packet))?;
@@ -396,10 +398,11 @@ impl Listener {
 
     /// Pieces come.
     fn hear_pieces(&mut self, pieces: &[Piece<'_>], tale: &mut Tale) -> Result<(), NoMemory>
-        ensures told { OnOk result ((before : List PieceShown) → self.old.image.octets ≡ octets_counted before
-            → Hears (pieces_openings before (pieces_shown pieces.now)) self.old self.new tale.old tale.new) }
-        ensures counted { OnOk result ((before : List PieceShown) → self.old.image.octets ≡ octets_counted before
-            → self.new.image.octets ≡ octets_counted (reverse (pieces_shown pieces.now) ++ before)) }
+        ensures told { OnOk result (EachCounted self.old (λ before.
+            Hears (pieces_openings before (pieces_shown pieces.now))
+            self.old self.new tale.old tale.new)) }
+        ensures counted { OnOk result (EachCounted self.old (λ before.
+            self.new.image.octets ≡ octets_counted (reverse (pieces_shown pieces.now) ++ before))) }
         ensures signals { OnOk result (self.new.signals ≡ self.old.signals) }
     {
         for piece in pieces {
@@ -410,10 +413,11 @@ impl Listener {
 
     /// A piece comes.
     fn hear_piece(&mut self, piece: &Piece<'_>, tale: &mut Tale) -> Result<(), NoMemory>
-        ensures told { OnOk result ((before : List PieceShown) → self.old.image.octets ≡ octets_counted before
-            → Hears (piece_openings before (piece_of piece.now)) self.old self.new tale.old tale.new) }
-        ensures counted { OnOk result ((before : List PieceShown) → self.old.image.octets ≡ octets_counted before
-            → self.new.image.octets ≡ octets_counted (piece_of piece.now ∷ before)) }
+        ensures told { OnOk result (EachCounted self.old (λ before.
+            Hears (piece_openings before (piece_of piece.now))
+            self.old self.new tale.old tale.new)) }
+        ensures counted { OnOk result (EachCounted self.old (λ before.
+            self.new.image.octets ≡ octets_counted (piece_of piece.now ∷ before))) }
         ensures signals { OnOk result (self.new.signals ≡ self.old.signals) }
     {
         match piece {

@@ -1,13 +1,10 @@
 //! A gateway on which a script is played, and what is heard on its legs.
-ghost use Rattle.std.specs.Prelude.{ℕ, ◌≡◌, ◌++◌, ◌∷◌, [], IfOk, MatchOption, OnOk};
-ghost use Rattle.fax_call.specs.Writings.{IsWriting, Writing};
-ghost use Rattle.fax_gateway.specs.Setups.{AreAllowed, Setup};
-ghost use Rattle.fax_gateway.specs.Reached.{IsReachedBy};
+ghost use Rattle.std.specs.Prelude.{◌≡◌, ◌++◌, ◌∷◌, [], IfOk, MatchOption, OnOk};
+ghost use Rattle.fax_gateway.specs.Setups.{AreAllowed};
 ghost use Rattle.fax_gateway.specs.Turns.{call_if_new};
 ghost use Rattle.fax_trace.specs.declared.event.ScriptEvent.TheVariants as script;
-ghost use Rattle.fax_trace.specs.Playing.{PlayedScript, moment_at};
 ghost use Rattle.fax_explain.specs.Ladders.{EndsWithReport, TellsRefusal, asked_tellings, begun_tellings};
-ghost use Rattle.fax_explain.specs.Staged.{GoesOn, HasAnswered, IsNew, PlaysOn};
+ghost use Rattle.fax_explain.specs.Staged.{AnswersAny, AnswersAt, AnswersEvent, AnswersTick, GoesOn, IsNew, PlaysEvent};
 
 use crate::called::CalledLeg;
 use crate::calling::CallingLeg;
@@ -72,8 +69,8 @@ impl Stage {
 
     /// Plays an event at a moment, and tells what happened.
     pub(crate) fn play(&mut self, event: &ScriptEvent, moment: u64) -> Result<Scene, NoMemory>
-        ensures { IfOk result (λ scene. (setup : Setup) (writes : Writing) (old : PlayedScript) → IsWriting writes → moment ≡ moment_at event.now old.moment
-            → IsReachedBy setup writes old.trace self.old.gateway → PlaysOn setup writes old event.now scene.tale self.new.gateway) }
+        ensures { IfOk result (λ scene.
+            PlaysEvent event.now moment self.old.gateway scene.tale self.new.gateway) }
     {
         let was_asked = self.gateway.asked();
         let mut scene = Scene::new(self.alloc);
@@ -85,8 +82,8 @@ impl Stage {
     /// Hands an event at a moment to the gateway, of which nothing was told, and tells what it answers.
     fn act(&mut self, event: &ScriptEvent, moment: u64, scene: &mut Scene) -> Result<(), NoMemory>
         requires { scene.old.tale ≡ [] }
-        ensures { OnOk result ((setup : Setup) (writes : Writing) (old : PlayedScript) → IsWriting writes → moment ≡ moment_at event.now old.moment
-            → IsReachedBy setup writes old.trace self.old.gateway → HasAnswered setup writes old event.now scene.new.tale self.new.gateway) }
+        ensures { OnOk result
+            (AnswersAny event.now moment self.old.gateway scene.new.tale self.new.gateway) }
     {
         match event {
             ScriptEvent::Ring => self.ring(moment, &mut scene.tale),
@@ -105,8 +102,8 @@ impl Stage {
     /// It rings.
     fn ring(&mut self, moment: u64, tale: &mut Tale) -> Result<(), NoMemory>
         requires { tale.old ≡ [] }
-        ensures { OnOk result ((setup : Setup) (writes : Writing) (old : PlayedScript) → moment ≡ old.moment → IsReachedBy setup writes old.trace self.old.gateway
-            → HasAnswered setup writes old script.Ring tale.new self.new.gateway) }
+        ensures { OnOk result
+            (AnswersAt moment self.old.gateway script.Ring tale.new self.new.gateway) }
     {
         match self.gateway.ring(moment) {
             Ok(call) => {
@@ -122,8 +119,8 @@ impl Stage {
 
     /// A datagram comes on the calling leg.
     fn hear_calling(&mut self, octets: &[u8], moment: u64, tale: &mut Tale) -> Result<(), NoMemory>
-        ensures { OnOk result ((setup : Setup) (writes : Writing) (old : PlayedScript) → moment ≡ old.moment → IsReachedBy setup writes old.trace self.old.gateway
-            → HasAnswered setup writes old (script.FromCalling octets.now) tale.new self.new.gateway) }
+        ensures { OnOk result (AnswersAt moment self.old.gateway
+            (script.FromCalling octets.now) tale.new self.new.gateway) }
     {
         let call = self.gateway.call();
         self.gateway.from_calling(octets, moment)?;
@@ -136,8 +133,8 @@ impl Stage {
 
     /// A datagram comes on the called leg.
     fn hear_called(&mut self, octets: &[u8], moment: u64, tale: &mut Tale) -> Result<(), NoMemory>
-        ensures { OnOk result ((setup : Setup) (writes : Writing) (old : PlayedScript) → moment ≡ old.moment → IsReachedBy setup writes old.trace self.old.gateway
-            → HasAnswered setup writes old (script.FromCalled octets.now) tale.new self.new.gateway) }
+        ensures { OnOk result (AnswersAt moment self.old.gateway
+            (script.FromCalled octets.now) tale.new self.new.gateway) }
     {
         let is_on = self.gateway.sending().is_some();
         self.gateway.from_called(octets, moment)?;
@@ -150,8 +147,8 @@ impl Stage {
 
     /// Time goes on to a moment.
     fn tick(&mut self, moment: u64, scene: &mut Scene) -> Result<(), NoMemory>
-        ensures { OnOk result ((setup : Setup) (writes : Writing) (old : PlayedScript) → IsWriting writes → IsReachedBy setup writes old.trace self.old.gateway
-            → HasAnswered setup writes old (script.Tick moment) scene.new.tale self.new.gateway) }
+        ensures { OnOk result
+            (AnswersTick moment self.old.gateway scene.new.tale self.new.gateway) }
     {
         let call = self.gateway.call();
         let was_sending = self.gateway.sending().is_some();
@@ -166,8 +163,8 @@ impl Stage {
     /// The call of the job that is asked for is placed at a moment.
     fn connect(&mut self, moment: u64, tale: &mut Tale) -> Result<(), NoMemory>
         requires { tale.old ≡ [] }
-        ensures { OnOk result ((setup : Setup) (writes : Writing) (old : PlayedScript) → IsReachedBy setup writes old.trace self.old.gateway
-            → HasAnswered setup writes old (script.Connected moment) tale.new self.new.gateway) }
+        ensures { OnOk result
+            (AnswersEvent self.old.gateway (script.Connected moment) tale.new self.new.gateway) }
     {
         match self.gateway.connect(moment) {
             Ok(()) => {
@@ -185,8 +182,8 @@ impl Stage {
     /// It could not be placed, at a moment.
     fn not_connected(&mut self, moment: u64, tale: &mut Tale) -> Result<(), NoMemory>
         requires { tale.old ≡ [] }
-        ensures { OnOk result ((setup : Setup) (writes : Writing) (old : PlayedScript) → IsReachedBy setup writes old.trace self.old.gateway
-            → HasAnswered setup writes old (script.NotConnected moment) tale.new self.new.gateway) }
+        ensures { OnOk result
+            (AnswersEvent self.old.gateway (script.NotConnected moment) tale.new self.new.gateway) }
     {
         match self.gateway.not_connected(moment) {
             Ok(()) => {
