@@ -2,11 +2,10 @@
 ghost use Rattle.std.specs.Prelude.{◌≡◌, List, [], ◌++◌, Option, Some, None, IfOk, OnOk};
 ghost use Rattle.fax_pagestore.specs.Pages.{PageValue};
 ghost use Rattle.fax_answer.specs.declared.step.Confirmed.{Confirmed as ConfirmedShown};
-ghost use Rattle.fax_gateway.specs.CallingLegs.{CallingLeg};
 ghost use Rattle.fax_gateway.specs.Setups.{AreAllowed, HasSettings, Setup};
 ghost use Rattle.fax_gateway.specs.Wires.{Grows};
 ghost use Rattle.fax_gateway.specs.Driving.{most_datagrams};
-ghost use Rattle.fax_loop.specs.Rep.{AnswererHears, AnswererListens, AnswererTurns, IsAnswering, pages_in};
+ghost use Rattle.fax_loop.specs.Rep.{AnswererHears, AnswererListens, AnswererTurns, EachAnswering, EachCallHeard, IsAnswering, pages_in};
 ghost use Rattle.fax_loop.specs.Machines.{rung_once};
 
 use crate::end::{End, hand_over};
@@ -45,8 +44,8 @@ impl<S: RowStore> AnsweringMachine<S> {
     /// Its turn: it hears what has come over its end, by the first of which it is rung, time goes on, it keeps the page that it
     /// confirms, and it sends what it has to.
     pub fn round<E: End>(&mut self, end: &mut E, now: u64) -> Result<(), NoMemory>
-        ensures { OnOk result ((setup : Setup) (leg : Option CallingLeg) → IsAnswering setup leg self.old
-            → AnswererTurns setup leg now (E.told end.old) (E.told end.new) self.new) }
+        ensures { OnOk result (EachAnswering self.old (λ setup leg.
+            AnswererTurns setup leg now (E.told end.old) (E.told end.new) self.new)) }
     {
         self.hear(end, now)?;
         let step = self.answerer.tick(now)?;
@@ -66,8 +65,9 @@ impl<S: RowStore> AnsweringMachine<S> {
     /// It hears what has come.
     fn hear<E: End>(&mut self, end: &mut E, now: u64) -> Result<(), NoMemory>
         ensures sent { Grows [] (E.told end.old).sent (E.told end.new).sent }
-        ensures heard { OnOk result ((setup : Setup) (leg : Option CallingLeg) → IsAnswering setup leg self.old
-            → AnswererHears setup leg now most_datagrams (E.told end.old) (E.told end.new) self.new) }
+        ensures heard { OnOk result (EachAnswering self.old (λ setup leg.
+            AnswererHears setup leg now most_datagrams (E.told end.old) (E.told end.new)
+            self.new)) }
     {
         let mut buffer = [0; MOST_OCTETS];
         for _i in 0..MOST_DATAGRAMS {
@@ -84,7 +84,8 @@ impl<S: RowStore> AnsweringMachine<S> {
 
     /// It hears a datagram, after the ring.
     fn hear_one(&mut self, octets: &[u8], now: u64) -> Result<(), NoMemory>
-        ensures { OnOk result ((setup : Setup) (l : CallingLeg) → IsAnswering setup (Some l) self.old → AnswererListens setup l now octets.now self.new) }
+        ensures { OnOk result (EachCallHeard self.old (λ setup l.
+            AnswererListens setup l now octets.now self.new)) }
     {
         if self.answerer.state() == State::Idle {
             return Ok(());
@@ -98,7 +99,8 @@ impl<S: RowStore> AnsweringMachine<S> {
 
     /// It is rung, but where it was.
     fn ring_once(&mut self, now: u64)
-        ensures { (setup : Setup) (leg : Option CallingLeg) → IsAnswering setup leg self.old → IsAnswering setup (Some (rung_once setup now leg)) self.new }
+        ensures { EachAnswering self.old (λ setup leg.
+            IsAnswering setup (Some (rung_once setup now leg)) self.new) }
     {
         if self.has_rung {
             return;

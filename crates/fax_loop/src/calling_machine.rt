@@ -1,14 +1,14 @@
 //! The machine that calls.
-ghost use Rattle.std.specs.Prelude.{◌≡◌, [], Some, IfOk, OnOk};
+ghost use Rattle.std.specs.Prelude.{[], Some, IfOk, OnOk};
 ghost use Rattle.fax_jobs.specs.Jobs.{JobValue};
 ghost use Rattle.fax_call.specs.Following.{IsJobOfCall};
-ghost use Rattle.fax_call.specs.Writings.{IsWriting, Writing};
-ghost use Rattle.fax_gateway.specs.CalledLegs.{CalledLeg, hears};
+ghost use Rattle.fax_call.specs.Writings.{Writing};
+ghost use Rattle.fax_gateway.specs.CalledLegs.{hears};
 ghost use Rattle.fax_gateway.specs.Reached.{IsCalled};
 ghost use Rattle.fax_gateway.specs.Setups.{AreAllowed, HasSettings, Setup};
 ghost use Rattle.fax_gateway.specs.Wires.{Grows};
 ghost use Rattle.fax_gateway.specs.Driving.{most_datagrams};
-ghost use Rattle.fax_loop.specs.Rep.{CallerHears, CallerTurns, caller_of};
+ghost use Rattle.fax_loop.specs.Rep.{CallerHears, CallerTurns, EachCall, EachCallOf, caller_of};
 ghost use Rattle.fax_loop.specs.Machines.{begins};
 
 use crate::end::{End, hand_over};
@@ -57,8 +57,9 @@ impl CallingMachine {
     ) -> Result<(), NoMemory>
         requires { IsJobOfCall self.old.caller.procedure job.now }
         ensures job { OnOk result (IsJobOfCall self.new.caller.procedure job.now) }
-        ensures turned { OnOk result ((setup : Setup) (writes : Writing) (l : CalledLeg) → IsWriting writes → l.job ≡ job.now
-            → IsCalled setup writes (Some l) (caller_of self.old) → CallerTurns setup writes l now (E.told end.old) (E.told end.new) (caller_of self.new)) }
+        ensures turned { OnOk result (EachCallOf job.now self.old (λ setup writes l.
+            CallerTurns setup writes l now (E.told end.old) (E.told end.new)
+            (caller_of self.new))) }
     {
         self.hear(end, now)?;
         let packet = self.caller.tick(job, now)?;
@@ -71,8 +72,9 @@ impl CallingMachine {
     fn hear<E: End>(&mut self, end: &mut E, now: u64) -> Result<(), NoMemory>
         ensures job { (job : JobValue) → IsJobOfCall self.old.caller.procedure job → IsJobOfCall self.new.caller.procedure job }
         ensures sent { Grows [] (E.told end.old).sent (E.told end.new).sent }
-        ensures heard { OnOk result ((setup : Setup) (writes : Writing) (l : CalledLeg) → IsCalled setup writes (Some l) (caller_of self.old)
-            → CallerHears setup writes l now most_datagrams (E.told end.old) (E.told end.new) (caller_of self.new)) }
+        ensures heard { OnOk result (EachCall self.old (λ setup writes l.
+            CallerHears setup writes l now most_datagrams (E.told end.old) (E.told end.new)
+            (caller_of self.new))) }
     {
         let mut buffer = [0; MOST_OCTETS];
         for _i in 0..MOST_DATAGRAMS {
@@ -87,8 +89,8 @@ impl CallingMachine {
     /// It hears a datagram.
     fn hear_one(&mut self, octets: &[u8], now: u64) -> Result<(), NoMemory>
         ensures job { (job : JobValue) → IsJobOfCall self.old.caller.procedure job → IsJobOfCall self.new.caller.procedure job }
-        ensures heard { OnOk result ((setup : Setup) (writes : Writing) (l : CalledLeg) → IsCalled setup writes (Some l) (caller_of self.old)
-            → IsCalled setup writes (Some (hears writes octets.now now l)) (caller_of self.new)) }
+        ensures heard { OnOk result (EachCall self.old (λ setup writes l.
+            IsCalled setup writes (Some (hears writes octets.now now l)) (caller_of self.new))) }
     {
         if self.caller.state() == State::Idle {
             return Ok(());

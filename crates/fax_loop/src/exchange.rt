@@ -1,16 +1,14 @@
 //! A call from machine to machine, through a gateway.
-ghost use Rattle.std.specs.Prelude.{◌≡◌, ◌↔◌, ◌<◌, ℕ, Bool, true, IsTrue, List, [], ◌∷◌, length, None, IfOk, OnOk};
+ghost use Rattle.std.specs.Prelude.{ℕ, Bool, true, [], ◌∷◌, IfOk, OnOk};
 ghost use Rattle.fax_jobs.specs.Books.{job_of};
-ghost use Rattle.fax_jobs.specs.Jobs.{JobValue};
 ghost use Rattle.fax_call.specs.Following.{IsJobOfCall};
-ghost use Rattle.fax_call.specs.Writings.{IsWriting, Writing};
+ghost use Rattle.fax_call.specs.Writings.{Writing};
 ghost use Rattle.fax_gateway.specs.Setups.{AreAllowed, AreSet, HasSettings, Setup};
-ghost use Rattle.fax_gateway.specs.Driving.{failed_in_a_row, most_failed, receipts};
 ghost use Rattle.fax_gateway.specs.Events.{Ring};
 ghost use Rattle.fax_gateway.specs.Reached.{IsReachedBy};
-ghost use Rattle.fax_loop.specs.Exchanges.{IsExchange, IsPlayed, Lines as LinesShown, Round, log_after, moment_after, most_rounds, reported};
+ghost use Rattle.fax_loop.specs.Exchanges.{IsExchange, IsPlayed, Lines as LinesShown};
 ghost use Rattle.fax_loop.specs.Opened.{IsSent, told_lines};
-ghost use Rattle.fax_loop.specs.Rep.{HasEnded, HasGone, HasPlayed};
+ghost use Rattle.fax_loop.specs.Rep.{EachBeginning, EachEnd, EachGoing, HasEnded, HasGone, HasPlayed, PlaysRound};
 ghost use Rattle.fax_loop.specs.Links.{IsFaithful};
 
 use crate::answering_machine::AnsweringMachine;
@@ -88,12 +86,10 @@ pub fn exchange<E: End + Drop, W: Wire + Drop>(
 ) -> Result<CallEnd, NoMemory>
     requires { AreAllowed settings }
     ensures played { IfOk result (λ ended. IsExchange settings (job_of 0 page)
-        (record { caller = E.told lines.old.caller; wire = W.known lines.old.wire; answerer = E.told lines.old.answerer })
-        (record { caller = E.told lines.new.caller; wire = W.known lines.new.wire; answerer = E.told lines.new.answerer })
+        (told_lines E.told W.known lines.old) (told_lines E.told W.known lines.new)
         ended.report ended.confirmed.items) }
     ensures faithful { IfOk result (λ ended. IsFaithful
-        (record { caller = E.told lines.old.caller; wire = W.known lines.old.wire; answerer = E.told lines.old.answerer })
-        (record { caller = E.told lines.new.caller; wire = W.known lines.new.wire; answerer = E.told lines.new.answerer })
+        (told_lines E.told W.known lines.old) (told_lines E.told W.known lines.new)
         page ended.report ended.confirmed.items) }
 {
     confirms_the_page_over_links();
@@ -147,10 +143,10 @@ impl Parties {
         job: &Job<PackedRows>,
     ) -> Result<CallEnd, NoMemory>
         requires { IsJobOfCall self.caller.caller.procedure job.now }
-        ensures { IfOk result (λ ended. (setup : Setup) (writes : Writing) (before : LinesShown) → IsWriting writes
-            → HasPlayed setup writes job.now [] before (record { caller = E.told lines.old.caller; wire = W.known lines.old.wire; answerer = E.told lines.old.answerer }) self
-            → IsPlayed setup writes job.now before (record { caller = E.told lines.new.caller; wire = W.known lines.new.wire; answerer = E.told lines.new.answerer })
-            ended.report ended.confirmed.items) }
+        ensures { IfOk result (λ ended.
+            EachBeginning job.now (told_lines E.told W.known lines.old) self (λ setup writes before.
+            IsPlayed setup writes job.now before (told_lines E.told W.known lines.new)
+            ended.report ended.confirmed.items)) }
     {
         self.play(lines, job)?;
         Ok(self.end())
@@ -163,9 +159,9 @@ impl Parties {
         job: &Job<PackedRows>,
     ) -> Result<(), NoMemory>
         requires { IsJobOfCall self.old.caller.caller.procedure job.now }
-        ensures { OnOk result ((setup : Setup) (writes : Writing) (before : LinesShown) → IsWriting writes
-            → HasPlayed setup writes job.now [] before (record { caller = E.told lines.old.caller; wire = W.known lines.old.wire; answerer = E.told lines.old.answerer }) self.old
-            → HasEnded setup writes job.now before (record { caller = E.told lines.new.caller; wire = W.known lines.new.wire; answerer = E.told lines.new.answerer }) self.new) }
+        ensures { OnOk result (
+            EachBeginning job.now (told_lines E.told W.known lines.old) self.old (λ setup writes before.
+            HasEnded setup writes job.now before (told_lines E.told W.known lines.new) self.new)) }
     {
         let mut goes_on = true;
         for round in 0..MOST_ROUNDS {
@@ -190,11 +186,9 @@ impl Parties {
     ) -> Result<bool, NoMemory>
         requires { IsJobOfCall self.old.caller.caller.procedure job.now }
         ensures job { OnOk result (IsJobOfCall self.new.caller.caller.procedure job.now) }
-        ensures played { IfOk result (λ goes_on. (setup : Setup) (writes : Writing) (rounds : List Round) (before : LinesShown) → IsWriting writes → now ≡ moment_after rounds
-            → length rounds < most_rounds → reported setup writes rounds ≡ None → failed_in_a_row (receipts (log_after rounds)) < most_failed
-            → HasPlayed setup writes job.now rounds before (record { caller = E.told lines.old.caller; wire = W.known lines.old.wire; answerer = E.told lines.old.answerer }) self.old
-            → (round : Round) × (IsTrue goes_on ↔ (failed_in_a_row (receipts (log_after (round ∷ rounds))) < most_failed))
-            × HasPlayed setup writes job.now (round ∷ rounds) before (record { caller = E.told lines.new.caller; wire = W.known lines.new.wire; answerer = E.told lines.new.answerer }) self.new) }
+        ensures played { IfOk result (λ goes_on.
+            EachGoing job.now now (told_lines E.told W.known lines.old) self.old (λ setup writes rounds before.
+            PlaysRound setup writes job.now rounds goes_on before (told_lines E.told W.known lines.new) self.new)) }
     {
         self.caller.round(&mut lines.caller, job, now)?;
         let turned = self.driver.turn(&mut self.gateway, &mut lines.wire, now);
@@ -204,8 +198,8 @@ impl Parties {
 
     /// How it ended.
     fn end(self) -> CallEnd
-        ensures { (setup : Setup) (writes : Writing) (job : JobValue) (before after : LinesShown) → HasEnded setup writes job before after self
-            → IsPlayed setup writes job before after result.report result.confirmed.items }
+        ensures { EachEnd self (λ setup writes job before after.
+            IsPlayed setup writes job before after result.report result.confirmed.items) }
     {
         CallEnd {
             report: self.gateway.report(0),

@@ -1,10 +1,9 @@
 //! What a machine has on its leg.
-ghost use Rattle.std.specs.Prelude.{◌≡◌, ◌≤◌, ℕ, List, [], length, IfOk, IfSome};
-ghost use Rattle.fax_udptl.specs.Datagrams.{DatagramValue};
+ghost use Rattle.std.specs.Prelude.{◌≡◌, ◌≤◌, [], length, IfOk, IfSome};
 ghost use Rattle.fax_udptl.specs.Sending.{most_redundancy};
 ghost use Rattle.fax_gateway.specs.Setups.{Setup};
 ghost use Rattle.fax_gateway.specs.Reached.{IsLeg, given_with, sent_if};
-ghost use Rattle.fax_loop.specs.Rep.{leg_of};
+ghost use Rattle.fax_loop.specs.Rep.{EachLeg, leg_of};
 
 use fax_bits::{NoMemory, Octets};
 use fax_udptl::{Receiver, Sender};
@@ -33,8 +32,9 @@ impl Link {
     /// The datagram of the packet that is given, where one is: it has the packets before its own.
     pub fn datagram(&mut self, packet: Option<Octets>) -> Result<Option<Octets>, NoMemory>
         requires { IfSome packet (λ packet. length packet ≤ 16383) }
-        ensures { IfOk result (λ datagram. (setup : Setup) (arrived : List DatagramValue) (given : List (List ℕ)) → IsLeg setup arrived given (leg_of self.old)
-            → (datagram ≡ sent_if setup given packet) × IsLeg setup arrived (given_with packet given) (leg_of self.new)) }
+        ensures { IfOk result (λ datagram. EachLeg self.old (λ setup arrived given.
+            (datagram ≡ sent_if setup given packet) × IsLeg setup arrived (given_with packet given)
+            (leg_of self.new))) }
     {
         match packet {
             None => Ok(None),
