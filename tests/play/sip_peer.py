@@ -89,28 +89,27 @@ def user_of(uri):
 # Offers and answers.
 
 
-def session(port, media):
+def session(media, host=HOST):
     """A description with these lines of media."""
-    return (
-        f"v=0\r\no=- {time.monotonic_ns()} 1 IN IP4 {HOST}\r\ns=-\r\nc=IN IP4 {HOST}\r\nt=0 0\r\n" + "\r\n".join(media) + "\r\n"
-    ).encode()
+    head = ["v=0", f"o=- {time.monotonic_ns()} 1 IN IP4 {host}", "s=-", f"c=IN IP4 {host}", "t=0 0"]
+    return "".join(f"{line}\r\n" for line in head + media).encode()
 
 
-def fax_offer(port, octets=None):
-    """T.38 at a port, with a bound of a datagram's octets or without."""
+def fax_offer(port, octets=None, host=HOST):
+    """T.38 at a port of a host, with a bound of a datagram's octets or without."""
     bound = [f"a=T38FaxMaxDatagram:{octets}"] if octets else []
     return session(
-        port,
         [f"m=image {port} udptl t38", "a=T38FaxVersion:0", "a=T38MaxBitRate:14400", "a=T38FaxRateManagement:transferredTCF"]
         + bound
         + ["a=T38FaxUdpEC:t38UDPRedundancy"],
+        host,
     )
 
 
 def audio_offer(port, payload=0):
     """Audio at a port, in PCMU (0) or PCMA (8)."""
     name = {0: "PCMU", 8: "PCMA"}[payload]
-    return session(port, [f"m=audio {port} RTP/AVP {payload}", f"a=rtpmap:{payload} {name}/8000"])
+    return session([f"m=audio {port} RTP/AVP {payload}", f"a=rtpmap:{payload} {name}/8000"])
 
 
 def media_of(body):
@@ -122,6 +121,11 @@ def media_of(body):
 def port_of(body, kind):
     """The port of a kind of media; None where it is not there or refused."""
     return next((port for it, port, _ in media_of(body) if it == kind and port), None)
+
+
+def host_of(body):
+    """The host at which a description has its media."""
+    return re.search(r"^c=IN IP4 ([^\s/]+)", body.decode(), re.M).group(1)
 
 
 # Digest.
@@ -149,12 +153,13 @@ class Dialog:
 
 
 class SipPeer:
-    """A peer: a socket that SIP comes to and goes from. A datagram that comes again is told once."""
+    """A peer: a socket that SIP comes to and goes from, of a host, and the server's host and port. A datagram that comes again is told
+    once."""
 
-    def __init__(self, port, server, host=HOST):
+    def __init__(self, port, server, host=HOST, there=HOST):
         self.socket = socket.socket(socket.AF_INET, socket.SOCK_DGRAM)
         self.socket.bind((host, port))
-        self.host, self.port, self.server = host, self.socket.getsockname()[1], server
+        self.host, self.port, self.there, self.server = host, self.socket.getsockname()[1], there, server
         self._seen, self._kept = set(), []
         # every message that came, in its order
         self.came = []
@@ -166,7 +171,7 @@ class SipPeer:
 
     def send(self, message):
         octets = message if isinstance(message, bytes) else message.octets()
-        self.socket.sendto(octets, (HOST, self.server))
+        self.socket.sendto(octets, (self.there, self.server))
 
     def _receive(self, within):
         """The next message that did not come before; None where none comes."""
@@ -251,7 +256,7 @@ class SipPeer:
 
     def invite(self, number, body, more=()):
         """Sends an INVITE for a number, and gives it with its dialog."""
-        target = f"sip:{number}@{HOST}:{self.server}"
+        target = f"sip:{number}@{self.there}:{self.server}"
         dialog = Dialog(token(), f"<{self.uri('4940')}>;tag={token()}", f"<{target}>", target)
         request = self.make("INVITE", dialog, body, more)
         self.send(request)
@@ -267,17 +272,17 @@ class SipPeer:
             ack = Message(f"ACK {request.target} SIP/2.0", [("Via", request.one("Via"))] + ack_fields(request, answer))
         self.send(ack)
 
-    def call(self, number, body, within=LONGEST):
-        """An INVITE for a number that is answered 200: its dialog, and the answer."""
-        request, dialog = self.invite(number, body)
+    def call(self, number, body, within=LONGEST, more=()):
+        """An INVITE for a number, and its final answer, acknowledged: its dialog, and the answer."""
+        request, dialog = self.invite(number, body, more)
         answer = self.final(request, within)
         self.ack(request, answer, dialog)
         return dialog, answer
 
-    def again(self, dialog, method, body=b""):
+    def again(self, dialog, method, body=b"", more=()):
         """A request in a dialog, and its final answer; one to an INVITE is acknowledged."""
         dialog.number += 1
-        request = self.make(method, dialog, body)
+        request = self.make(method, dialog, body, more)
         self.send(request)
         answer = self.final(request)
         if method == "INVITE":
@@ -286,11 +291,12 @@ class SipPeer:
 
     # Calls that come.
 
-    def take(self, request, body, status=200):
+    def take(self, request, body, status=200, more=()):
         """Answers an INVITE with a description: the dialog, once the answer is acknowledged."""
-        answer = self.answer(request, status, body)
-        ack = self.request("ACK")
-        assert ack.one("Call-ID") == request.one("Call-ID")
+        answer = self.answer(request, status, body, more=more)
+        numbered = (request.one("Call-ID"), request.cseq[0])
+        is_its = lambda it: not it.is_answer and it.method == "ACK" and (it.one("Call-ID"), it.cseq[0]) == numbered
+        self.next(is_its, what="the ACK of our answer")
         return Dialog(request.one("Call-ID"), answer.one("To"), request.one("From"), request.contact(), 1, request.all("Record-Route"))
 
 

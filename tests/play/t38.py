@@ -271,14 +271,14 @@ def reordering(number, octets):
 
 class Leg:
     """A machine's end of a leg: a socket. It numbers and sends packets, and keeps what came, with the moments that the system says,
-    in seconds. `peer` may be said by the first datagram that comes."""
+    in seconds. `peer`, a port of `there`, may be said by the first datagram that comes."""
 
-    def __init__(self, port=0, peer=None, goes=clear, comes=clear, redundancy=REDUNDANCY):
+    def __init__(self, port=0, peer=None, goes=clear, comes=clear, redundancy=REDUNDANCY, host=HOST):
         self.socket = socket.socket(socket.AF_INET, socket.SOCK_DGRAM)
         self.socket.setsockopt(socket.SOL_SOCKET, SO_TIMESTAMPNS, 1)
-        self.socket.bind((HOST, port))
+        self.socket.bind((host, port))
         self.port = self.socket.getsockname()[1]
-        self.peer = peer
+        self.host, self.there, self.peer = host, host, peer
         # all that came: moment, octets, the port that it came from; what is lost on its way too
         self.came = []
         self._goes, self._comes, self._redundancy = goes, comes, redundancy
@@ -314,7 +314,7 @@ class Leg:
 
     def hand(self, octets):
         """Hands a datagram to the system."""
-        self.socket.sendto(octets, (HOST, self.peer))
+        self.socket.sendto(octets, (self.there, self.peer))
 
     def listen(self, seconds):
         """What is heard in so many seconds; it returns at once where something is."""
@@ -334,7 +334,8 @@ class Leg:
         except ConnectionError:
             return
         seconds, nanoseconds = struct.unpack("qq", said[0][2])
-        self.peer = self.peer or sender[1]
+        if not self.peer:
+            self.there, self.peer = sender
         number = len(self.came)
         self.came.append((seconds + nanoseconds / 1e9, octets, sender[1]))
         for late in self._comes(number, octets):
@@ -354,12 +355,12 @@ class Hidden(Exception):
 
 
 class Machine(threading.Thread):
-    """A machine at a leg, in a thread of its own. `leaves_out`: of each of these answers so many are not given, the first ones.
-    `fault`: what went wrong in the thread."""
+    """A machine at a leg, in a thread of its own. `leaves_out`: of each of these answers so many are not given, the first ones. `pace`:
+    the seconds between two packets. `fault`: what went wrong in the thread."""
 
-    def __init__(self, leg, leaves_out=None):
+    def __init__(self, leg, leaves_out=None, pace=PACKET_SECONDS):
         super().__init__(daemon=True)
-        self.leg = leg
+        self.leg, self.pace = leg, pace
         self.fault, self.is_told_to_stop = None, False
         self._leaves_out = dict(leaves_out or {})
         # the frames that were heard, and what else was
@@ -420,7 +421,7 @@ class Machine(threading.Thread):
     def send(self, packets):
         for packet in packets:
             self.leg.send(packet)
-            self.pause(PACKET_SECONDS)
+            self.pause(self.pace)
 
     def say(self, fcf, field=b""):
         """Sends a frame after the pause that T.30 wants; or leaves it out."""
@@ -508,11 +509,12 @@ class Calling(Machine):
 class Called(Machine):
     """A machine that is called by the first datagram that comes, answers `calls` calls, and keeps what it confirms: `pages`, and of
     each the field of its DCS, `formats`, and what stood after it, `commands`. `refuses`: which of the images that come, counted from
-    0, it answers with RTN; so it does one in which something is missing."""
+    0, it answers with RTN; so it does one in which something is missing. `patience`: how long it waits for what comes next, a page with
+    its end."""
 
-    def __init__(self, leg, bits=DIS_BITS, calls=1, within=60, refuses=(), **more):
+    def __init__(self, leg, bits=DIS_BITS, calls=1, within=60, refuses=(), patience=T1_SECONDS, **more):
         super().__init__(leg, **more)
-        self.bits, self.calls, self.refuses = bits, calls, refuses
+        self.bits, self.calls, self.refuses, self.patience = bits, calls, refuses, patience
         self.pages, self.formats, self.commands = [], [], []
         self._within, self._images = within, 0
 
@@ -528,7 +530,7 @@ class Called(Machine):
             self.leg.send(indicator(CED))
             self.pause(ANSWER_SECONDS)
             self.identify()
-            while self.hears(self.next(T1_SECONDS)):
+            while self.hears(self.next(self.patience)):
                 pass
 
     def identify(self):
