@@ -38,7 +38,7 @@ class Call(threading.Thread):
                 self.goes_out(self)
                 self.fault = ""
             except (AssertionError, OSError, threading.BrokenBarrierError) as fault:
-                self.fault = str(fault)
+                self.fault = str(fault) or repr(fault)
 
     def leg(self):
         """An end of a leg."""
@@ -171,26 +171,53 @@ def configuration(count, ports, call_with):
     return text
 
 
-def many_calls(program, folder, kind, count, loses, ports=25000):
-    """So many calls of a kind at a time. What went wrong; nothing where all is well."""
-    comes, goes_out, call_with = KINDS[kind]
-    way = losing(LOST_OF) if loses else clear
+@contextlib.contextmanager
+def serving(program, folder, count, ports, call_with):
+    """A server of so many lines, which has begun."""
     (folder / "many.toml").write_text("control = 'many'\n" + configuration(count, ports, call_with), encoding="utf-8")
     server = subprocess.Popen([program, "serve", "--config", "many.toml"], cwd=folder, stdout=subprocess.DEVNULL)
     try:
         time.sleep(3)
-        numbers = [f"+4930{i:02}{7 * i}" for i in range(count)]
-        calls = [Call(ports + 100 + i, ports, number, i + 1, comes, goes_out, way) for i, number in enumerate(numbers)]
-        for call in calls:
-            call.start()
-        for call in calls:
-            call.join(2 * LONGEST)
-        faults = [f"{call.number}: {call.fault}" for call in calls if call.fault]
-        print(f"{kind}{', 5 % of the media lost' if loses else ''}: {count - len(faults)} of {count}", flush=True)
-        return faults[0] if faults else ""
+        yield server
     finally:
         server.kill()
         server.wait()
+
+
+def late_turns(program, folder):
+    """How many turns of a server's lines came late so far: of a machine that is busy with something else, they tell it."""
+    told = subprocess.run([program, "say", "many", "metrics"], cwd=folder, capture_output=True, text=True, timeout=LONGEST).stdout
+    return next((int(line.split()[1]) for line in told.splitlines() if line.startswith("faxgate_turns_late_total ")), None)
+
+
+def play_calls(calls):
+    """Plays calls, all at once: what went wrong, a text for each that did."""
+    for call in calls:
+        call.start()
+    return faults_of(calls)
+
+
+def faults_of(calls):
+    """What went wrong with calls, once they are over."""
+    end = time.monotonic() + 4 * LONGEST
+    for call in calls:
+        call.join(max(0, end - time.monotonic()))
+    return [f"{call.number}: {call.fault}" for call in calls if call.fault]
+
+
+def many_calls(program, folder, kind, count, loses, ports=25000, least=1):
+    """So many calls of a kind at a time, each with a page of its own, the shortest of so many rows. What went wrong; nothing where all is
+    well."""
+    comes, goes_out, call_with = KINDS[kind]
+    way = losing(LOST_OF) if loses else clear
+    with serving(program, folder, count, ports, call_with):
+        faults = play_calls(
+            [Call(ports + 100 + i, ports, f"+4930{i:02}{7 * i}", least + i, comes, goes_out, way) for i in range(count)]
+        )
+        late = late_turns(program, folder)
+    lost = ", 5 % of the media lost" if loses else ""
+    print(f"{kind}{lost}: {count - len(faults)} of {count}; {late} turns were late", flush=True)
+    return faults[0] if faults else ""
 
 
 def survive(program, folder, count, ports=27000):
@@ -214,9 +241,7 @@ def survive(program, folder, count, ports=27000):
         server.wait()
         server = subprocess.Popen(words, cwd=folder, stdout=subprocess.DEVNULL)
         waits.wait(2 * LONGEST)
-        for call in calls:
-            call.join(2 * LONGEST)
-        faults = [f"{call.number}: {call.fault}" for call in calls if call.fault]
+        faults = faults_of(calls)
         print(f"a server killed with {count} jobs: {count - len(faults)} of {count} came", flush=True)
         return faults[0] if faults else ""
     except threading.BrokenBarrierError:

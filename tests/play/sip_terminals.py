@@ -1,0 +1,119 @@
+"""Calls over SIP between T.38 terminals of spandsp, many at a time: the machines are those of tools/sip_terminals.c, and SIP is said here."""
+import contextlib
+import queue
+import subprocess
+import threading
+import types
+
+from sip_calls import KINDS, LONGEST, Call, late_turns, play_calls, serving
+from sip_peer import port_of
+
+# How many of 100 datagrams are lost on each way, where some are.
+LOST_PERCENT = 5
+
+
+class Terminals:
+    """The machines of so many calls, in a folder; as a context manager they are gone after.
+
+    `ports`: of each call those of its calling and its called machine. `done`: of each what its calling machine came to, once it did.
+    """
+
+    def __init__(self, program, folder, count, lost_percent):
+        words = [program, str(count), str(lost_percent)]
+        self.process = subprocess.Popen(words, cwd=folder, stdin=subprocess.PIPE, stdout=subprocess.PIPE, text=True)
+        self._writes = threading.Lock()
+        self.ports = [tuple(map(int, self.process.stdout.readline().split()[2:])) for _ in range(count)]
+        self.done = [queue.SimpleQueue() for _ in range(count)]
+        # of each call: pages got, pages that differ, pages confirmed, and whether a terminal was left
+        self.pages = {}
+        self._reader = threading.Thread(target=self._read, daemon=True)
+        self._reader.start()
+
+    def _read(self):
+        for line in self.process.stdout:
+            what, number, *values = line.split()
+            if what == "done":
+                self.done[int(number)].put(int(values[0]))
+            else:
+                self.pages[int(number)] = tuple(map(int, values))
+
+    def call(self, number, port):
+        """The calling machine of a call begins its call to a port: how many pages it has confirmed."""
+        with self._writes:
+            self.process.stdin.write(f"call {number} {port}\n")
+            self.process.stdin.flush()
+        try:
+            return self.done[number].get(timeout=LONGEST)
+        except queue.Empty:
+            raise AssertionError("a calling machine is not over") from None
+
+    def end(self):
+        """No more calls: what came of each."""
+        self.process.stdin.close()
+        self.process.wait(LONGEST)
+        self._reader.join(LONGEST)
+        return [self.pages[number] for number in range(len(self.ports))]
+
+    def __enter__(self):
+        return self
+
+    def __exit__(self, *_):
+        self.process.kill()
+        self.process.wait()
+        self._reader.join(LONGEST)
+        for stream in (self.process.stdin, self.process.stdout):
+            with contextlib.suppress(OSError):
+                stream.close()
+
+
+class TerminalCall(Call):
+    """A call whose machines are two terminals, those of a number."""
+
+    def __init__(self, terminals, number, *more):
+        super().__init__(*more)
+        self.terminals, self.place = terminals, number
+
+    def leg(self):
+        return types.SimpleNamespace(port=self.terminals.ports[self.place][0])
+
+    def confirm(self, leg, answer):
+        assert self.terminals.call(self.place, port_of(answer.body, "image")) == 1, "the page was not confirmed"
+
+    def delivered(self, begin):
+        leg = types.SimpleNamespace(port=self.terminals.ports[self.place][1])
+        begin(types.SimpleNamespace(leg=leg))
+        self.trunk.answer(self.trunk.request("BYE", LONGEST), 200)
+
+
+def whole(pages):
+    """How many calls brought their page, as it was sent."""
+    return sum(1 for got, differ, _, _ in pages if (got, differ) == (1, 0))
+
+
+def directly(program, folder, count, lost_percent):
+    """How many pages come between the same terminals where no gateway is between them."""
+    words = [program, str(count), str(lost_percent), "direct"]
+    told = subprocess.run(words, cwd=folder, capture_output=True, text=True, timeout=LONGEST, check=True).stdout
+    return whole(tuple(map(int, line.split()[2:])) for line in told.splitlines())
+
+
+def terminal_calls(program, terminals, folder, kind, count, lost_percent, ports=24000):
+    """So many calls of a kind at a time between terminals. What went wrong: a page that differs, or more that lack than where no gateway
+    is between the terminals; nothing where all is well."""
+    comes, goes_out, call_with = KINDS[kind]
+    without = directly(terminals, folder, count, lost_percent)
+    with serving(program, folder, count, ports, call_with), Terminals(terminals, folder, count, lost_percent) as machines:
+        calls = [
+            TerminalCall(machines, i, ports + 100 + i, ports, f"+4930{i:02}{7 * i}", 1, comes, goes_out, None) for i in range(count)
+        ]
+        faults, pages = play_calls(calls), machines.end()
+        late = late_turns(program, folder)
+    came, differ, stuck = whole(pages), sum(it[1] for it in pages), sum(it[3] for it in pages)
+    told = f"spandsp's terminals, {kind}, {lost_percent} % of the media lost: {came} of {count} pages, {differ} differ; "
+    more = f"; {stuck} terminals were left" if stuck else ""
+    print(f"{told}without a gateway {without} of {count}; {late} turns were late{more}", flush=True)
+    for fault in faults:
+        print(f"    {fault}", flush=True)
+    if differ or came < without:
+        return faults[0] if faults else "pages differ, or lack"
+    return faults[0] if faults and not lost_percent else ""
