@@ -30,10 +30,13 @@ play:
 asked:
 	FAXGATE_TIMES=100 FAXGATE_JOBS=20 FAXGATE_RINGS=60 tools/play $(PROGRAM) --slow 4 -k asked
 
-# SIP: the plays of it with longer bounds of time, 40 calls at a time of each kind, two servers behind kamailio, mutated messages, and 1,000
-# calls of sipp, 50 a second. It wants kamailio and sipp (Debian's sip-tester), and says so where one is missing.
+# SIP: the head of tools/sip has its rows. It wants kamailio, sipp (Debian's sip-tester), spandsp (libspandsp-dev, libtiff-dev), tcpdump and
+# tshark, and root for networks of their own; what is missing is told and passed over, with status 77. It takes half an hour.
 sip: all
 	tools/sip $(PROGRAM)
+
+tools/sip_terminals: tools/sip_terminals.c tools/terminals.h
+	$(CC) -O2 -Wall -Wextra -o $@ tools/sip_terminals.c -lspandsp -ltiff
 
 # Tests the calls for C from C, through fax_c.h: crates/fax_c/tests.c. The gate proves them, and runs none of these. It wants a C
 # compiler, and no other library.
