@@ -4,6 +4,7 @@ import contextlib
 import ctypes
 import os
 import shutil
+import signal
 import subprocess
 
 # setns(2)
@@ -13,8 +14,8 @@ _LIBC = ctypes.CDLL(None, use_errno=True)
 
 
 def ip(*words):
-    """A command of ip(8)."""
-    subprocess.run(["ip", *words], check=True, capture_output=True, text=True, timeout=30)
+    """A command of ip(8): what it prints."""
+    return subprocess.run(["ip", *words], check=True, capture_output=True, text=True, timeout=30).stdout
 
 
 def lacking():
@@ -58,11 +59,14 @@ class Networks:
 
     @staticmethod
     def _sweep():
-        """Takes away those of processes that are gone."""
-        told = subprocess.run(["ip", "netns", "list"], check=True, capture_output=True, text=True, timeout=30).stdout
-        for name in (line.split()[0] for line in told.splitlines() if line.startswith(PREFIX)):
-            if not os.path.exists(f"/proc/{name.removeprefix(PREFIX).split('-')[0]}"):
-                ip("netns", "del", name)
+        """Takes away those of plays that are gone, with what is left in them."""
+        for name in (line.split()[0] for line in ip("netns", "list").splitlines() if line.startswith(PREFIX)):
+            if os.path.exists(f"/proc/{name.removeprefix(PREFIX).split('-')[0]}"):
+                continue
+            for process in ip("netns", "pids", name).split():
+                with contextlib.suppress(ProcessLookupError):
+                    os.kill(int(process), signal.SIGKILL)
+            ip("netns", "del", name)
 
     @staticmethod
     def _full(name):

@@ -178,6 +178,7 @@ def serving(program, folder, count, ports, call_with):
     server = subprocess.Popen([program, "serve", "--config", "many.toml"], cwd=folder, stdout=subprocess.DEVNULL)
     try:
         time.sleep(3)
+        assert server.poll() is None, f"the server has ended with {server.returncode}"
         yield server
     finally:
         server.kill()

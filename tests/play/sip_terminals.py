@@ -111,9 +111,8 @@ def terminal_calls(program, terminals, folder, kind, count, lost_percent, ports=
     came, differ, stuck = whole(pages), sum(it[1] for it in pages), sum(it[3] for it in pages)
     told = f"spandsp's terminals, {kind}, {lost_percent} % of the media lost: {came} of {count} pages, {differ} differ; "
     more = f"; {stuck} terminals were left" if stuck else ""
+    more += f"; of {len(faults)} calls it is told that {faults[0]}" if faults else ""
     print(f"{told}without a gateway {without} of {count}; {late} turns were late{more}", flush=True)
-    for fault in faults:
-        print(f"    {fault}", flush=True)
     if differ or came < without:
         return faults[0] if faults else "pages differ, or lack"
     return faults[0] if faults and not lost_percent else ""
