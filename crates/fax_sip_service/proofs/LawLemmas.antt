@@ -1,9 +1,11 @@
 -- Each word of the switch is said.
-use Rattle.std.proofs.Common.{◌≡◌, ℕ, suc, zero, ◌+◌, ◌≤◌, ◌⊎◌, min, Bool, true, false, List, [], ◌∷◌, ◌++◌, map, Option, Some, None, Result, Ok, Err, inl, inr, ap, sym, subst, refl, ◌∙◌, append_assoc, arith}
+use Rattle.std.proofs.Common.{◌≡◌, ℕ, suc, zero, Bool, true, false, List, [], ◌∷◌, ◌++◌, map, Option, Some, None, option_map, Result, Ok, inl, inr, ap, sym, subst, refl, ◌∙◌, append_assoc, arith}
 use Rattle.std.proofs.lemmas.List.{append-nil, map-append}
 use Rattle.std.proofs.lemmas.List.Concat.{flat_map-append}
+use Rattle.std.proofs.lemmas.Option.{none-some, same_Some}
 use Rattle.std.specs.Option.{option_to_list}
 use Rattle.std.specs.declared.net.socket_addr.SocketAddr.{SocketAddr}
+use Rattle.fax_desk.specs.declared.next.RefusedWord.{RefusedWord}
 use Rattle.fax_desk.specs.declared.next.Reply.{Reply}
 use Rattle.fax_desk.specs.declared.next.Reply.TheVariants as reply
 use Rattle.fax_desk.specs.declared.tag.Tag.{Tag}
@@ -12,29 +14,29 @@ use Rattle.fax_desk.specs.declared.told.LineEvent.TheVariants as happened
 use Rattle.fax_sip.specs.declared.fault.SipFault.{SipFault}
 use Rattle.fax_sip.specs.Messages.{MessageText}
 use Rattle.fax_switch.specs.declared.action.LineAction.{LineAction}
+use Rattle.fax_switch.specs.declared.event.Choice.{Choice}
 use Rattle.fax_switch.specs.declared.event.Event.{Event}
-use Rattle.fax_switch.specs.declared.event.Event.TheVariants.{Dialled}
+use Rattle.fax_switch.specs.declared.event.Event.TheVariants.{Rung, NotRung, Dialled, CallOver, JobOver}
 use Rattle.fax_switch.specs.declared.place.LineCall.{LineCall}
 use Rattle.fax_switch.specs.declared.place.Place.{Place}
-use Rattle.fax_switch.specs.Histories.{table_after}
-use Rattle.fax_switch.specs.Places.{called_place}
+use Rattle.fax_switch.specs.Places.{called_place, calling_place}
 use Rattle.fax_switch.specs.Tables.{Table, row}
 use Rattle.fax_user_agent.specs.declared.out.Heard.{Heard}
 use Rattle.fax_user_agent.specs.declared.out.Heard.TheVariants as heard
 use Rattle.fax_user_agent.specs.declared.out.LineOrder.{LineOrder}
 use Rattle.fax_user_agent.specs.declared.out.LineOrder.TheVariants as order
 use Rattle.fax_user_agent.specs.declared.out.Told.{Told}
-use Rattle.fax_user_agent.specs.Agents.{Agent, Hears, HearsDatagram, HearsDial, IsQuiet, MayHear}
+use Rattle.fax_user_agent.specs.Agents.{Agent, Hears, HearsDatagram, HearsDial, IsQuiet}
 use Rattle.fax_user_agent.specs.Orders.{word_of, words_of}
 use Rattle.fax_sip_service.specs.declared.said.Said.{Said}
 use Rattle.fax_sip_service.specs.declared.said.Said.TheVariants as said
-use Rattle.fax_sip_service.specs.Laws.{Step, Came, Passed, Spoke, Waited, Ended, Answered, Happened, Stops, Stopped, Emptied, StepsBy, Passes, SaysItsWords, said_by, said_in, says, words_since}
-use Rattle.fax_sip_service.specs.Services.{Service, AndCollects, Answers, AnswersIf, Asks, Collects, Dials, DialsFrom, DialsIf, Does, DoesPart, DoesWhole, Ends, EndsEach, EndsIf, GoesOn, GoesOnTimes, Happens, HearsFrom, Holds, HoldsAndDials, IsNoted, IsRung, Keeps, KeepsIf, KeepsNews, Leaves, Refuses, RingsIf, RingsOn, TakesNews, TakesOrder, TakesOrders, Tells, counted, without_words, without_news}
+use Rattle.fax_sip_service.specs.Laws.{Step, Came, Passed, Spoke, Waited, Ended, Answered, Happened, Stops, Stopped, Emptied, StepsBy, Passes, SaysItsWords, AnswerBrings, EachOf, IsBrought, LineBrings, MessageBrings, said_by, said_in, says, words_since}
+use Rattle.fax_sip_service.specs.Services.{Service, Answers, AnswersIf, Asks, Collects, Dials, DialsFrom, DialsIf, Does, EndsEach, EndsIf, GoesOnTimes, Happens, Holds, IsNoted, Keeps, KeepsIf, Leaves, Refuses, RingsIf, RingsOn, TakesNews, TakesOrder, TakesOrders, Tells, counted, line_call, over_of, without_words, without_news}
 use Rattle.fax_sip_service.specs.Words.{said_of}
 
--- what was said so far is right, if no memory was refused
-abbrev IsRight : ℕ → List Said → Service → Type 0
-IsRight most told service = service.lost ≡ 0 → SaysItsWords most told service
+-- what was said so far is right, if no memory was refused, and what the switch heard is of this kind
+abbrev IsRight : ℕ → (ℕ × Event → Type 0) → List Said → Service → Type 0
+IsRight most C told service = service.lost ≡ 0 → SaysItsWords most C told service
 
 none_counted : {P : Type 0} (lost : ℕ) → counted lost ≡ 0 → P
 none_counted lost h = absurd (omega (arith, h))
@@ -106,23 +108,25 @@ news_kept (first ∷ others) old new (mid, inr is, rest) none =
 -- ---- each step
 
 -- what is not of the switch and says nothing
-same_right : (most : ℕ) (told : List Said) (old new : Service)
-    → new.agent.switch ≡ old.agent.switch → new.agent.words ≡ old.agent.words → new.to_say ≡ old.to_say → SaysItsWords most told old → SaysItsWords most told new
-same_right most told old new switch words to_say right = record {
+same_right : (most : ℕ) (C : ℕ × Event → Type 0) (told : List Said) (old new : Service)
+    → new.agent.switch ≡ old.agent.switch → new.agent.words ≡ old.agent.words → new.to_say ≡ old.to_say → SaysItsWords most C told old → SaysItsWords most C told new
+same_right most C told old new switch words to_say right = record {
   past = right.past;
+  came = right.came;
   orders = right.orders;
   switch = switch ∙ right.switch;
   words = ap (λ (l : List LineAction). map word_of right.orders ++ l) words ∙ right.words;
   same = ap (λ (l : List Said). told ++ l) to_say ∙ right.same;
 }
 
-collected : (most : ℕ) (told : List Said) (now : ℕ) (old new : Service) → IsRight most told old → Collects now old new → IsRight most told new
-collected most told now old new right collects none =
+collected : (most : ℕ) (C : ℕ × Event → Type 0) (told : List Said) (now : ℕ) (old new : Service) → IsRight most C told old → Collects now old new → IsRight most C told new
+collected most C told now old new right collects none =
     let news = news_kept collects.taken.agent.told (without_news collects.taken) new collects.tells none in
     let kept = orders_kept now collects.orders (without_words old) collects.taken collects.takes news.lost in
     let before = right kept.lost in
     record {
       past = before.past;
+      came = before.came;
       orders = before.orders ++ collects.orders;
       switch = ap (λ (a : Agent). a.switch) news.agent ∙ ap (λ (a : Agent). a.switch) kept.agent ∙ before.switch;
       words = ap (λ (l : List LineAction). map word_of (before.orders ++ collects.orders) ++ l) (ap (λ (a : Agent). a.words) news.agent ∙ ap (λ (a : Agent). a.words) kept.agent)
@@ -137,12 +141,13 @@ collected most told now old new right collects none =
     }
 
 -- the switch hears an event
-hears_right : (most : ℕ) (told : List Said) (now : ℕ) (event : Event) (old new : Service)
-    → new.to_say ≡ old.to_say → Hears now event old.agent new.agent → SaysItsWords most told old → SaysItsWords most told new
-hears_right most told now event old new to_say hears right =
+hears_right : (most : ℕ) (C : ℕ × Event → Type 0) (told : List Said) (now : ℕ) (event : Event) (old new : Service)
+    → C (now, event) → new.to_say ≡ old.to_say → Hears now event old.agent new.agent → SaysItsWords most C told old → SaysItsWords most C told new
+hears_right most C told now event old new came to_say hears right =
     let switch = hears.switch ∙ ap (λ (t : Table). row t now event) right.switch in
     record {
       past = (now, event) ∷ right.past;
+      came = (came, right.came);
       orders = right.orders;
       switch = switch;
       words = ap (λ (l : List LineAction). map word_of right.orders ++ l) hears.words
@@ -153,152 +158,194 @@ hears_right most told now event old new to_say hears right =
     }
 
 -- what the agent does keeps what is right
-abbrev IsKept : (Agent → Agent → Type 0) → Type 0
-IsKept does = (most : ℕ) (told : List Said) (old new : Service) → new.to_say ≡ old.to_say → does old.agent new.agent → SaysItsWords most told old → SaysItsWords most told new
+abbrev IsKept : (ℕ × Event → Type 0) → (Agent → Agent → Type 0) → Type 0
+IsKept C does = (most : ℕ) (told : List Said) (old new : Service) → new.to_say ≡ old.to_say → does old.agent new.agent → SaysItsWords most C told old → SaysItsWords most C told new
 
-does_right : (most : ℕ) (told : List Said) (whole part : Agent → Agent → Type 0) (old new : Service) → IsKept whole → IsRight most told old → Does whole part old new → IsRight most told new
-does_right most told whole part old new kept right (inl w) none =
+does_right : (most : ℕ) (C : ℕ × Event → Type 0) (told : List Said) (whole part : Agent → Agent → Type 0) (old new : Service) → IsKept C whole → IsRight most C told old → Does whole part old new → IsRight most C told new
+does_right most C told whole part old new kept right (inl w) none =
     kept most told old new (ap (λ (s : Service). s.to_say) w.rest) w.done (right (sym (ap (λ (s : Service). s.lost) w.rest) ∙ none))
-does_right most told whole part old new kept right (inr p) none = none_counted old.lost (sym (ap (λ (s : Service). s.lost) p.rest) ∙ none)
+does_right most C told whole part old new kept right (inr p) none = none_counted old.lost (sym (ap (λ (s : Service). s.lost) p.rest) ∙ none)
 
-event_kept : (now : ℕ) (event : Event) → IsKept (Hears now event)
-event_kept now event most told old new to_say hears right = hears_right most told now event old new to_say hears right
+event_kept : (C : ℕ × Event → Type 0) (now : ℕ) (event : Event) → C (now, event) → IsKept C (Hears now event)
+event_kept C now event came most told old new to_say hears right = hears_right most C told now event old new came to_say hears right
 
-one_kept : (now : ℕ) → IsKept (λ old new. (event : Event) × Hears now event old new)
-one_kept now most told old new to_say (event, hears) right = hears_right most told now event old new to_say hears right
+one_kept : (C : ℕ × Event → Type 0) (now : ℕ) → ((event : Event) → C (now, event)) → IsKept C (λ old new. (event : Event) × Hears now event old new)
+one_kept C now came most told old new to_say (event, hears) right = hears_right most C told now event old new (came event) to_say hears right
 
-dial_kept : (now : ℕ) (on : LineCall) → IsKept (HearsDial now on)
-dial_kept now on most told old new to_say (choice, hears) right = hears_right most told now (Dialled on choice) old new to_say hears right
+dial_kept : (C : ℕ × Event → Type 0) (now : ℕ) (on : LineCall) → ((choice : Choice) → C (now, Dialled on choice)) → IsKept C (HearsDial now on)
+dial_kept C now on came most told old new to_say (choice, hears) right = hears_right most C told now (Dialled on choice) old new (came choice) to_say hears right
 
-quiet_kept : IsKept IsQuiet
-quiet_kept most told old new to_say quiet right = same_right most told old new quiet.switch quiet.words to_say right
+quiet_kept : (C : ℕ × Event → Type 0) → IsKept C IsQuiet
+quiet_kept C most told old new to_say quiet right = same_right most C told old new quiet.switch quiet.words to_say right
 
-may_kept : (now : ℕ) (text : MessageText) → IsKept (MayHear now text)
-may_kept now text most told old new to_say (inl quiet) right = quiet_kept most told old new to_say quiet right
-may_kept now text most told old new to_say (inr (event, may, hears)) right = hears_right most told now event old new to_say hears right
+nothing_kept : (most : ℕ) (C : ℕ × Event → Type 0) (told : List Said) (old new : Service) → new.to_say ≡ old.to_say → new.agent ≡ old.agent → SaysItsWords most C told old → SaysItsWords most C told new
+nothing_kept most C told old new to_say is right = same_right most C told old new (ap (λ (a : Agent). a.switch) is) (ap (λ (a : Agent). a.words) is) to_say right
 
-nothing_kept : (most : ℕ) (told : List Said) (old new : Service) → new.to_say ≡ old.to_say → new.agent ≡ old.agent → SaysItsWords most told old → SaysItsWords most told new
-nothing_kept most told old new to_say is right = same_right most told old new (ap (λ (a : Agent). a.switch) is) (ap (λ (a : Agent). a.words) is) to_say right
+datagram_kept : (C : ℕ × Event → Type 0) (now : ℕ) (trunk : Option ℕ) (message : Result MessageText SipFault) → ((event : Event) → MessageBrings message event → C (now, event))
+    → IsKept C (λ old new. (it : Heard) × HearsDatagram {E = Unit {0}} now trunk message (Ok it) old new)
+datagram_kept C now trunk message came most told old new to_say (heard.Stranger, (strange, is)) right = nothing_kept most C told old new to_say is right
+datagram_kept C now trunk message came most told old new to_say (heard.NoMessage fault, (known, reads, is)) right = nothing_kept most C told old new to_say is right
+datagram_kept C now trunk message came most told old new to_say (heard.Message, (known, text, reads, inl quiet)) right = quiet_kept C most told old new to_say quiet right
+datagram_kept C now trunk message came most told old new to_say (heard.Message, (known, text, reads, inr (event, may, hears))) right =
+    hears_right most C told now event old new (came event (old.agent.routes, text, reads, may)) to_say hears right
 
-datagram_kept : (now : ℕ) (trunk : Option ℕ) (message : Result MessageText SipFault) → IsKept (λ old new. (it : Heard) × HearsDatagram {E = Unit {0}} now trunk message (Ok it) old new)
-datagram_kept now trunk message most told old new to_say (heard.Stranger, (strange, is)) right = nothing_kept most told old new to_say is right
-datagram_kept now trunk message most told old new to_say (heard.NoMessage fault, (known, reads, is)) right = nothing_kept most told old new to_say is right
-datagram_kept now trunk message most told old new to_say (heard.Message, (known, text, reads, hears)) right = may_kept now text most told old new to_say hears right
+tells_right : (most : ℕ) (C : ℕ × Event → Type 0) (told : List Said) (now : ℕ) (event : Event) (old new : Service) → C (now, event) → IsRight most C told old → Tells now event old new → IsRight most C told new
+tells_right most C told now event old new came right tells = does_right most C told _ _ old new (event_kept C now event came) right tells
 
-tells_right : (most : ℕ) (told : List Said) (now : ℕ) (event : Event) (old new : Service) → IsRight most told old → Tells now event old new → IsRight most told new
-tells_right most told now event old new right tells = does_right most told _ _ old new (event_kept now event) right tells
+times_right : (most : ℕ) (C : ℕ × Event → Type 0) (told : List Said) (now count : ℕ) (old new : Service) → ((event : Event) → C (now, event)) → IsRight most C told old → GoesOnTimes now count old new → IsRight most C told new
+times_right most C told now zero old new came right is = subst (λ s. IsRight most C told s) (sym is) right
+times_right most C told now (suc count) old new came right (mid, earlier, once) = does_right most C told _ _ mid new (one_kept C now came) (times_right most C told now count old mid came right earlier) once
 
-times_right : (most : ℕ) (told : List Said) (now count : ℕ) (old new : Service) → IsRight most told old → GoesOnTimes now count old new → IsRight most told new
-times_right most told now zero old new right is = subst (λ s. IsRight most told s) (sym is) right
-times_right most told now (suc count) old new right (mid, earlier, once) = does_right most told _ _ mid new (one_kept now) (times_right most told now count old mid right earlier) once
+is_right : (most : ℕ) (C : ℕ × Event → Type 0) (told : List Said) (old new : Service) → IsRight most C told old → new ≡ old → IsRight most C told new
+is_right most C told old new right is = subst (λ s. IsRight most C told s) (sym is) right
 
-is_right : (most : ℕ) (told : List Said) (old new : Service) → IsRight most told old → new ≡ old → IsRight most told new
-is_right most told old new right is = subst (λ s. IsRight most told s) (sym is) right
+holds_right : (most : ℕ) (C : ℕ × Event → Type 0) (told : List Said) (place : Place) (old new : Service) → IsRight most C told old → Holds place old new → IsRight most C told new
+holds_right most C told place old new right (inl is) none =
+    nothing_kept most C told old new (ap (λ (s : Service). s.to_say) is) (ap (λ (s : Service). s.agent) is) (right (sym (ap (λ (s : Service). s.lost) is) ∙ none))
+holds_right most C told place old new right (inr is) none = none_counted old.lost (sym (ap (λ (s : Service). s.lost) is) ∙ none)
 
-holds_right : (most : ℕ) (told : List Said) (place : Place) (old new : Service) → IsRight most told old → Holds place old new → IsRight most told new
-holds_right most told place old new right (inl is) none =
-    nothing_kept most told old new (ap (λ (s : Service). s.to_say) is) (ap (λ (s : Service). s.agent) is) (right (sym (ap (λ (s : Service). s.lost) is) ∙ none))
-holds_right most told place old new right (inr is) none = none_counted old.lost (sym (ap (λ (s : Service). s.lost) is) ∙ none)
+refuses_right : (most : ℕ) (C : ℕ × Event → Type 0) (told : List Said) (now : ℕ) (it : Said) (why : RefusedWord) (old new : Service) → ((event : Event) → AnswerBrings it (reply.Refused why) event → C (now, event)) → IsRight most C told old → Refuses now it old new → IsRight most C told new
+refuses_right most C told now (said.Ring call tag) why old new came right r = tells_right most C told now (NotRung call 503) old new (came (NotRung call 503) refl) right r
+refuses_right most C told now (said.Peer place end is_moved) why old new came right r = tells_right most C told now (over_of place) _ new (came (over_of place) refl) (λ none. nothing_kept most C told old _ refl refl (right none)) r
+refuses_right most C told now (said.Refuse place digits) why old new came right r = is_right most C told old new right r
+refuses_right most C told now (said.HangUp place) why old new came right r = is_right most C told old new right r
 
-refuses_right : (most : ℕ) (told : List Said) (now : ℕ) (it : Said) (old new : Service) → IsRight most told old → Refuses now it old new → IsRight most told new
-refuses_right most told now (said.Ring call tag) old new right r = tells_right most told now _ old new right r
-refuses_right most told now (said.Peer place end is_moved) old new right r = tells_right most told now _ _ new (λ none. nothing_kept most told old _ refl refl (right none)) r
-refuses_right most told now (said.Refuse place digits) old new right r = is_right most told old new right r
-refuses_right most told now (said.HangUp place) old new right r = is_right most told old new right r
+rings_right : (most : ℕ) (C : ℕ × Event → Type 0) (told : List Said) (now call : ℕ) (on : LineCall) (leg : Option SocketAddr) (old new : Service) → C (now, Rung call on) → IsRight most C told old → RingsOn now call on leg old new → IsRight most C told new
+rings_right most C told now call on None old new came right is = is_right most C told old new right is
+rings_right most C told now call on (Some address) old new came right (mid, holds, tells) = tells_right most C told now _ mid new came (holds_right most C told _ old mid right holds) tells
 
-rings_right : (most : ℕ) (told : List Said) (now call : ℕ) (on : LineCall) (leg : Option SocketAddr) (old new : Service) → IsRight most told old → RingsOn now call on leg old new → IsRight most told new
-rings_right most told now call on None old new right is = is_right most told old new right is
-rings_right most told now call on (Some address) old new right (mid, holds, tells) = tells_right most told now _ mid new (holds_right most told _ old mid right holds) tells
+rings_if_right : (most : ℕ) (C : ℕ × Event → Type 0) (told : List Said) (now call : ℕ) (on : Option LineCall) (old new : Service) → ((it : LineCall) → on ≡ Some it → C (now, Rung call it)) → IsRight most C told old → RingsIf now call on old new → IsRight most C told new
+rings_if_right most C told now call None old new came right is = is_right most C told old new right is
+rings_if_right most C told now call (Some on) old new came right rings = rings_right most C told now call on _ old new (came on refl) right rings
 
-rings_if_right : (most : ℕ) (told : List Said) (now call : ℕ) (on : Option LineCall) (old new : Service) → IsRight most told old → RingsIf now call on old new → IsRight most told new
-rings_if_right most told now call None old new right is = is_right most told old new right is
-rings_if_right most told now call (Some on) old new right rings = rings_right most told now call on _ old new right rings
+answers_right : (most : ℕ) (C : ℕ × Event → Type 0) (told : List Said) (now : ℕ) (it : Said) (answer : Reply) (old new : Service) → ((event : Event) → AnswerBrings it answer event → C (now, event)) → IsRight most C told old → Answers now it answer old new → IsRight most C told new
+answers_right most C told now it reply.Done old new came right is = is_right most C told old new right is
+answers_right most C told now it (reply.Rung call) old new came right is = is_right most C told old new right is
+answers_right most C told now (said.Ring call tag) (reply.RungOn rung) old new came right rings = rings_if_right most C told now call _ old new (λ on is. came (Rung call on) (on, is, refl)) right rings
+answers_right most C told now (said.Peer place end is_moved) (reply.RungOn rung) old new came right is = is_right most C told old new right is
+answers_right most C told now (said.Refuse place digits) (reply.RungOn rung) old new came right is = is_right most C told old new right is
+answers_right most C told now (said.HangUp place) (reply.RungOn rung) old new came right is = is_right most C told old new right is
+answers_right most C told now it (reply.Refused why) old new came right refuses = refuses_right most C told now it why old new came right refuses
 
-rung_right : (most : ℕ) (told : List Said) (now : ℕ) (it : Said) (on : Option LineCall) (old new : Service) → IsRight most told old → IsRung now it on old new → IsRight most told new
-rung_right most told now (said.Ring call tag) on old new right rings = rings_if_right most told now call on old new right rings
-rung_right most told now (said.Peer place end is_moved) on old new right is = is_right most told old new right is
-rung_right most told now (said.Refuse place digits) on old new right is = is_right most told old new right is
-rung_right most told now (said.HangUp place) on old new right is = is_right most told old new right is
+waited_right : (most : ℕ) (C : ℕ × Event → Type 0) (told : List Said) (now : ℕ) (waits : Option Said) (answer : Reply) (old new : Service) → ((it : Said) (event : Event) → AnswerBrings it answer event → C (now, event)) → IsRight most C told old → AnswersIf now waits answer old new → IsRight most C told new
+waited_right most C told now None answer old new came right is = is_right most C told old new right is
+waited_right most C told now (Some it) answer old new came right (mid, answers, collects) =
+    collected most C told now mid new (answers_right most C told now it answer _ mid (came it) (λ none. nothing_kept most C told old _ refl refl (right none)) answers) collects
 
-answers_right : (most : ℕ) (told : List Said) (now : ℕ) (it : Said) (answer : Reply) (old new : Service) → IsRight most told old → Answers now it answer old new → IsRight most told new
-answers_right most told now it reply.Done old new right is = is_right most told old new right is
-answers_right most told now it (reply.Rung call) old new right is = is_right most told old new right is
-answers_right most told now it (reply.RungOn rung) old new right rings = rung_right most told now it _ old new right rings
-answers_right most told now it (reply.Refused why) old new right refuses = refuses_right most told now it old new right refuses
-
-waited_right : (most : ℕ) (told : List Said) (now : ℕ) (waits : Option Said) (answer : Reply) (old new : Service) → IsRight most told old → AnswersIf now waits answer old new → IsRight most told new
-waited_right most told now None answer old new right is = is_right most told old new right is
-waited_right most told now (Some it) answer old new right (mid, answers, collects) =
-    collected most told now mid new (answers_right most told now it answer _ mid (λ none. nothing_kept most told old _ refl refl (right none)) answers) collects
-
-dials_right : (most : ℕ) (told : List Said) (now : ℕ) (on : LineCall) (old new : Service) → IsRight most told old → Dials now on old new → IsRight most told new
-dials_right most told now on old new right (inl w) none = dial_kept now on most told old new (ap (λ (s : Service). s.to_say) w.rest) w.done (right (sym (ap (λ (s : Service). s.lost) w.rest) ∙ none))
-dials_right most told now on old new right (inr (mid, part, takes)) none =
+dials_right : (most : ℕ) (C : ℕ × Event → Type 0) (told : List Said) (now : ℕ) (on : LineCall) (old new : Service) → ((choice : Choice) → C (now, Dialled on choice)) → IsRight most C told old → Dials now on old new → IsRight most C told new
+dials_right most C told now on old new came right (inl w) none = dial_kept C now on came most told old new (ap (λ (s : Service). s.to_say) w.rest) w.done (right (sym (ap (λ (s : Service). s.lost) w.rest) ∙ none))
+dials_right most C told now on old new came right (inr (mid, part, takes)) none =
     none_counted old.lost (sym (ap (λ (s : Service). s.lost) part.rest) ∙ (order_kept now (order.Refuse (called_place on) 500) mid new takes none).lost)
 
-dials_from_right : (most : ℕ) (told : List Said) (now : ℕ) (on : LineCall) (leg : Option SocketAddr) (old new : Service) → IsRight most told old → DialsFrom now on leg old new → IsRight most told new
-dials_from_right most told now on None old new right is = is_right most told old new right is
-dials_from_right most told now on (Some address) old new right (mid, (held, holds, dials), collects) =
-    collected most told now mid new (dials_right most told now on held mid (holds_right most told _ old held right holds) dials) collects
+dials_from_right : (most : ℕ) (C : ℕ × Event → Type 0) (told : List Said) (now : ℕ) (on : LineCall) (leg : Option SocketAddr) (old new : Service) → ((choice : Choice) → C (now, Dialled on choice)) → IsRight most C told old → DialsFrom now on leg old new → IsRight most C told new
+dials_from_right most C told now on None old new came right is = is_right most C told old new right is
+dials_from_right most C told now on (Some address) old new came right (mid, (held, holds, dials), collects) =
+    collected most C told now mid new (dials_right most C told now on held mid came (holds_right most C told _ old held right holds) dials) collects
 
-dials_if_right : (most : ℕ) (told : List Said) (now : ℕ) (on : LineCall) (number : Option (List ℕ)) (leg : Option SocketAddr) (old new : Service) → IsRight most told old → DialsIf now on number leg old new → IsRight most told new
-dials_if_right most told now on None leg old new right is = is_right most told old new right is
-dials_if_right most told now on (Some number) leg old new right dials = dials_from_right most told now on leg old new right dials
+dials_if_right : (most : ℕ) (C : ℕ × Event → Type 0) (told : List Said) (now : ℕ) (on : LineCall) (number : Option (List ℕ)) (leg : Option SocketAddr) (old new : Service) → ((choice : Choice) → C (now, Dialled on choice)) → IsRight most C told old → DialsIf now on number leg old new → IsRight most C told new
+dials_if_right most C told now on None leg old new came right is = is_right most C told old new right is
+dials_if_right most C told now on (Some number) leg old new came right dials = dials_from_right most C told now on leg old new came right dials
 
-asks_right : (most : ℕ) (told : List Said) (now : ℕ) (on : Option LineCall) (tag : Option Tag) (old new : Service) → IsRight most told old → Asks now on tag old new → IsRight most told new
-asks_right most told now None tag old new right is = is_right most told old new right is
-asks_right most told now (Some on) tag old new right dials = dials_if_right most told now on _ _ old new right dials
+asks_right : (most : ℕ) (C : ℕ × Event → Type 0) (told : List Said) (now : ℕ) (on : Option LineCall) (tag : Option Tag) (old new : Service) → ((it : LineCall) (choice : Choice) → on ≡ Some it → C (now, Dialled it choice)) → IsRight most C told old → Asks now on tag old new → IsRight most C told new
+asks_right most C told now None tag old new came right is = is_right most C told old new right is
+asks_right most C told now (Some on) tag old new came right dials = dials_if_right most C told now on _ _ old new (λ choice. came on choice refl) right dials
 
-ends_right : (most : ℕ) (told : List Said) (now : ℕ) (place : Option Place) (old new : Service) → IsRight most told old → EndsIf now place old new → IsRight most told new
-ends_right most told now None old new right is = is_right most told old new right is
-ends_right most told now (Some place) old new right (mid, ends, collects) =
-    collected most told now mid new (tells_right most told now _ _ mid (λ none. nothing_kept most told old _ refl refl (right none)) ends) collects
+ends_right : (most : ℕ) (C : ℕ × Event → Type 0) (told : List Said) (now : ℕ) (place : Option Place) (old new : Service) → ((it : Place) → place ≡ Some it → C (now, over_of it)) → IsRight most C told old → EndsIf now place old new → IsRight most C told new
+ends_right most C told now None old new came right is = is_right most C told old new right is
+ends_right most C told now (Some place) old new came right (mid, ends, collects) =
+    collected most C told now mid new (tells_right most C told now _ _ mid (came place refl) (λ none. nothing_kept most C told old _ refl refl (right none)) ends) collects
 
-happens_right : (most : ℕ) (told : List Said) (now line : ℕ) (what : LineEvent) (old new : Service) → IsRight most told old → Happens now line what old new → IsRight most told new
-happens_right most told now line (happened.Asked job tag) old new right asks = asks_right most told now _ tag old new right asks
-happens_right most told now line (happened.Ended ended ending) old new right ends = ends_right most told now _ old new right ends
-happens_right most told now line (happened.Job report tag cause) old new right ends = ends_right most told now _ old new right ends
-happens_right most told now line (happened.Rung rung) old new right is = is_right most told old new right is
-happens_right most told now line (happened.NotKept lost) old new right is = is_right most told old new right is
-happens_right most told now line (happened.Page page tag) old new right is = is_right most told old new right is
-happens_right most told now line (happened.RefusedPage page tag) old new right is = is_right most told old new right is
-happens_right most told now line (happened.Dial dialled) old new right is = is_right most told old new right is
-happens_right most told now line (happened.Connected connected) old new right is = is_right most told old new right is
+-- the call of a leg is over, where the line has such a number
+call_brought : (C : ℕ × Event → Type 0) (now : ℕ) (on : Option LineCall) → ((it : LineCall) → on ≡ Some it → C (now, CallOver it)) → (place : Place) → option_map calling_place on ≡ Some place → C (now, over_of place)
+call_brought C now None came place is = absurd (none-some place is)
+call_brought C now (Some on) came place is = subst (λ (p : Place). C (now, over_of p)) (same_Some (calling_place on) place is) (came on refl)
 
-leaves_right : (most : ℕ) (told : List Said) (now : ℕ) (before : Bool) (old new : Service) → IsRight most told old → Leaves now before old new → IsRight most told new
-leaves_right most told now true old new right is = is_right most told old new right is
-leaves_right most told now false old new right (mid, quiet, collects) =
-    collected most told now mid new (does_right most told _ _ _ mid quiet_kept (λ none. nothing_kept most told old _ refl refl (right none)) quiet) collects
+job_brought : (C : ℕ × Event → Type 0) (now : ℕ) (on : Option LineCall) → ((it : LineCall) → on ≡ Some it → C (now, JobOver it)) → (place : Place) → option_map called_place on ≡ Some place → C (now, over_of place)
+job_brought C now None came place is = absurd (none-some place is)
+job_brought C now (Some on) came place is = subst (λ (p : Place). C (now, over_of p)) (same_Some (called_place on) place is) (came on refl)
 
-each_right : (most : ℕ) (told : List Said) (now : ℕ) (places : List Place) (old new : Service) → IsRight most told old → EndsEach now places old new → IsRight most told new
-each_right most told now [] old new right is = is_right most told old new right is
-each_right most told now (place ∷ others) old new right (mid, tells, rest) = each_right most told now others mid new (tells_right most told now _ old mid right tells) rest
+happens_right : (most : ℕ) (C : ℕ × Event → Type 0) (told : List Said) (now line : ℕ) (what : LineEvent) (old new : Service) → ((event : Event) → LineBrings line what event → C (now, event)) → IsRight most C told old → Happens now line what old new → IsRight most C told new
+happens_right most C told now line (happened.Asked job tag) old new came right asks = asks_right most C told now _ tag old new (λ on choice is. came (Dialled on choice) (on, choice, is, refl)) right asks
+happens_right most C told now line (happened.Ended ended ending) old new came right ends = ends_right most C told now _ old new (call_brought C now (line_call line ended.call) (λ on is. came (CallOver on) (on, is, refl))) right ends
+happens_right most C told now line (happened.Job report tag cause) old new came right ends = ends_right most C told now _ old new (job_brought C now (line_call line report.call) (λ on is. came (JobOver on) (on, is, refl))) right ends
+happens_right most C told now line (happened.Rung rung) old new came right is = is_right most C told old new right is
+happens_right most C told now line (happened.NotKept lost) old new came right is = is_right most C told old new right is
+happens_right most C told now line (happened.Page page tag) old new came right is = is_right most C told old new right is
+happens_right most C told now line (happened.RefusedPage page tag) old new came right is = is_right most C told old new right is
+happens_right most C told now line (happened.Dial dialled) old new came right is = is_right most C told old new right is
+happens_right most C told now line (happened.Connected connected) old new came right is = is_right most C told old new right is
 
-spoken : (most : ℕ) (told : List Said) (it : List Said) (old new : Service) → old.to_say ≡ it ++ new.to_say → new ≡ record old { to_say = new.to_say } → IsRight most told old → IsRight most (told ++ it) new
-spoken most told it old new first rest right none =
+leaves_right : (most : ℕ) (C : ℕ × Event → Type 0) (told : List Said) (now : ℕ) (before : Bool) (old new : Service) → IsRight most C told old → Leaves now before old new → IsRight most C told new
+leaves_right most C told now true old new right is = is_right most C told old new right is
+leaves_right most C told now false old new right (mid, quiet, collects) =
+    collected most C told now mid new (does_right most C told _ _ _ mid (quiet_kept C) (λ none. nothing_kept most C told old _ refl refl (right none)) quiet) collects
+
+each_right : (most : ℕ) (C : ℕ × Event → Type 0) (told : List Said) (now : ℕ) (places : List Place) (old new : Service) → ((place : Place) → C (now, over_of place)) → IsRight most C told old → EndsEach now places old new → IsRight most C told new
+each_right most C told now [] old new came right is = is_right most C told old new right is
+each_right most C told now (place ∷ others) old new came right (mid, tells, rest) = each_right most C told now others mid new came (tells_right most C told now _ old mid (came place) right tells) rest
+
+spoken : (most : ℕ) (C : ℕ × Event → Type 0) (told : List Said) (it : List Said) (old new : Service) → old.to_say ≡ it ++ new.to_say → new ≡ record old { to_say = new.to_say } → IsRight most C told old → IsRight most C (told ++ it) new
+spoken most C told it old new first rest right none =
     let before = right (sym (ap (λ (s : Service). s.lost) rest) ∙ none) in
     record {
       past = before.past;
+      came = before.came;
       orders = before.orders;
       switch = ap (λ (s : Service). s.agent.switch) rest ∙ before.switch;
       words = ap (λ (s : Service). map word_of before.orders ++ s.agent.words) rest ∙ before.words;
       same = append_assoc told it new.to_say ∙ ap (λ (l : List Said). told ++ l) (sym first) ∙ before.same;
     }
 
-step_right : (most : ℕ) (told : List Said) (step : Step) (old new : Service) → IsRight most told old → StepsBy step old new → IsRight most (told ++ said_by step) new
-step_right most told (Came now trunk message) old new right (mid, hears, collects) =
-    rw append-nil (collected most told now mid new (does_right most told _ _ old mid (datagram_kept now trunk message) right hears) collects)
-step_right most told (Passed now) old new right (mid, goes, collects) = rw append-nil (collected most told now mid new (times_right most told now goes.0 old mid right goes.1) collects)
-step_right most told (Spoke it) old new right speaks = spoken most told (option_to_list it) old new speaks.first speaks.rest right
-step_right most told (Waited it) old new right is = rw append-nil (subst (λ s. IsRight most told s) (sym is) (λ none. nothing_kept most told old _ refl refl (right none)))
-step_right most told (Ended now answer) old new right answers = rw append-nil (waited_right most told now old.waits answer old new right answers)
-step_right most told (Answered now it answer) old new right (mid, answers, collects) = rw append-nil (collected most told now mid new (answers_right most told now it answer old mid right answers) collects)
-step_right most told (Happened now line what) old new right happens = rw append-nil (happens_right most told now line what old new right happens)
-step_right most told (Stops now) old new right leaves = rw append-nil (leaves_right most told now old.is_leaving old new right leaves)
-step_right most told (Stopped now) old new right (mid, each, collects) =
-    rw append-nil (collected most told now mid new (each_right most told now old.places _ mid (λ none. nothing_kept most told old _ refl refl (right none)) each) collects)
-step_right most told Emptied old new right empties = rw append-nil (λ none. same_right most told old new empties.switch empties.words empties.to_say (right (sym empties.lost ∙ none)))
+wider : (P Q : ℕ × Event → Type 0) → ((heard : ℕ × Event) → P heard → Q heard) → (past : List (ℕ × Event)) → EachOf P past → EachOf Q past
+wider P Q leads [] each = tt
+wider P Q leads (heard ∷ past) (here, rest) = (leads heard here, wider P Q leads past rest)
 
-pub each_word : (most : ℕ) (passed : List Step) (service : Service) → Passes most passed service → service.lost ≡ 0 → SaysItsWords most (said_in passed) service
-each_word most [] service (switch, words, to_say) none = record { past = []; orders = []; switch = switch; words = words; same = to_say }
-each_word most (step ∷ earlier) service (before, passes, steps) none = step_right most (said_in earlier) step before service (each_word most earlier before passes) steps none
+-- what was brought before is brought still
+later_right : (most : ℕ) (step : Step) (earlier : List Step) (told : List Said) (service : Service) → IsRight most (IsBrought earlier) told service → IsRight most (IsBrought (step ∷ earlier)) told service
+later_right most step earlier told service right none =
+    let before = right none in
+    record {
+      past = before.past;
+      came = wider (IsBrought earlier) (IsBrought (step ∷ earlier)) (λ heard brought. inr brought) before.past before.came;
+      orders = before.orders;
+      switch = before.switch;
+      words = before.words;
+      same = before.same;
+    }
+
+nothing_more : (most : ℕ) (C : ℕ × Event → Type 0) (told : List Said) (service : Service) → IsRight most C told service → IsRight most C (told ++ []) service
+nothing_more most C told service right = subst (λ (l : List Said). IsRight most C l service) (sym (append-nil told)) right
+
+step_right : (most : ℕ) (step : Step) (earlier : List Step) (told : List Said) (old new : Service) → IsRight most (IsBrought (step ∷ earlier)) told old → StepsBy step old new → IsRight most (IsBrought (step ∷ earlier)) (told ++ said_by step) new
+step_right most (Came now trunk message) earlier told old new right (mid, hears, collects) =
+    let C = IsBrought (Came now trunk message ∷ earlier) in
+    nothing_more most C told new (collected most C told now mid new (does_right most C told _ _ old mid (datagram_kept C now trunk message (λ event may. inl (refl, may))) right hears) collects)
+step_right most (Passed now) earlier told old new right (mid, goes, collects) =
+    let C = IsBrought (Passed now ∷ earlier) in
+    nothing_more most C told new (collected most C told now mid new (times_right most C told now goes.0 old mid (λ event. inl refl) right goes.1) collects)
+step_right most (Spoke it) earlier told old new right speaks = spoken most (IsBrought (Spoke it ∷ earlier)) told (option_to_list it) old new speaks.first speaks.rest right
+step_right most (Waited it) earlier told old new right is =
+    let C = IsBrought (Waited it ∷ earlier) in
+    nothing_more most C told new (subst (λ s. IsRight most C told s) (sym is) (λ none. nothing_kept most C told old _ refl refl (right none)))
+step_right most (Ended now answer) earlier told old new right answers =
+    let C = IsBrought (Ended now answer ∷ earlier) in
+    nothing_more most C told new (waited_right most C told now old.waits answer old new (λ it event brings. inl (refl, (it, brings))) right answers)
+step_right most (Answered now it answer) earlier told old new right (mid, answers, collects) =
+    let C = IsBrought (Answered now it answer ∷ earlier) in
+    nothing_more most C told new (collected most C told now mid new (answers_right most C told now it answer old mid (λ event brings. inl (refl, brings)) right answers) collects)
+step_right most (Happened now line what) earlier told old new right happens =
+    let C = IsBrought (Happened now line what ∷ earlier) in
+    nothing_more most C told new (happens_right most C told now line what old new (λ event brings. inl (refl, brings)) right happens)
+step_right most (Stops now) earlier told old new right leaves =
+    let C = IsBrought (Stops now ∷ earlier) in
+    nothing_more most C told new (leaves_right most C told now old.is_leaving old new right leaves)
+step_right most (Stopped now) earlier told old new right (mid, each, collects) =
+    let C = IsBrought (Stopped now ∷ earlier) in
+    nothing_more most C told new (collected most C told now mid new (each_right most C told now old.places _ mid (λ place. inl (refl, (place, refl))) (λ none. nothing_kept most C told old _ refl refl (right none)) each) collects)
+step_right most Emptied earlier told old new right empties =
+    let C = IsBrought (Emptied ∷ earlier) in
+    nothing_more most C told new (λ none. same_right most C told old new empties.switch empties.words empties.to_say (right (sym empties.lost ∙ none)))
+
+pub each_word : (most : ℕ) (passed : List Step) (service : Service) → Passes most passed service → service.lost ≡ 0 → SaysItsWords most (IsBrought passed) (said_in passed) service
+each_word most [] service (switch, words, to_say) none = record { past = []; came = tt; orders = []; switch = switch; words = words; same = to_say }
+each_word most (step ∷ earlier) service (before, passes, steps) none = step_right most step earlier (said_in earlier) before service (later_right most step earlier (said_in earlier) before (each_word most earlier before passes)) steps none

@@ -1,5 +1,5 @@
 -- The number of a tag, and whether a route takes it.
-use Rattle.std.proofs.Common.{◌≡◌, ℕ, zero, suc, ◌+◌, ◌<◌, ◌≤◌, nat_lt, get_or, Bool, true, false, List, [], ◌∷◌, Option, Some, None, IfSome, IfNone, is_some, length, take, ap, sym, refl, ◌∙◌, arith}
+use Rattle.std.proofs.Common.{◌≡◌, ℕ, zero, suc, ◌<◌, nat_lt, get_or, Bool, true, false, List, [], ◌∷◌, Option, Some, None, IfSome, IfNone, is_some, length, take, ap, sym, refl, arith}
 use Rattle.std.proofs.lemmas.Bool.Decides.{nat_tests}
 use Rattle.std.proofs.lemmas.List.{take_all}
 use Rattle.std.proofs.lemmas.Option.{cond_some}

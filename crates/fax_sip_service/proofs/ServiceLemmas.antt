@@ -15,7 +15,7 @@ use Rattle.fax_user_agent.specs.declared.out.Heard.TheVariants as heard
 use Rattle.fax_user_agent.specs.declared.out.LineOrder.{LineOrder}
 use Rattle.fax_user_agent.specs.declared.out.Told.{Told}
 use Rattle.fax_sip_service.specs.declared.said.Said.{Said}
-use Rattle.fax_sip_service.specs.Services.{Service, AndCollects, Answers, AnswersIf, Collects, Does, DoesPart, DoesWhole, Ends, EndsAll, EndsEach, GoesOn, GoesOnOnce, HearsFrom, IsNoted, Keeps, Leaves, Refuses, Tells, TakesNews, TakesOrders, counted, noted, over_of, without, without_news, without_words}
+use Rattle.fax_sip_service.specs.Services.{Service, AndCollects, Answers, AnswersIf, Collects, Does, Ends, EndsAll, EndsEach, GoesOn, GoesOnOnce, HearsFrom, IsNoted, Keeps, Leaves, Refuses, Tells, TakesNews, TakesOrders, counted, noted, over_of, without, without_news, without_words}
 
 does_so : {E : Type 0} (whole part : Agent → Agent → Type 0) (outcome : Result (Unit {0}) E) (old : Service) (after : Agent)
     → Queues old.agent after → OnOk outcome (whole old.agent after) → OnErr outcome (part old.agent after) → Does whole part old (noted outcome (record old { agent = after }))

@@ -1,19 +1,28 @@
 -- What SIP says at the desk, over whatever happens to it. Lists of steps have the newest first. (This project's profile.)
-use Rattle.std.specs.Prelude.{◌≡◌, ℕ, List, [], ◌∷◌, ◌++◌, map, Option, Some, Result}
+use Rattle.std.specs.Prelude.{◌≡◌, ℕ, ◌⊎◌, List, [], ◌∷◌, ◌++◌, map, Option, Some, Result, Ok}
 use Rattle.std.specs.List.{flat_map}
 use Rattle.std.specs.Option.{option_to_list}
 use Rattle.fax_desk.specs.declared.next.Reply.{Reply}
+use Rattle.fax_desk.specs.declared.next.Reply.TheVariants as reply
 use Rattle.fax_desk.specs.declared.told.LineEvent.{LineEvent}
+use Rattle.fax_desk.specs.declared.told.LineEvent.TheVariants as happened
 use Rattle.fax_sip.specs.declared.fault.SipFault.{SipFault}
 use Rattle.fax_sip.specs.Messages.{MessageText}
 use Rattle.fax_switch.specs.declared.action.LineAction.{LineAction}
+use Rattle.fax_switch.specs.declared.event.Choice.{Choice}
 use Rattle.fax_switch.specs.declared.event.Event.{Event}
+use Rattle.fax_switch.specs.declared.event.Event.TheVariants.{Rung, NotRung, Dialled, CallOver, JobOver}
+use Rattle.fax_switch.specs.declared.place.LineCall.{LineCall}
+use Rattle.fax_switch.specs.declared.place.Place.{Place}
 use Rattle.fax_switch.specs.Histories.{table_after}
 use Rattle.fax_switch.specs.Tables.{begun}
+use Rattle.fax_trunks.specs.RouteValues.{RouteValue}
 use Rattle.fax_user_agent.specs.declared.out.LineOrder.{LineOrder}
+use Rattle.fax_user_agent.specs.Events.{MayBe}
 use Rattle.fax_user_agent.specs.Orders.{word_of, words_of}
 use Rattle.fax_sip_service.specs.declared.said.Said.{Said}
-use Rattle.fax_sip_service.specs.Services.{Service, AndCollects, Answers, AnswersIf, EndsAll, GoesOn, Happens, HearsFrom, Leaves}
+use Rattle.fax_sip_service.specs.declared.said.Said.TheVariants as said
+use Rattle.fax_sip_service.specs.Services.{Service, AndCollects, Answers, AnswersIf, EndsAll, GoesOn, Happens, HearsFrom, Leaves, line_call, over_of}
 use Rattle.fax_sip_service.specs.Words.{said_of}
 
 -- A datagram of this trunk came, which is this message, or none; time passed; what is to be said next was taken; what was said waits for the end of its order;
@@ -85,16 +94,66 @@ words_since most (happening ∷ past) = words_since most past ++ words_of (table
 abbrev pub says : List LineOrder → List Said
 says orders = flat_map (λ given. option_to_list (said_of given)) orders
 
--- What happened to the switch, and the orders of the agent, which are its words: those that are taken say what was said and what is to be said.
-pub record SaysItsWords (most : ℕ) (said : List Said) (service : Service) : Type 0 where
+-- ---- what the switch heard
+
+-- how what was said was answered
+abbrev pub AnswerBrings : Said → Reply → Event → Type 0
+AnswerBrings (said.Ring call tag) (reply.RungOn rung) event = (on : LineCall) × (line_call rung.line rung.call ≡ Some on) × (event ≡ Rung call on)
+AnswerBrings (said.Ring call tag) (reply.Refused why) event = event ≡ NotRung call 503
+AnswerBrings (said.Ring call tag) reply.Done event = ⊥
+AnswerBrings (said.Ring call tag) (reply.Rung rung) event = ⊥
+AnswerBrings (said.Peer place end is_moved) (reply.Refused why) event = event ≡ over_of place
+AnswerBrings (said.Peer place end is_moved) (reply.RungOn rung) event = ⊥
+AnswerBrings (said.Peer place end is_moved) reply.Done event = ⊥
+AnswerBrings (said.Peer place end is_moved) (reply.Rung rung) event = ⊥
+AnswerBrings (said.Refuse place digits) answer event = ⊥
+AnswerBrings (said.HangUp place) answer event = ⊥
+
+-- the call of a job of this line is asked for, its call is over, or its job
+abbrev pub LineBrings : ℕ → LineEvent → Event → Type 0
+LineBrings line (happened.Asked job tag) event = (on : LineCall) × (choice : Choice) × (line_call line job.call ≡ Some on) × (event ≡ Dialled on choice)
+LineBrings line (happened.Ended ended ending) event = (on : LineCall) × (line_call line ended.call ≡ Some on) × (event ≡ CallOver on)
+LineBrings line (happened.Job report tag cause) event = (on : LineCall) × (line_call line report.call ≡ Some on) × (event ≡ JobOver on)
+LineBrings line other event = ⊥
+
+-- a message is an event that it may be, over some routes
+abbrev pub MessageBrings : Result MessageText SipFault → Event → Type 0
+MessageBrings message event = (routes : List RouteValue) × (text : MessageText) × (message ≡ Ok text) × MayBe routes text event
+
+-- What a step brings the switch, if anything: a datagram what its message may be, time one thing after the other, an answer, a line's event; and as the server
+-- ends, the end of a call.
+abbrev pub Brings : Step → ℕ × Event → Type 0
+Brings (Came now trunk message) heard = (heard.0 ≡ now) × MessageBrings message heard.1
+Brings (Passed now) heard = heard.0 ≡ now
+Brings (Spoke it) heard = ⊥
+Brings (Waited it) heard = ⊥
+Brings (Ended now answer) heard = (heard.0 ≡ now) × ((it : Said) × AnswerBrings it answer heard.1)
+Brings (Answered now it answer) heard = (heard.0 ≡ now) × AnswerBrings it answer heard.1
+Brings (Happened now line what) heard = (heard.0 ≡ now) × LineBrings line what heard.1
+Brings (Stops now) heard = ⊥
+Brings (Stopped now) heard = (heard.0 ≡ now) × ((place : Place) × (heard.1 ≡ over_of place))
+Brings Emptied heard = ⊥
+
+-- some step brought it
+abbrev pub IsBrought : List Step → ℕ × Event → Type 0
+IsBrought [] heard = ⊥
+IsBrought (step ∷ earlier) heard = Brings step heard ⊎ IsBrought earlier heard
+
+abbrev pub EachOf : (ℕ × Event → Type 0) → List (ℕ × Event) → Type 0
+EachOf P [] = Unit {0}
+EachOf P (heard ∷ past) = P heard × EachOf P past
+
+-- What the switch heard, each of which was brought so, and the orders of the agent, which are its words: they say what was said and what is to be said.
+pub record SaysItsWords (most : ℕ) (brought : ℕ × Event → Type 0) (told : List Said) (service : Service) : Type 0 where
   pub past : List (ℕ × Event)
+  pub came : EachOf brought past
   pub orders : List LineOrder
   pub switch : service.agent.switch ≡ table_after most past
   pub words : map word_of orders ++ service.agent.words ≡ words_since most past
-  pub same : said ++ service.to_say ≡ says orders
+  pub same : told ++ service.to_say ≡ says orders
 
 -- EACH WORD OF THE SWITCH IS SAID, each once and in its order, while memory is not refused: the calls are those of the switch after what it heard, of which its
--- own laws speak; what it has to say to lines since then is what the agent ordered; and these orders, in their order, are what was said at the desk and then what
--- is still to be said.
+-- own laws speak, and each thing that it heard was brought by a datagram, a moment, an answer or a line; what it has to say to lines since then is what the agent
+-- ordered; and these orders, in their order, are what was said at the desk and then what is still to be said.
 abbrev pub EachWordIsSaid : Type 0
-EachWordIsSaid = (most : ℕ) (passed : List Step) (service : Service) → Passes most passed service → service.lost ≡ 0 → SaysItsWords most (said_in passed) service
+EachWordIsSaid = (most : ℕ) (passed : List Step) (service : Service) → Passes most passed service → service.lost ≡ 0 → SaysItsWords most (IsBrought passed) (said_in passed) service

@@ -7,7 +7,6 @@ use Rattle.fax_desk.specs.declared.view.AskedView.{AskedView}
 use Rattle.fax_desk.specs.declared.view.LineView.{LineView}
 use Rattle.fax_gateway.specs.declared.leg.Leg.{Leg as LineLeg}
 use Rattle.fax_gateway.specs.declared.leg.Leg.TheVariants as legs
-use Rattle.fax_switch.specs.declared.media.FaxEnd.{FaxEnd}
 use Rattle.fax_switch.specs.declared.place.Leg.{Leg}
 use Rattle.fax_switch.specs.declared.place.Leg.TheVariants as places
 use Rattle.fax_switch.specs.declared.place.Place.{Place}

@@ -1,4 +1,4 @@
-use Rattle.std.proofs.Common.{Option, sym, subst, refl}
+use Rattle.std.proofs.Common.{Option, sym, subst}
 use Rattle.std.specs.declared.net.socket_addr.SocketAddr.{SocketAddr}
 use Rattle.fax_switch.specs.declared.place.Place.{Place}
 use Rattle.fax_sip_service.specs.Services.{Holds, RingsOn}
