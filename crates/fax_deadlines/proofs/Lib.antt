@@ -1,3 +1,5 @@
 mod Prompts
 mod JobsEnd
 mod SilentCalls
+mod LongestSilence
+mod HeardCalls

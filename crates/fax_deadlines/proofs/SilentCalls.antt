@@ -57,7 +57,7 @@ same_if arrived d (x ∷ more) e none =
 same_newest : SlotsGoOn → (arrived : List DatagramValue) (d : DatagramValue) → decides arrived d ≡ false → newest_slots (d ∷ arrived) ≡ newest_slots arrived
 same_newest go arrived d none = let m = go d arrived in same_if arrived d m.0 m.1 none
 
-no_pieces : SlotsGoOn → (arrived : List DatagramValue) (d : DatagramValue) → decides arrived d ≡ false → new_pieces arrived d ≡ []
+pub no_pieces : SlotsGoOn → (arrived : List DatagramValue) (d : DatagramValue) → decides arrived d ≡ false → new_pieces arrived d ≡ []
 unfolding new_pieces
 no_pieces go arrived d none =
     let before : List Piece = pieces (newest_slots arrived) in
@@ -114,12 +114,12 @@ until_paced core start from (Ticks now ∷ before) p l u = ticked_paced from now
 
 -- ---- WHAT IS KNOWN of the calling leg after a trace
 
-record Known (trace : List Event) (l : CallingLeg) : Type 0 where
-  begun : l.begun ≤ clock trace
-  pace : allowed_from l.before.pace.last ≤ l.begun + spans.longest_pause
-  until : AllUntil (clock trace) l.events
+pub record Known (trace : List Event) (l : CallingLeg) : Type 0 where
+  pub begun : l.begun ≤ clock trace
+  pub pace : allowed_from l.before.pace.last ≤ l.begun + spans.longest_pause
+  pub until : AllUntil (clock trace) l.events
 
-abbrev IfKnown : List Event → Option CallingLeg → Type 0
+abbrev pub IfKnown : List Event → Option CallingLeg → Type 0
 IfKnown trace None = Unit {0}
 IfKnown trace (Some l) = Known trace l
 
@@ -170,18 +170,18 @@ known_after setup (FromCalled octets at decided) earlier (Some l) k = stays (Fro
 known_after setup (Placed at connected) earlier None k = tt
 known_after setup (Placed at connected) earlier (Some l) k = stays (Placed at connected) earlier l k
 
-known : (setup : Setup) (trace : List Event) → IfKnown trace (calling_leg setup trace)
+pub known : (setup : Setup) (trace : List Event) → IfKnown trace (calling_leg setup trace)
 known setup [] = tt
 known setup (e ∷ earlier) = known_after setup e earlier (calling_leg setup earlier) (known setup earlier)
 
 -- ---- TICKS IN BETWEEN: `last` is the last of them, by which the call is as it was
 
 -- ticks of which the core is that one
-record IsFilled (a : AnswererCore) (from gap : ℕ) (core : AnswererCore) (last : ℕ) : Type 0 where
-  events : List CallEvent
-  core_is : after_events a events ≡ core
-  silence : IsSilence a gap from events
-  last_is : answer.last_tick from events ≡ last
+pub record IsFilled (a : AnswererCore) (from gap : ℕ) (core : AnswererCore) (last : ℕ) : Type 0 where
+  pub events : List CallEvent
+  pub core_is : after_events a events ≡ core
+  pub silence : IsSilence a gap from events
+  pub last_is : answer.last_tick from events ≡ last
 
 fill : (a : AnswererCore) (from gap last n : ℕ) (core : AnswererCore) → 1 ≤ gap → ((y : ℕ) → last < y → y ≤ last + n → ticked core y ≡ untouched core) → IsFilled a from gap core last → IsFilled a from gap core (last + n)
 fill a from gap last zero core g rests f = subst (IsFilled a from gap core) (none last) f
@@ -208,7 +208,7 @@ leg_rests setup writes trace l now is few late h =
     let own : IsBefore now (due_at (core_of l)) = subst (λ (leg : Option CallingLeg). IsBefore now (calling_due setup leg)) is due in
     rests_before (core_of l) now few (not_due now (due_at (core_of l)) own)
 
-reaches : (setup : Setup) (writes : Writing) (trace : List Event) (l : CallingLeg) (a : AnswererCore) (from gap last next : ℕ) → calling_leg setup trace ≡ Some l → next < 2 ^ 64 → IsNear (deadline setup writes trace) (clock trace) last
+pub reaches : (setup : Setup) (writes : Writing) (trace : List Event) (l : CallingLeg) (a : AnswererCore) (from gap last next : ℕ) → calling_leg setup trace ≡ Some l → next < 2 ^ 64 → IsNear (deadline setup writes trace) (clock trace) last
     → IsFilled a from (gap + 1) (core_of l) last → IsFilled a from (gap + 1) (core_of l) (reached (deadline setup writes trace) last next)
 reaches setup writes trace l a from gap last next is few near f =
     let d : Option ℕ = deadline setup writes trace in
@@ -226,21 +226,21 @@ reaches setup writes trace l a from gap last next is few near f =
 -- ---- A SILENCE
 
 -- where the leg stands
-record Stands (setup : Setup) (writes : Writing) (a : AnswererCore) (from gap : ℕ) (trace : List Event) : Type 0 where
-  l : CallingLeg
-  is : calling_leg setup trace ≡ Some l
-  last : ℕ
-  filled : IsFilled a from (gap + 1) (core_of l) last
-  near : IsNear (deadline setup writes trace) (clock trace) last
-  after : from ≤ last
-  most : last ≤ clock trace
-  soon : clock trace ≤ last + (gap + 1)
+pub record Stands (setup : Setup) (writes : Writing) (a : AnswererCore) (from gap : ℕ) (trace : List Event) : Type 0 where
+  pub l : CallingLeg
+  pub is : calling_leg setup trace ≡ Some l
+  pub last : ℕ
+  pub filled : IsFilled a from (gap + 1) (core_of l) last
+  pub near : IsNear (deadline setup writes trace) (clock trace) last
+  pub after : from ≤ last
+  pub most : last ≤ clock trace
+  pub soon : clock trace ≤ last + (gap + 1)
 
--- an event that brings nothing
-quiet_on : (setup : Setup) (writes : Writing) (a : AnswererCore) (from gap : ℕ) (e : Event) (trace : List Event) → clock (e ∷ trace) < 2 ^ 64 → IsInTime (deadline setup writes trace) from gap (clock (e ∷ trace))
+-- an event but a tick, after which the core is one that the same ticks and what it brought lead to
+pub goes_on : (setup : Setup) (writes : Writing) (a : AnswererCore) (from gap : ℕ) (e : Event) (trace : List Event) → clock (e ∷ trace) < 2 ^ 64 → IsInTime (deadline setup writes trace) from gap (clock (e ∷ trace))
     → deadline setup writes (e ∷ trace) ≡ earlier (deadline setup writes trace) (wanted setup writes (e ∷ trace)) → (s : Stands setup writes a from gap trace)
-    → (n : CallingLeg) → calling_leg setup (e ∷ trace) ≡ Some n → core_of n ≡ core_of s.l → Stands setup writes a from gap (e ∷ trace)
-quiet_on setup writes a from gap e trace few prompt same s n is core =
+    → (n : CallingLeg) → calling_leg setup (e ∷ trace) ≡ Some n → ((last : ℕ) → IsFilled a from (gap + 1) (core_of s.l) last → IsFilled a from (gap + 1) (core_of n) last) → Stands setup writes a from gap (e ∷ trace)
+goes_on setup writes a from gap e trace few prompt same s n is brings =
     let d : Option ℕ = deadline setup writes trace in
     let next : ℕ = clock (e ∷ trace) in
     let after : from ≤ s.last = s.after in
@@ -249,11 +249,45 @@ quiet_on setup writes a from gap e trace few prompt same s n is core =
       l = n;
       is = is;
       last = reached d s.last next;
-      filled = subst (λ (c : AnswererCore). IsFilled a from (gap + 1) c (reached d s.last next)) (sym core) f;
+      filled = brings (reached d s.last next) f;
       near = subst (λ (x : Option ℕ). IsNear x next (reached d s.last next)) (sym same) (near_next d (gateway.due_at setup writes (e ∷ trace)) (clock trace) s.last next s.near s.most (omega arith));
       after = omega arith;
       most = reached_most d (clock trace) s.last next s.most (omega arith);
       soon = comes_soon d (clock trace) s.last next from gap s.near s.most (omega arith) s.after prompt;
+    }
+
+-- one that brings nothing
+pub quiet_on : (setup : Setup) (writes : Writing) (a : AnswererCore) (from gap : ℕ) (e : Event) (trace : List Event) → clock (e ∷ trace) < 2 ^ 64 → IsInTime (deadline setup writes trace) from gap (clock (e ∷ trace))
+    → deadline setup writes (e ∷ trace) ≡ earlier (deadline setup writes trace) (wanted setup writes (e ∷ trace)) → (s : Stands setup writes a from gap trace)
+    → (n : CallingLeg) → calling_leg setup (e ∷ trace) ≡ Some n → core_of n ≡ core_of s.l → Stands setup writes a from gap (e ∷ trace)
+quiet_on setup writes a from gap e trace few prompt same s n is core =
+    goes_on setup writes a from gap e trace few prompt same s n is (λ last f. subst (λ (c : AnswererCore). IsFilled a from (gap + 1) c last) (sym core) f)
+
+-- a tick
+pub ticks_on : (setup : Setup) (writes : Writing) (a : AnswererCore) (from gap at : ℕ) (given : Given) (trace : List Event) → clock (Tick at given ∷ trace) < 2 ^ 64 → IsInTime (deadline setup writes trace) from gap (clock (Tick at given ∷ trace))
+    → Stands setup writes a from gap trace → Stands setup writes a from gap (Tick at given ∷ trace)
+ticks_on setup writes a from gap at given trace few prompt s =
+    let d : Option ℕ = deadline setup writes trace in
+    let now : ℕ = clock (Tick at given ∷ trace) in
+    let f : IsFilled a from (gap + 1) (core_of s.l) (reached d s.last now) = reaches setup writes trace s.l a from gap s.last now s.is few s.near s.filled in
+    let was : answer.last_tick from f.events ≡ reached d s.last now = f.last_is in
+    let most : reached d s.last now ≤ now = reached_most d (clock trace) s.last now s.most (omega arith) in
+    let soon : now ≤ reached d s.last now + (gap + 1) = comes_soon d (clock trace) s.last now from gap s.near s.most (omega arith) s.after prompt in
+    let after : from ≤ s.last = s.after in
+    record {
+      l = leg_ticked s.l now;
+      is = ap (λ (leg : Option CallingLeg). calling_after setup leg now (Tick at given)) s.is;
+      last = now;
+      filled = record {
+        events = Ticks now ∷ f.events;
+        core_is = ap (λ (c : AnswererCore). (ticked c now).core) f.core_is;
+        silence = (omega arith, omega arith, f.silence);
+        last_is = refl;
+      };
+      near = near_tick (gateway.due_at setup writes (Tick at given ∷ trace)) now;
+      after = omega arith;
+      most = omega arith;
+      soon = omega arith;
     }
 
 quiet_with : SlotsGoOn → (l : CallingLeg) (now : ℕ) (read : Reading) (r : Result DatagramValue UdptlFault) → decided_by false l.arrived r ≡ false → core_of (leg_with l now read r) ≡ core_of l
@@ -301,32 +335,6 @@ stands_on go setup writes before (Tick at given ∷ later) l gap t few is q p =
     let trace : List Event = later ++ before in
     let s : Stands setup writes (core_of l) (clock before) gap trace = stands_on go setup writes before later l gap t.1 (omega arith) is q p.1 in
     ticks_on setup writes (core_of l) (clock before) gap at given trace few p.0 s
-  where
-    ticks_on : (setup : Setup) (writes : Writing) (a : AnswererCore) (from gap at : ℕ) (given : Given) (trace : List Event) → clock (Tick at given ∷ trace) < 2 ^ 64 → IsInTime (deadline setup writes trace) from gap (clock (Tick at given ∷ trace))
-        → Stands setup writes a from gap trace → Stands setup writes a from gap (Tick at given ∷ trace)
-    ticks_on setup writes a from gap at given trace few prompt s =
-        let d : Option ℕ = deadline setup writes trace in
-        let now : ℕ = clock (Tick at given ∷ trace) in
-        let f : IsFilled a from (gap + 1) (core_of s.l) (reached d s.last now) = reaches setup writes trace s.l a from gap s.last now s.is few s.near s.filled in
-        let was : answer.last_tick from f.events ≡ reached d s.last now = f.last_is in
-        let most : reached d s.last now ≤ now = reached_most d (clock trace) s.last now s.most (omega arith) in
-        let soon : now ≤ reached d s.last now + (gap + 1) = comes_soon d (clock trace) s.last now from gap s.near s.most (omega arith) s.after prompt in
-        let after : from ≤ s.last = s.after in
-        record {
-          l = leg_ticked s.l now;
-          is = ap (λ (leg : Option CallingLeg). calling_after setup leg now (Tick at given)) s.is;
-          last = now;
-          filled = record {
-            events = Ticks now ∷ f.events;
-            core_is = ap (λ (c : AnswererCore). (ticked c now).core) f.core_is;
-            silence = (omega arith, omega arith, f.silence);
-            last_is = refl;
-          };
-          near = near_tick (gateway.due_at setup writes (Tick at given ∷ trace)) now;
-          after = omega arith;
-          most = omega arith;
-          soon = omega arith;
-        }
 
 pub silent_calls : NoCallHangs → SlotsGoOn → SilentCallsEnd
 silent_calls hangs go setup writes before later l gap t few is quiet prompt on = by (nat_le s.last limit) refl

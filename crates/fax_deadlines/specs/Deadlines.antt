@@ -1,12 +1,20 @@
 -- How long a gateway takes at most, where it is ticked when a tick is due. (ITU-T T.30, 5.4.3 for T1, T2 and T4; how often what is
 -- tried, and the pace, are this project's profile.)
-use Rattle.std.specs.Prelude.{◌≡◌, ℕ, ◌+◌, ◌<◌, ◌≤◌, ◌^◌, max, false, List, [], ◌∷◌, ◌++◌, length, Option, Some, None, option_map}
+use Rattle.std.specs.Prelude.{◌≡◌, ℕ, ◌+◌, ◌*◌, ◌<◌, ◌≤◌, ◌^◌, max, Bool, true, false, not, ◌&&◌, ◌||◌, List, [], ◌∷◌, ◌++◌, length, Option, Some, None, option_map, if◌then◌else◌}
+use Rattle.fax_udptl.specs.Datagrams.{DatagramValue}
 use Rattle.fax_timers.specs.Moments.{earlier}
+use Rattle.fax_timers.specs.Spans as spans
+use Rattle.fax_ifp.specs.Pieces.{Piece}
+use Rattle.fax_answer.specs.History.{Decision, PassesOver, Trains, HangsUp, GivesCfr, GivesFtt, GivesMcf, GivesRtn}
+use Rattle.fax_answer.specs.Table.{Reading, decision}
+use Rattle.fax_answer.specs.Replies.{is_waiting}
+use Rattle.fax_answer.specs.Calls.{AnswererCore, CallEvent, Comes, Ticks, after_events, is_heard, rung}
 use Rattle.fax_answer.specs.Silence.{silent_time}
 use Rattle.fax_call.specs.Writings.{IsWriting, Writing}
 use Rattle.fax_call.specs.Ending.{NoTextIsLonger, longest_call}
 use Rattle.fax_gateway.specs.Setups.{Setup}
 use Rattle.fax_gateway.specs.Events.{Event, Ring, FromCalling, FromCalled, Tick, Placed, clock}
+use Rattle.fax_gateway.specs.Legs.{decides}
 use Rattle.fax_gateway.specs.CallingLegs as calling
 use Rattle.fax_gateway.specs.CallingLegs.{CallingLeg, calling_leg, idle_after}
 use Rattle.fax_gateway.specs.CalledLegs.{CalledLeg}
@@ -85,6 +93,58 @@ SilentCallsEnd =
     → calling_leg setup before ≡ Some l → IsQuiet later → IsPrompt setup writes gap (clock before) (later ++ before)
     → idle_after (calling_leg setup (later ++ before)) ≡ false
     → clock (later ++ before) ≤ clock before + silent_time (gap + 1) (calling.core_of l) + (gap + 1)
+
+-- WHAT IS HEARD in a call of the calling leg: a piece at which the answerer decides something, or that sets T2 anew. (So neither
+-- a frame that is passed over while packets wait nor, in Identify, any but a DCS and a DCN.)
+abbrev pub is_passed_over : Decision → Bool
+is_passed_over PassesOver = true
+is_passed_over (Trains dcs) = false
+is_passed_over HangsUp = false
+is_passed_over (GivesCfr dcs) = false
+is_passed_over GivesFtt = false
+is_passed_over (GivesMcf command page) = false
+is_passed_over GivesRtn = false
+
+abbrev pub hears : Reading → AnswererCore → Piece → Bool
+hears read a piece =
+    not (is_passed_over (decision read a.state (is_waiting a.waiting) a.history piece)) || (not (is_waiting a.waiting) && is_heard a.state piece)
+
+-- the moment of what was heard last, and that of the ring where nothing was
+abbrev pub last_heard : (begun : AnswererCore) → (start : ℕ) → List CallEvent → ℕ
+last_heard begun start [] = start
+last_heard begun start (Comes piece now read ∷ before) = if hears read (after_events begun before) piece then now else last_heard begun start before
+last_heard begun start (Ticks now ∷ before) = last_heard begun start before
+
+abbrev pub heard_at : CallingLeg → ℕ
+heard_at l = last_heard (rung l.before l.begun) l.begun l.events
+
+-- the longest that a call goes on unheard: CED and a DIS wait, of which one is a preamble; then T2 and T1, 9 seconds and five ticks
+abbrev pub longest_silence : (gap : ℕ) → ℕ
+longest_silence gap = (spans.longest_pause + 2 * spans.pace + 3 * gap) + (spans.t2 + spans.t1 + 9000 + 5 * gap)
+
+-- A CALL THAT IS ON WAS HEARD LATELY: no longer ago than the longest silence, whatever came besides, and whatever the called leg does.
+-- Ruled out: a leg whose T2 begins anew at each datagram that decides a slot, though no piece of a frame or signal is in it; one whose T1
+-- begins anew at each frame; a DIS that is given again for as long as something comes.
+abbrev pub CallsAreHeardLately : Type 0
+CallsAreHeardLately =
+    (setup : Setup) (writes : Writing) (trace : List Event) (l : CallingLeg) (gap : ℕ) → IsTrace setup writes trace → clock trace < 2 ^ 64
+    → calling_leg setup trace ≡ Some l → idle_after (Some l) ≡ false → IsPrompt setup writes gap (heard_at l) trace
+    → clock trace ≤ heard_at l + longest_silence (gap + 1) + (gap + 1)
+
+-- how many of the datagrams that arrived decided a slot
+abbrev pub deciding : List DatagramValue → ℕ
+deciding [] = 0
+deciding (d ∷ arrived) = if decides arrived d then deciding arrived + 1 else deciding arrived
+
+-- LONG CALLS ARE HEARD. An answering call has no longest time, since a caller may repeat its commands for ever: so it is told by what is
+-- heard. Where n datagrams of the call decided a slot, it has lasted no longer than n + 1 of the longest silences.
+-- Ruled out: a call that goes on by itself, as one that begins T1 anew at each T2; one that late datagrams, repeated ones or ones that
+-- cannot be read hold open.
+abbrev pub LongCallsAreHeard : Type 0
+LongCallsAreHeard =
+    (setup : Setup) (writes : Writing) (trace : List Event) (l : CallingLeg) (gap : ℕ) → IsTrace setup writes trace → clock trace < 2 ^ 64
+    → calling_leg setup trace ≡ Some l → idle_after (Some l) ≡ false → IsPrompt setup writes gap l.begun trace
+    → clock trace ≤ l.begun + (deciding l.arrived + 1) * (longest_silence (gap + 1) + (gap + 1))
 
 -- There are such traces: each one goes on with a tick that is as prompt.
 abbrev pub PromptTracesGoOn : Type 0

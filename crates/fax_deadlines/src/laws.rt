@@ -1,5 +1,5 @@
 //! Laws of the definitions: functions that do nothing, each of whose contracts is a theorem.
-ghost use Rattle.fax_deadlines.specs.Deadlines.{JobsEndInTime, PromptTracesGoOn, SilentCallsEnd, SteadyTicksArePrompt};
+ghost use Rattle.fax_deadlines.specs.Deadlines.{CallsAreHeardLately, JobsEndInTime, LongCallsAreHeard, PromptTracesGoOn, SilentCallsEnd, SteadyTicksArePrompt};
 
 use fax_answer::laws::no_call_hangs;
 use fax_gateway::laws::{jobs_are_of_their_calls, jobs_have_states};
@@ -18,6 +18,23 @@ pub fn jobs_end_in_time()
 /// holds that leg by silence.
 pub fn silent_calls_end()
     ensures { SilentCallsEnd }
+{
+    no_call_hangs();
+    slots_go_on();
+}
+
+/// While a call of the calling leg is on, where ticks are prompt, something was heard in it no longer ago than the longest silence: an
+/// answer, a hang-up, a training or what sets T2 anew came of it; or it rang then. What is passed over holds no call open.
+pub fn calls_are_heard_lately()
+    ensures { CallsAreHeardLately }
+{
+    no_call_hangs();
+}
+
+/// A call of the calling leg, in which so many datagrams decided a slot, has lasted no longer than so many of the longest silences and
+/// one: a caller holds that leg only by being heard, datagram after datagram.
+pub fn long_calls_are_heard()
+    ensures { LongCallsAreHeard }
 {
     no_call_hangs();
     slots_go_on();
