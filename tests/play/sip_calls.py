@@ -42,7 +42,7 @@ class Call(threading.Thread):
 
     def leg(self):
         """An end of a leg."""
-        return Leg(goes=self.way, comes=self.way)
+        return Leg(goes=self.way, comes=self.way, joins=True)
 
     def confirm(self, leg, answer):
         """A machine has the page confirmed by the leg that an answer tells."""

@@ -181,19 +181,19 @@ class Heard(NamedTuple):
 
 class Ear:
     """Reads the datagrams of a call in their order, and tells what they say. The call begins with the first packet of all: what is left
-    of the call before says nothing."""
+    of the call before says nothing. `joins`: it begins with the first that comes, since the call may be on."""
 
-    def __init__(self):
-        self._wanted = None
+    def __init__(self, joins=False):
+        self._wanted, self._joins = None, joins
         self._frame, self._image, self._kind, self._is_whole = b"", b"", None, True
 
     def hear(self, octets):
         """What a datagram says that was not heard yet."""
         number, packets = read_datagram(octets)
         if self._wanted is None:
-            if number != len(packets) - 1:
+            if number != len(packets) - 1 and not self._joins:
                 return []
-            self._wanted = 0
+            self._wanted = (number - len(packets) + 1) % 65536
         ahead = (number - self._wanted + 32768) % 65536 - 32768
         if ahead < 0:
             return []
@@ -271,9 +271,9 @@ def reordering(number, octets):
 
 class Leg:
     """A machine's end of a leg: a socket. It numbers and sends packets, and keeps what came, with the moments that the system says,
-    in seconds. `peer`, a port of `there`, may be said by the first datagram that comes."""
+    in seconds. `peer`, a port of `there`, may be said by the first datagram that comes. `joins`: as of `Ear`."""
 
-    def __init__(self, port=0, peer=None, goes=clear, comes=clear, redundancy=REDUNDANCY, host=HOST):
+    def __init__(self, port=0, peer=None, goes=clear, comes=clear, redundancy=REDUNDANCY, host=HOST, joins=False):
         self.socket = socket.socket(socket.AF_INET, socket.SOCK_DGRAM)
         self.socket.setsockopt(socket.SOL_SOCKET, SO_TIMESTAMPNS, 1)
         self.socket.bind((host, port))
@@ -281,13 +281,13 @@ class Leg:
         self.host, self.there, self.peer = host, host, peer
         # all that came: moment, octets, the port that it came from; what is lost on its way too
         self.came = []
-        self._goes, self._comes, self._redundancy = goes, comes, redundancy
+        self._goes, self._comes, self._redundancy, self._joins = goes, comes, redundancy, joins
         self._late, self._count = [], 0
         self.begin()
 
     def begin(self):
         """Another call begins: packets are numbered from 0 again."""
-        self._packets, self._ear = [], Ear()
+        self._packets, self._ear = [], Ear(self._joins)
 
     def send(self, packet):
         """Sends a packet in the next datagram."""
