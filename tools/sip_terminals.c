@@ -4,12 +4,12 @@
    usage: sip_terminals CALLS LOST           (how many calls, 1 to 100; how many of 100 datagrams are lost on each path)
           sip_terminals CALLS LOST direct    (the same terminals, each pair joined without a gateway, in no time; what came is told)
 
-   Its picture files are in the folder that it runs in. First it prints, for each call, `ports CALL CALLING CALLED`: those of its two machines. A line of its standard input, `call CALL PORT`,
-   begins the call of a calling machine to a port; the called machine begins with the first datagram that comes to it, and sends to where
-   that came from. `done CALL CONFIRMED` tells that a calling machine is over, and how many pages it had confirmed. At the end of its
-   standard input the machines have 3 s more; then it prints, for each call, `page CALL GOT DIFFER CONFIRMED STUCK`: how many pages the
-   called machine got, how many of them are not the page that was sent, element for element, how many the calling one had confirmed, and
-   whether a terminal sent packets for ever (see docs/INTEROP.md). */
+   Its picture files are in the folder that it runs in. First it prints, for each call, `ports CALL CALLING CALLED`: those of its two
+   machines. A line of its standard input, `call CALL PORT`, begins the call of a calling machine to a port; the called machine begins with
+   the first datagram that comes to it, and sends to where that came from. `done CALL CONFIRMED` tells that a calling machine is over, and
+   how many pages it had confirmed. At the end of its standard input the machines have 3 s more; then it prints, for each call, `page CALL
+   GOT DIFFER CONFIRMED STUCK`: how many pages the called machine got, how many of them are not the page that was sent, element for element,
+   how many the calling one had confirmed, and whether a terminal sent packets for ever (see docs/INTEROP.md). */
 #include "terminals.h"
 #include <arpa/inet.h>
 #include <errno.h>

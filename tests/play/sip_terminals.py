@@ -1,15 +1,31 @@
-"""Calls over SIP between T.38 terminals of spandsp, many at a time: the machines are those of tools/sip_terminals.c, and SIP is said here."""
+"""Calls over SIP between T.38 terminals of spandsp, many at a time: the machines are those of tools/sip_terminals.c, SIP is said here."""
 import contextlib
 import queue
 import subprocess
 import threading
+import time
 import types
 
-from sip_calls import KINDS, LONGEST, Call, late_turns, play_calls, serving
-from sip_peer import port_of
+from sip_calls import KINDS, LONGEST, Call, late_turns, play_calls, serving, to_t38
+from sip_peer import audio_offer, fax_offer, port_of
 
 # How many of 100 datagrams are lost on each way, where some are.
 LOST_PERCENT = 5
+# After how many seconds a change to T.38 is answered that comes late: the gateway has said its first DIS to nobody then.
+LATE = 3
+
+
+def over_audio_late(call):
+    """Audio at first; the server's change of it is answered late."""
+    leg = call.leg()
+    call.trunk.call(call.number, audio_offer(9), LONGEST)
+    again = call.trunk.request("INVITE", LONGEST)
+    time.sleep(LATE)
+    call.trunk.take(again, fax_offer(leg.port))
+    call.confirm(leg, again)
+
+
+TERMINAL_KINDS = KINDS | {"audio that is changed late": (over_audio_late, to_t38, "t38")}
 
 
 class Terminals:
@@ -100,7 +116,7 @@ def directly(program, folder, count, lost_percent):
 def terminal_calls(program, terminals, folder, kind, count, lost_percent, ports=24000):
     """So many calls of a kind at a time between terminals. What went wrong: a page that differs, or more that lack than where no gateway
     is between the terminals; nothing where all is well."""
-    comes, goes_out, call_with = KINDS[kind]
+    comes, goes_out, call_with = TERMINAL_KINDS[kind]
     without = directly(terminals, folder, count, lost_percent)
     with serving(program, folder, count, ports, call_with), Terminals(terminals, folder, count, lost_percent) as machines:
         calls = [
