@@ -1,0 +1,2 @@
+mod Dropping
+mod Ending

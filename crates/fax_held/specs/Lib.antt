@@ -1,0 +1,4 @@
+pub mod Files
+pub mod Held
+pub mod Lines
+pub mod Bounds
