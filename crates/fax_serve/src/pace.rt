@@ -3,6 +3,7 @@ ghost use Rattle.std.specs.Prelude.{◌≡◌, ◌-◌, [], nat_lt, IfOk, None, 
 ghost use Rattle.fax_serve.specs.Desking.{GivesOrder, given_by};
 ghost use Rattle.fax_queue.specs.SpoolStorage.{IsUnchanged};
 
+mod held;
 mod redials;
 mod sip;
 mod telling;
@@ -24,6 +25,7 @@ use crate::watch::Watch;
 use fax_clients::Clients;
 use fax_desk::{Desk, RunEnd, Tag};
 use fax_gateway::Kept;
+use fax_held::HeldPages;
 use fax_holding_wire::LineWire;
 use fax_jobs::Outcome;
 use fax_line::{LineAnswer, Lines, Order, Pace, SLOTS, SlotEnd};
@@ -95,6 +97,8 @@ pub struct RealPace<'a, C: Clock, I: Read + Drop, O: Write + Drop> {
     retry: Option<SaidCall>,
     /// The redial lines.
     redials: RedialLines<'a>,
+    /// What keeps pages in memory, where there is no spool.
+    held: Option<HeldPages>,
 }
 
 /// Contracts see what the desk waits to be told of.
@@ -118,6 +122,7 @@ impl<'a, C: Clock, I: Read + Drop, O: Write + Drop> RealPace<'a, C, I, O> {
         visitors: Option<Visitors>,
         sip: Option<SipFront>,
         redials: RedialLines<'a>,
+        held: Option<HeldPages>,
         spool_failures: u64,
     ) -> Result<Self, AllocError>
         requires { desk.waits ≡ None }
@@ -147,6 +152,7 @@ impl<'a, C: Clock, I: Read + Drop, O: Write + Drop> RealPace<'a, C, I, O> {
             discard: None,
             retry: None,
             redials,
+            held,
         })
     }
 
@@ -494,9 +500,8 @@ impl<'a, C: Clock, I: Read + Drop, O: Write + Drop, W: SocketLegs + Drop, D: Dis
             return;
         };
         store.begin_slot();
-        self.see_undelivered(store);
         let day = self.clock.day();
-        self.see_redials(day, store);
+        self.see_stored(day, store);
         set_causes(store, day, &self.desk, slot, lines);
         if set_tags(store, &self.desk, slot, lines) {
             self.put_from = Some(self.clock.micros().unwrap_or(0));
@@ -515,7 +520,9 @@ impl<'a, C: Clock, I: Read + Drop, O: Write + Drop, W: SocketLegs + Drop, D: Dis
 
     fn turned(&mut self, lines: &Lines<W>, store: Option<&KeepingStore<D, U>>) {
         self.read_clock();
+        self.hold_turned(lines);
         self.tell_turned(lines, store);
+        self.see_held();
     }
 
     fn done(&mut self, line: usize, answer: Option<LineAnswer>) {

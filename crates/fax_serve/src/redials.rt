@@ -17,7 +17,7 @@ use fax_redial::{BeginFault, Redials, RetryEnd, RetryJob, line_of_job};
 use fax_repeat::{RepeatPolicy, RepeatingWire};
 use fax_spool::{CallName, WaitingPage};
 use fax_undelivered::UndeliveredCall;
-use std::alloc::Global;
+use std::alloc::{AllocError, Global};
 use std::io;
 use std::net::{Net, UdpSocket};
 
@@ -171,6 +171,20 @@ impl<'a> RedialLines<'a> {
         is_ended || self.redials.is_under_way(line, life, call)
     }
 
+    /// The calls of which a try is on, or its end is to be noted.
+    pub(crate) fn names(&self, alloc: Global) -> Result<Vec<CallName>, AllocError> {
+        let mut names = Vec::new(alloc);
+        for i in &self.on {
+            if let Some(job) = self.redials.job(*i) {
+                names.push(copy_of(alloc, &job.name)?)?;
+            }
+        }
+        if let Some(end) = &self.ended {
+            names.push(copy_of(alloc, &end.name)?)?;
+        }
+        Ok(names)
+    }
+
     /// After how many seconds a job is tried again.
     pub(crate) fn after_seconds(&self) -> &[u32] {
         self.after_seconds
@@ -285,6 +299,15 @@ impl<'a> RedialLines<'a> {
         }
         Ok(())
     }
+}
+
+/// The same name once more.
+fn copy_of(alloc: Global, name: &CallName) -> Result<CallName, AllocError> {
+    Ok(CallName {
+        life: name.life,
+        call: name.call,
+        line: name.line.as_slice().to_vec(alloc)?,
+    })
 }
 
 /// How a redial line is, which has a try of this job, or none.

@@ -16,6 +16,7 @@ use crate::watch::Watch;
 use fax_clients::Clients;
 use fax_config::{Config, LineConfig};
 use fax_desk::{Card, Damage, Desk, RunEnd};
+use fax_held::HeldPages;
 use fax_holding_wire::{HoldingWire, PageStore};
 use fax_line::{Lines, PageToStore, RunStore, serve};
 use fax_queue::Storage;
@@ -188,7 +189,7 @@ fn serve_over<
     }
 }
 
-/// The same where pages are stored in memory alone, and on no disk of this type.
+/// The same where pages are kept in memory alone, and on no disk of this type.
 fn serve_in_memory<
     'a,
     W: SocketWire + Drop,
@@ -208,7 +209,18 @@ fn serve_in_memory<
     ensures { OnOk result (ServedAlone (length config.now.lines.items) false) }
 {
     let lines: Lines<HoldingWire<W>> = open_lines(system, alloc, config.lines.as_slice())?;
-    let mut pace = pace_of(system, alloc, config, clients, sip, &lines, redials, 0)?;
+    let held = held_pages(alloc, config.lines.as_slice())?;
+    let mut pace = pace_of(
+        system,
+        alloc,
+        config,
+        clients,
+        sip,
+        &lines,
+        redials,
+        Some(held),
+        0,
+    )?;
     serve_new::<W, N, I, O, D, U>(lines, &mut pace);
     Ok(pace.finish())
 }
@@ -302,6 +314,7 @@ fn serve_opened<
         sip,
         &lines,
         redials,
+        None,
         spool_failures,
     )?;
     let damage = Damage {
@@ -316,7 +329,16 @@ fn serve_opened<
     Ok(pace.finish())
 }
 
-/// What gives the orders to these lines, whose spool has failed so often before.
+/// What keeps the pages of these lines in memory.
+fn held_pages(alloc: Global, configs: &[LineConfig]) -> Result<HeldPages, ServeFault> {
+    let mut held = HeldPages::new(alloc)?;
+    for config in configs {
+        held.add_line(config.name.as_str())?;
+    }
+    Ok(held)
+}
+
+/// What gives the orders to these lines, whose pages are kept in memory so, or on a spool that has failed so often before.
 fn pace_of<'a, W: SocketLegs + Drop, N: Net + Clock, I: Read + Drop, O: Write + Drop>(
     system: &'a N,
     alloc: Global,
@@ -325,6 +347,7 @@ fn pace_of<'a, W: SocketLegs + Drop, N: Net + Clock, I: Read + Drop, O: Write + 
     sip: Option<SipFront>,
     lines: &Lines<W>,
     redials: RedialLines<'a>,
+    held: Option<HeldPages>,
     spool_failures: u64,
 ) -> Result<RealPace<'a, N, I, O>, ServeFault>
     ensures { IfOk result (λ pace. pace.waits ≡ None) }
@@ -350,6 +373,7 @@ fn pace_of<'a, W: SocketLegs + Drop, N: Net + Clock, I: Read + Drop, O: Write + 
         visitors,
         sip,
         redials,
+        held,
         spool_failures,
     )?)
 }

@@ -13,9 +13,9 @@ ghost use Rattle.fax_serve.specs.Openings.{AddsRestored, settings_by};
 use crate::fault::ServeFault;
 use fax_config::{LegConfig, LineConfig, Repeat};
 use fax_gateway::{Leg, RestoredCall, Settings};
-use fax_holding_wire::{HoldingWire, LineWire};
+use fax_holding_wire::{HoldingWire, LineWire, StoreFault};
 use fax_legs::{LegSocket, UdpWire};
-use fax_line::{Line, Lines};
+use fax_line::{Line, Lines, PageToStore};
 use fax_pagestore::PackedRows;
 use fax_queue::{Queue, RestoredLine, restore_line};
 use fax_repeat::{RepeatPolicy, RepeatingWire, TimedWire};
@@ -58,12 +58,20 @@ impl SocketWire for RepeatingWire<UdpWire<UdpSocket>> {
 }
 
 /// A wire of a line whose legs are sockets.
-pub trait SocketLegs: LineWire {
+pub trait SocketLegs: LineWire + Drop + Sized {
     /// The socket of a leg.
     fn leg(&self, leg: Leg) -> &LegSocket<UdpSocket>;
 
     /// Whether nothing goes out on the calling leg, since a page could not be stored.
     fn is_silenced(&self) -> bool;
+
+    /// The page that the last turn of a line confirmed, as that of the line of this number: none where it confirmed none. An `Err`: memory
+    /// was refused for its text.
+    fn page_of(
+        line: &Line<Self>,
+        alloc: Global,
+        number: usize,
+    ) -> Result<Option<PageToStore>, StoreFault>;
 }
 
 impl<W: SocketWire + Drop> SocketLegs for HoldingWire<W> {
@@ -73,6 +81,14 @@ impl<W: SocketWire + Drop> SocketLegs for HoldingWire<W> {
 
     fn is_silenced(&self) -> bool {
         HoldingWire::is_silenced(self)
+    }
+
+    fn page_of(
+        line: &Line<Self>,
+        alloc: Global,
+        number: usize,
+    ) -> Result<Option<PageToStore>, StoreFault> {
+        line.page_to_store(alloc, number)
     }
 }
 

@@ -1,13 +1,12 @@
 //! What is told of pages that could not be delivered.
-ghost use Rattle.std.specs.Prelude.{◌≡◌};
-
 use crate::store::KeepingStore;
 use crate::telling::Teller;
 use fax_bits::NoMemory;
 use fax_clients::Asker;
 use fax_control::{Answer, CallWord, Refusal};
 use fax_events::{Event, UndeliveredJob, What, write_event};
-use fax_undelivered::UndeliveredCall;
+use fax_queue::Queue;
+use fax_undelivered::{Undelivered, UndeliveredCall};
 use sqlite_disk::Disk;
 use std::alloc::{AllocError, Global};
 use std::io::{Read, Write};
@@ -54,30 +53,37 @@ pub(crate) fn place_of(
     calls.iter().position(|it| it.life == life && it.call == call && it.line.as_slice() == line)
 }
 
+/// What is beside the pages that could not be delivered.
+#[derive(Clone, Copy)]
+pub(crate) struct Beside<'a> {
+    /// The pages of lines that wait.
+    pub queues: &'a [Queue],
+    /// Whether the disk of those has failed.
+    pub has_failed: bool,
+    /// How a word is refused where what it names cannot be reached.
+    pub refusal: Refusal,
+}
+
 /// Drops the pages of a call, and says how the word is answered.
-pub(crate) fn drop_call<D: Disk, U: Disk>(
+pub(crate) fn drop_call<U: Disk>(
     alloc: Global,
-    store: &mut KeepingStore<D, U>,
+    kept: &mut Undelivered<U>,
     line: &str,
     life: u32,
     call: u32,
-) -> Answer<'static>
-    ensures { store.new.storage ≡ store.old.storage }
-{
-    let Some(kept) = &mut store.undelivered else {
-        return Answer::Refused(Refusal::NoCall);
-    };
+    refusal: Refusal,
+) -> Answer<'static> {
     match kept.discard(alloc, line.as_bytes(), life, call) {
         Ok(true) => Answer::Done,
         Ok(false) => Answer::Refused(Refusal::NoCall),
-        Err(_) => Answer::Refused(Refusal::NoSpool),
+        Err(_) => Answer::Refused(refusal),
     }
 }
 
-/// How many pages could not be delivered.
-pub(crate) fn pages_undelivered<D: Disk, U: Disk>(store: Option<&KeepingStore<D, U>>) -> u64 {
+/// How many pages of these calls could not be delivered.
+pub(crate) fn pages_undelivered(calls: &[UndeliveredCall]) -> u64 {
     let mut pages: u64 = 0;
-    for call in calls_of(store) {
+    for call in calls {
         pages = pages.saturating_add(u64::from(pages_left(call)));
     }
     pages
@@ -112,15 +118,15 @@ pub(crate) fn shown_text(octets: &[u8]) -> Option<&str> {
     }
 }
 
-/// The calls of which pages could not be delivered, of the line of this name or of all lines, as events of this moment, and `ok`.
-pub(crate) fn undelivered_text<D: Disk, U: Disk>(
+/// Of these calls of which pages could not be delivered those of the line of this name, or all, as events of this moment, and `ok`.
+pub(crate) fn undelivered_text(
     alloc: Global,
     line: Option<&str>,
-    store: Option<&KeepingStore<D, U>>,
+    calls: &[UndeliveredCall],
     at: u64,
 ) -> Result<Vec<u8>, NoMemory> {
     let mut text = Vec::new(alloc);
-    for call in calls_of(store) {
+    for call in calls {
         put_call(alloc, line, call, at, &mut text)?;
     }
     text.extend_from_slice(b"ok\n")?;
@@ -151,7 +157,7 @@ fn put_call(
     Ok(())
 }
 
-/// Tells that a word dropped the pages of a call of this tag.
+/// Tells that the pages of a call of this tag were dropped.
 pub(crate) fn tell_discarded<I: Read + Drop, O: Write + Drop>(
     teller: &mut Teller<I, O>,
     line: &str,

@@ -1,7 +1,7 @@
 //! The page that an operator looks at.
 use crate::answers::is_idle;
 use crate::sockets::SocketLegs;
-use crate::undelivered::{calls_of, shown_text};
+use crate::undelivered::shown_text;
 use crate::view::Seen;
 use fax_bits::NoMemory;
 use fax_desk::{Desk, LineView as LineSeen, Tag, TagsOn, View};
@@ -50,7 +50,7 @@ struct KeptCall {
     words: String,
 }
 
-/// The page of a server that is so, of which these jobs ended last.
+/// The page of a server that is so, of which these jobs ended last, and pages of these calls could not be delivered.
 pub(crate) fn page_text<W: SocketLegs + Drop, D: Disk, U: Disk>(
     alloc: Global,
     desk: &Desk,
@@ -58,6 +58,7 @@ pub(crate) fn page_text<W: SocketLegs + Drop, D: Disk, U: Disk>(
     health: Health,
     seen: &Seen<'_, W, D, U>,
     ended: &[EndedJob],
+    calls: &[UndeliveredCall],
 ) -> Result<Vec<u8>, NoMemory> {
     let on = lines_on(alloc, desk, seen)?;
     let mut lines = Vec::new(alloc);
@@ -68,7 +69,7 @@ pub(crate) fn page_text<W: SocketLegs + Drop, D: Disk, U: Disk>(
     for job in ended {
         jobs.push(job_view(job))?;
     }
-    let kept = kept_calls(alloc, calls_of(seen.store))?;
+    let kept = kept_calls(alloc, calls)?;
     let mut undelivered = Vec::new(alloc);
     for call in kept.as_slice() {
         undelivered.push(undelivered_view(call))?;

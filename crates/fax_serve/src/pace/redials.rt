@@ -3,14 +3,14 @@ ghost use Rattle.std.specs.Prelude.{◌≡◌};
 
 use super::RealPace;
 use crate::store::KeepingStore;
-use crate::undelivered::{SaidCall, calls_of, event_of, place_of};
-use crate::view::has_failed;
+use crate::undelivered::{Beside, SaidCall, event_of, place_of};
 use fax_clients::Asker;
 use fax_control::{Answer, CallWord, Refusal};
 use fax_jobs::Outcome;
+use fax_queue::Queue;
 use fax_redial::{BeginFault, RetryEnd, first_due, is_owed, note_end};
 use fax_spool::CallName;
-use fax_undelivered::Undelivered;
+use fax_undelivered::{Undelivered, UndeliveredCall};
 use sqlite_disk::Disk;
 use std::alloc::Global;
 use std::io::{Read, Write};
@@ -55,7 +55,7 @@ impl<'a, C: Clock, I: Read + Drop, O: Write + Drop> RealPace<'a, C, I, O> {
             self.answer(asker, Answer::Refused(Refusal::NoLine));
             return;
         }
-        if store.is_none() {
+        if !self.keeps_calls(store) {
             self.answer(asker, Answer::Refused(Refusal::NoCall));
             return;
         }
@@ -67,43 +67,34 @@ impl<'a, C: Clock, I: Read + Drop, O: Write + Drop> RealPace<'a, C, I, O> {
 
     /// Notes the tries that ended, and begins those that words named or whose time has come by this second since 1970. Without one nothing
     /// is tried by time.
-    pub(super) fn see_redials<D: Disk, U: Disk>(
+    pub(super) fn see_redials<U: Disk>(
         &mut self,
         day: Option<u64>,
-        store: &mut KeepingStore<D, U>,
+        kept: &mut Undelivered<U>,
+        beside: Beside<'_>,
     )
-        ensures same { self.new ≡ self.old }
-        ensures storage { store.new.storage ≡ store.old.storage }
+        ensures { self.new ≡ self.old }
     {
         self.redials.take_end();
         if let Some(end) = self.redials.ended.take() {
-            self.note_end(end, day.unwrap_or(0), store);
+            self.note_end(end, day.unwrap_or(0), kept);
         }
         if let Some(said) = self.retry.take() {
-            let answer = self.do_retry(&said, store);
+            let answer = self.do_retry(&said, kept, beside);
             self.answer(said.asker, answer);
         }
         if let Some(day) = day
             && self.redials.look_from <= self.now
         {
             self.redials.look_from = self.now.saturating_add(BETWEEN_LOOKS_MS);
-            self.try_due(day, store);
+            self.try_due(day, kept, beside);
         }
     }
 
     /// Notes how a try ended, and tells what waits still. What could not be noted is noted later.
-    fn note_end<D: Disk, U: Disk>(
-        &mut self,
-        end: RetryEnd,
-        day: u64,
-        store: &mut KeepingStore<D, U>,
-    )
-        ensures same { self.new ≡ self.old }
-        ensures storage { store.new.storage ≡ store.old.storage }
+    fn note_end<U: Disk>(&mut self, end: RetryEnd, day: u64, kept: &mut Undelivered<U>)
+        ensures { self.new ≡ self.old }
     {
-        let Some(kept) = &mut store.undelivered else {
-            return;
-        };
         match note_end(self.alloc, kept, &end, day) {
             Ok(_) => self.tell_try(&end.name, kept),
             Err(_) => self.redials.ended = Some(end),
@@ -124,95 +115,83 @@ impl<'a, C: Clock, I: Read + Drop, O: Write + Drop> RealPace<'a, C, I, O> {
     }
 
     /// Tries the job that a word named, and says how the word is answered.
-    fn do_retry<D: Disk, U: Disk>(
+    fn do_retry<U: Disk>(
         &mut self,
         said: &SaidCall,
-        store: &mut KeepingStore<D, U>,
+        kept: &mut Undelivered<U>,
+        beside: Beside<'_>,
     ) -> Answer<'static>
-        ensures same { self.new ≡ self.old }
-        ensures storage { store.new.storage ≡ store.old.storage }
+        ensures { self.new ≡ self.old }
     {
         if self.desk.is_stopping() {
             return Answer::Refused(Refusal::Stopping);
         }
-        if has_failed(Some(&*store)) {
-            return Answer::Refused(Refusal::NoSpool);
+        if beside.has_failed || kept.refuses() {
+            return Answer::Refused(beside.refusal);
         }
         let line = said.line.as_bytes();
-        let Some(k) = place_of(calls_of(Some(&*store)), line, said.life, said.call) else {
+        let Some(k) = place_of(kept.calls(), line, said.life, said.call) else {
             return Answer::Refused(Refusal::NoCall);
         };
-        if self.is_held(line, said.life, said.call, store) {
+        if self.is_under_way(line, said.life, said.call, beside.queues) {
             return Answer::Refused(Refusal::InCall);
         }
         let Some(i) = self.redials.redials().free() else {
             return Answer::Refused(Refusal::Busy);
         };
-        match self.try_call(i, k, store) {
+        match self.try_call(i, k, kept) {
             Ok(()) => Answer::Done,
             Err(BeginFault::NoMemory) => Answer::Refused(Refusal::NoMemory),
-            Err(_) => Answer::Refused(Refusal::NoSpool),
+            Err(_) => Answer::Refused(beside.refusal),
         }
     }
 
     /// Whether a job is under way: a try of it is on or to be noted, or its line owes it.
-    pub(super) fn is_held<D: Disk, U: Disk>(
-        &self,
-        line: &[u8],
-        life: u32,
-        call: u32,
-        store: &KeepingStore<D, U>,
-    ) -> bool {
-        self.redials.has(line, life, call) || is_owed(store.storage.queues(), line, life, call)
+    fn is_under_way(&self, line: &[u8], life: u32, call: u32, queues: &[Queue]) -> bool {
+        self.redials.has(line, life, call) || is_owed(queues, line, life, call)
     }
 
     /// Tries those whose time has come, while a redial line is idle.
-    fn try_due<D: Disk, U: Disk>(&mut self, day: u64, store: &mut KeepingStore<D, U>)
-        ensures same { self.new ≡ self.old }
-        ensures storage { store.new.storage ≡ store.old.storage }
+    fn try_due<U: Disk>(&mut self, day: u64, kept: &mut Undelivered<U>, beside: Beside<'_>)
+        ensures { self.new ≡ self.old }
     {
-        if self.desk.is_stopping() || has_failed(Some(&*store)) || self.redials.ended.is_some() {
+        let has_failed = beside.has_failed || kept.refuses();
+        if self.desk.is_stopping() || has_failed || self.redials.ended.is_some() {
             return;
         }
         for _ in 0..self.redials.len() {
             let Some(i) = self.redials.redials().free() else {
                 return;
             };
-            let Some(k) = self.due(day, store) else {
+            let Some(k) = self.due(day, kept.calls(), beside.queues) else {
                 return;
             };
-            match self.try_call(i, k, store) {
+            match self.try_call(i, k, kept) {
                 Ok(()) => {}
                 Err(BeginFault::NoMemory) => return,
                 Err(_) => {
-                    self.give_up(k, day, store);
+                    self.give_up(k, day, kept);
                     return;
                 }
             }
         }
     }
 
-    /// The first call whose time has come.
-    fn due<D: Disk, U: Disk>(&self, day: u64, store: &KeepingStore<D, U>) -> Option<usize> {
-        let calls = calls_of(Some(store));
-        let queues = store.storage.queues();
+    /// The first of these calls whose time has come.
+    fn due(&self, day: u64, calls: &[UndeliveredCall], queues: &[Queue]) -> Option<usize> {
         let after_seconds = self.redials.after_seconds();
         first_due(calls, queues, self.redials.redials(), day, after_seconds)
     }
 
     /// A try of call k begins on redial line i.
-    fn try_call<D: Disk, U: Disk>(
+    fn try_call<U: Disk>(
         &mut self,
         i: usize,
         k: usize,
-        store: &mut KeepingStore<D, U>,
+        kept: &mut Undelivered<U>,
     ) -> Result<(), BeginFault>
-        ensures same { self.new ≡ self.old }
-        ensures storage { store.new.storage ≡ store.old.storage }
+        ensures { self.new ≡ self.old }
     {
-        let Some(kept) = &mut store.undelivered else {
-            return Err(BeginFault::NoPage);
-        };
         let name = name_at(self.alloc, kept, k)?;
         let pages = kept.pages_of(self.alloc, name.line.as_slice(), name.life, name.call);
         let Ok(pages) = pages else {
@@ -225,13 +204,9 @@ impl<'a, C: Clock, I: Read + Drop, O: Write + Drop> RealPace<'a, C, I, O> {
     }
 
     /// No try of call k can begin: that counts as one, so that it waits for its next time.
-    fn give_up<D: Disk, U: Disk>(&mut self, k: usize, day: u64, store: &mut KeepingStore<D, U>)
-        ensures same { self.new ≡ self.old }
-        ensures storage { store.new.storage ≡ store.old.storage }
+    fn give_up<U: Disk>(&mut self, k: usize, day: u64, kept: &mut Undelivered<U>)
+        ensures { self.new ≡ self.old }
     {
-        let Some(kept) = &mut store.undelivered else {
-            return;
-        };
         if let Ok(name) = name_at(self.alloc, kept, k) {
             let end = RetryEnd {
                 name,
@@ -239,7 +214,7 @@ impl<'a, C: Clock, I: Read + Drop, O: Write + Drop> RealPace<'a, C, I, O> {
                 outcome: Outcome::NotPlaced,
                 cause: None,
             };
-            self.note_end(end, day, store);
+            self.note_end(end, day, kept);
         }
     }
 }

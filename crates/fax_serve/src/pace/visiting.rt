@@ -123,6 +123,7 @@ impl<'a, C: Clock, I: Read + Drop, O: Write + Drop> RealPace<'a, C, I, O> {
                     health,
                     &seen,
                     self.teller.jobs(),
+                    self.calls(store),
                 )?;
                 Ok(Told {
                     status: Status::Good,
@@ -162,7 +163,7 @@ impl<'a, C: Clock, I: Read + Drop, O: Write + Drop> RealPace<'a, C, I, O> {
         if let Some(store) = store {
             counters.pages_kept = store.storage.kept();
         }
-        counters.pages_undelivered = pages_undelivered(store);
+        counters.pages_undelivered = pages_undelivered(self.calls(store));
         counters
     }
 }
