@@ -13,7 +13,7 @@ import tiff6
 from asked import NO_CALL, page, rows_of
 from calls import CALLED_DIS, CALLER_DCN, CALLER_EOP, CED, CFR, CHECK, GATEWAY_DIS, MCF, PREAMBLE, TRAINING, Called, Caller, image
 from server import LONGEST, Peer, Server, address, event_line, until
-from undelivered import Failing
+from undelivered import MOST_IN_MEMORY, ROUNDS, Failing
 
 BUSY, IN_CALL, NO_LINE = ["refused 1 Busy"], ["refused 6 InCall"], ["refused 7 NoLine"]
 CALLER_MPS = "c002800002ffc8f240"
@@ -226,6 +226,38 @@ class ByAWord(Redialled):
         self.client.event("undelivered", tag="tag")
         self.assertEqual(self.server.say("retry a1 1 0"), NO_LINE)
         self.assertEqual(len(self.told()), 1)
+
+
+class InMemory(Redialled):
+    """Without a spool."""
+
+    def test_a_machine_that_is_busy_twice(self):
+        """It gets the page at the third try, after a while or by a word; and while that is on it is not dropped."""
+        self.begin_redial(1, spool=False)
+        self.fail(2, "49/1", "486")
+        self.refuse_again("49/1", 2, "486")
+        self.client.no_event("dial", QUIET)
+        self.assertEqual(self.server.say("retry a1 1 7"), NO_CALL)
+        self.assertEqual(self.server.say("retry a1 1 0"), ["ok"])
+        self.client.events.append(self.asked_again("49/1", 3))
+        self.assertEqual(self.server.say("retry a1 1 0"), IN_CALL)
+        self.assertEqual(self.server.say("discard a1 1 0"), IN_CALL)
+        self.deliver_again("49/1", 3, 2)
+        self.none_waits()
+
+    def test_a_job_that_is_under_way_is_not_dropped(self):
+        """Where more calls wait than are kept while the oldest is tried, those after it go."""
+        self.redials = [Redial(self.ports)]
+        self.begin_many(*self.redials)
+        oldest, *failed = self.fail_on_all()
+        self.assertEqual(self.server.say("retry {} 1 {}".format(*oldest)), ["ok"])
+        self.client.events.append(self.asked_again("a0", 2))
+        for _ in range(ROUNDS - 1):
+            failed += self.fail_on_all()
+        dropped = 1 + len(failed) - MOST_IN_MEMORY
+        self.assertEqual([self.call_of(self.client.event("discarded")) for _ in range(dropped)], failed[:dropped])
+        self.deliver_again("a0", 2, 1)
+        until(lambda: [self.call_of(told) for told in self.told()] == failed[dropped:], what="the others")
 
 
 class SomePages(Redialled):

@@ -1,13 +1,19 @@
 """Pages whose job failed: they are kept in files of their own, told by words and events, found again by each start, until a word drops them."""
+import concurrent.futures
 import json
 import os
 import time
 
-from asked import Asked
+from asked import Asked, page
+from calls import MCF, Caller
 from server import LONGEST, event_line, until
 from spooled import GATE, HEAD
 
 NO_CALL = ["refused 11 NoCall"]
+# Without a spool so many calls are kept.
+MOST_IN_MEMORY = 64
+# There so many machines call at once, so often that it is more.
+LINES, ROUNDS = 11, 6
 
 
 class Failing(Asked):
@@ -24,6 +30,34 @@ class Failing(Asked):
         *lines, last = self.server.say(word)
         self.assertEqual(last, "ok")
         return [json.loads(line) for line in lines]
+
+
+    def begin_many(self, *more):
+        """A server without a spool of lines whose called legs have no peers, and of these parts of a configuration."""
+        self.lines = [self.line(f"a{number}", called_peer=False) for number in range(LINES)]
+        self.server = self.serve(*self.lines, *more)
+        self.client = self.server.events()
+        self.callers = [Caller(self.peer(line, "calling")) for line in self.lines]
+
+    def fail_on_all(self):
+        """A page comes on each of these lines at one time, and then their calls cannot be placed, one after the other: each of them."""
+        with concurrent.futures.ThreadPoolExecutor(LINES) as pool:
+            list(pool.map(self.call_on, self.lines, self.callers))
+        for line in self.lines:
+            self.client.event("dial", line=line.name)
+            self.assertEqual(self.client.say(f"refuse {line.name} busy"), ["ok"])
+            yield self.call_of(self.client.event("undelivered", line=line.name))
+
+    def call_on(self, line, caller):
+        """A machine calls on a line, whose name is the tag, and has a page confirmed."""
+        self.assertRegex(self.server.say(f"ring {line.name} {line.name}")[0], "^ok [0-9]+$")
+        caller.begin_anew()
+        self.assertEqual(caller.call(page(1)), MCF)
+        until(lambda: f"line {line.name} calling idle" in "\n".join(self.server.say("status")), what="an idle calling leg")
+
+    def call_of(self, event):
+        """Which call an event tells of."""
+        return event["line"], event["call"]
 
 
 class Undelivered(Failing):
@@ -132,10 +166,63 @@ class Undelivered(Failing):
         self.assertEqual(self.spool(), ([], "", 0))
         self.assertEqual(self.spool("a1", "1", "0")[2], 1)
 
-    def test_without_a_spool_nothing_is_kept(self):
-        """The words are there, and find nothing."""
+
+class InMemory(Failing):
+    """Without a spool they are kept in memory."""
+
+    def test_a_page_that_was_refused_is_kept(self):
+        """It is told, counted, dropped by a word; and gone with its process."""
         self.begin()
-        self.confirm(1, "tag")
-        self.refuse("tag")
+        self.confirm(2, "49/1")
+        self.refuse("49/1")
+        event = self.client.event("undelivered", tag="49/1")
+        event["last"] = 0
+        self.assertEqual(
+            event_line(event),
+            '{"event":"undelivered","line":"a1","at":N,"life":1,"call":0,"tag":"49/1","pages":1,"outcome":"NotPlaced","cause":"busy","tries":1,"last":0}',
+        )
+        self.assertEqual([told["tag"] for told in self.told("undelivered a1")], ["49/1"])
+        self.assertEqual(self.told("undelivered a2"), [])
+        counts = self.server.metrics()
+        self.assertEqual((counts["faxgate_pages_undelivered"], counts["faxgate_jobs_undelivered_total"]), (1, 1))
+        self.assertEqual((counts["faxgate_puts_total"], counts["faxgate_pages_kept"]), (0, 0))
+        self.assertFalse([line for line in self.server.say("status") if line.startswith("spool")])
+        for word in ("discard a1 1 1", "discard a1 2 0", "discard a2 1 0"):
+            self.assertEqual(self.server.say(word), NO_CALL)
+        self.assertEqual(self.server.say("discard a1 1 0"), ["ok"])
+        event = self.client.event("discarded", tag="49/1")
+        self.assertEqual(event_line(event), '{"event":"discarded","line":"a1","at":N,"life":1,"call":0,"tag":"49/1"}')
         self.assertEqual(self.told(), [])
-        self.assertEqual(self.server.say("discard a1 1 0"), NO_CALL)
+        self.confirm(1, "gone")
+        self.refuse("gone")
+        self.client.event("undelivered", tag="gone")
+        self.server.kill()
+        self.server.start()
+        self.assertEqual(self.told(), [])
+
+    def test_a_page_that_came_is_not_kept(self):
+        """A job that was delivered leaves nothing, before one that was not and after it."""
+        self.begin()
+        self.confirm(1, "first")
+        self.deliver("first", self.machine(), 1)
+        self.confirm(2, "second")
+        self.refuse("second", "486")
+        self.client.event("undelivered", tag="second", cause="486")
+        self.confirm(3, "third")
+        self.deliver("third", self.machine(), 3)
+        self.assertEqual([told["tag"] for told in self.told()], ["second"])
+
+    def test_the_oldest_is_dropped(self):
+        """Of 65 jobs that failed the first is told as dropped, of 66 the second too, and the others are listed."""
+        self.begin_many()
+        failed = []
+        for _ in range(ROUNDS):
+            for call in self.fail_on_all():
+                failed.append(call)
+                dropped = len(failed) - MOST_IN_MEMORY
+                if dropped > 0:
+                    self.assertEqual(self.call_of(self.client.event("discarded")), failed[dropped - 1])
+        self.assertGreaterEqual(dropped, 2)
+        self.assertEqual([self.call_of(told) for told in self.told()], failed[dropped:])
+        counts = self.server.metrics()
+        self.assertEqual((counts["faxgate_jobs_discarded_total"], counts["faxgate_pages_undelivered"]), (dropped, MOST_IN_MEMORY))
