@@ -1,0 +1,4 @@
+pub mod CrcLemmas
+pub mod GreyLemmas
+pub mod LineLemmas
+pub mod PartLemmas

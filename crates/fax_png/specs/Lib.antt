@@ -1,0 +1,3 @@
+pub mod Checksums
+pub mod Greys
+pub mod Pngs
