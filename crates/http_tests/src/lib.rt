@@ -1,9 +1,11 @@
-//! Tests of what is told over HTTP, through what its crate shows.
+//! Tests of what is told over HTTP, and of pictures of pages, through what their crates show.
 #![tactic(auto)]
 
 #[cfg(test)]
 mod answers;
 #[cfg(test)]
 mod pages;
+#[cfg(test)]
+mod pictures;
 #[cfg(test)]
 mod requests;
