@@ -20,6 +20,14 @@ abbrev pub content_type : Content → List ℕ
 content_type contents.Html = codes "text/html; charset=utf-8"
 content_type contents.Text = codes "text/plain; charset=utf-8"
 content_type contents.OpenMetrics = codes "application/openmetrics-text; version=1.0.0; charset=utf-8"
+content_type contents.Png = codes "image/png"
+
+-- whether it may be kept, for how many seconds, and by whom (RFC 9111, 5.2.2): a picture never changes
+abbrev pub keeping : Content → List ℕ
+keeping contents.Html = codes "no-store"
+keeping contents.Text = codes "no-store"
+keeping contents.OpenMetrics = codes "no-store"
+keeping contents.Png = codes "private, max-age=600"
 
 -- a field, with its end
 abbrev pub field : List ℕ → List ℕ → List ℕ
@@ -37,15 +45,14 @@ allowed statuses.NotWell = []
 abbrev pub status_line : Status → List ℕ
 status_line status = codes "HTTP/1.1 " ++ (status_text status ++ codes "\r\n")
 
--- what each answer says: the connection ends after it, it is not stored, its type is not guessed, and its page takes nothing from elsewhere
+-- what each answer says: the connection ends after it, its type is not guessed, and its page takes nothing from elsewhere
 -- and runs nothing; and the empty line
 abbrev pub lasting : List ℕ
 lasting =
     field (codes "Connection") (codes "close")
-    ++ (field (codes "Cache-Control") (codes "no-store")
     ++ (field (codes "X-Content-Type-Options") (codes "nosniff")
-    ++ (field (codes "Content-Security-Policy") (codes "default-src 'none'; style-src 'unsafe-inline'; img-src data:")
-    ++ codes "\r\n")))
+    ++ (field (codes "Content-Security-Policy") (codes "default-src 'none'; style-src 'unsafe-inline'; img-src 'self' data:")
+    ++ codes "\r\n"))
 
 -- THE HEAD OF AN ANSWER: its status line, its fields, an empty line.
 abbrev pub head_octets : Status → Content → ℕ → List ℕ
@@ -53,7 +60,8 @@ head_octets status content count =
     status_line status
     ++ (field (codes "Content-Type") (content_type content)
     ++ (field (codes "Content-Length") (decimal count)
-    ++ (allowed status ++ lasting)))
+    ++ (field (codes "Cache-Control") (keeping content)
+    ++ (allowed status ++ lasting))))
 
 -- THE OCTETS OF AN ANSWER: that to HEAD has the same head, and no body.
 abbrev pub answer_octets : Answer → Bool → List ℕ

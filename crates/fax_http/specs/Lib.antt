@@ -5,6 +5,7 @@ pub mod Healths
 pub mod Laws
 pub mod Metrics
 pub mod Pages
+pub mod PicturePaths
 pub mod Questions
 pub mod Texts
 pub mod Undelivered

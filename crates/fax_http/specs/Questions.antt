@@ -1,12 +1,13 @@
 -- What a request asks for (RFC 9110, 9.3.1 and 9.3.2; RFC 9112, 2 and 3; what is at which path is this project's profile).
-use Rattle.std.specs.Prelude.{◌≡◌, ℕ, ◌<◌, ◌≤◌, ◌==◌, ◌⊎◌, ◌||◌, Bool, true, not, bytes_eq, if◌then◌else◌, List, codes, length, position, take, Option, None, Some}
+use Rattle.std.specs.Prelude.{◌≡◌, ℕ, ◌<◌, ◌≤◌, ◌==◌, ◌⊎◌, ◌||◌, Bool, true, not, bytes_eq, nat_eq, if◌then◌else◌, List, codes, length, position, take, Option, None, Some}
+use Rattle.std.specs.List.{starts_with}
 use Rattle.httparse.specs.Grammar.{HasNoRequest, NeverHasRequest, ReadsRequest, RequestHead}
 use Rattle.httparse.specs.Spans.{RequestExceeds}
 use Rattle.fax_http.specs.declared.question.Question.{Question}
 use Rattle.fax_http.specs.declared.question.Refusal.{Refusal}
 use Rattle.fax_http.specs.declared.question.Refusal.TheVariants.{NotAllowed, NotFound, TooLong, Unreadable}
 use Rattle.fax_http.specs.declared.question.Resource.{Resource}
-use Rattle.fax_http.specs.declared.question.Resource.TheVariants.{Health, Metrics, Page}
+use Rattle.fax_http.specs.declared.question.Resource.TheVariants.{Health, Metrics, Page, Picture}
 use Rattle.fax_http.specs.declared.question.Wanted.{Wanted}
 use Rattle.fax_http.specs.declared.question.Wanted.TheVariants.{Refuse, Tell}
 use Rattle.fax_http.specs.declared.reading.TheConstants.{MOST_FIELDS, MOST_HEAD}
@@ -24,11 +25,12 @@ abbrev pub path_of : List ℕ → List ℕ
 path_of target = before target (query_at target)
 
 -- what is at a path
-abbrev pub resource_at : List ℕ → Option Resource
+unfoldable pub resource_at : List ℕ → Option Resource
 resource_at path =
     if bytes_eq path (codes "/") then Some Page else
     if bytes_eq path (codes "/healthz") then Some Health else
-    if bytes_eq path (codes "/metrics") then Some Metrics else None
+    if bytes_eq path (codes "/metrics") then Some Metrics else
+    if starts_with nat_eq path (codes "/undelivered/") then Some Picture else None
 
 abbrev pub is_get : List ℕ → Bool
 is_get method = bytes_eq method (codes "GET")

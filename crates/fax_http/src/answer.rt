@@ -1,18 +1,17 @@
 //! An answer, written.
 ghost use Rattle.std.specs.Prelude.{◌≡◌, ◌++◌, IfOk, OnOk};
-ghost use Rattle.fax_http.specs.Answers.{allowed, answer_octets, content_type, field, head_octets, refusal_text, status_line, status_of, status_text};
+ghost use Rattle.fax_http.specs.Answers.{allowed, answer_octets, content_type, field, head_octets, keeping, refusal_text, status_line, status_of, status_text};
 
 use crate::question::Refusal;
 use crate::text::put;
 use itoa::Buffer;
 use std::alloc::{AllocError, Global};
 
-/// What each answer says, and the empty line: the connection ends after it, it is not stored, its type is not guessed, and its page takes
+/// What each answer says, and the empty line: the connection ends after it, its type is not guessed, and its page takes
 /// nothing from elsewhere and runs nothing.
 const LASTING: &[u8] = b"Connection: close\r\n\
-Cache-Control: no-store\r\n\
 X-Content-Type-Options: nosniff\r\n\
-Content-Security-Policy: default-src 'none'; style-src 'unsafe-inline'; img-src data:\r\n\
+Content-Security-Policy: default-src 'none'; style-src 'unsafe-inline'; img-src 'self' data:\r\n\
 \r\n";
 
 /// How a request went (RFC 9110, 15; RFC 6585, 5).
@@ -67,6 +66,8 @@ pub enum Content {
     Text,
     /// Counts, in OpenMetrics 1.0.0.
     OpenMetrics,
+    /// A picture that never changes, as a PNG.
+    Png,
 }
 
 impl Content {
@@ -78,6 +79,17 @@ impl Content {
             Content::Html => "text/html; charset=utf-8",
             Content::Text => "text/plain; charset=utf-8",
             Content::OpenMetrics => "application/openmetrics-text; version=1.0.0; charset=utf-8",
+            Content::Png => "image/png",
+        }
+    }
+
+    /// Whether it may be kept, for how many seconds, and by whom (RFC 9111, 5.2.2).
+    fn keeping(self) -> &'static str
+        ensures { result.now ≡ keeping self }
+    {
+        match self {
+            Content::Html | Content::Text | Content::OpenMetrics => "no-store",
+            Content::Png => "private, max-age=600",
         }
     }
 }
@@ -143,6 +155,7 @@ fn put_head(
     put_status(octets, status)?;
     put_field(octets, b"Content-Type", content.name())?;
     put_field(octets, b"Content-Length", Buffer::new().format(length))?;
+    put_field(octets, b"Cache-Control", content.keeping())?;
     put(octets, status.allowed().as_bytes())?;
     put(octets, LASTING)
 }

@@ -1,10 +1,11 @@
 //! A connection.
-ghost use Rattle.std.specs.Prelude.{◌≡◌, take, IfOk, OnErr, OnOk};
+ghost use Rattle.std.specs.Prelude.{◌≡◌, take, IfOk, IfSome, OnErr, OnOk};
+ghost use Rattle.fax_http.specs.PicturePaths.{AsksForPath};
 ghost use Rattle.fax_http.specs.Connections.{Hears, answered_by, is_over, nothing_heard, unanswered, written};
 
 use crate::answer::{Answer, write_answer};
 use crate::question::Question;
-use crate::reading::{MOST_HEAD, read_question};
+use crate::reading::{MOST_HEAD, read_path, read_question};
 use std::alloc::{AllocError, Global};
 use std::marker::Model;
 
@@ -72,6 +73,13 @@ impl Connection {
         } else {
             self.question
         }
+    }
+
+    /// The path that was asked for.
+    pub fn path(&self) -> Option<&[u8]>
+        ensures { IfSome result (λ path. AsksForPath self.now.heard path.now) }
+    {
+        read_path(self.heard.as_slice())
     }
 
     /// What was asked for is answered so: once, and not before it was asked for. `Err` means that memory was refused.

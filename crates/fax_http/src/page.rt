@@ -30,6 +30,10 @@ h2 { margin: 1.5rem 0 .5rem; font-size: 1.25rem; }\n\
 table { border-collapse: collapse; width: 100%; }\n\
 th, td { text-align: left; vertical-align: top; padding: .25rem .75rem .25rem 0; border-bottom: 1px solid #888; overflow-wrap: break-word; }\n\
 td { min-width: 7rem; overflow-wrap: anywhere; }\n\
+article { display: flex; flex-wrap: wrap; gap: 1rem; padding: .75rem 0; border-bottom: 1px solid #888; }\n\
+article div { flex: 1 1 18rem; min-width: 0; overflow-wrap: anywhere; }\n\
+h3 { margin: 0; font-size: 1rem; }\n\
+img { width: 27rem; max-width: 100%; min-height: 9rem; object-fit: contain; object-position: top left; align-self: flex-start; background: #fff; border: 1px solid #888; }\n\
 .number { min-width: 0; text-align: right; font-variant-numeric: tabular-nums; overflow-wrap: normal; }\n\
 footer { margin-top: 1.5rem; }\n\
 @media (prefers-color-scheme: dark) { body { color: #e8e8e8; background: #121212; } a { color: #9cf; } }\n\

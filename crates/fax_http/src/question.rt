@@ -9,6 +9,8 @@ pub enum Resource {
     Health,
     /// `/metrics`: its counts.
     Metrics,
+    /// Below `/undelivered/`: the picture of a page that could not be delivered.
+    Picture,
 }
 
 /// Why a request is refused.

@@ -1,6 +1,7 @@
 //! The head of a request, read.
-ghost use Rattle.std.specs.Prelude.{◌≡◌, ◌<◌, ◌≤◌, ℕ, List, Some, length, IfNone, IfSome};
+ghost use Rattle.std.specs.Prelude.{◌≡◌, ◌<◌, ◌≤◌, ℕ, List, Some, length, IfNone, IfSome, IsSome};
 ghost use Rattle.httparse.specs.Grammar.{HasNoRequest, MayBecomeRequest, ReadsRequest, RequestHead};
+ghost use Rattle.fax_http.specs.PicturePaths.{AsksForPath};
 ghost use Rattle.fax_http.specs.Questions.{Asks, asked_by, path_of, query_at, question_of, refused as refused_by, resource_at, wanted_by};
 
 use crate::question::{Question, Refusal, Resource, Wanted};
@@ -28,6 +29,18 @@ pub fn read_question(octets: &[u8]) -> Option<Question>
         Ok(Status::Partial) if octets.len() < MOST_HEAD => None,
         Ok(Status::Partial) | Err(Error::TooManyHeaders) => Some(refused(Refusal::TooLong)),
         Err(_) => Some(refused(Refusal::Unreadable)),
+    }
+}
+
+/// The path that a head asks for which stands at the front of these octets. `None`: no head that [`read_question`] answers stands there.
+pub fn read_path(octets: &[u8]) -> Option<&[u8]>
+    ensures asks { IfSome result (λ path. AsksForPath octets.now path.now) }
+    ensures found { (head : RequestHead) (rest : List ℕ) → ReadsRequest octets.now head rest → length head.fields ≤ MOST_FIELDS → IsSome result }
+{
+    let mut fields = [EMPTY_HEADER_SPAN; MOST_FIELDS];
+    match parse_request(octets, &mut fields) {
+        Ok(Status::Complete(head)) => Some(path_of(head.path.of(octets))),
+        Ok(Status::Partial) | Err(_) => None,
     }
 }
 
@@ -81,6 +94,7 @@ fn query_at(target: &[u8]) -> Option<usize>
 }
 
 /// What is at a path.
+#[tactic(auto, unfolding(crate::specs::Questions::resource_at))]
 fn resource_at(path: &[u8]) -> Option<Resource>
     ensures { result ≡ resource_at path.now }
 {
@@ -90,6 +104,8 @@ fn resource_at(path: &[u8]) -> Option<Resource>
         Some(Resource::Health)
     } else if path == b"/metrics".as_slice() {
         Some(Resource::Metrics)
+    } else if path.starts_with(b"/undelivered/".as_slice()) {
+        Some(Resource::Picture)
     } else {
         None
     }

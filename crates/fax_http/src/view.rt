@@ -54,6 +54,10 @@ pub struct UndeliveredView<'a> {
     pub call: CallView<'a>,
     /// How many pages are kept.
     pub pages: u64,
+    /// How often it was tried.
+    pub tries: u64,
+    /// When it was tried last, in words.
+    pub at: &'a str,
     /// How its job ended last, in words.
     pub outcome: &'a str,
 }
