@@ -1,7 +1,11 @@
 -- Who looks at a server, place by place, and what a call does with them (this project's profile).
-use Rattle.std.specs.Prelude.{◌≡◌, ℕ, zero, suc, ◌⊎◌, List, [], ◌∷◌, option_and_then, Option, None, Some}
+use Rattle.std.specs.Prelude.{◌≡◌, ℕ, zero, suc, Bool, true, false, ◌⊎◌, List, [], ◌∷◌, option_and_then, Option, None, Some}
 use Rattle.fax_http.specs.declared.answer.Answer.{Answer}
 use Rattle.fax_http.specs.declared.question.Question.{Question}
+use Rattle.fax_http.specs.declared.question.Resource.TheVariants.{Health, Metrics, Page, Picture}
+use Rattle.fax_http.specs.declared.question.Wanted.{Wanted}
+use Rattle.fax_http.specs.declared.question.Wanted.TheVariants.{Refuse, Tell}
+use Rattle.fax_http.specs.PicturePaths.{AsksForPath}
 use Rattle.fax_http.specs.Connections.{ConnectionValue, Hears, answered_by, nothing_heard, unanswered, written}
 
 -- some octets that came were heard, or none
@@ -37,6 +41,22 @@ abbrev pub AsksAt : List (Option ConnectionValue) → ℕ → Question → Type 
 AsksAt [] place question = ⊥
 AsksAt (one ∷ others) zero question = option_and_then unanswered one ≡ Some question
 AsksAt (one ∷ others) (suc place) question = AsksAt others place question
+
+-- a picture is asked for
+abbrev pub is_for : Wanted → Bool
+is_for (Refuse why) = false
+is_for (Tell Page) = false
+is_for (Tell Health) = false
+is_for (Tell Metrics) = false
+is_for (Tell Picture) = true
+
+abbrev pub is_for_picture : Question → Bool
+is_for_picture question = is_for question.wanted
+
+-- who is at a place asked for this path
+abbrev pub HasPath : List ℕ → Option ConnectionValue → Type 0
+HasPath path None = ⊥
+HasPath path (Some connection) = AsksForPath connection.heard path
 
 -- who is at a place was answered, or went
 abbrev pub IsAnsweredPlace : Answer → Option ConnectionValue → Option ConnectionValue → Type 0

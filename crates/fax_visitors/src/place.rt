@@ -1,7 +1,7 @@
 //! A place for a visitor.
-ghost use Rattle.std.specs.Prelude.{◌≡◌, None, Some, is_some, option_and_then};
+ghost use Rattle.std.specs.Prelude.{◌≡◌, IfSome, None, Some, is_some, option_and_then};
 ghost use Rattle.fax_http.specs.Connections.{nothing_heard, unanswered};
-ghost use Rattle.fax_visitors.specs.Visits.{IsAnsweredPlace, IsServedPlace};
+ghost use Rattle.fax_visitors.specs.Visits.{HasPath, IsAnsweredPlace, IsServedPlace};
 
 use crate::visitor::Visitor;
 use fax_http::{Answer, Question};
@@ -74,6 +74,16 @@ impl Place {
     {
         match &self.visitor {
             Some(visitor) => visitor.asked(),
+            None => None,
+        }
+    }
+
+    /// The path that who is there asks for.
+    pub(crate) fn path(&self) -> Option<&[u8]>
+        ensures { IfSome result (λ path. HasPath path.now self.now) }
+    {
+        match &self.visitor {
+            Some(visitor) => visitor.path(),
             None => None,
         }
     }

@@ -1,6 +1,7 @@
 //! A visitor.
-ghost use Rattle.std.specs.Prelude.{◌≡◌, IfErr, IfOk, OnErr, OnOk};
+ghost use Rattle.std.specs.Prelude.{◌≡◌, IfErr, IfOk, IfSome, OnErr, OnOk};
 ghost use Rattle.fax_http.specs.Connections.{answered_by, nothing_heard, unanswered};
+ghost use Rattle.fax_http.specs.PicturePaths.{AsksForPath};
 ghost use Rattle.fax_visitors.specs.Visits.{IsRead, IsServed, IsWritten};
 
 use fax_http::{Answer, Connection, Question};
@@ -118,6 +119,13 @@ impl Visitor {
         ensures { result ≡ unanswered self.now }
     {
         self.connection.asked()
+    }
+
+    /// The path that it asks for.
+    pub(crate) fn path(&self) -> Option<&[u8]>
+        ensures { IfSome result (λ path. AsksForPath self.now.heard path.now) }
+    {
+        self.connection.path()
     }
 
     /// It is answered. Without memory for that it is gone.

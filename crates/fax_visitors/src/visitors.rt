@@ -1,10 +1,10 @@
 //! All visitors.
-ghost use Rattle.std.specs.Prelude.{◌≡◌, length, All, IfOk, IfSome, None, is_some};
+ghost use Rattle.std.specs.Prelude.{◌≡◌, length, All, IfOk, IfSome, None, is_some, slice_get};
 ghost use Rattle.std.specs.List.{AllZip, list_any};
-ghost use Rattle.fax_visitors.specs.Visits.{AsksAt, IsAnsweredAt, IsCame, IsServedPlace, PlaceGoes};
+ghost use Rattle.fax_visitors.specs.Visits.{AsksAt, HasPath, IsAnsweredAt, IsCame, IsServedPlace, PlaceGoes, is_for_picture};
 
 use crate::place::Place;
-use fax_http::{Answer, Question};
+use fax_http::{Answer, Question, Resource, Wanted};
 use mio::net::{TcpListener, TcpStream};
 use std::alloc::Global;
 use std::io;
@@ -66,11 +66,22 @@ impl Visitors {
         self.places.iter().any(|place| place.is_there())
     }
 
-    /// A place whose visitor asks for something that was not answered, and what.
-    pub fn asked(&self) -> Option<(usize, Question)>
-        ensures { IfSome result (λ asked. AsksAt self.now asked.0 asked.1) }
+    /// A place whose visitor asks for a picture, or for something else, as is told, that was not answered, and what.
+    pub fn asked(&self, is_picture: bool) -> Option<(usize, Question)>
+        ensures asks { IfSome result (λ asked. AsksAt self.now asked.0 asked.1) }
+        ensures kind { IfSome result (λ asked. is_for_picture asked.1 ≡ is_picture) }
     {
-        asked(self.places.as_slice())
+        asked(self.places.as_slice(), is_picture)
+    }
+
+    /// The path that the visitor at a place asks for.
+    pub fn path(&self, place: usize) -> Option<&[u8]>
+        ensures { IfSome result (λ path. IfSome (slice_get self.now place) (HasPath path.now)) }
+    {
+        match self.places.get(place) {
+            Some(there) => there.path(),
+            None => None,
+        }
     }
 
     /// The visitor at a place is answered. Without memory for that it goes.
@@ -120,16 +131,26 @@ fn admit(places: &mut [Place], stream: TcpStream, alloc: Global, now: u64)
     }
 }
 
-/// A place whose visitor asks for something that was not answered, and what.
-fn asked(places: &[Place]) -> Option<(usize, Question)>
-    ensures { IfSome result (λ asked. AsksAt places.now asked.0 asked.1) }
+/// A place whose visitor asks for a picture, or for something else, as is told, that was not answered, and what.
+fn asked(places: &[Place], is_picture: bool) -> Option<(usize, Question)>
+    ensures asks { IfSome result (λ asked. AsksAt places.now asked.0 asked.1) }
+    ensures kind { IfSome result (λ asked. is_for_picture asked.1 ≡ is_picture) }
 {
     for (place, there) in places.iter().enumerate() {
         if let Some(question) = there.asked() {
-            return Some((place, question));
+            if is_for_picture(question) == is_picture {
+                return Some((place, question));
+            }
         }
     }
     None
+}
+
+/// Whether a picture is asked for.
+fn is_for_picture(question: Question) -> bool
+    ensures { result ≡ is_for_picture question }
+{
+    question.wanted == Wanted::Tell(Resource::Picture)
 }
 
 /// The place for one more: one that is free, or that of the visitor that has been silent longest.
