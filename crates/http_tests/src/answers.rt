@@ -10,10 +10,10 @@ use std::test::Fail;
 const WELL: &[u8] = b"HTTP/1.1 200 OK\r\n\
 Content-Type: text/plain; charset=utf-8\r\n\
 Content-Length: 3\r\n\
-Connection: close\r\n\
 Cache-Control: no-store\r\n\
+Connection: close\r\n\
 X-Content-Type-Options: nosniff\r\n\
-Content-Security-Policy: default-src 'none'; style-src 'unsafe-inline'; img-src data:\r\n\
+Content-Security-Policy: default-src 'none'; style-src 'unsafe-inline'; img-src 'self' data:\r\n\
 \r\n\
 ok\n";
 
@@ -21,11 +21,11 @@ ok\n";
 const NOT_ALLOWED: &[u8] = b"HTTP/1.1 405 Method Not Allowed\r\n\
 Content-Type: text/plain; charset=utf-8\r\n\
 Content-Length: 28\r\n\
+Cache-Control: no-store\r\n\
 Allow: GET, HEAD\r\n\
 Connection: close\r\n\
-Cache-Control: no-store\r\n\
 X-Content-Type-Options: nosniff\r\n\
-Content-Security-Policy: default-src 'none'; style-src 'unsafe-inline'; img-src data:\r\n\
+Content-Security-Policy: default-src 'none'; style-src 'unsafe-inline'; img-src 'self' data:\r\n\
 \r\n\
 only GET and HEAD are taken\n";
 

@@ -49,6 +49,8 @@ const UNDELIVERED: &[UndeliveredView<'static>] = &[UndeliveredView {
         tag: Some("49&1"),
     },
     pages: 4,
+    tries: 3,
+    at: "Sun, 06 Nov 1994 08:49:37 GMT",
     outcome: "its call could not be placed: 486",
 }];
 
@@ -64,7 +66,9 @@ const SHOWN: &[&[u8]] = &[
     b"<td>sends the pages of call 7, +49301234/c7</td>",
     b"<th scope=\"row\">c</th><td>call 6</td><td>2 of 3</td><td>a command was not answered</td>",
     b"<td class=\"number\">18446744073709551615</td>",
-    b"<tr><th scope=\"row\">a&lt;1&gt;</th><td>call 9, 49&amp;1</td><td class=\"number\">12</td><td class=\"number\">4</td><td>its call could not be placed: 486</td></tr>\n",
+    b"<img src=\"/undelivered/a%3C1%3E/12/9.png\" alt=\"The first page of call 9, 49&amp;1\" loading=\"lazy\">\n",
+    b"<h3>a&lt;1&gt;: call 9, 49&amp;1</h3>\n<p>Pages: 4. Tries: 3, the last: Sun, 06 Nov 1994 08:49:37 GMT.</p>\n<p>Why: its call could not be placed: 486.</p>\n",
+    b"<code>faxgate say SOCKET retry a&lt;1&gt; 12 9</code>",
     b"<p>Other lines: 97.</p>",
     b"<li>the spool's disk has failed</li>",
 ];

@@ -1,5 +1,7 @@
 //! Requests as browsers, monitors and strangers send them.
-use fax_http::{Connection, Question, Refusal, Resource, Wanted, read_question};
+use fax_http::{
+    Connection, Question, Refusal, Resource, Wanted, picture_path, read_path, read_question,
+};
 use std::alloc::{AllocError, Global};
 use std::test::Fail;
 
@@ -28,6 +30,11 @@ const HEADS: &[(&[u8], Wanted, bool)] = &[
     (
         b"\r\nGET /healthz HTTP/1.1\nHost: a\n\n",
         Wanted::Tell(Resource::Health),
+        true,
+    ),
+    (
+        b"GET /undelivered/a%3C1%3E/12/9.png?x HTTP/1.1\r\nHost: a\r\n\r\n",
+        Wanted::Tell(Resource::Picture),
         true,
     ),
     (
@@ -123,6 +130,28 @@ fn heads_ask_or_are_refused(rt: HostRuntime) {
                 })
         );
     }
+}
+
+/// The names of a call, and where its picture is (RFC 3986, 2.1 and 2.3).
+const PATHS: &[(&[u8], u64, u32, &[u8])] = &[
+    (b"a-1._~", 1, 0, b"/undelivered/a-1._~/1/0.png"),
+    (
+        b"a<1>/%\xc3\xa4",
+        4_294_967_295,
+        7,
+        b"/undelivered/a%3C1%3E%2F%25%C3%A4/4294967295/7.png",
+    ),
+];
+
+#[test]
+fn pictures_have_paths(rt: HostRuntime) -> Result<(), Fail> {
+    for (line, life, call, wanted) in PATHS {
+        let path = picture_path(rt.alloc(), line, *life, *call)?;
+        assert!(rt; path.as_bytes() == *wanted);
+    }
+    assert!(rt; read_path(b"HEAD /a/b.png?x HTTP/1.0\r\n\r\n") == Some(b"/a/b.png".as_slice()));
+    assert!(rt; read_path(b"HEAD /a/b.png?x HTTP/1.0\r\n").is_none());
+    Ok(())
 }
 
 /// A text, and another one after it so many times.
