@@ -4,6 +4,7 @@ ghost use Rattle.fax_serve.specs.Desking.{GivesOrder, given_by};
 ghost use Rattle.fax_queue.specs.SpoolStorage.{IsUnchanged};
 
 mod held;
+mod pictures;
 mod redials;
 mod sip;
 mod telling;
@@ -81,6 +82,8 @@ pub struct RealPace<'a, C: Clock, I: Read + Drop, O: Write + Drop> {
     /// Who looks over HTTP, where that is configured, and from which moment on they are served again.
     visitors: Option<Visitors>,
     visits_from: u64,
+    /// From which moment on the next picture may be made.
+    pictures_from: u64,
     /// SIP, where that is configured.
     sip: Option<SipFront>,
     /// The lines that are to be woken: something may have come over their legs.
@@ -144,6 +147,7 @@ impl<'a, C: Clock, I: Read + Drop, O: Write + Drop> RealPace<'a, C, I, O> {
             watch,
             visitors,
             visits_from: 0,
+            pictures_from: 0,
             sip,
             woken: Vec::new(alloc),
             has_looked: false,

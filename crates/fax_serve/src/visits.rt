@@ -1,7 +1,7 @@
 //! The page that an operator looks at.
 use crate::answers::is_idle;
 use crate::sockets::SocketLegs;
-use crate::undelivered::shown_text;
+use crate::undelivered::{pages_left, shown_text};
 use crate::view::Seen;
 use fax_bits::NoMemory;
 use fax_desk::{Desk, LineView as LineSeen, Tag, TagsOn, View};
@@ -12,6 +12,7 @@ use fax_http::{
 };
 use fax_jobs::{Outcome, Report};
 use fax_undelivered::UndeliveredCall;
+use httpdate::{HttpDate, fmt_http_date};
 use sqlite_disk::Disk;
 use std::alloc::{AllocError, Global};
 
@@ -19,7 +20,7 @@ use std::alloc::{AllocError, Global};
 const MOST_LINES: usize = 100;
 
 /// The most calls of which pages could not be delivered.
-const MOST_UNDELIVERED: usize = 50;
+const MOST_UNDELIVERED: usize = 100;
 
 /// A job that ended: the name of its line, its report, its tag, and how it ended, in words.
 #[derive(Drop)]
@@ -47,6 +48,9 @@ struct KeptCall {
     call: u32,
     tag: Option<String>,
     pages: u32,
+    tries: u32,
+    /// When it was tried last, in words.
+    at: String,
     words: String,
 }
 
@@ -180,9 +184,19 @@ fn kept_call(alloc: Global, call: &UndeliveredCall) -> Result<KeptCall, AllocErr
         life: call.life,
         call: call.call,
         tag,
-        pages: call.pages,
+        pages: pages_left(call),
+        tries: card.tries,
+        at: day_text(alloc, card.at)?,
         words: words_with(alloc, card.outcome, shown_text(card.cause.as_slice()))?,
     })
+}
+
+/// A second since 1970, in words; 0 where it is not known.
+fn day_text(alloc: Global, second: u64) -> Result<String, AllocError> {
+    match HttpDate::from_unix_secs(second) {
+        Ok(date) if second > 0 => fmt_http_date(alloc, date),
+        Ok(_) | Err(_) => String::from_str(alloc, "not known when"),
+    }
 }
 
 /// The same as it is shown.
@@ -199,6 +213,8 @@ fn undelivered_view(kept: &KeptCall) -> UndeliveredView<'_> {
             tag,
         },
         pages: u64::from(kept.pages),
+        tries: u64::from(kept.tries),
+        at: kept.at.as_str(),
         outcome: kept.words.as_str(),
     }
 }

@@ -101,6 +101,7 @@ impl<'a, C: Clock, I: Read + Drop, O: Write + Drop> RealPace<'a, C, I, O> {
             self.do_discard(discard, kept, beside.refusal);
         }
         self.see_redials(day, kept, beside);
+        self.show_picture(kept, beside.has_failed);
     }
 
     /// Tells that pages of these calls are kept, each of which is one of those.

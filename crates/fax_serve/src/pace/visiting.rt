@@ -46,7 +46,7 @@ impl<'a, C: Clock, I: Read + Drop, O: Write + Drop> RealPace<'a, C, I, O> {
         }
     }
 
-    /// Goes on with who looks over HTTP, without waiting: one request is answered.
+    /// Goes on with who looks over HTTP, without waiting: one request is answered. Those for pictures wait until a turn is over.
     pub(super) fn serve_visitors<W: SocketLegs + Drop, D: Disk, U: Disk>(
         &mut self,
         lines: &Lines<W>,
@@ -62,7 +62,7 @@ impl<'a, C: Clock, I: Read + Drop, O: Write + Drop> RealPace<'a, C, I, O> {
             return;
         };
         visitors.serve(self.now);
-        let Some((place, question)) = visitors.asked() else {
+        let Some((place, question)) = visitors.asked(false) else {
             return;
         };
         match question.wanted {
@@ -82,7 +82,7 @@ impl<'a, C: Clock, I: Read + Drop, O: Write + Drop> RealPace<'a, C, I, O> {
     }
 
     /// The visitor at a place is answered, and written to.
-    fn answer_visitor(&mut self, place: usize, answer: &Answer<'_>)
+    pub(super) fn answer_visitor(&mut self, place: usize, answer: &Answer<'_>)
         ensures { self.new ≡ self.old }
     {
         if let Some(visitors) = &mut self.visitors {
@@ -104,6 +104,11 @@ impl<'a, C: Clock, I: Read + Drop, O: Write + Drop> RealPace<'a, C, I, O> {
                 status: health.status(),
                 content: Content::Text,
                 body: write_health(self.alloc, health)?,
+            }),
+            Resource::Picture => Ok(Told {
+                status: Status::NotFound,
+                content: Content::Text,
+                body: Vec::from_slice(self.alloc, b"nothing is here\n")?,
             }),
             Resource::Metrics => {
                 let text = self.metrics(&self.counts(lines, store))?;
@@ -169,7 +174,7 @@ impl<'a, C: Clock, I: Read + Drop, O: Write + Drop> RealPace<'a, C, I, O> {
 }
 
 /// What is answered where memory was refused.
-const NO_MEMORY: Answer<'static> = Answer {
+pub(super) const NO_MEMORY: Answer<'static> = Answer {
     status: Status::NotWell,
     content: Content::Text,
     body: b"memory was refused\n",
