@@ -21,7 +21,7 @@ ALWAYS = {
     "Connection": "close",
     "Cache-Control": "no-store",
     "X-Content-Type-Options": "nosniff",
-    "Content-Security-Policy": "default-src 'none'; style-src 'unsafe-inline'; img-src data:",
+    "Content-Security-Policy": "default-src 'none'; style-src 'unsafe-inline'; img-src 'self' data:",
 }
 
 
@@ -43,8 +43,11 @@ class Tags(html.parser.HTMLParser):
         self.text += data
 
 
-class Visiting(Play):
+class Looked(Play):
     """A server that is looked at."""
+
+    # The files of its spool, by their names, where it has one.
+    SPOOL = None
 
     def setUp(self):
         super().setUp()
@@ -52,8 +55,11 @@ class Visiting(Play):
         # the port is held by a stream socket: it is let go for the server
         self.ports._held.pop().close()
         self.lines = [self.line("a<1>"), self.line("a2")]
-        self.server = Server(self.lines, head=f"http = '{HOST}:{self.port}'\n")
+        self.server = Server(self.lines, spool=self.SPOOL is not None, head=f"http = '{HOST}:{self.port}'\n")
         self.addCleanup(self.server.close)
+        for name, octets in (self.SPOOL or {}).items():
+            with open(os.path.join(self.server.spool, name), "wb") as file:
+                file.write(octets)
         self.server.start()
 
     def get(self, path, method="GET"):
@@ -88,6 +94,18 @@ class Visiting(Play):
         self.addCleanup(peer.close)
         self.assertEqual(self.server.say("ring a<1> tag&amp;"), ["ok 0"])
         self.assertIsNotNone(peer.hear())
+
+    def browse(self, *words):
+        """What the browser prints of a path, the last word."""
+        run = subprocess.run(
+            [BROWSER, "--headless=new", "--no-sandbox", "--disable-gpu", *words[:-1], f"http://{HOST}:{self.port}{words[-1]}"],
+            capture_output=True, text=True, timeout=4 * LONGEST, check=True,
+        )
+        return run.stdout
+
+
+class Visiting(Looked):
+    """What it tells, and to whom."""
 
     def test_resources(self):
         status, fields, body = self.get("/healthz")
@@ -179,14 +197,6 @@ class Visiting(Play):
         self.assertIn("receives call 0", page.text)
         for link in page.links:         # a browser saves what is no page, so these are asked for without it
             self.assertEqual(self.get(link)[0], 200, link)
-
-    def browse(self, *words):
-        """What the browser prints of a path, the last word."""
-        run = subprocess.run(
-            [BROWSER, "--headless=new", "--no-sandbox", "--disable-gpu", *words[:-1], f"http://{HOST}:{self.port}{words[-1]}"],
-            capture_output=True, text=True, timeout=4 * LONGEST, check=True,
-        )
-        return run.stdout
 
 
 if __name__ == "__main__":
