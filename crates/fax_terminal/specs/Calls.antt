@@ -33,6 +33,18 @@ pub record HasTicked (pause : ℕ) (job : JobValue) (now : ℕ) (kept : caller.R
   pub after : (writes : Writing) → IsWriting writes
       → (start : ℕ) × (heard : List Slot) × (events : List CallEvent) × caller.IsReached writes job heard (core_after writes pause job start (Ticks now ∷ events)) kept
 
+-- this is so of each pause and job in whose call a caller is
+abbrev pub EachCallOut : caller.Rep → ((pause : ℕ) → JobValue → Type 0) → Type 0
+EachCallOut kept IsSo = (pause : ℕ) (job : JobValue) → IsInCall pause job kept → IsSo pause job
+
+-- and a caller stays in each such call
+abbrev pub StaysInCall : (old new : caller.Rep) → Type 0
+StaysInCall old new = EachCallOut old (λ pause job. IsInCall pause job new)
+
+-- it was ticked in a call of this job
+abbrev pub TicksOn : JobValue → (now : ℕ) → (old new : caller.Rep) → Type 0
+TicksOn job now old new = (pause : ℕ) → IsInCall pause job old → HasTicked pause job now new
+
 -- the call is over after these events, and what is told of it is what the caller tells then
 pub record TellsAfter (writes : Writing) (pause : ℕ) (job : JobValue) (sent : SentJob) (start : ℕ) (events : List CallEvent) : Type 0 where
   pub over : (core_after writes pause job start events).state ≡ Idle
@@ -60,6 +72,11 @@ pub record IsReceiving (pause : ℕ) (pages : List PageValue) (kept : answerer.R
   pub reached : answerer.IsReached heard (answering.after_events (rung_at pause start) events) kept
   pub pages_are : pages_confirmed (rung_at pause start) events ≡ pages
 
+-- an answerer stays in each call in which it is, and no page more was confirmed
+abbrev pub StaysReceiving : (old new : answerer.Rep) → Type 0
+StaysReceiving old new =
+    (pause : ℕ) (pages : List PageValue) → IsReceiving pause pages old → IsReceiving pause pages new
+
 -- WHAT IS MADE OF A STORE by pages that it was given one by one, each told with the newest first: it kept all of them; or, where
 -- it did not, all but the last, after which it was given no other.
 abbrev pub AreGiven : {K : Type 0} → (keeps : PageValue → Bool → K → K → Type 0) → (all_stored : Bool) → List PageValue → (old new : K) → Type 0
@@ -85,6 +102,13 @@ pub record HasTurned {K : Type 0} (keeps : PageValue → Bool → K → K → Ty
   pub call : StoresInCall keeps pause true first kept store
   pub before : List answering.CallEvent
   pub last : call.receiving.events ≡ answering.Ticks now ∷ before
+
+-- this is so of each pause, and of each store that the call of an answerer, and all pages of it,
+-- led from to this one
+abbrev pub EachStoredCall : {K : Type 0} → (keeps : PageValue → Bool → K → K → Type 0)
+    → answerer.Rep → (store : K) → ((pause : ℕ) → (first : K) → Type 0) → Type 0
+EachStoredCall {K} keeps kept store IsSo =
+    (pause : ℕ) (first : K) → StoresInCall keeps pause true first kept store → IsSo pause first
 
 -- the page that a tick confirmed, where it did
 abbrev pub pages_in : {S : Type 0} → Option (Confirmed S) → List PageValue

@@ -1,8 +1,7 @@
 //! A terminal that answers a call and keeps the pages that it confirms.
-ghost use Rattle.std.specs.Prelude.{◌≡◌, ◌≤◌, ◌↔◌, ℕ, true, false, List, [], length, IsTrue, IfOk, IfSome, OnOk};
-ghost use Rattle.fax_pagestore.specs.Pages.{PageValue};
+ghost use Rattle.std.specs.Prelude.{◌≡◌, ◌≤◌, ◌↔◌, false, [], length, IsTrue, IfOk, IfSome, OnOk};
 ghost use Rattle.fax_gateway.specs.Setups.{AreAllowed};
-ghost use Rattle.fax_terminal.specs.Calls.{AreGiven, HasTurned, IsReceiving, StoresConfirmed, StoresInCall, StoresWholeCall, pages_in, stored_all};
+ghost use Rattle.fax_terminal.specs.Calls.{AreGiven, EachStoredCall, HasTurned, IsReceiving, StaysReceiving, StoresConfirmed, StoresInCall, StoresWholeCall, pages_in, stored_all};
 
 use crate::fault::TerminalFault;
 use crate::link::{Link, MOST_DATAGRAMS, MOST_OCTETS};
@@ -80,10 +79,10 @@ impl<S: RowStore, W: TimedWire + Drop> ReceivingTerminal<S, W> {
     /// It hears what has come, time goes on, and it keeps the page that is confirmed, and then sends what it has to. Where the
     /// page is not stored, nothing is sent.
     pub fn turn<K: PageStore<S>>(&mut self, store: &mut K, now: u64) -> Result<(), TerminalFault>
-        ensures call { (pause : ℕ) (first : K) → StoresInCall K.keeps pause true first self.old store.old
-            → StoresInCall K.keeps pause (stored_all result) first self.new store.new }
-        ensures ticked { OnOk result ((pause : ℕ) (first : K) → StoresInCall K.keeps pause true first self.old store.old
-            → HasTurned K.keeps pause first now self.new store.new) }
+        ensures call { EachStoredCall K.keeps self.old store.old (λ pause first.
+            StoresInCall K.keeps pause (stored_all result) first self.new store.new) }
+        ensures ticked { OnOk result (EachStoredCall K.keeps self.old store.old (λ pause first.
+            HasTurned K.keeps pause first now self.new store.new)) }
     {
         self.link.go_on(now);
         self.hear(now)?;
@@ -93,7 +92,7 @@ impl<S: RowStore, W: TimedWire + Drop> ReceivingTerminal<S, W> {
 
     /// It hears a datagram.
     pub fn hear_one(&mut self, octets: &[u8], now: u64) -> Result<(), NoMemory>
-        ensures { (pause : ℕ) (pages : List PageValue) → IsReceiving pause pages self.old → IsReceiving pause pages self.new }
+        ensures { StaysReceiving self.old self.new }
     {
         let Some(decided) = self.link.read(octets) else {
             return Ok(());
@@ -116,7 +115,7 @@ impl<S: RowStore, W: TimedWire + Drop> ReceivingTerminal<S, W> {
 
     /// It hears what has come.
     fn hear(&mut self, now: u64) -> Result<(), NoMemory>
-        ensures { (pause : ℕ) (pages : List PageValue) → IsReceiving pause pages self.old → IsReceiving pause pages self.new }
+        ensures { StaysReceiving self.old self.new }
     {
         let mut buffer = [0; MOST_OCTETS];
         for _ in 0..MOST_DATAGRAMS {

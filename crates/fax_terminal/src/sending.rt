@@ -1,9 +1,9 @@
 //! A terminal that calls and sends pages.
-ghost use Rattle.std.specs.Prelude.{◌≡◌, ℕ, IfOk, IfSome, OnOk};
+ghost use Rattle.std.specs.Prelude.{◌≡◌, IfOk, IfSome, OnOk};
 ghost use Rattle.fax_call.specs.Following.{IsJobOfCall};
 ghost use Rattle.fax_jobs.specs.Jobs.{JobValue};
 ghost use Rattle.fax_gateway.specs.Setups.{AreAllowed};
-ghost use Rattle.fax_terminal.specs.Calls.{HasTicked, IsInCall, TellsCall};
+ghost use Rattle.fax_terminal.specs.Calls.{EachCallOut, IsInCall, StaysInCall, TellsCall, TicksOn};
 
 use crate::fault::TerminalFault;
 use crate::link::{Link, MOST_DATAGRAMS, MOST_OCTETS};
@@ -100,7 +100,7 @@ impl<W: TimedWire + Drop> SendingTerminal<W> {
     pub fn turn<S: RowStore>(&mut self, job: &Job<S>, now: u64) -> Result<(), NoMemory>
         requires { IsJobOfCall self.old.procedure job.now }
         ensures job { IsJobOfCall self.new.procedure job.now }
-        ensures ticked { OnOk result ((pause : ℕ) → IsInCall pause job.now self.old → HasTicked pause job.now now self.new) }
+        ensures ticked { OnOk result (TicksOn job.now now self.old self.new) }
     {
         self.link.go_on(now);
         self.hear(now)?;
@@ -119,7 +119,7 @@ impl<W: TimedWire + Drop> SendingTerminal<W> {
 
     /// What is told of the call, where it is over and the wire has nothing to send again.
     pub fn sent(&self) -> Option<SentJob>
-        ensures { (pause : ℕ) (job : JobValue) → IsInCall pause job self.now → IfSome result (TellsCall pause job) }
+        ensures { EachCallOut self.now (λ pause job. IfSome result (TellsCall pause job)) }
     {
         if self.caller.state() != State::Idle || !self.link.is_quiet() {
             return None;
@@ -136,7 +136,7 @@ impl<W: TimedWire + Drop> SendingTerminal<W> {
     /// It hears what has come.
     fn hear(&mut self, now: u64) -> Result<(), NoMemory>
         ensures job { (job : JobValue) → IsJobOfCall self.old.procedure job → IsJobOfCall self.new.procedure job }
-        ensures call { (pause : ℕ) (job : JobValue) → IsInCall pause job self.old → IsInCall pause job self.new }
+        ensures call { StaysInCall self.old self.new }
     {
         let mut buffer = [0; MOST_OCTETS];
         for _ in 0..MOST_DATAGRAMS {
@@ -151,7 +151,7 @@ impl<W: TimedWire + Drop> SendingTerminal<W> {
     /// It hears a datagram.
     fn hear_one(&mut self, octets: &[u8], now: u64) -> Result<(), NoMemory>
         ensures job { (job : JobValue) → IsJobOfCall self.old.procedure job → IsJobOfCall self.new.procedure job }
-        ensures call { (pause : ℕ) (job : JobValue) → IsInCall pause job self.old → IsInCall pause job self.new }
+        ensures call { StaysInCall self.old self.new }
     {
         let Some(decided) = self.link.read(octets) else {
             return Ok(());
