@@ -88,7 +88,9 @@ impl<'a, C: Clock, I: Read + Drop, O: Write + Drop> RealPace<'a, C, I, O> {
             return Ok(Pictured::Nothing);
         };
         let is_failed = has_failed || kept.refuses();
-        if self.desk.is_stopping() || is_failed || pages_undelivered(kept.calls()) > MOST_PAGES_READ
+        if self.desk.is_stopping()
+            || is_failed
+            || pages_undelivered(kept.calls()) > MOST_PAGES_READ
         {
             return Ok(Pictured::NotNow);
         }
