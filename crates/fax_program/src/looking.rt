@@ -3,7 +3,7 @@ use crate::failures::tell;
 use crate::refusals::tell_no_memory;
 use fax_command::{Status, StdSink, StdSource, StreamFault, fault_of_streams};
 use fax_listing::{FileFault, PictureFiles, SpoolOptions, run_spool};
-use std::alloc::AllocError;
+use std::alloc::{AllocError, Global};
 use std::fs::OpenOptions;
 use std::io::{Read, Write};
 use std::rt::Files;
@@ -33,7 +33,7 @@ pub(crate) fn look_into_spool<R: Print + Eprint + AllocGlobal, H: Files>(
     let mut kept_one = StdSource::new(kept_one);
     let mut kept_other = StdSource::new(kept_other);
     let mut sink = StdSink::new(io::writer(rt));
-    let mut pictures = NewPictures::new(rt, host);
+    let mut pictures = NewPictures::new(rt, host, rt.alloc());
     let looked = run_spool(
         rt.alloc(),
         &mut one,
@@ -141,21 +141,39 @@ fn tell_unwritten<E: Eprint, R: Read, W: Write>(rt: &E, source: &StdSource<R>, s
     }
 }
 
-/// Makes files of the system, none over one that is there, and tells where that fails.
+/// Makes files of the system, none over one that was there, and tells where that fails. A page that stands in both pairs of files, since a
+/// crash came between, has one picture.
 #[derive(Drop)]
 struct NewPictures<'a, E: Eprint, H: Files> {
     stderr: &'a E,
     host: &'a H,
+    alloc: Global,
+    /// The names of those that were made.
+    names: Vec<String>,
     failed: bool,
 }
 
 impl<'a, E: Eprint, H: Files> NewPictures<'a, E, H> {
     /// None was made.
-    fn new(stderr: &'a E, host: &'a H) -> Self {
+    fn new(stderr: &'a E, host: &'a H, alloc: Global) -> Self {
         NewPictures {
             stderr,
             host,
+            alloc,
+            names: Vec::new(alloc),
             failed: false,
+        }
+    }
+
+    /// Whether a file of this name was made.
+    fn has_made(&self, name: &str) -> bool {
+        self.names.iter().any(|made| made.as_str() == name)
+    }
+
+    /// Notes the name of a file that was made. Without memory another page of this name is told as one whose file is there.
+    fn note(&mut self, name: &str) {
+        if let Ok(name) = String::from_str(self.alloc, name) {
+            let _ = self.names.push(name);
         }
     }
 
@@ -177,8 +195,14 @@ impl<E: Eprint, H: Files> PictureFiles for NewPictures<'_, E, H> {
     ghost failed = { λ pictures. pictures.failed };
 
     fn make(&mut self, name: &str, octets: &[u8]) -> Result<(), FileFault> {
+        if self.has_made(name) {
+            return Ok(());
+        }
         match self.write(name, octets) {
-            Ok(()) => Ok(()),
+            Ok(()) => {
+                self.note(name);
+                Ok(())
+            }
             Err(error) => {
                 tell(self.stderr, format_args!("{name}: {error}"));
                 self.failed = true;

@@ -5,3 +5,4 @@ pub mod Openings
 pub mod Runs
 pub mod Views
 pub mod Crossings
+pub mod Damages

@@ -74,6 +74,8 @@ pub(crate) struct RedialLines<'a> {
     on: Vec<usize>,
     /// Whether one of them may be over.
     may_end: bool,
+    /// The calls that lack a page: their jobs are tried again by a word alone.
+    torn: Vec<CallName>,
     /// How a try ended that is to be noted still.
     pub ended: Option<RetryEnd>,
     /// From which moment on it is looked again what is due.
@@ -139,6 +141,7 @@ impl<'a> RedialLines<'a> {
             after_seconds: config.retry.after_seconds.as_slice(),
             on: Vec::with_capacity(alloc, configs.len())?,
             may_end: false,
+            torn: Vec::new(alloc),
             ended: None,
             look_from: 0,
         })
@@ -169,6 +172,22 @@ impl<'a> RedialLines<'a> {
             None => false,
         };
         is_ended || self.redials.is_under_way(line, life, call)
+    }
+
+    /// The jobs of these calls, which lack a page, are tried again by a word alone.
+    pub(crate) fn leave(&mut self, torn: &[CallName]) -> Result<(), AllocError> {
+        for name in torn {
+            self.torn.push(copy_of(self.alloc, name)?)?;
+        }
+        Ok(())
+    }
+
+    /// Whether the job of a call is tried again by a word alone.
+    pub(crate) fn leaves(&self, call: &UndeliveredCall) -> bool {
+        let line = call.line.as_slice();
+        self.torn.iter().any(|name| {
+            name.life == call.life && name.call == call.call && name.line.as_slice() == line
+        })
     }
 
     /// The calls of which a try is on, or its end is to be noted.

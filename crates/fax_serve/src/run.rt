@@ -1,6 +1,7 @@
 //! A run of `faxgate serve`.
 ghost use Rattle.std.specs.Prelude.{◌≡◌, IfOk, None, OnOk, true, false, is_some, length};
 ghost use Rattle.fax_line.specs.Operations.{AreBegun, AreNew};
+ghost use Rattle.fax_serve.specs.Damages.{damage_found};
 ghost use Rattle.fax_serve.specs.StoredRuns.{RunIsStored, ServedOver, ServedWith};
 ghost use Rattle.fax_serve.specs.Runs.{ServedAlone};
 
@@ -288,14 +289,15 @@ fn serve_opened<
     ensures alone { OnOk result (ServedAlone (length config.now.lines.items) true) }
     ensures kept { OnOk result (ServedWith ⟦<KeepingStore<D, U> as RunStore>⟧.is_same ⟦<KeepingStore<D, U> as PageStore<PageToStore>>⟧.puts ⟦<KeepingStore<D, U> as RunStore>⟧.notes ⟦<KeepingStore<D, U> as RunStore>⟧.ends (λ store. store.storage.spool) (λ store. store.storage.queues.items) config.now.lines.items opened) }
 {
+    let damage = damage_of(&opened, &kept);
     let OpenedSpool {
         spool,
         pages,
         torn,
-        older_damaged,
-        newer_damaged,
-        older_passed_over,
-        newer_passed_over,
+        older_damaged: _,
+        newer_damaged: _,
+        older_passed_over: _,
+        newer_passed_over: _,
     } = opened;
     let mut queues = Vec::new(alloc);
     let lines: Lines<HoldingWire<W>> = open_restored_lines(
@@ -317,16 +319,33 @@ fn serve_opened<
         None,
         spool_failures,
     )?;
-    let damage = Damage {
-        records: older_damaged.saturating_add(newer_damaged) as u64,
-        octets: older_passed_over.saturating_add(newer_passed_over) as u64,
-    };
     pace.tell_aside(damage, pages.as_slice(), torn.as_slice(), queues.as_slice());
+    pace.tell_kept_aside(kept.pages.as_slice(), kept.torn.as_slice())?;
     let undelivered = Undelivered::new(alloc, kept)?;
     let storage = Storage::new(alloc, spool, queues);
     let store = KeepingStore::new(alloc, storage, Some(undelivered));
     serve_restored(lines, store, &mut pace);
     Ok(pace.finish())
+}
+
+/// What both pairs of files were found to hold that cannot be read.
+fn damage_of<D: Disk, U: Disk>(opened: &OpenedSpool<D>, kept: &OpenedSpool<U>) -> Damage
+    ensures { result ≡ damage_found opened.now kept.now }
+{
+    let records = opened
+        .older_damaged
+        .saturating_add(opened.newer_damaged)
+        .saturating_add(kept.older_damaged)
+        .saturating_add(kept.newer_damaged);
+    let octets = opened
+        .older_passed_over
+        .saturating_add(opened.newer_passed_over)
+        .saturating_add(kept.older_passed_over)
+        .saturating_add(kept.newer_passed_over);
+    Damage {
+        records: records as u64,
+        octets: octets as u64,
+    }
 }
 
 /// What keeps the pages of these lines in memory.

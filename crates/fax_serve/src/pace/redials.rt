@@ -177,10 +177,19 @@ impl<'a, C: Clock, I: Read + Drop, O: Write + Drop> RealPace<'a, C, I, O> {
         }
     }
 
-    /// The first of these calls whose time has come.
+    /// The first of these calls whose time has come, and that lacks no page.
     fn due(&self, day: u64, calls: &[UndeliveredCall], queues: &[Queue]) -> Option<usize> {
         let after_seconds = self.redials.after_seconds();
-        first_due(calls, queues, self.redials.redials(), day, after_seconds)
+        let redials = self.redials.redials();
+        for (k, call) in calls.iter().enumerate() {
+            if let Some(one) = calls.get(k..k.saturating_add(1))
+                && !self.redials.leaves(call)
+                && first_due(one, queues, redials, day, after_seconds).is_some()
+            {
+                return Some(k);
+            }
+        }
+        None
     }
 
     /// A try of call k begins on redial line i.

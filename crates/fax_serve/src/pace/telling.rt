@@ -14,6 +14,7 @@ use fax_line::{Line, Lines, SLOTS};
 use fax_queue::{Aside, Queue};
 use fax_spool::{CallName, WaitingPage, is_torn};
 use sqlite_disk::Disk;
+use std::alloc::AllocError;
 use std::io::{Read, Write};
 use std::rt::Clock;
 
@@ -32,6 +33,18 @@ impl<'a, C: Clock, I: Read + Drop, O: Write + Drop> RealPace<'a, C, I, O> {
         self.desk.set_damage(damage);
         self.teller.tell_damage(damage);
         tell_pages_aside(&mut self.teller, &self.desk, pages, torn, queues);
+    }
+
+    /// Tells the pages of these that could not be delivered whose calls lack a page: such a job is tried again by a word alone.
+    pub(crate) fn tell_kept_aside(
+        &mut self,
+        pages: &[WaitingPage],
+        torn: &[CallName],
+    ) -> Result<(), AllocError>
+        ensures { self.new ≡ self.old }
+    {
+        tell_torn_pages(&mut self.teller, pages, torn);
+        self.redials.leave(torn)
     }
 
     /// Tells what the turn that was ordered came to, of each line that was not left at rest in it.
@@ -134,6 +147,19 @@ fn tell_pages_aside<I: Read + Drop, O: Write + Drop>(
     for page in pages {
         if let Some(why) = why_aside(desk, page, torn, queues) {
             tell_page_aside(teller, page, why);
+        }
+    }
+}
+
+/// Tells those of these pages whose calls lack a page; a card, which has the number 0, is none.
+fn tell_torn_pages<I: Read + Drop, O: Write + Drop>(
+    teller: &mut Teller<I, O>,
+    pages: &[WaitingPage],
+    torn: &[CallName],
+) {
+    for page in pages {
+        if page.number > 0 && is_torn(torn, page) {
+            tell_page_aside(teller, page, WhyAside::TornCall);
         }
     }
 }
