@@ -23,6 +23,10 @@ pub record Holds (script : Script) (told : ScriptSoFar) : Type 0 where
   pub under_way : script.under_way ≡ told.under_way
   pub counts : script.counts ≡ told.counts
 
+-- this is so of whatever was told in a script so far
+abbrev pub EachSoFar : Script → (ScriptSoFar → Type 0) → Type 0
+EachSoFar script IsSo = (told : ScriptSoFar) → Holds script told → IsSo told
+
 -- Records at the front of octets were read, and told: what is told of the capture then, the octets after, and the script.
 pub record TakesRecords (options : CaptureOptions) (old : HeadValue) (octets : List ℕ) (told : ScriptSoFar) (new : HeadValue) (after : List ℕ) (script : Script) : Type 0 where
   pub found : List (Option TimedPacket)
@@ -62,6 +66,11 @@ pub record HasRead (options : CaptureOptions) (read : List ℕ) (head : HeadValu
   pub few : script.ticks ≤ 2 ^ 103
   pub took : TakesRecords options untold_head read (only_ring options) head left script
   pub waits : read_of (record_at head left) ≡ Err Cut
+
+-- this is so of all octets that were read, with which it stands so
+abbrev pub EachRead : CaptureOptions → HeadValue → Script → (left : List ℕ) → (List ℕ → Type 0) → Type 0
+EachRead options head script left IsSo =
+    (read : List ℕ) → HasRead options read head script left → IsSo read
 
 -- the text, the exit status and the counts of a script, or of what is wrong
 abbrev pub text_of_answer : Answer → List ℕ

@@ -7,7 +7,7 @@ ghost use Rattle.fax_capture.specs.declared.options.CaptureOptions.{CaptureOptio
 ghost use Rattle.fax_capture.specs.Addresses.{lacks};
 ghost use Rattle.fax_capture.specs.Answers.{Allows, Fails};
 ghost use Rattle.fax_capture.specs.Growing.{Stops};
-ghost use Rattle.fax_capture.specs.Rep.{Breaks, HasRead, Holds, TakesAllRecords, Untold, UntoldIn};
+ghost use Rattle.fax_capture.specs.Rep.{Breaks, EachRead, EachSoFar, HasRead, Holds, TakesAllRecords, Untold, UntoldIn};
 ghost use Rattle.fax_capture.specs.Reading.{FailsSo};
 ghost use Rattle.fax_capture.specs.Scripts.{ScriptSoFar, Tells, TellsFound, TellsPacket, told_fragment};
 
@@ -70,10 +70,11 @@ fn take(
 ) -> Result<Vec<u8>, ScriptFault>
     requires few { script.old.ticks ≤ 2 ^ 103 }
     ensures few { OnOk result (script.new.ticks ≤ 2 ^ 103) }
-    ensures ok { (read : List ℕ) → HasRead options.now read capture.old script.old left.items
-        → IfOk result (λ still. HasRead options.now (read ++ piece.now) capture.new script.new still.items) }
-    ensures err { (read : List ℕ) → HasRead options.now read capture.old script.old left.items
-        → IfErr result (λ e. (more : List ℕ) → Fails options.now ((read ++ piece.now) ++ more) e) }
+    ensures ok { EachRead options.now capture.old script.old left.items (λ read.
+        IfOk result (λ still.
+        HasRead options.now (read ++ piece.now) capture.new script.new still.items)) }
+    ensures err { EachRead options.now capture.old script.old left.items (λ read.
+        IfErr result (λ e. (more : List ℕ) → Fails options.now ((read ++ piece.now) ++ more) e)) }
 {
     let mut octets = left;
     if octets.extend_from_slice(piece).is_err() {
@@ -92,9 +93,11 @@ fn take_records(
 ) -> Result<Vec<u8>, ScriptFault>
     requires few { script.old.ticks ≤ 2 ^ 103 }
     ensures few { OnOk result (script.new.ticks ≤ 2 ^ 103) }
-    ensures ok { (told : ScriptSoFar) → Holds script.old told
-        → IfOk result (λ left. TakesAllRecords options.now capture.old octets.now told capture.new left.items script.new) }
-    ensures err { (told : ScriptSoFar) → Holds script.old told → IfErr result (λ e. Breaks options.now capture.old octets.now told e) }
+    ensures ok { EachSoFar script.old (λ told.
+        IfOk result (λ left.
+        TakesAllRecords options.now capture.old octets.now told capture.new left.items script.new)) }
+    ensures err { EachSoFar script.old (λ told.
+        IfErr result (λ e. Breaks options.now capture.old octets.now told e)) }
 {
     let mut rest = octets;
     while let Some(read) = capture.read_record(rest)? {
@@ -116,9 +119,11 @@ fn tell(
 ) -> Result<(), ScriptFault>
     requires few { script.old.ticks ≤ 2 ^ 103 }
     ensures few { OnOk result (script.new.ticks ≤ 2 ^ 103) }
-    ensures ok { (told : ScriptSoFar) → Holds script.old told
-        → OnOk result ((next : ScriptSoFar) × TellsFound options.now told found.entry next × Holds script.new next) }
-    ensures err { (told : ScriptSoFar) → Holds script.old told → IfErr result (λ e. Untold options.now told found.entry e) }
+    ensures ok { EachSoFar script.old (λ told.
+        OnOk result ((next : ScriptSoFar) × TellsFound options.now told found.entry next
+        × Holds script.new next)) }
+    ensures err { EachSoFar script.old (λ told.
+        IfErr result (λ e. Untold options.now told found.entry e)) }
 {
     let Some(captured) = found else {
         return Ok(());
@@ -136,9 +141,11 @@ fn tell_packet(
 ) -> Result<(), ScriptFault>
     requires few { script.old.ticks ≤ 2 ^ 103 }
     ensures few { OnOk result (script.new.ticks ≤ 2 ^ 103) }
-    ensures ok { (told : ScriptSoFar) → Holds script.old told
-        → OnOk result ((next : ScriptSoFar) × TellsPacket options.now told time found.now next × Holds script.new next) }
-    ensures err { (told : ScriptSoFar) → Holds script.old told → IfErr result (λ e. UntoldIn options.now told time found.now e) }
+    ensures ok { EachSoFar script.old (λ told.
+        OnOk result ((next : ScriptSoFar) × TellsPacket options.now told time found.now next
+        × Holds script.new next)) }
+    ensures err { EachSoFar script.old (λ told.
+        IfErr result (λ e. UntoldIn options.now told time found.now e)) }
 {
     match found {
         Found::Datagram(datagram) => tell_datagram(alloc, options, script, time, datagram),
@@ -156,9 +163,11 @@ fn tell_datagram(
 ) -> Result<(), ScriptFault>
     requires few { script.old.ticks ≤ 2 ^ 103 }
     ensures few { OnOk result (script.new.ticks ≤ 2 ^ 103) }
-    ensures ok { (told : ScriptSoFar) → Holds script.old told
-        → OnOk result ((next : ScriptSoFar) × Tells options.now told time datagram.now next × Holds script.new next) }
-    ensures err { (told : ScriptSoFar) → Holds script.old told → IfErr result (λ e. UntoldIn options.now told time (Found.Datagram datagram.now) e) }
+    ensures ok { EachSoFar script.old (λ told.
+        OnOk result ((next : ScriptSoFar) × Tells options.now told time datagram.now next
+        × Holds script.new next)) }
+    ensures err { EachSoFar script.old (λ told.
+        IfErr result (λ e. UntoldIn options.now told time (Found.Datagram datagram.now) e)) }
 {
     script.find(datagram);
     let role = role_of(&script.machines(), datagram);
@@ -179,10 +188,11 @@ fn tell_fragment(
 ) -> Result<(), ScriptFault>
     requires few { script.old.ticks ≤ 2 ^ 103 }
     ensures few { OnOk result (script.new.ticks ≤ 2 ^ 103) }
-    ensures ok { (told : ScriptSoFar) → Holds script.old told
-        → OnOk result (Holds script.new (told_fragment options.now.call told time fragment.now)) }
-    ensures err { (told : ScriptSoFar) → Holds script.old told
-        → IfErr result (λ e. Stops e (text_of_lines (told_fragment options.now.call told time fragment.now).lines)) }
+    ensures ok { EachSoFar script.old (λ told.
+        OnOk result (Holds script.new (told_fragment options.now.call told time fragment.now))) }
+    ensures err { EachSoFar script.old (λ told.
+        IfErr result (λ e. Stops e (text_of_lines
+        (told_fragment options.now.call told time fragment.now).lines))) }
 {
     let Some(whole) = script.put(fragment)? else {
         return Ok(());
@@ -219,10 +229,10 @@ fn finish(
     script: Script,
 ) -> Result<Made, ScriptFault>
     requires few { script.ticks ≤ 2 ^ 103 }
-    ensures ok { (options : CaptureOptions) (read : List ℕ) → HasRead options read capture.now script left.now
-        → IfOk result (λ made. Allows options read (Ok (made.text.items, made.counts))) }
-    ensures err { (options : CaptureOptions) (read : List ℕ) → HasRead options read capture.now script left.now
-        → IfErr result (λ e. Fails options read e) }
+    ensures ok { (options : CaptureOptions) → EachRead options capture.now script left.now (λ read.
+        IfOk result (λ made. Allows options read (Ok (made.text.items, made.counts)))) }
+    ensures err { (options : CaptureOptions) → EachRead options capture.now script left.now (λ read.
+        IfErr result (λ e. Fails options read e)) }
 {
     if let Some(fault) = capture.fault_at_end(left) {
         return Err(fault.into());

@@ -6,8 +6,8 @@ ghost use Rattle.fax_capture.specs.declared.options.CaptureOptions.{CaptureOptio
 ghost use Rattle.fax_capture.specs.Counts.{counts_of_whole};
 ghost use Rattle.fax_capture.specs.Fragments.{put_together};
 ghost use Rattle.fax_capture.specs.Growing.{Stops};
-ghost use Rattle.fax_capture.specs.Rep.{Holds};
-ghost use Rattle.fax_capture.specs.Scripts.{ScriptSoFar, begins_with, begun_with, found_with, heard_with, only_ring, ring_lines, role_lines, script_lines, start_of, tick_line, tick_lines, tick_of, ticks_before, ticks_to, told_in, told_of, told_with};
+ghost use Rattle.fax_capture.specs.Rep.{EachSoFar, Holds};
+ghost use Rattle.fax_capture.specs.Scripts.{begins_with, begun_with, found_with, heard_with, only_ring, ring_lines, role_lines, script_lines, start_of, tick_line, tick_lines, tick_of, ticks_before, ticks_to, told_in, told_of, told_with};
 
 use crate::address::Role;
 use crate::counts::Counts;
@@ -92,7 +92,7 @@ impl Script {
     /// Finds machines by a datagram, where they are not known.
     pub fn find(&mut self, datagram: &Datagram<'_>)
         ensures ticks { self.new.ticks ≡ self.old.ticks }
-        ensures holds { (told : ScriptSoFar) → Holds self.old told → Holds self.new (found_with told datagram.now) }
+        ensures holds { EachSoFar self.old (λ told. Holds self.new (found_with told datagram.now)) }
     {
         self.counts.machines = self.counts.machines.with(datagram);
     }
@@ -105,7 +105,8 @@ impl Script {
         role: Role,
     ) -> Result<(), NoMemory>
         ensures ticks { OnOk result (self.new.ticks ≡ self.old.ticks) }
-        ensures holds { (told : ScriptSoFar) → Holds self.old told → OnOk result (Holds self.new (begun_with told datagram.now role)) }
+        ensures holds { EachSoFar self.old (λ told.
+            OnOk result (Holds self.new (begun_with told datagram.now role))) }
     {
         match role {
             Role::CallerInFragments => self.under_way = begun(alloc, Role::FromCaller, datagram)?,
@@ -122,9 +123,11 @@ impl Script {
     /// Puts a fragment to what is under way, and answers the datagram that is whole with it.
     pub fn put(&mut self, fragment: &Fragment<'_>) -> Result<Option<Whole>, NoMemory>
         ensures ticks { OnOk result (self.new.ticks ≡ self.old.ticks) }
-        ensures whole { (told : ScriptSoFar) → Holds self.old told → IfOk result (λ whole. whole ≡ (put_together told.under_way fragment.now).1) }
-        ensures holds { (told : ScriptSoFar) → Holds self.old told
-            → OnOk result (Holds self.new (record told { under_way = (put_together told.under_way fragment.now).0 })) }
+        ensures whole { EachSoFar self.old (λ told.
+            IfOk result (λ whole. whole ≡ (put_together told.under_way fragment.now).1)) }
+        ensures holds { EachSoFar self.old (λ told.
+            OnOk result (Holds self.new
+            (record told { under_way = (put_together told.under_way fragment.now).0 }))) }
     {
         let Some(mut unfinished) = self.under_way.take() else {
             return Ok(None);
@@ -144,7 +147,8 @@ impl Script {
     /// Counts a datagram that was put together no more among those in fragments.
     pub fn count_whole(&mut self)
         ensures ticks { self.new.ticks ≡ self.old.ticks }
-        ensures holds { (told : ScriptSoFar) → Holds self.old told → Holds self.new (record told { counts = counts_of_whole told.counts }) }
+        ensures holds { EachSoFar self.old (λ told.
+            Holds self.new (record told { counts = counts_of_whole told.counts })) }
     {
         self.counts = self.counts.with_whole();
     }
@@ -161,8 +165,11 @@ impl Script {
     ) -> Result<(), ScriptFault>
         requires few { self.old.ticks ≤ 2 ^ 103 }
         ensures few { OnOk result (self.new.ticks ≤ 2 ^ 103) }
-        ensures ok { (told : ScriptSoFar) → Holds self.old told → OnOk result (Holds self.new (told_of asked told time octets.now role)) }
-        ensures err { (told : ScriptSoFar) → Holds self.old told → IfErr result (λ e. Stops e (text_of_lines (told_of asked told time octets.now role).lines)) }
+        ensures ok { EachSoFar self.old (λ told.
+            OnOk result (Holds self.new (told_of asked told time octets.now role))) }
+        ensures err { EachSoFar self.old (λ told.
+            IfErr result (λ e. Stops e (text_of_lines
+            (told_of asked told time octets.now role).lines))) }
     {
         if role.is_passed_over() {
             self.counts = self.counts.with(role);
@@ -174,9 +181,11 @@ impl Script {
 
     /// Hears a datagram, and says whether a call begins anew with it.
     fn hear(&mut self, time: Option<u128>, octets: &[u8], role: Role) -> bool
-        ensures begins { (told : ScriptSoFar) → Holds self.old told → result ≡ begins_with told time octets.now role }
+        ensures begins { EachSoFar self.old (λ told.
+            result ≡ begins_with told time octets.now role) }
         ensures ticks { self.new.ticks ≡ self.old.ticks }
-        ensures holds { (told : ScriptSoFar) → Holds self.old told → Holds self.new (heard_with told time octets.now role) }
+        ensures holds { EachSoFar self.old (λ told.
+            Holds self.new (heard_with told time octets.now role)) }
     {
         let number = number_of(octets);
         let begins = self.leg.begins_anew(role, number, time);
@@ -197,8 +206,11 @@ impl Script {
     ) -> Result<(), ScriptFault>
         requires few { self.old.ticks ≤ 2 ^ 103 }
         ensures few { OnOk result (self.new.ticks ≤ 2 ^ 103) }
-        ensures ok { (told : ScriptSoFar) → Holds self.old told → OnOk result (Holds self.new (told_in asked told time octets.now role begins)) }
-        ensures err { (told : ScriptSoFar) → Holds self.old told → IfErr result (λ e. Stops e (text_of_lines (told_in asked told time octets.now role begins).lines)) }
+        ensures ok { EachSoFar self.old (λ told.
+            OnOk result (Holds self.new (told_in asked told time octets.now role begins))) }
+        ensures err { EachSoFar self.old (λ told.
+            IfErr result (λ e. Stops e (text_of_lines
+            (told_in asked told time octets.now role begins).lines))) }
     {
         if is_asked(asked, self.counts.calls) {
             self.push_told(alloc, time, octets, role, rings(asked, begins))
@@ -219,10 +231,12 @@ impl Script {
     ) -> Result<(), ScriptFault>
         requires few { self.old.ticks ≤ 2 ^ 103 }
         ensures few { OnOk result (self.new.ticks ≤ 2 ^ 103) }
-        ensures ok { (told : ScriptSoFar) → Holds self.old told → (lines : List (List ℕ)) → rings.now ≡ text_of_lines lines
-            → OnOk result (Holds self.new (told_with told time octets.now role lines)) }
-        ensures err { (told : ScriptSoFar) → Holds self.old told → (lines : List (List ℕ)) → rings.now ≡ text_of_lines lines
-            → IfErr result (λ e. Stops e (text_of_lines (told_with told time octets.now role lines).lines)) }
+        ensures ok { EachSoFar self.old (λ told.
+            (lines : List (List ℕ)) → rings.now ≡ text_of_lines lines
+            → OnOk result (Holds self.new (told_with told time octets.now role lines))) }
+        ensures err { EachSoFar self.old (λ told.
+            (lines : List (List ℕ)) → rings.now ≡ text_of_lines lines
+            → IfErr result (λ e. Stops e (text_of_lines (told_with told time octets.now role lines).lines))) }
     {
         let start = start_at(self.start, time);
         let tick = tick_at(start, time);
@@ -241,9 +255,11 @@ impl Script {
     /// The text, with the ticks after the last datagram.
     pub fn finish(self, alloc: Global) -> Result<Made, ScriptFault>
         requires few { self.ticks ≤ 2 ^ 103 }
-        ensures text { (told : ScriptSoFar) → Holds self told → IfOk result (λ made. made.text.items ≡ text_of_lines (script_lines told)) }
-        ensures counts { (told : ScriptSoFar) → Holds self told → IfOk result (λ made. made.counts ≡ told.counts) }
-        ensures err { (told : ScriptSoFar) → Holds self told → IfErr result (λ e. Stops e (text_of_lines (script_lines told))) }
+        ensures text { EachSoFar self (λ told.
+            IfOk result (λ made. made.text.items ≡ text_of_lines (script_lines told))) }
+        ensures counts { EachSoFar self (λ told. IfOk result (λ made. made.counts ≡ told.counts)) }
+        ensures err { EachSoFar self (λ told.
+            IfErr result (λ e. Stops e (text_of_lines (script_lines told)))) }
     {
         let mut text = self.text;
         push_ticks(alloc, &mut text, self.ticks, self.ticks + TICKS_AFTER)?;
