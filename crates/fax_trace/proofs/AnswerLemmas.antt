@@ -1,11 +1,15 @@
 -- What is answered to an input.
-use Rattle.std.proofs.Common.{◌≡◌, ℕ, List, [], ◌++◌, Option, None, Some, IfSome, Err, codes, refl, sym, ◌∙◌, ap, subst, append-nil, append_assoc}
+use Rattle.std.proofs.Common.{◌≡◌, ℕ, List, [], ◌∷◌, ◌++◌, length, Option, None, Some, IfSome, Err, codes, refl, sym, ◌∙◌, ap, subst, append-nil, append_assoc}
 use Rattle.std.specs.Io.KnownBytes.{Appends}
+use Rattle.fax_call.specs.Writings.{Writing}
 use Rattle.fax_gateway.specs.declared.settings.Settings.{Settings}
+use Rattle.fax_gateway.specs.Events.{Event}
+use Rattle.fax_gateway.specs.Setups.{Setup}
 use Rattle.fax_command.specs.RowLines.{lines_of, text_of_lines}
-use Rattle.fax_trace.specs.declared.script_fault.ScriptFault.TheVariants.{NoMemory}
+use Rattle.fax_trace.specs.declared.script_fault.ScriptFault.TheVariants.{Line, NoMemory}
+use Rattle.fax_trace.specs.Scripts.{TellsEvent}
 use Rattle.fax_trace.specs.Playing.{nothing_played}
-use Rattle.fax_trace.specs.Answers.{Outcome, Answers, AnswersAfter, status_of, fault_lines}
+use Rattle.fax_trace.specs.Answers.{Outcome, Answers, AnswersAfter, Ends, IsWanted, status_of, fault_lines}
 use Rattle.fax_trace.specs.Rep.{HasPlayed}
 use Rattle.fax_command.proofs.TellLemmas.{text_of_lines-append}
 
@@ -28,6 +32,7 @@ answers_played settings script text told outcome lines h is = record {
           played = t.played;
           is_played = t.is_played;
           is_trace = t.is_trace;
+          ends_so = t.ends_so;
           text_is = is ∙ ap (λ more. more ++ text_of_lines (fault_lines outcome)) (t.text_is ∙ ap text_of_lines (append-nil t.played.lines))
               ∙ sym (text_of_lines-append t.played.lines (fault_lines outcome));
         };
@@ -35,11 +40,29 @@ answers_played settings script text told outcome lines h is = record {
   so_many = h.so_many;
 }
 
--- memory may be wanting wherever playing ends
-pub played_to_memory : (settings : Settings) (script text : List ℕ) (outcome : Outcome) (lines : ℕ) → HasPlayed settings script outcome lines text
+-- memory may be wanted for the line of a fault
+wanted_for_a_fault : (setup : Setup) (writes : Writing) (trace : List Event) (before others : List (List ℕ)) (number : ℕ) → Ends (length before) others (Err (Line number)) → IsWanted setup writes trace before others
+wanted_for_a_fault setup writes trace [] others number e = tt
+wanted_for_a_fault setup writes trace (line ∷ before) [] number e = cc (e.3)
+wanted_for_a_fault setup writes trace (line ∷ before) (next ∷ others) number e = λ event tells early. e.4 event (subst (λ (x : List ℕ). TellsEvent x event) (first_is next e.1 others e.2 e.3) tells)
+  where
+    first_is : (a b : List ℕ) (more others : List (List ℕ)) → a ∷ more ≡ b ∷ others → a ≡ b
+    first_is a b more others same = cc
+
+pub played_to_memory : (settings : Settings) (script text : List ℕ) (number lines : ℕ) → HasPlayed settings script (Err (Line number)) lines text
     → HasPlayed settings script (Err NoMemory) lines text
-played_to_memory settings script text outcome lines h =
-    record { before = h.before; so_many = h.so_many; others = h.others; lines_are = h.lines_are; events = h.events; tell = h.tell; ends = tt; told = h.told }
+played_to_memory settings script text number lines h = record {
+  before = h.before;
+  so_many = h.so_many;
+  others = h.others;
+  lines_are = h.lines_are;
+  events = h.events;
+  tell = h.tell;
+  ends = tt;
+  told = λ setup writes set written.
+      let t = h.told setup writes set written in
+      record { played = t.played; is_played = t.is_played; is_trace = t.is_trace; ends_so = wanted_for_a_fault setup writes t.played.trace h.before h.others number h.ends; text_is = t.text_is };
+}
 
 -- and before anything was played
 pub Answers-memory : (settings : Settings) (input : List ℕ) → AnswersAfter settings input 0 3 (codes "fault memory\n")
@@ -53,7 +76,7 @@ Answers-memory settings input = record {
     outcome = Err NoMemory;
     ends = tt;
     status_is = refl;
-    told = λ setup writes set written. record { played = nothing_played; is_played = refl; is_trace = tt; text_is = refl };
+    told = λ setup writes set written. record { played = nothing_played; is_played = refl; is_trace = tt; ends_so = tt; text_is = refl };
   };
   so_many = refl;
 }

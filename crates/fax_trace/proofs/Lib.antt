@@ -3,3 +3,4 @@ pub mod HexLemmas
 pub mod PlayLemmas
 pub mod ScriptLemmas
 pub mod TextLemmas
+pub mod WantedLemmas

@@ -1,11 +1,13 @@
 -- What was played on a player: its contracts are told over each setup, writing and script that was.
-use Rattle.std.specs.Prelude.{ℕ, List}
+use Rattle.std.specs.Prelude.{ℕ, List, Option}
 use Rattle.fax_call.specs.Writings.{IsWriting, Writing}
 use Rattle.fax_gateway.specs.declared.settings.Settings.{Settings}
+use Rattle.fax_gateway.specs.BothLegs.{job_asked}
 use Rattle.fax_gateway.specs.Setups.{Setup}
+use Rattle.fax_gateway.specs.Turns.{call_asked}
 use Rattle.fax_trace.specs.declared.event.ScriptEvent.{ScriptEvent}
 use Rattle.fax_trace.specs.declared.player.Player.{Player}
-use Rattle.fax_trace.specs.Answers.{Outcome}
+use Rattle.fax_trace.specs.Answers.{IsEarlyTick, Outcome}
 use Rattle.fax_trace.specs.Playing.{PlayedScript}
 use Rattle.fax_trace.specs.Rep.{HasAnswered, HasPlayed, IsPlaying, PlaysOn}
 
@@ -37,6 +39,15 @@ AnswersByWriting old event text new =
 abbrev pub PlaysEvent : (old : Player) → ScriptEvent → (new : Player) → Type 0
 PlaysEvent old event new =
     EachWrittenScript old (λ setup writes played. PlaysOn setup writes played event new)
+
+-- this is so where the event is a tick before one is due, after a script that was played on it
+abbrev pub WhereEarly : Player → ScriptEvent → Type 0 → Type 0
+WhereEarly player event IsSo =
+    EachScript player (λ setup writes played. IsEarlyTick setup writes played.trace event → IsSo)
+
+-- the call that the gateway of a player asks for
+abbrev pub asked_of : Player → Option ℕ
+asked_of player = call_asked (job_asked player.gateway.settings.asks player.gateway.book)
 
 -- this is so of the settings and the octets of each script that was played up to such an end and
 -- told in this text, and of how many of its lines were

@@ -13,7 +13,7 @@ use Rattle.fax_trace.specs.declared.answer.Answer.TheVariants.{Done, Fault, NoMe
 use Rattle.fax_trace.specs.Scripts.{TellEvents}
 use Rattle.fax_trace.specs.Told.{lines_told}
 use Rattle.fax_trace.specs.Playing.{PlayedScript, Plays, IsRefusal, moment_at, nothing_played, scripted}
-use Rattle.fax_trace.specs.Answers.{Outcome, Ends, AreTold}
+use Rattle.fax_trace.specs.Answers.{Outcome, Ends, AreTold, IsWantedIf}
 
 -- this was played on its gateway, and told in its text
 pub record IsPlaying (setup : Setup) (writes : Writing) (played : PlayedScript) (player : Player) : Type 0 where
@@ -60,7 +60,8 @@ pub record HasPlayed (settings : Settings) (script : List ℕ) (outcome : Outcom
   pub events : List ScriptEvent
   pub tell : TellEvents before events
   pub ends : Ends (length before) others outcome
-  pub told : (setup : Setup) (writes : Writing) → AreSet setup settings → IsWriting writes → AreTold setup writes events [] text
+  pub told : (setup : Setup) (writes : Writing) → AreSet setup settings → IsWriting writes
+      → AreTold setup writes events (λ trace. IsWantedIf outcome setup writes trace before others) [] text
 
 -- the exit status and the text of an answer
 abbrev pub status_of_answer : Answer → ℕ

@@ -1,5 +1,6 @@
 //! Events of a script, each told by a line.
-ghost use Rattle.std.specs.Prelude.{ℕ, ◌≡◌, ◌≢◌, ◌∷◌, List, IfOk, IfSome, IfNone};
+ghost use Rattle.std.specs.Prelude.{ℕ, ◌≡◌, ◌≢◌, ◌∷◌, List, IfOk, IfSome, IfNone, OnErr};
+ghost use Rattle.fax_trace.specs.declared.event.ScriptEvent.TheVariants as script;
 ghost use Rattle.fax_trace.specs.Scripts.{TellsEvent, TellsMoment};
 
 use crate::hex_text::octets_of_hex;
@@ -24,10 +25,11 @@ pub enum ScriptEvent {
     NotConnected(u64),
 }
 
-/// The event that a line tells.
+/// The event that a line tells. Memory is taken for the octets of a datagram alone.
 pub fn event_of_line(alloc: Global, line: &[u8]) -> Result<Option<ScriptEvent>, NoMemory>
     ensures some { IfOk result (λ found. IfSome found (λ event. TellsEvent line.now event)) }
     ensures none { IfOk result (λ found. IfNone found ((event : ScriptEvent) → TellsEvent line.now event → ⊥)) }
+    ensures memory { OnErr result ((moment : ℕ) → TellsEvent line.now (script.Tick moment) → ⊥) }
 {
     if line == b"R".as_slice() {
         return Ok(Some(ScriptEvent::Ring));

@@ -1,8 +1,8 @@
 //! The playing of a script, event by event.
-ghost use Rattle.std.specs.Prelude.{◌≡◌, IfOk, OnOk, OnErr};
+ghost use Rattle.std.specs.Prelude.{◌≡◌, [], IfOk, IsOk, IsOkAnd, OnOk, OnErr};
 ghost use Rattle.fax_gateway.specs.Setups.{AreAllowed};
 ghost use Rattle.fax_trace.specs.declared.event.ScriptEvent.TheVariants as script;
-ghost use Rattle.fax_trace.specs.EachScript.{AnswersByWriting, AnswersEvent, PlaysEvent};
+ghost use Rattle.fax_trace.specs.EachScript.{AnswersByWriting, AnswersEvent, PlaysEvent, WhereEarly, asked_of};
 ghost use Rattle.fax_trace.specs.Rep.{IsNew};
 
 use crate::event::ScriptEvent;
@@ -39,10 +39,11 @@ impl Player {
     }
 
     /// Plays an event, and tells what the gateway answers, and the call that it asks for from then on. An `Err` leaves the text as
-    /// it was.
+    /// it was, and comes at no tick before one is due.
     pub fn play(&mut self, event: ScriptEvent) -> Result<(), NoMemory>
         ensures played { OnOk result (PlaysEvent self.old event self.new) }
         ensures err { OnErr result (self.new.text.items ≡ self.old.text.items) }
+        ensures memory { WhereEarly self.old event (IsOk result) }
     {
         let was_asked = self.gateway.asked();
         let mut lines = self.answer(event)?;
@@ -70,6 +71,8 @@ impl Player {
         ensures answered { IfOk result (λ lines.
             AnswersByWriting self.old event lines.items self.new) }
         ensures text { self.new.text ≡ self.old.text }
+        ensures nothing { WhereEarly self.old event (IsOkAnd result (λ lines. lines.items ≡ [])) }
+        ensures asked { WhereEarly self.old event (asked_of self.new ≡ asked_of self.old) }
     {
         match event {
             ScriptEvent::Ring => self.ring(),
@@ -121,6 +124,10 @@ impl Player {
         ensures answered { IfOk result (λ lines.
             AnswersByWriting self.old (script.Tick moment) lines.items self.new) }
         ensures text { self.new.text ≡ self.old.text }
+        ensures nothing { WhereEarly self.old (script.Tick moment)
+            (IsOkAnd result (λ lines. lines.items ≡ [])) }
+        ensures asked { WhereEarly self.old (script.Tick moment)
+            (asked_of self.new ≡ asked_of self.old) }
     {
         self.go_on_to(moment);
         let given = self.gateway.tick(moment)?;

@@ -1,6 +1,7 @@
 //! Lines that tell what a gateway answers.
-ghost use Rattle.std.specs.Prelude.{ℕ, ◌≡◌, ◌++◌, ◌∷◌, [], List, codes, decimal, IfOk, OnOk, string_bytes};
+ghost use Rattle.std.specs.Prelude.{ℕ, ◌≡◌, ◌++◌, ◌∷◌, [], List, None, codes, decimal, IfOk, IsOk, OnOk, string_bytes};
 ghost use Rattle.fax_command.specs.RowLines.{text_of_lines};
+ghost use Rattle.fax_gateway.specs.Due.{nothing_given};
 ghost use Rattle.fax_gateway.specs.Reached.{given_shown};
 ghost use Rattle.fax_gateway.specs.Turns.{call_if_new};
 ghost use Rattle.fax_trace.specs.Told.{asked_lines, datagram_lines, given_lines, job_lines};
@@ -27,14 +28,15 @@ pub(crate) fn numbered_line<I: Integer>(
     Ok(text)
 }
 
-/// Adds the line of the call that is asked for, where none was.
+/// Adds the line of the call that is asked for, where none was. Memory is taken for that alone.
 pub(crate) fn push_asked(
     alloc: Global,
     text: &mut Vec<u8>,
     was_asked: Option<u32>,
     is_asked: Option<u32>,
 ) -> Result<(), NoMemory>
-    ensures { OnOk result (text.new.items ≡ text.old.items ++ text_of_lines (asked_lines (call_if_new was_asked is_asked))) }
+    ensures told { OnOk result (text.new.items ≡ text.old.items ++ text_of_lines (asked_lines (call_if_new was_asked is_asked))) }
+    ensures memory { call_if_new was_asked is_asked ≡ None → IsOk result }
 {
     let (None, Some(call)) = (was_asked, is_asked) else {
         return Ok(());
@@ -44,9 +46,10 @@ pub(crate) fn push_asked(
     Ok(())
 }
 
-/// The lines of what a tick gives.
+/// The lines of what a tick gives. Where it gives nothing they take no memory.
 pub(crate) fn lines_of_given(alloc: Global, given: &Given) -> Result<Vec<u8>, NoMemory>
-    ensures { IfOk result (λ text. text.items ≡ text_of_lines (given_lines (given_shown given.now))) }
+    ensures told { IfOk result (λ text. text.items ≡ text_of_lines (given_lines (given_shown given.now))) }
+    ensures memory { given.now ≡ nothing_given → IsOk result }
 {
     let mut text = Vec::new(alloc);
     push_datagram(&mut text, b"a ", &given.calling)?;
@@ -61,7 +64,8 @@ fn push_datagram(
     letter: &[u8],
     datagram: &Option<Octets>,
 ) -> Result<(), NoMemory>
-    ensures { OnOk result (text.new.items ≡ text.old.items ++ text_of_lines (datagram_lines letter.now datagram.now)) }
+    ensures told { OnOk result (text.new.items ≡ text.old.items ++ text_of_lines (datagram_lines letter.now datagram.now)) }
+    ensures memory { datagram.now ≡ None → IsOk result }
 {
     if let Some(octets) = datagram {
         let octets = octets.as_slice();
@@ -75,7 +79,8 @@ fn push_datagram(
 
 /// Adds the line of a job that ended, where one did.
 fn push_job(alloc: Global, text: &mut Vec<u8>, report: &Option<Report>) -> Result<(), NoMemory>
-    ensures { OnOk result (text.new.items ≡ text.old.items ++ text_of_lines (job_lines report.now)) }
+    ensures told { OnOk result (text.new.items ≡ text.old.items ++ text_of_lines (job_lines report.now)) }
+    ensures memory { report.now ≡ None → IsOk result }
 {
     if let Some(report) = report {
         let line = format!(in alloc; "{report}")?;

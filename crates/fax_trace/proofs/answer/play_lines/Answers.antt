@@ -4,6 +4,7 @@ use Rattle.fax_trace.specs.Playing.{nothing_played}
 use Rattle.fax_trace.proofs.PlayLemmas.{PlaysAll-push}
 use Rattle.fax_trace.proofs.ScriptLemmas.{TellEvents-push}
 use Rattle.fax_trace.proofs.TextLemmas.{text_of_none}
+use Rattle.fax_trace.proofs.WantedLemmas.{not_ok, wanted_if, wanted_unplayed, wanted_unread}
 use Rattle.fax_trace.proofs.answer.play_lines.Goals as goal
 
 pub loop-line-init : goal.loop-line-init
@@ -50,7 +51,7 @@ returns c =
       ends = refl;
       told = λ setup writes set written.
           let p = so_far.played setup writes set written in
-          record { played = p.0; is_played = p.1; is_trace = p.2.reached.is_trace; text_is = text_of_none p.0.lines _ p.2.told };
+          record { played = p.0; is_played = p.1; is_trace = p.2.reached.is_trace; ends_so = tt; text_is = text_of_none p.0.lines _ p.2.told };
     }
 
 pub returns-in_err-event : goal.returns-in_err-event
@@ -66,7 +67,7 @@ returns-in_err-event c =
       ends = search rules;
       told = λ setup writes set written.
           let p = so_far.played setup writes set written in
-          record { played = p.0; is_played = p.1; is_trace = p.2.reached.is_trace; text_is = text_of_none p.0.lines _ p.2.told };
+          record { played = p.0; is_played = p.1; is_trace = p.2.reached.is_trace; ends_so = wanted_if setup writes p.0.trace so_far.before (lines_of c.loop-line.rest.now) c.from_residual.result (search rules) (wanted_unread setup writes p.0.trace so_far.before c.in-Some.line.now (lines_of c.in-Some.after.now) (lines_of c.loop-line.rest.now) c.in-Some.ensures.lines c.in_err-event.ensures.memory); text_is = text_of_none p.0.lines _ p.2.told };
     }
 
 pub returns-in_default-2 : goal.returns-in_default-2
@@ -82,7 +83,7 @@ returns-in_default-2 c =
       ends = (ap (λ (n : ℕ). n + 1) (sym so_far.so_many), c.in-Some.line.now, lines_of c.in-Some.after.now, c.in-Some.ensures.lines, rw c.in_default-2.is at c.in_ok-event.ensures.none);
       told = λ setup writes set written.
           let p = so_far.played setup writes set written in
-          record { played = p.0; is_played = p.1; is_trace = p.2.reached.is_trace; text_is = text_of_none p.0.lines _ p.2.told };
+          record { played = p.0; is_played = p.1; is_trace = p.2.reached.is_trace; ends_so = tt; text_is = text_of_none p.0.lines _ p.2.told };
     }
 
 pub returns-in_err-play : goal.returns-in_err-play
@@ -98,5 +99,13 @@ returns-in_err-play c =
       ends = search rules;
       told = λ setup writes set written.
           let p = so_far.played setup writes set written in
-          record { played = p.0; is_played = p.1; is_trace = p.2.reached.is_trace; text_is = c.in_err-play.ensures.err ∙ text_of_none p.0.lines _ p.2.told };
+          let told = rw c.in-Some-2.is at c.in_ok-event.ensures.some in
+          record {
+            played = p.0;
+            is_played = p.1;
+            is_trace = p.2.reached.is_trace;
+            ends_so = wanted_if setup writes p.0.trace so_far.before (lines_of c.loop-line.rest.now) c.from_residual-in_err-play.result (search rules) (wanted_unplayed setup writes p.0.trace so_far.before c.in-Some.line.now (lines_of c.in-Some.after.now) (lines_of c.loop-line.rest.now) c.in-Some-2.event c.in-Some.ensures.lines told
+                (λ early. not_ok (c.in_err-play.ensures.memory setup writes p.0 p.2 early)));
+            text_is = c.in_err-play.ensures.err ∙ text_of_none p.0.lines _ p.2.told;
+          };
     }
