@@ -50,8 +50,12 @@ puts_kept seen may_leave is_usable pages card wanted old new is kept does =
 pub puts_not :
     {U : Type 0} (seen : U → List ℕ) (may_leave : U → List ℕ → Type 0) (is_usable : U → Bool) (pages : List PageValue) (card : CardValue) (old new : Undelivered U)
     → Does seen may_leave is_usable (Puts (with_its_card pages card)) false old.spool new.spool → new.calls.items ≡ old.calls.items → IsNotKept seen may_leave is_usable old new
-puts_not seen may_leave is_usable pages card old new does same = inr (pages, card, record {
-  kept = λ so. let wrong : false ≡ true = so in absurd (cc);
-  does = does;
-  same = λ _. same;
-})
+puts_not seen may_leave is_usable pages card old new does same = inr (
+  pages,
+  card,
+  record {
+    kept = λ so. let wrong : false ≡ true = so in absurd (cc);
+    does = does;
+    same = λ _. same;
+  },
+)
