@@ -170,13 +170,6 @@ impl<'a, E: Eprint, H: Files> NewPictures<'a, E, H> {
         self.names.iter().any(|made| made.as_str() == name)
     }
 
-    /// Notes the name of a file that was made. Without memory another page of this name is told as one whose file is there.
-    fn note(&mut self, name: &str) {
-        if let Ok(name) = String::from_str(self.alloc, name) {
-            let _ = self.names.push(name);
-        }
-    }
-
     /// Makes a file of the system.
     fn write(&self, name: &str, octets: &[u8]) -> io::Result<()> {
         let mut file = OpenOptions::new()
@@ -184,6 +177,13 @@ impl<'a, E: Eprint, H: Files> NewPictures<'a, E, H> {
             .create_new(true)
             .open(self.host, name)?;
         file.write_all(octets)
+    }
+}
+
+/// Notes the name of a file that was made. Without memory another page of this name is told as one whose file is there.
+fn note(names: &mut Vec<String>, alloc: Global, name: &str) {
+    if let Ok(name) = String::from_str(alloc, name) {
+        let _ = names.push(name);
     }
 }
 
@@ -200,7 +200,7 @@ impl<E: Eprint, H: Files> PictureFiles for NewPictures<'_, E, H> {
         }
         match self.write(name, octets) {
             Ok(()) => {
-                self.note(name);
+                note(&mut self.names, self.alloc, name);
                 Ok(())
             }
             Err(error) => {
