@@ -23,9 +23,10 @@ use Rattle.fax_gateway.specs.Reached.{GatewayValue}
 use Rattle.fax_gateway.specs.CallingLegs.{calling_leg, decided_calling, idle_after}
 use Rattle.fax_gateway.specs.CalledLegs.{decided_called}
 use Rattle.fax_gateway.specs.BothLegs.{both_legs}
-use Rattle.fax_gateway.specs.Reached.{HearsFrom, IsReachedBy}
+use Rattle.fax_gateway.specs.Reached.{HearsFrom, IsReachedBy, refusals_if, refusing}
 use Rattle.fax_gateway.specs.Wires.{KnownWire, Came, Nothing, Failed, Grows, buffer_octets, greatest_count, failures_after, receipt_of}
-use Rattle.fax_gateway.specs.Driving.{Entry, AreWanting, IsWanting, Accepts, GivesNoDatagram, moment_of, AreReceives, AreRounds, HasFailed, IsRing, IsRingIf, IsRingRefused, IsRound, IsTick, IsTurn, RefusesRing, Tells, log_of, is_refused_ring, RefusesDatagram, RefusesTick, ReceivesNothing, FailsToReceive, Sends, DriverValue, Carries, Happens, HasMade, Steps, WireGoes, GoesBy, GoesByEvent, Comes, IsHanded, IsSent, counted, events, events_in, failed_in_a_row, most_failed, receipts, receipts_in, sent, sent_in, is_failed_receive, is_failed_send, is_refused_event}
+use Rattle.fax_gateway.proofs.Steps.{reached_refusing}
+use Rattle.fax_gateway.specs.Driving.{Entry, AreWanting, IsWanting, Accepts, GivesNoDatagram, moment_of, AreReceives, AreRounds, HasFailed, IsRing, IsRingIf, IsRingRefused, IsRound, IsTick, IsTurn, RefusesRing, Tells, log_of, is_refused_ring, RefusesDatagram, RefusesTick, ReceivesNothing, FailsToReceive, Sends, DriverValue, Carries, Happens, HasMade, RiseAlike, Steps, WireGoes, GoesBy, GoesByEvent, Comes, IsHanded, IsSent, counted, events, events_in, failed_in_a_row, most_failed, receipts, receipts_in, sent, sent_in, is_failed_receive, is_failed_send, is_refused_event}
 
 pub grows_more : {A : Type 0} (older newer : List A) (a b c : Option (List A)) → Grows older a b → Grows newer b c → Grows (newer ++ older) a c
 grows_more older newer a b None first second = tt
@@ -61,6 +62,9 @@ rises g a b c m n first second low =
     let e = second low in
     let f = first (omega arith) in
     omega arith
+
+pub rises_by_one : (g a b : ℕ) → b ≡ min (a + 1) g → b < g → b ≡ a + 1
+rises_by_one g a b = omega arith
 
 pub carries_more : (older newer : List Entry) (a b c : KnownWire) → Carries older a b → Carries newer b c → Carries (newer ++ older) a c
 carries_more older newer a b c first second = record {
@@ -101,6 +105,35 @@ steps_more setup writes older newer trace earlier g h a b c d e first second = r
   happens = happens_more setup writes older newer trace g h a b c first.happens second.happens;
   made = subst (λ (l : List Entry). HasMade l e) (sym (append_assoc newer older earlier)) second.made;
 }
+
+-- ---- what is refused is counted
+
+pub alike_none : (g g' e e' : ℕ) → g' ≡ g → e' ≡ e → RiseAlike g g' e e'
+alike_none g g' e e' is same = (0, λ _. omega arith, λ _. omega arith)
+
+pub alike_by : (refused : Bool) (g g' e e' : ℕ) → g' ≡ refusals_if refused g → e' ≡ refusals_if refused e → RiseAlike g g' e e'
+alike_by true g g' e e' is same = (1, rises_by_one greatest_count g g' is, rises_by_one greatest_count e e' same)
+alike_by false g g' e e' is same = alike_none g g' e e' is same
+
+-- a datagram that was not accepted is one that was refused
+pub counts_refused : (g g' : ℕ) (r : Result Bool NoMemory) (accepted : Bool) → accepted ≡ is_ok r → g' ≡ refusals_if (is_err r) g → g' ≡ refusals_if (not accepted) g
+counts_refused g g' (Ok decided) accepted is same = same ∙ ap (λ b. refusals_if (not b) g) (sym is)
+counts_refused g g' (Err fault) accepted is same = same ∙ ap (λ b. refusals_if (not b) g) (sym is)
+
+pub alike_more : (g h i d e f : ℕ) → RiseAlike g h d e → RiseAlike h i e f → RiseAlike g i d f
+alike_more g h i d e f (m, first, one) (n, second, two) = (n + m, rises greatest_count g h i m n first second, rises greatest_count d e f m n one two)
+
+asked_more : (g a b c n : ℕ) → a ≡ min b g → c ≡ a + n → (m : ℕ) → c ≡ min (m + b) g → c < g → n ≡ m
+asked_more g a b c n was rise m is low = omega arith
+
+pub asked_each : (log earlier : List Entry) (old new : DriverValue) (refusals refusals' : ℕ) → HasMade earlier old → HasMade (log ++ earlier) new
+    → RiseAlike refusals refusals' old.events_refused new.events_refused → refusals' < greatest_count → new.events_refused < greatest_count
+    → refusals' ≡ refusals + count_by is_refused_event log
+asked_each log earlier old new refusals refusals' was made (n, first, second) low few =
+    let m : ℕ = count_by is_refused_event log in
+    let e = asked_more greatest_count old.events_refused (count_by is_refused_event earlier) new.events_refused n was.events_refused (second few) m
+    (made.events_refused ∙ ap counted (count_by-append is_refused_event log earlier)) few in
+    first low ∙ ap (λ k. refusals + k) e
 
 -- ---- what the wire goes through
 
@@ -201,9 +234,6 @@ carries_nothing at buffer a b r is room failures received sent = record {
   failures = λ _. let z = failures ∙ ap (failures_after a.failures) is in omega arith;
 }
 
-pub rises_by_one : (g a b : ℕ) → b ≡ min (a + 1) g → b < g → b ≡ a + 1
-rises_by_one g a b = omega arith
-
 pub carries_failure :
     (at : Leg) (buffer : List ℕ) (a b : KnownWire) (r : Result (Option ℕ) WireFault) (fault : WireFault) → r ≡ Err fault → length buffer ≡ buffer_octets
     → b.failures ≡ failures_after a.failures r → Grows (receipt_of at buffer r ∷ []) a.received b.received → Grows [] a.sent b.sent → Carries (FailsToReceive at ∷ []) a b
@@ -281,22 +311,22 @@ pub hands_on_calling :
     (setup : Setup) (writes : Writing) (trace : List Event) (octets : List ℕ) (now : ℕ) (old new : GatewayValue) (r : Result Bool NoMemory)
     → IfOk r (λ decided. (setup : Setup) (writes : Writing) (trace : List Event) → IsReachedBy setup writes trace old → HearsFrom setup writes trace octets now decided new)
     → ((setup : Setup) (writes : Writing) (trace : List Event) → IsReachedBy setup writes trace old → decided_calling (calling_leg setup trace) octets ≡ false → r ≡ Ok false)
-    → OnErr r (new ≡ old) → IsReachedBy setup writes trace old → HandsOn setup writes trace legs.Calling octets now (is_ok r) new
+    → OnErr r (new ≡ refusing old) → IsReachedBy setup writes trace old → HandsOn setup writes trace legs.Calling octets now (is_ok r) new
 hands_on_calling setup writes trace octets now old new (Ok decided) heard memory err reached =
     let h = heard setup writes trace reached in
     (Accepts (FromCalling octets now decided h.read), (refl, refl), record { receipt = refl; refused = refl; none_sent = refl; received = refl; sends_none = refl }, tt, h.reached)
 hands_on_calling setup writes trace octets now old new (Err fault) heard memory err reached =
-    (RefusesDatagram legs.Calling octets, refl, record { receipt = refl; refused = refl; none_sent = refl; received = refl; sends_none = refl }, must_decide _ (Err fault) fault refl (memory setup writes trace reached), subst (λ (g : GatewayValue). IsReachedBy setup writes trace g) (sym err) reached)
+    (RefusesDatagram legs.Calling octets, refl, record { receipt = refl; refused = refl; none_sent = refl; received = refl; sends_none = refl }, must_decide _ (Err fault) fault refl (memory setup writes trace reached), subst (λ (g : GatewayValue). IsReachedBy setup writes trace g) (sym err) (reached_refusing setup writes trace old reached))
 
 pub hands_on_called :
     (setup : Setup) (writes : Writing) (trace : List Event) (octets : List ℕ) (now : ℕ) (old new : GatewayValue) (r : Result Bool NoMemory)
     → IfOk r (λ decided. (setup : Setup) (writes : Writing) (trace : List Event) → IsReachedBy setup writes trace old → IsReachedBy setup writes (FromCalled octets now decided ∷ trace) new)
     → ((setup : Setup) (writes : Writing) (trace : List Event) → IsReachedBy setup writes trace old → decided_called writes (both_legs setup writes trace).leg octets ≡ false → r ≡ Ok false)
-    → OnErr r (new ≡ old) → IsReachedBy setup writes trace old → HandsOn setup writes trace legs.Called octets now (is_ok r) new
+    → OnErr r (new ≡ refusing old) → IsReachedBy setup writes trace old → HandsOn setup writes trace legs.Called octets now (is_ok r) new
 hands_on_called setup writes trace octets now old new (Ok decided) heard memory err reached =
     (Accepts (FromCalled octets now decided), (refl, refl), record { receipt = refl; refused = refl; none_sent = refl; received = refl; sends_none = refl }, tt, heard setup writes trace reached)
 hands_on_called setup writes trace octets now old new (Err fault) heard memory err reached =
-    (RefusesDatagram legs.Called octets, refl, record { receipt = refl; refused = refl; none_sent = refl; received = refl; sends_none = refl }, must_decide _ (Err fault) fault refl (memory setup writes trace reached), subst (λ (g : GatewayValue). IsReachedBy setup writes trace g) (sym err) reached)
+    (RefusesDatagram legs.Called octets, refl, record { receipt = refl; refused = refl; none_sent = refl; received = refl; sends_none = refl }, must_decide _ (Err fault) fault refl (memory setup writes trace reached), subst (λ (g : GatewayValue). IsReachedBy setup writes trace g) (sym err) (reached_refusing setup writes trace old reached))
 
 -- ---- sends
 

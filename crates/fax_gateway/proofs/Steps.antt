@@ -10,7 +10,11 @@ use Rattle.fax_gateway.specs.declared.called.CalledEndpoint.{CalledEndpoint}
 use Rattle.fax_gateway.specs.Events.{Event, FromCalling, clock}
 use Rattle.fax_gateway.specs.CallingLegs.{CallingLeg, idle_after, calling_after, calling_leg, decided_calling}
 use Rattle.fax_gateway.specs.BothLegs.{book_of, both_legs, ends_if}
-use Rattle.fax_gateway.specs.Reached.{IsCalling, IsCalled, heard_on, HearsCalling, GatewayValue, IsReachedBy, HearsFrom}
+use Rattle.fax_gateway.specs.Reached.{IsCalling, IsCalled, heard_on, HearsCalling, GatewayValue, IsReachedBy, HearsFrom, refusing}
+
+-- a refusal is no event
+pub reached_refusing : (setup : Setup) (writes : Writing) (trace : List Event) (g : GatewayValue) → IsReachedBy setup writes trace g → IsReachedBy setup writes trace (refusing g)
+reached_refusing setup writes trace g r = record { is_trace = r.is_trace; set = r.set; at = r.at; rung = r.rung; calling = r.calling; called = r.called; book = r.book }
 
 -- a call that ends closes the open job
 ended_book : (b : Bool) (steps : List Step) → (after_steps new_past (ends_if b steps)).book ≡ (if b then closed (after_steps new_past steps).book else (after_steps new_past steps).book)

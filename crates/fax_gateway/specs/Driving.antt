@@ -254,12 +254,24 @@ pub record DriverValue : Type 0 where
   pub receives_failed : ℕ
   pub sends_failed : ℕ
 
+-- Both counts rose by as many, each where it did not stop: what a gateway refused for want of memory, and what is told as refused.
+abbrev pub RiseAlike : (refusals refusals' told told' : ℕ) → Type 0
+RiseAlike refusals refusals' told told' =
+    (n : ℕ) × (refusals' < greatest_count → refusals' ≡ refusals + n) × (told' < greatest_count → told' ≡ told + n)
+
 -- A driver did all this.
 pub record HasMade (log : List Entry) (driver : DriverValue) : Type 0 where
   pub row : driver.failed_in_a_row ≡ min (failed_in_a_row (receipts log)) most_failed
   pub events_refused : driver.events_refused ≡ counted (count_by is_refused_event log)
   pub receives_failed : driver.receives_failed ≡ counted (count_by is_failed_receive log)
   pub sends_failed : driver.sends_failed ≡ counted (count_by is_failed_send log)
+
+-- So the log has as many datagrams and ticks that are refused as the gateway refused: none is told so that was not asked for.
+abbrev pub RefusalsAreAsked : Type 0
+RefusalsAreAsked =
+    (log earlier : List Entry) (old new : DriverValue) (refusals refusals' : ℕ) → HasMade earlier old → HasMade (log ++ earlier) new
+    → RiseAlike refusals refusals' old.events_refused new.events_refused → refusals' < greatest_count → new.events_refused < greatest_count
+    → refusals' ≡ refusals + count_by is_refused_event log
 
 -- ---- a run
 

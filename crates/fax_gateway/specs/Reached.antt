@@ -1,5 +1,5 @@
 -- What a gateway keeps that a trace has led to.
-use Rattle.std.specs.Prelude.{◌≡◌, ℕ, ◌<◌, ◌≤◌, Bool, true, false, List, [], ◌∷◌, Option, Some, None, if◌then◌else◌}
+use Rattle.std.specs.Prelude.{◌≡◌, ℕ, ◌+◌, ◌<◌, ◌≤◌, min, Bool, true, false, List, [], ◌∷◌, Option, Some, None, if◌then◌else◌}
 use Rattle.fax_udptl.specs.Datagrams.{DatagramValue}
 use Rattle.fax_udptl.specs.Sending.{HasSent}
 use Rattle.fax_udptl.specs.Slots.{newest_slots}
@@ -37,6 +37,7 @@ use Rattle.fax_gateway.specs.CalledLegs as called_legs
 use Rattle.fax_gateway.specs.CalledLegs.{CalledLeg}
 use Rattle.fax_gateway.specs.BothLegs.{book_of, both_legs}
 use Rattle.fax_gateway.specs.Traces.{IsTrace}
+use Rattle.fax_gateway.specs.Wires.{greatest_count}
 
 -- what a tick gives
 abbrev pub given_shown : shown.Given → Given
@@ -174,7 +175,8 @@ abbrev pub closed_if : Bool → Book → Book
 closed_if true book = closed book
 closed_if false book = book
 
--- THE GATEWAY: its settings, its clock, how many calls were rung, both legs, the book, and for how many pages this has room
+-- THE GATEWAY: its settings, its clock, how many calls were rung, both legs, the book, for how many pages this has room, and how
+-- many datagrams and ticks it refused for want of memory
 pub record GatewayValue : Type 0 where
   pub settings : Settings
   pub clock : ℕ
@@ -183,6 +185,7 @@ pub record GatewayValue : Type 0 where
   pub called : CalledEndpoint
   pub book : Book
   pub spare : ℕ
+  pub refusals : ℕ
 
 -- the trace led to it, where this function gives the texts of pages
 pub record IsReachedBy (setup : Setup) (writes : Writing) (trace : List Event) (gateway : GatewayValue) : Type 0 where
@@ -193,6 +196,14 @@ pub record IsReachedBy (setup : Setup) (writes : Writing) (trace : List Event) (
   pub calling : IsCalling setup (calling_leg setup trace) gateway.calling
   pub called : IsCalled setup writes (both_legs setup writes trace).leg gateway.called
   pub book : gateway.book ≡ book_of (both_legs setup writes trace)
+
+-- one more is refused, or none, of which the count stops at the greatest; and where one is, nothing else happens
+abbrev pub refusals_if : (refused : Bool) → ℕ → ℕ
+refusals_if true count = min (count + 1) greatest_count
+refusals_if false count = count
+
+abbrev pub refusing : GatewayValue → GatewayValue
+refusing g = record g { refusals = refusals_if true g.refusals }
 
 -- one more datagram of the calling leg led to it, by one reading that is right
 pub record HearsFrom (setup : Setup) (writes : Writing) (trace : List Event) (octets : List ℕ) (now : ℕ) (decided : Bool) (gateway : GatewayValue) : Type 0 where
@@ -233,4 +244,4 @@ called_alone endpoint = record { caller = record endpoint.caller { spare = 0 }; 
 
 abbrev pub alone : GatewayValue → GatewayValue
 alone g =
-    record { settings = g.settings; clock = g.clock; rings = g.rings; calling = calling_alone g.calling; called = called_alone g.called; book = g.book; spare = 0 }
+    record { settings = g.settings; clock = g.clock; rings = g.rings; calling = calling_alone g.calling; called = called_alone g.called; book = g.book; spare = 0; refusals = g.refusals }

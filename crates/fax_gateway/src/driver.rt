@@ -5,7 +5,7 @@ ghost use Rattle.fax_gateway.specs.Setups.{Setup};
 ghost use Rattle.fax_gateway.specs.Events.{Event};
 ghost use Rattle.fax_gateway.specs.Reached.{IsReachedBy};
 ghost use Rattle.fax_gateway.specs.BothLegs.{job_asked};
-ghost use Rattle.fax_gateway.specs.Driving.{Entry, Happens, HasMade, IsTurn, WireGoes, events, failed_in_a_row, most_failed, receipts};
+ghost use Rattle.fax_gateway.specs.Driving.{Entry, Happens, HasMade, IsTurn, RiseAlike, WireGoes, events, failed_in_a_row, most_failed, receipts};
 ghost use Rattle.fax_gateway.specs.Turns.{TellTicks, call_asked, call_dialled, call_ended, call_if_new, call_of_rep};
 
 use crate::buffer::Buffer;
@@ -60,6 +60,7 @@ impl Driver {
         ensures ended { result.ended ≡ call_ended (call_of_rep gateway.old.calling) (call_of_rep gateway.new.calling) }
         ensures dialled { result.dialled ≡ call_dialled (is_some gateway.old.book.sending) gateway.new.book.sending }
         ensures asked { result.asked ≡ call_if_new (call_asked (job_asked gateway.old.settings.asks gateway.old.book)) (call_asked (job_asked gateway.new.settings.asks gateway.new.book)) }
+        ensures refusals { RiseAlike gateway.old.refusals gateway.new.refusals self.old.events_refused self.new.events_refused }
     {
         self.engine.turn(&mut self.buffer, gateway, wire, now)
     }

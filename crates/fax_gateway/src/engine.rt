@@ -1,12 +1,12 @@
 //! What drives a gateway, into a buffer that it is lent.
-ghost use Rattle.std.specs.Prelude.{◌≡◌, ◌<◌, ◌↔◌, ℕ, List, [], ◌∷◌, ◌++◌, IsTrue, IfOk, is_some, option_copied, vec_len};
+ghost use Rattle.std.specs.Prelude.{◌≡◌, ◌<◌, ◌↔◌, ℕ, List, [], ◌∷◌, ◌++◌, IsTrue, IfOk, is_some, not, option_copied, vec_len};
 ghost use Rattle.fax_call.specs.Writings.{IsWriting, Writing};
 ghost use Rattle.fax_gateway.specs.Setups.{Setup};
 ghost use Rattle.fax_gateway.specs.Events.{Event};
-ghost use Rattle.fax_gateway.specs.Reached.{IsReachedBy};
+ghost use Rattle.fax_gateway.specs.Reached.{IsReachedBy, refusals_if};
 ghost use Rattle.fax_gateway.specs.BothLegs.{job_asked};
 ghost use Rattle.fax_gateway.specs.declared.leg.Leg.{Leg as LegShown};
-ghost use Rattle.fax_gateway.specs.Driving.{AreReceives, Carries, Comes, Entry, FailsToReceive, Happens, HasMade, IsHanded, IsReceive, IsSent, IsTick, IsTurn, IsWanting, Steps, WireGoes, events, failed_in_a_row, most_failed, receipts};
+ghost use Rattle.fax_gateway.specs.Driving.{AreReceives, Carries, Comes, Entry, FailsToReceive, Happens, HasMade, IsHanded, IsReceive, IsSent, IsTick, IsTurn, IsWanting, RiseAlike, Steps, WireGoes, events, failed_in_a_row, most_failed, receipts};
 ghost use Rattle.fax_gateway.specs.Turns.{TellTicks, call_asked, call_dialled, call_ended, call_if_new, call_of_rep};
 
 use crate::buffer::Buffer;
@@ -77,6 +77,7 @@ impl Engine {
         ensures ended { result.ended ≡ call_ended (call_of_rep gateway.old.calling) (call_of_rep gateway.new.calling) }
         ensures dialled { result.dialled ≡ call_dialled (is_some gateway.old.book.sending) gateway.new.book.sending }
         ensures asked { result.asked ≡ call_if_new (call_asked (job_asked gateway.old.settings.asks gateway.old.book)) (call_asked (job_asked gateway.new.settings.asks gateway.new.book)) }
+        ensures refusals { RiseAlike gateway.old.refusals gateway.new.refusals self.old.events_refused self.new.events_refused }
     {
         let call = gateway.call();
         let was_sending = gateway.sending().is_some();
@@ -119,9 +120,10 @@ impl Engine {
         wire: &mut W,
         now: u64,
     )
-        ensures { (setup : Setup) (writes : Writing) (trace : List Event) (earlier : List Entry) → IsReachedBy setup writes trace gateway.old → HasMade earlier self.old
+        ensures served { (setup : Setup) (writes : Writing) (trace : List Event) (earlier : List Entry) → IsReachedBy setup writes trace gateway.old → HasMade earlier self.old
             → (log : List Entry) × AreReceives leg now log × Steps setup writes log trace earlier gateway.new (W.known wire.old) (W.known wire.new) self.new
             × WireGoes W.receives W.sends log wire.old wire.new }
+        ensures refusals { RiseAlike gateway.old.refusals gateway.new.refusals self.old.events_refused self.new.events_refused }
     {
         for _ in 0..MOST_DATAGRAMS {
             if !self.receive(leg, buffer, gateway, wire, now) {
@@ -139,9 +141,10 @@ impl Engine {
         wire: &mut W,
         now: u64,
     ) -> bool
-        ensures { (setup : Setup) (writes : Writing) (trace : List Event) (earlier : List Entry) → IsReachedBy setup writes trace gateway.old → HasMade earlier self.old
+        ensures received { (setup : Setup) (writes : Writing) (trace : List Event) (earlier : List Entry) → IsReachedBy setup writes trace gateway.old → HasMade earlier self.old
             → (entry : Entry) × IsReceive result leg now entry × Steps setup writes (entry ∷ []) trace earlier gateway.new (W.known wire.old) (W.known wire.new) self.new
             × WireGoes W.receives W.sends (entry ∷ []) wire.old wire.new }
+        ensures refusals { RiseAlike gateway.old.refusals gateway.new.refusals self.old.events_refused self.new.events_refused }
     {
         match buffer.receive(leg, wire) {
             Ok(Some(count)) => {
@@ -162,7 +165,8 @@ impl Engine {
 
     /// A datagram came, and was accepted or refused.
     fn note_datagram(&mut self, is_accepted: bool)
-        ensures { (log : List Entry) (at : LegShown) (octets : List ℕ) (entry : Entry) → IsHanded is_accepted at octets entry → HasMade log self.old → HasMade (entry ∷ log) self.new }
+        ensures noted { (log : List Entry) (at : LegShown) (octets : List ℕ) (entry : Entry) → IsHanded is_accepted at octets entry → HasMade log self.old → HasMade (entry ∷ log) self.new }
+        ensures refused { self.new.events_refused ≡ refusals_if (not is_accepted) self.old.events_refused }
     {
         self.failed_in_a_row = 0;
         if !is_accepted {
@@ -172,7 +176,8 @@ impl Engine {
 
     /// A receive failed.
     fn note_failure(&mut self)
-        ensures { (log : List Entry) (at : LegShown) → HasMade log self.old → HasMade (FailsToReceive at ∷ log) self.new }
+        ensures noted { (log : List Entry) (at : LegShown) → HasMade log self.old → HasMade (FailsToReceive at ∷ log) self.new }
+        ensures refused { self.new.events_refused ≡ self.old.events_refused }
     {
         self.receives_failed = self.receives_failed.saturating_add(1);
         if self.failed_in_a_row < MOST_FAILED {
@@ -187,10 +192,11 @@ impl Engine {
         wire: &mut W,
         now: u64,
     ) -> TickReport
-        ensures { (setup : Setup) (writes : Writing) (trace : List Event) (earlier : List Entry) → IsWriting writes → IsReachedBy setup writes trace gateway.old → HasMade earlier self.old
+        ensures ticked { (setup : Setup) (writes : Writing) (trace : List Event) (earlier : List Entry) → IsWriting writes → IsReachedBy setup writes trace gateway.old → HasMade earlier self.old
             → (log : List Entry) × IsTick now log × Steps setup writes log trace earlier gateway.new (W.known wire.old) (W.known wire.new) self.new
             × TellTicks setup trace (events log ++ trace) result.report result.kept result.refused result.gave_up
             × WireGoes W.receives W.sends log wire.old wire.new }
+        ensures refusals { RiseAlike gateway.old.refusals gateway.new.refusals self.old.events_refused self.new.events_refused }
     {
         match gateway.tick(now) {
             Ok(given) => {
@@ -207,9 +213,10 @@ impl Engine {
 
     /// Sends what is given on a leg.
     fn send<W: Wire>(&mut self, leg: Leg, given: &Option<Octets>, wire: &mut W)
-        ensures { (earlier : List Entry) → HasMade earlier self.old
+        ensures sent { (earlier : List Entry) → HasMade earlier self.old
             → (log : List Entry) × IsSent leg given.now log × Carries log (W.known wire.old) (W.known wire.new) × HasMade (log ++ earlier) self.new
             × WireGoes W.receives W.sends log wire.old wire.new }
+        ensures refused { self.new.events_refused ≡ self.old.events_refused }
     {
         let Some(octets) = given else {
             return;
@@ -247,8 +254,9 @@ fn call_if_new(was_asked: Option<u32>, is_asked: Option<u32>) -> Option<u32>
 
 /// Hands a datagram of a leg on to the gateway. It answers whether it was accepted.
 fn hand_on<S: RowStore>(leg: Leg, octets: &[u8], gateway: &mut Gateway<S>, now: u64) -> bool
-    ensures { (setup : Setup) (writes : Writing) (trace : List Event) → IsReachedBy setup writes trace gateway.old
+    ensures handed { (setup : Setup) (writes : Writing) (trace : List Event) → IsReachedBy setup writes trace gateway.old
         → (entry : Entry) × Comes leg now entry × IsHanded result leg octets.now entry × IsWanting setup writes trace entry × IsReachedBy setup writes (events (entry ∷ []) ++ trace) gateway.new }
+    ensures refusals { gateway.new.refusals ≡ refusals_if (not result) gateway.old.refusals }
 {
     match leg {
         Leg::Calling => gateway.from_calling(octets, now).is_ok(),

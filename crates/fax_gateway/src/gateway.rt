@@ -1,5 +1,6 @@
 //! The gateway.
 ghost use Rattle.std.specs.Prelude.{◌≡◌, ◌<◌, ◌≤◌, ◌↔◌, ℕ, max, true, false, not, ◌&&◌, List, [], ◌∷◌, Option, None, Ok, Err, IsSome, IfOk, IfErr, OnOk, OnErr, slice_get, length, map, option_copied};
+ghost use Rattle.std.specs.Result.{is_err};
 ghost use Rattle.fax_timers.specs.Moments.{is_due};
 ghost use Rattle.fax_pagestore.specs.Pages.{IsPage};
 ghost use Rattle.fax_jobs.specs.Books.{closed, confirmed, new_book, report_of};
@@ -14,7 +15,7 @@ ghost use Rattle.fax_gateway.specs.CallingLegs.{CallingLeg, calling_leg, decided
 ghost use Rattle.fax_gateway.specs.CalledLegs.{decided_called};
 ghost use Rattle.fax_gateway.specs.BothLegs.{book_of, both_legs, job_asked};
 ghost use Rattle.fax_gateway.specs.Due.{called_due, due_at, job_due, nothing_given};
-ghost use Rattle.fax_gateway.specs.Reached.{CallingHasRoom, HasRoom, IsCalling, IsLeg, IsReachedBy, IsServed, alone, closed_if, confirmed_if, confirmed_on, ended_if, ended_on, given_shown, most_octets, outcome_of_rep, report_if, ticked_on};
+ghost use Rattle.fax_gateway.specs.Reached.{CallingHasRoom, HasRoom, IsCalling, IsLeg, IsReachedBy, IsServed, alone, closed_if, confirmed_if, confirmed_on, ended_if, ended_on, given_shown, most_octets, outcome_of_rep, refusals_if, refusing, report_if, ticked_on};
 ghost use Rattle.fax_gateway.specs.EachTrace.{Advances, AdvancesByHearing, AdvancesByTick, EachTrace, OfBook, OfCallingLeg, OfJobAsked, Remains};
 ghost use Rattle.fax_gateway.specs.Turns.{IsRefusedAt, Refuses, call_asked, call_if, call_of_rep, call_on, given_up_at, kept_at, kept_if, refused_if};
 
@@ -43,6 +44,8 @@ pub struct Gateway<S: RowStore> {
     clock: Clock,
     /// How many calls were rung.
     rings: u64,
+    /// How many datagrams and ticks were refused for want of memory; the count stops at the greatest.
+    refusals: u64,
     calling: CallingEndpoint<S>,
     called: CalledEndpoint,
     jobs: Jobs<S>,
@@ -54,7 +57,7 @@ impl<S: RowStore> Model for Gateway<S> {
 
     ghost Value = { GatewayValue };
 
-    ghost view = { λ g. record { settings = g.settings; clock = g.clock; rings = g.rings; calling = g.calling; called = g.called; book = g.jobs.book; spare = g.jobs.spare } };
+    ghost view = { λ g. record { settings = g.settings; clock = g.clock; rings = g.rings; calling = g.calling; called = g.called; book = g.jobs.book; spare = g.jobs.spare; refusals = g.refusals } };
 
     ghost invariant = { λ g. IsServed g.jobs.book.sending g.called.caller.procedure × AreAllowed g.settings };
 }
@@ -107,6 +110,7 @@ impl<S: RowStore> Gateway<S> {
             settings,
             clock: Clock::new(),
             rings: 0,
+            refusals: 0,
             calling,
             called,
             jobs,
@@ -120,6 +124,7 @@ impl<S: RowStore> Gateway<S> {
         ensures busy { EachTrace self.old (λ setup writes trace. result ≡ Err RingFault.Busy ↔ (idle_after (calling_leg setup trace) ≡ false)) }
         ensures no_number { EachTrace self.old (λ setup writes trace. idle_after (calling_leg setup trace) ≡ true → result ≡ Err RingFault.NoNumber ↔ (4294967296 ≤ rings trace)) }
         ensures err { OnErr result (self.new ≡ self.old) }
+        ensures refusals { self.new.refusals ≡ self.old.refusals }
     {
         if !self.calling.is_idle() {
             return Err(RingFault::Busy);
@@ -135,16 +140,19 @@ impl<S: RowStore> Gateway<S> {
 
     /// A datagram came on the calling leg: the octets of it. It answers whether it decided a slot, which it does not where
     /// no call is on, where it cannot be read and where it is late. It takes memory only where it did. An `Err` changes
-    /// nothing.
+    /// nothing, and is counted.
     pub fn from_calling(&mut self, octets: &[u8], now: u64) -> Result<bool, NoMemory>
         ensures heard { IfOk result (λ decided. AdvancesByHearing self.old octets.now now decided self.new) }
         ensures memory { EachTrace self.old (λ setup writes trace. decided_calling (calling_leg setup trace) octets.now ≡ false → result ≡ Ok false) }
-        ensures err { OnErr result (self.new ≡ self.old) }
+        ensures err { OnErr result (self.new ≡ refusing self.old) }
+        ensures refusals { self.new.refusals ≡ refusals_if (is_err result) self.old.refusals }
     {
         let mut clock = self.clock;
         let now = clock.read(now);
         let was_idle = self.calling.is_idle();
-        let decided = self.calling.hear(octets, now)?;
+        let Ok(decided) = self.calling.hear(octets, now) else {
+            return Err(self.refuse());
+        };
         self.clock = clock;
         if has_ended(was_idle, self.calling.is_idle()) {
             self.jobs.end_call();
@@ -156,10 +164,13 @@ impl<S: RowStore> Gateway<S> {
     pub fn from_called(&mut self, octets: &[u8], now: u64) -> Result<bool, NoMemory>
         ensures heard { IfOk result (λ decided. Advances self.old (FromCalled octets.now now decided) self.new) }
         ensures memory { EachTrace self.old (λ setup writes trace. decided_called writes (both_legs setup writes trace).leg octets.now ≡ false → result ≡ Ok false) }
-        ensures err { OnErr result (self.new ≡ self.old) }
+        ensures err { OnErr result (self.new ≡ refusing self.old) }
+        ensures refusals { self.new.refusals ≡ refusals_if (is_err result) self.old.refusals }
     {
         let mut clock = self.clock;
-        let decided = self.called.hear(octets, clock.read(now))?;
+        let Ok(decided) = self.called.hear(octets, clock.read(now)) else {
+            return Err(self.refuse());
+        };
         self.clock = clock;
         Ok(decided)
     }
@@ -170,6 +181,7 @@ impl<S: RowStore> Gateway<S> {
         ensures placed { OnOk result (Advances self.old (Placed now true) self.new) }
         ensures not_asked { OfJobAsked self.old (λ job. result ≡ Err PlaceFault.NotAsked ↔ (job ≡ None)) }
         ensures err { OnErr result (self.new ≡ self.old) }
+        ensures refusals { self.new.refusals ≡ self.old.refusals }
     {
         self.place(true, now)
     }
@@ -180,6 +192,7 @@ impl<S: RowStore> Gateway<S> {
         ensures placed { OnOk result (Advances self.old (Placed now false) self.new) }
         ensures not_asked { OfJobAsked self.old (λ job. result ≡ Err PlaceFault.NotAsked ↔ (job ≡ None)) }
         ensures err { OnErr result (self.new ≡ self.old) }
+        ensures refusals { self.new.refusals ≡ self.old.refusals }
     {
         self.place(false, now)
     }
@@ -189,6 +202,7 @@ impl<S: RowStore> Gateway<S> {
         ensures placed { OnOk result (Advances self.old (Placed now connected) self.new) }
         ensures not_asked { OfJobAsked self.old (λ job. result ≡ Err PlaceFault.NotAsked ↔ (job ≡ None)) }
         ensures err { OnErr result (self.new ≡ self.old) }
+        ensures refusals { self.new.refusals ≡ self.old.refusals }
     {
         if self.job_asked().is_none() {
             return Err(PlaceFault::NotAsked);
@@ -203,6 +217,7 @@ impl<S: RowStore> Gateway<S> {
         requires asked { IsSome (job_asked self.old.settings.asks self.old.book) }
         ensures placed { (setup : Setup) (writes : Writing) (trace : List Event) → IsLeg setup [] [] leg → IsReachedBy setup writes trace self.old
             → IsReachedBy setup writes (Placed now connected ∷ trace) self.new }
+        ensures refusals { self.new.refusals ≡ self.old.refusals }
     {
         let moment = self.clock.read(now);
         self.jobs.next();
@@ -237,8 +252,25 @@ impl<S: RowStore> Gateway<S> {
     /// was closed first where none is and calls are not asked for; and the report of a job whose call has ended, after which
     /// the next one waits for the next tick. It tells the page that it confirms, the one that it refuses and why, and the call of the calling leg that it
     /// gives up. Before the moment of `next_due` the clock is read, and nothing else is done. It takes memory for the datagrams,
-    /// and for a page. An `Err` changes nothing but the memory that is reserved.
+    /// and for a page. An `Err` changes nothing but the memory that is reserved, and is counted.
     pub fn tick(&mut self, now: u64) -> Result<Given, NoMemory>
+        ensures ticked { IfOk result (λ given. AdvancesByTick self.old now (given_shown given) self.new) }
+        ensures confirmed { IfOk result (λ given. OfCallingLeg self.old now (λ leg moment. given.kept ≡ kept_at leg moment)) }
+        ensures refused { IfOk result (λ given. OfCallingLeg self.old now (λ leg moment. IsRefusedAt leg moment given.refused)) }
+        ensures given_up { IfOk result (λ given. OfCallingLeg self.old now (λ leg moment. given.gave_up ≡ given_up_at leg moment)) }
+        ensures rests { EachTrace self.old (λ setup writes trace. is_due (due_at setup writes trace) (max now (clock trace)) ≡ false → (result ≡ Ok nothing_given) × (self.new ≡ record self.old { clock = max now self.old.clock })) }
+        ensures err { OnErr result (alone self.new ≡ alone (refusing self.old)) }
+        ensures kept { OnErr result (Remains self.old self.new) }
+        ensures refusals { self.new.refusals ≡ refusals_if (is_err result) self.old.refusals }
+    {
+        match self.tick_if_due(now) {
+            Ok(given) => Ok(given),
+            Err(NoMemory) => Err(self.refuse()),
+        }
+    }
+
+    /// The same, but that an `Err` is not counted.
+    fn tick_if_due(&mut self, now: u64) -> Result<Given, NoMemory>
         ensures ticked { IfOk result (λ given. AdvancesByTick self.old now (given_shown given) self.new) }
         ensures confirmed { IfOk result (λ given. OfCallingLeg self.old now (λ leg moment. given.kept ≡ kept_at leg moment)) }
         ensures refused { IfOk result (λ given. OfCallingLeg self.old now (λ leg moment. IsRefusedAt leg moment given.refused)) }
@@ -246,6 +278,7 @@ impl<S: RowStore> Gateway<S> {
         ensures rests { EachTrace self.old (λ setup writes trace. is_due (due_at setup writes trace) (max now (clock trace)) ≡ false → (result ≡ Ok nothing_given) × (self.new ≡ record self.old { clock = max now self.old.clock })) }
         ensures err { OnErr result (alone self.new ≡ alone self.old) }
         ensures kept { OnErr result (Remains self.old self.new) }
+        ensures refusals { self.new.refusals ≡ self.old.refusals }
     {
         let mut clock = self.clock;
         let at = clock.read(now);
@@ -289,6 +322,7 @@ impl<S: RowStore> Gateway<S> {
         ensures room { OnOk result (HasRoom self.new) }
         ensures reached { Remains self.old self.new }
         ensures same { alone self.new ≡ alone self.old }
+        ensures refusals { self.new.refusals ≡ self.old.refusals }
     {
         self.calling.reserve()?;
         self.called.reserve()?;
@@ -305,6 +339,7 @@ impl<S: RowStore> Gateway<S> {
         ensures refused { IfOk result (λ given. OfCallingLeg self.old now (λ leg moment. IsRefusedAt leg moment given.refused)) }
         ensures given_up { IfOk result (λ given. OfCallingLeg self.old now (λ leg moment. given.gave_up ≡ given_up_at leg moment)) }
         ensures err { OnErr result (self.new ≡ self.old) }
+        ensures refusals { self.new.refusals ≡ self.old.refusals }
     {
         let mut clock = self.clock;
         let moment = clock.read(now);
@@ -334,6 +369,7 @@ impl<S: RowStore> Gateway<S> {
         ensures confirmed { OfCallingLeg self.old now (λ leg moment. result.kept ≡ kept_at leg moment) }
         ensures refused { OfCallingLeg self.old now (λ leg moment. IsRefusedAt leg moment result.refused) }
         ensures given_up { OfCallingLeg self.old now (λ leg moment. result.gave_up ≡ given_up_at leg moment) }
+        ensures refusals { self.new.refusals ≡ self.old.refusals }
     {
         let moment = self.clock.read(now);
         let served = serve_calling(&mut self.calling, &mut self.jobs, moment);
@@ -358,6 +394,7 @@ impl<S: RowStore> Gateway<S> {
         ensures confirmed { OfCallingLeg self.old now (λ leg moment. result.kept ≡ kept_at leg moment) }
         ensures refused { OfCallingLeg self.old now (λ leg moment. IsRefusedAt leg moment result.refused) }
         ensures given_up { OfCallingLeg self.old now (λ leg moment. result.gave_up ≡ given_up_at leg moment) }
+        ensures refusals { self.new.refusals ≡ self.old.refusals }
     {
         let moment = self.clock.read(now);
         let served = serve_calling(&mut self.calling, &mut self.jobs, moment);
@@ -372,6 +409,21 @@ impl<S: RowStore> Gateway<S> {
             refused: served.refused,
             gave_up: served.gave_up,
         }
+    }
+
+    /// A datagram or a tick is refused for want of memory, and counted.
+    fn refuse(&mut self) -> NoMemory
+        ensures { self.new ≡ refusing self.old }
+    {
+        self.refusals = self.refusals.saturating_add(1);
+        NoMemory
+    }
+
+    /// How many datagrams and ticks were refused for want of memory: each is counted as it is refused, up to 2^64 - 1.
+    pub fn refusals(&self) -> u64
+        ensures { result ≡ self.now.refusals }
+    {
+        self.refusals
     }
 
     /// The number of the call that is on on the calling leg.

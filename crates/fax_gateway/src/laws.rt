@@ -8,6 +8,7 @@ ghost use Rattle.fax_gateway.specs.Asking.{AskedJobsStay, CallsBeginWherePlaced,
 ghost use Rattle.fax_gateway.specs.Chain.{ChainsHear, ChainsRelay};
 ghost use Rattle.fax_gateway.specs.Cuts.{JobsAreCut};
 ghost use Rattle.fax_gateway.specs.Forwards.{ForwardsWhatItConfirmed};
+ghost use Rattle.fax_gateway.specs.Driving.{RefusalsAreAsked};
 ghost use Rattle.fax_gateway.specs.GoesOn.{LegsAreRead, TracesGoOn};
 ghost use Rattle.fax_gateway.specs.Lacking.{NoneIsLacking};
 ghost use Rattle.fax_gateway.specs.Newest.{ConfirmsTheNewest};
@@ -52,6 +53,12 @@ pub fn none_is_lost()
 /// Every trace goes on with a ring while no call is on, any octets on either leg and a tick, at any moment.
 pub fn traces_go_on()
     ensures { TracesGoOn }
+{}
+
+/// Where what is told as refused rises as what the gateway refused, a log has as many datagrams and ticks that are refused as the
+/// gateway refused: each was asked for, as far as neither count stops.
+pub fn refusals_are_asked()
+    ensures { RefusalsAreAsked }
 {}
 
 /// In every trace the readings of the calling leg's call are right, so that the laws of the answerer hold of it.

@@ -6,7 +6,7 @@ ghost use Rattle.fax_gateway.specs.Setups.{Setup};
 ghost use Rattle.fax_gateway.specs.Events.{Event};
 ghost use Rattle.fax_gateway.specs.Reached.{IsReachedBy};
 ghost use Rattle.fax_gateway.specs.Wires.{greatest_count};
-ghost use Rattle.fax_gateway.specs.Driving.{AreRounds, AreWanting, Entry, Happens, IsRingIf, Tells, events, is_refused_ring, log_of, moment_of};
+ghost use Rattle.fax_gateway.specs.Driving.{AreRounds, AreWanting, Entry, Happens, IsRingIf, RiseAlike, Tells, events, is_refused_ring, log_of, moment_of};
 
 use crate::buffer::Buffer;
 use crate::driven::Driven;
@@ -35,6 +35,7 @@ pub fn drive<S: RowStore, W: Wire>(
         → (rounds : List (List Entry)) × AreRounds start rings.now rounds × Happens setup writes (log_of rounds) trace gateway.new (W.known wire.old) (W.known wire.new) × Tells turns rounds driven) }
     ensures failures { IfOk result (λ driven. (setup : Setup) (writes : Writing) (trace : List Event) → IsWriting writes → IsReachedBy setup writes trace gateway.old
         → (W.known wire.new).failures < greatest_count → (W.known wire.new).failures ≡ (W.known wire.old).failures + (driven.sends_failed + driven.receives_failed)) }
+    ensures refusals { IfOk result (λ driven. RiseAlike gateway.old.refusals gateway.new.refusals 0 driven.events_refused) }
     ensures err { OnErr result ((gateway.new ≡ gateway.old) × (wire.new ≡ wire.old)) }
 {
     let mut buffer = Buffer::new(alloc)?;
@@ -54,8 +55,9 @@ pub fn drive<S: RowStore, W: Wire>(
 
 /// Rings where it is to. It answers whether the ring was refused.
 fn ring_if<S: RowStore>(is_due: bool, gateway: &mut Gateway<S>, now: u64) -> bool
-    ensures { (setup : Setup) (writes : Writing) (trace : List Event) → IsReachedBy setup writes trace gateway.old
+    ensures rung { (setup : Setup) (writes : Writing) (trace : List Event) → IsReachedBy setup writes trace gateway.old
         → (log : List Entry) × IsRingIf is_due now log × (count_by is_refused_ring log ≡ cond result 1 0) × IsReachedBy setup writes (events log ++ trace) gateway.new × AreWanting setup writes trace log }
+    ensures refusals { gateway.new.refusals ≡ gateway.old.refusals }
 {
     if !is_due {
         return false;

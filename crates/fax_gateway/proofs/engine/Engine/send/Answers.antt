@@ -4,8 +4,8 @@ use Rattle.fax_gateway.specs.Driving.{DriverValue, Entry, HasMade, Sends}
 use Rattle.fax_gateway.proofs.DrivingLemmas.{carries_send, made_failed_send, made_unseen, is_sent, wire_by}
 use Rattle.fax_gateway.proofs.engine.Engine.send.Goals as goal
 
-pub returns-in-Ok : goal.returns-in-Ok
-returns-in-Ok g c earlier made =
+pub returns-in-Ok-clause-sent : goal.returns-in-Ok-clause-sent
+returns-in-Ok-clause-sent g c earlier made =
     let at : Leg = c.args.leg in
     let octets : List ℕ = c.as_slice.result.now in
     let e : Entry = Sends at octets false in
@@ -17,8 +17,8 @@ returns-in-Ok g c earlier made =
       wire_by g.W.Wire.receives g.W.Wire.sends e c.args.wire.now c.send.new.self h.makes,
     )
 
-pub returns-in-Err : goal.returns-in-Err
-returns-in-Err g c earlier made =
+pub returns-in-Err-clause-sent : goal.returns-in-Err-clause-sent
+returns-in-Err-clause-sent g c earlier made =
     let at : Leg = c.args.leg in
     let octets : List ℕ = c.as_slice.result.now in
     let e : Entry = Sends at octets true in

@@ -1,16 +1,17 @@
-use Rattle.std.proofs.Common.{max, [], ◌∷◌, ◌++◌, ◌∙◌, ap, inl, inr, refl, sym, subst}
+use Rattle.std.proofs.Common.{◌+◌, max, min, true, [], ◌∷◌, ◌++◌, ◌∙◌, ap, inl, inr, refl, sym, subst}
 use Rattle.fax_gateway.specs.CallingLegs.{calling_leg}
 use Rattle.fax_gateway.specs.Events.{Tick, clock}
 use Rattle.fax_gateway.specs.Reached.{given_shown}
 use Rattle.fax_gateway.specs.Turns.{IsRefusedAt, TellTicks}
 use Rattle.fax_gateway.specs.declared.leg.Leg.TheVariants as legs
+use Rattle.fax_gateway.specs.Wires.{greatest_count}
 use Rattle.fax_gateway.specs.Driving.{Accepts, DriverValue, Entry, HasMade, RefusesTick, Steps, events}
-use Rattle.fax_gateway.proofs.DrivingLemmas.{carries_unseen, made_refused_tick, made_unseen, steps_more, steps_send, wire_by, wire_more}
+use Rattle.fax_gateway.proofs.DrivingLemmas.{alike_by, alike_none, carries_unseen, made_refused_tick, made_unseen, steps_more, steps_send, wire_by, wire_more}
 use Rattle.fax_gateway.proofs.Turning.{due_where_refused, refused_tells, tick_tells}
 use Rattle.fax_gateway.proofs.engine.Engine.tick.Goals as goal
 
-pub returns-in-Ok : goal.returns-in-Ok
-returns-in-Ok g c setup writes trace earlier writing reached made =
+pub returns-in-Ok-clause-ticked : goal.returns-in-Ok-clause-ticked
+returns-in-Ok-clause-ticked g c setup writes trace earlier writing reached made =
     let e : Entry = Accepts (Tick c.args.now (given_shown c.in-Ok.given)) in
     let step : Steps setup writes (e ∷ []) trace earlier c.tick.new.self (g.W.Wire.known c.args.wire.now) (g.W.Wire.known c.args.wire.now) c.args.self.now = record {
       happens = record {
@@ -20,10 +21,10 @@ returns-in-Ok g c setup writes trace earlier writing reached made =
       };
       made = made_unseen earlier e _ refl refl refl refl made;
     } in
-    let first = c.send.ensures (e ∷ earlier) step.made in
+    let first = c.send.ensures.sent (e ∷ earlier) step.made in
     let steps = steps_more setup writes (e ∷ []) first.0 trace earlier _ _ _ _ _ _ _ step
     (steps_send setup writes legs.Calling c.in-Ok.given.calling first.0 (events (e ∷ []) ++ trace) (e ∷ earlier) _ _ _ _ first.1 first.2 first.3 step.happens.reached) in
-    let second = c.send-in-Ok.ensures ((first.0 ++ e ∷ []) ++ earlier) steps.made in (
+    let second = c.send-in-Ok.ensures.sent ((first.0 ++ e ∷ []) ++ earlier) steps.made in (
       second.0 ++ (first.0 ++ e ∷ []),
       inl (given_shown c.in-Ok.given, first.0, second.0, first.1, second.1, refl),
       steps_more setup writes (first.0 ++ e ∷ []) second.0 trace earlier _ _ _ _ _ _ _ steps
@@ -37,8 +38,8 @@ returns-in-Ok g c setup writes trace earlier writing reached made =
           (wire_more g.W.Wire.receives g.W.Wire.sends (e ∷ []) first.0 c.args.wire.now c.args.wire.now c.send.new.wire (wire_by g.W.Wire.receives g.W.Wire.sends e c.args.wire.now c.args.wire.now refl) first.4) second.4,
     )
 
-pub returns-in-Err : goal.returns-in-Err
-returns-in-Err g c setup writes trace earlier writing reached made = (
+pub returns-in-Err-clause-ticked : goal.returns-in-Err-clause-ticked
+returns-in-Err-clause-ticked g c setup writes trace earlier writing reached made = (
   RefusesTick c.args.now ∷ [],
   inr refl,
   record {
@@ -52,3 +53,10 @@ returns-in-Err g c setup writes trace earlier writing reached made = (
   subst (λ t. TellTicks setup trace trace t.report t.kept t.refused t.gave_up) (sym c.nothing.ensures) (refused_tells setup trace),
   wire_by g.W.Wire.receives g.W.Wire.sends (RefusesTick c.args.now) c.args.wire.now c.args.wire.now refl,
 )
+
+pub returns-in-Ok-clause-refusals : goal.returns-in-Ok-clause-refusals
+returns-in-Ok-clause-refusals g c = alike_none _ _ _ _ c.in-Ok.ensures.refusals (c.send-in-Ok.ensures.refused ∙ c.send.ensures.refused)
+
+pub returns-in-Err-clause-refusals : goal.returns-in-Err-clause-refusals
+returns-in-Err-clause-refusals g c =
+    alike_by true _ _ _ _ c.in-Err.ensures.refusals (c.saturating_add-self-inside.ensures ∙ ap (λ (d : DriverValue). min (d.events_refused + 1) greatest_count) c.self.view_is)

@@ -20,11 +20,11 @@ returns-clause-heard g c = λ setup writes trace r.
     let leg = (both_legs setup writes trace).leg in
     let new = c.hear.new.self in
     record {
-      is_trace = (c.in_ok-decided.ensures.decided setup writes leg s.called, s.is_trace);
+      is_trace = (c.in-Ok.ensures.decided setup writes leg s.called, s.is_trace);
       set = s.set;
       at = now;
       rung = s.rung;
-      calling = subst (λ (o : Option CallingLeg). IsCalling setup o c.self.inside.calling) (same_leg setup (calling_leg setup trace) (max at (clock trace)) octets at c.in_ok-decided.decided) s.calling;
-      called = subst (λ (m : ℕ). IsCalled setup writes (option_map (hears writes octets m) leg) new) (c.read.ensures.moment ∙ now) (c.in_ok-decided.ensures.heard setup writes leg s.called);
+      calling = subst (λ (o : Option CallingLeg). IsCalling setup o c.self.inside.calling) (same_leg setup (calling_leg setup trace) (max at (clock trace)) octets at c.in-Ok.decided) s.calling;
+      called = subst (λ (m : ℕ). IsCalled setup writes (option_map (hears writes octets m) leg) new) (c.read.ensures.moment ∙ now) (c.in-Ok.ensures.heard setup writes leg s.called);
       book = s.book;
     }

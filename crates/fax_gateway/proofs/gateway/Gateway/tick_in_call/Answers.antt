@@ -15,10 +15,10 @@ returns-clause-ticked g c setup writes trace writing r =
     let at : ℕ = c.args.now in
     let inside = c.self.inside in
     let s = subst (λ (k : GatewayValue). IsReachedBy setup writes trace k) (sym c.self.view_is) r in
-    let old : GatewayValue = record { settings = inside.settings; clock = inside.clock; rings = inside.rings; calling = inside.calling; called = inside.called; book = inside.jobs.book; spare = inside.jobs.spare } in
+    let old : GatewayValue = record { settings = inside.settings; clock = inside.clock; rings = inside.rings; calling = inside.calling; called = inside.called; book = inside.jobs.book; spare = inside.jobs.spare; refusals = inside.refusals } in
     let left = c.end_job-report.new.jobs in
     let endpoint : CalledEndpoint = c.tick.new.self in
-    let new : GatewayValue = record { settings = inside.settings; clock = c.read-moment.new.self; rings = inside.rings; calling = c.serve_calling-served.new.calling; called = endpoint; book = left.book; spare = left.spare } in
+    let new : GatewayValue = record { settings = inside.settings; clock = c.read-moment.new.self; rings = inside.rings; calling = c.serve_calling-served.new.calling; called = endpoint; book = left.book; spare = left.spare; refusals = inside.refusals } in
     let leg : Option CallingLeg = calling_leg setup trace in
     let now_is : c.read-moment.result ≡ max at (clock trace) = c.read-moment.ensures.moment ∙ c.read-moment.ensures.later ∙ ap (λ (m : ℕ). max at m) s.at in
     let served = c.serve_calling-served.ensures in
