@@ -16,8 +16,8 @@ use Rattle.fax_gateway.specs.Setups.{Setup}
 use Rattle.fax_gateway.specs.Wires.{KnownWire}
 use Rattle.fax_gateway.specs.declared.turn_report.TurnReport.{TurnReport}
 use Rattle.fax_gateway.specs.Turns.{TellTicks}
-use Rattle.fax_gateway.specs.Driving.{Accepts, Carries, DriverValue, Entry, HasMade, Happens, IsTurn, RefusesRing, events, events_in, receipts_in}
-use Rattle.fax_gateway.proofs.DrivingLemmas.{carries_unseen, grows_none, happens_more, made_unseen, refused_so, refuses, steps_ring}
+use Rattle.fax_gateway.specs.Driving.{Accepts, Carries, DriverValue, Entry, HasMade, Happens, IsTurn, RefusesRing, RiseAlike, events, events_in, receipts_in}
+use Rattle.fax_gateway.proofs.DrivingLemmas.{alike_more, alike_none, carries_unseen, grows_none, happens_more, made_unseen, refused_so, refuses, steps_ring}
 use Rattle.fax_repeat.specs.Peers.{Peers}
 use Rattle.fax_repeat.specs.Policies.{IsToldAs}
 use Rattle.fax_holding_wire.specs.Holding.{HoldingValue, IsToldTimeWhere}
@@ -65,6 +65,7 @@ pub goes_told :
     → Goes [] (line_of gateway driver a m h p x) (line_of gateway driver b n k q y)
 goes_told gateway driver a b m n h k p q x y told = record {
   goes = λ setup writes trace earlier writing reached made. ([], refl, record { reached = reached; wanting = tt; carried = carries_told a b told }, made);
+  refusals = alike_none _ _ _ _ refl refl;
 }
 
 told_same : (a : KnownWire) → IsToldAs a a
@@ -83,6 +84,7 @@ goes_more older newer a b c first second = record {
         happens_more setup writes x.0 y.0 trace b.gateway c.gateway a.wire b.wire c.wire x.2 y.2,
         subst (λ (l : List Entry). HasMade l c.driver) (sym (append_assoc y.0 x.0 earlier)) y.3,
       );
+  refusals = alike_more _ _ _ _ _ _ first.refusals second.refusals;
 }
 
 -- a turn, by what a driver ensures of one
@@ -91,10 +93,12 @@ turns_driven :
     → ((setup : Setup) (writes : Writing) (trace : List Event) (earlier : List Entry) → IsWriting writes → IsReachedBy setup writes trace old → HasMade earlier driver
     → (turn : List Entry) × IsTurn now turn × Happens setup writes turn trace new a b × HasMade (turn ++ earlier) driven
     × TellTicks setup trace (events turn ++ trace) y.report y.kept y.refused y.gave_up)
+    → RiseAlike old.refusals new.refusals driver.events_refused driven.events_refused
     → Goes (Turns now ∷ []) (line_of old driver a m h p x) (line_of new driven b n k q y)
-turns_driven now old new driver driven a b m n h k p q x y turned = record {
+turns_driven now old new driver driven a b m n h k p q x y turned refusals = record {
   goes = λ setup writes trace earlier writing reached made.
       let t = turned setup writes trace earlier writing reached made in (t.0, one_step setup writes trace (Turns now) t.0 t.1, t.2, t.3);
+  refusals = refusals;
 }
 
 pub goes_turn :
@@ -102,10 +106,11 @@ pub goes_turn :
     → ((setup : Setup) (writes : Writing) (trace : List Event) (earlier : List Entry) → IsWriting writes → IsReachedBy setup writes trace old → HasMade earlier driver
     → (turn : List Entry) × IsTurn now turn × Happens setup writes turn trace new b c × HasMade (turn ++ earlier) driven
     × TellTicks setup trace (events turn ++ trace) y.report y.kept y.refused y.gave_up)
+    → RiseAlike old.refusals new.refusals driver.events_refused driven.events_refused
     → Goes (Turns now ∷ []) (line_of old driver a m h p x) (line_of new driven c n k q y)
-goes_turn now old new driver driven a b c m n h k p q x y told turned =
+goes_turn now old new driver driven a b c m n h k p q x y told turned refusals =
     goes_more [] (Turns now ∷ []) (line_of old driver a m h p x) (line_of old driver b m h p x) (line_of new driven c n k q y)
-    (goes_told old driver a b m m h h p p x x told) (turns_driven now old new driver driven b c m n h k p q x y turned)
+    (goes_told old driver a b m m h h p p x x told) (turns_driven now old new driver driven b c m n h k p q x y turned refusals)
 
 -- what is done with the wire alone before a turn is not seen in it
 pub wire_first : (setup : Setup) (writes : Writing) (log : List Entry) (trace : List Event) (old new : GatewayValue) (a b c : KnownWire)
@@ -137,8 +142,8 @@ asks_accepted :
     (now : ℕ) (what : LineRequest) (answer : Option LineAnswer) (event : Event) (old new : GatewayValue) (driver : DriverValue) (a : KnownWire) (m : Option ℕ) (h : Option HoldingValue) (p : Peers) (x : TurnReport)
     → receipts_in (Accepts event) ≡ [] → ((setup : Setup) (writes : Writing) (trace : List Event) → IsAsked setup writes trace now what answer (Accepts event ∷ []))
     → ((setup : Setup) (writes : Writing) (trace : List Event) → IsReachedBy setup writes trace old → IsReachedBy setup writes (event ∷ trace) new)
-    → Goes (Asks now what answer ∷ []) (line_of old driver a m h p x) (line_of new driver a m h p x)
-asks_accepted now what answer event old new driver a m h p x unseen is comes = record {
+    → new.refusals ≡ old.refusals → Goes (Asks now what answer ∷ []) (line_of old driver a m h p x) (line_of new driver a m h p x)
+asks_accepted now what answer event old new driver a m h p x unseen is comes same = record {
   goes = λ setup writes trace earlier writing reached made.
       let log : List Entry = Accepts event ∷ [] in (
         log,
@@ -146,6 +151,7 @@ asks_accepted now what answer event old new driver a m h p x unseen is comes = r
         record { reached = comes setup writes trace reached; wanting = (tt, tt); carried = carries_unseen (Accepts event) a unseen refl refl refl },
         made_unseen earlier (Accepts event) driver unseen refl refl refl made,
       );
+  refusals = alike_none _ _ _ _ same refl;
 }
 
 -- and the wire is told of the call
@@ -153,10 +159,10 @@ goes_asked :
     (now : ℕ) (what : LineRequest) (answer : Option LineAnswer) (event : Event) (old new : GatewayValue) (driver : DriverValue) (a b : KnownWire) (m n : Option ℕ) (h k : Option HoldingValue) (p q : Peers) (x : TurnReport)
     → receipts_in (Accepts event) ≡ [] → ((setup : Setup) (writes : Writing) (trace : List Event) → IsAsked setup writes trace now what answer (Accepts event ∷ [])) → IsToldAs a b
     → ((setup : Setup) (writes : Writing) (trace : List Event) → IsReachedBy setup writes trace old → IsReachedBy setup writes (event ∷ trace) new)
-    → Goes (Asks now what answer ∷ []) (line_of old driver a m h p x) (line_of new driver b n k q x)
-goes_asked now what answer event old new driver a b m n h k p q x unseen is told comes =
+    → new.refusals ≡ old.refusals → Goes (Asks now what answer ∷ []) (line_of old driver a m h p x) (line_of new driver b n k q x)
+goes_asked now what answer event old new driver a b m n h k p q x unseen is told comes same =
     goes_more (Asks now what answer ∷ []) [] (line_of old driver a m h p x) (line_of new driver a m h p x) (line_of new driver b n k q x)
-    (asks_accepted now what answer event old new driver a m h p x unseen is comes) (goes_told new driver a b m n h k p q x x told)
+    (asks_accepted now what answer event old new driver a m h p x unseen is comes same) (goes_told new driver a b m n h k p q x x told)
 
 -- a ring that is accepted, and one that is refused
 abbrev pub rung_as : Result ℕ RingFault → Option LineAnswer
@@ -165,9 +171,9 @@ rung_as result = Some (answered.Rung result)
 pub goes_ring :
     (now number : ℕ) (ringing : RingRequest) (old new : GatewayValue) (driver : DriverValue) (a b : KnownWire) (m n : Option ℕ) (h k : Option HoldingValue) (p q : Peers) (x : TurnReport) → IsToldAs a b
     → ((setup : Setup) (writes : Writing) (trace : List Event) → IsReachedBy setup writes trace old → IsReachedBy setup writes (Ring now number ∷ trace) new)
-    → Goes (Asks now (asked.Ring ringing) (rung_as (Ok number)) ∷ []) (line_of old driver a m h p x) (line_of new driver b n k q x)
-goes_ring now number ringing old new driver a b m n h k p q x told rung =
-    goes_asked now (asked.Ring ringing) (rung_as (Ok number)) (Ring now number) old new driver a b m n h k p q x refl (λ setup writes trace. refl) told rung
+    → new.refusals ≡ old.refusals → Goes (Asks now (asked.Ring ringing) (rung_as (Ok number)) ∷ []) (line_of old driver a m h p x) (line_of new driver b n k q x)
+goes_ring now number ringing old new driver a b m n h k p q x told rung same =
+    goes_asked now (asked.Ring ringing) (rung_as (Ok number)) (Ring now number) old new driver a b m n h k p q x refl (λ setup writes trace. refl) told rung same
 
 pub goes_refused :
     (now : ℕ) (ringing : RingRequest) (line : LineValue) (fault : RingFault)
@@ -182,6 +188,7 @@ goes_refused now ringing line fault busy none = record {
       let cause = refused_so setup trace fault (busy setup writes trace reached) (none setup writes trace reached) in
       let s = steps_ring setup writes true now log trace earlier line.gateway line.wire line.driver (inr (fault, refl)) (cause, tt) reached made in
       (log, one_step setup writes trace (Asks now (asked.Ring ringing) (rung_as (Err fault))) log refl, s.happens, s.made);
+  refusals = alike_none _ _ _ _ refl refl;
 }
 
 -- a placing that is done, and one that is refused
@@ -207,10 +214,10 @@ is_placing setup writes trace now false (asked.HangUp hanging_up) result log ask
 pub goes_placed :
     (now : ℕ) (connected : Bool) (what : LineRequest) (old new : GatewayValue) (driver : DriverValue) (a b : KnownWire) (m n : Option ℕ) (h k : Option HoldingValue) (p q : Peers) (x : TurnReport) → IsPlacing connected what → IsToldAs a b
     → ((setup : Setup) (writes : Writing) (trace : List Event) → IsReachedBy setup writes trace old → IsReachedBy setup writes (Placed now connected ∷ trace) new)
-    → Goes (Asks now what (placed_as (Ok tt)) ∷ []) (line_of old driver a m h p x) (line_of new driver b n k q x)
-goes_placed now connected what old new driver a b m n h k p q x asks told placed =
+    → new.refusals ≡ old.refusals → Goes (Asks now what (placed_as (Ok tt)) ∷ []) (line_of old driver a m h p x) (line_of new driver b n k q x)
+goes_placed now connected what old new driver a b m n h k p q x asks told placed same =
     goes_asked now what (placed_as (Ok tt)) (Placed now connected) old new driver a b m n h k p q x refl
-    (λ setup writes trace. is_placing setup writes trace now connected what (Ok tt) (Accepts (Placed now connected) ∷ []) asks refl) told placed
+    (λ setup writes trace. is_placing setup writes trace now connected what (Ok tt) (Accepts (Placed now connected) ∷ []) asks refl) told placed same
 
 same_cause : (a b : PlaceFault) → not_placed a ≡ not_placed b → a ≡ b
 same_cause a b e = cc
@@ -229,6 +236,7 @@ goes_unplaced now connected what line fault asks not_asked = record {
         record { reached = reached; wanting = tt; carried = carries_told line.wire line.wire (told_same line.wire) },
         made,
       );
+  refusals = alike_none _ _ _ _ refl refl;
 }
 
 -- ---- its wire is told of the peers of its legs
@@ -241,6 +249,7 @@ goes_peers old new tells = record {
     record { reached = subst (λ (g : GatewayValue). IsReachedBy setup writes trace g) (sym tells.gateway) reached; wanting = tt; carried = carries_told old.wire new.wire tells.wire },
     subst (λ (d : DriverValue). HasMade earlier d) (sym tells.driver) made,
   );
+  refusals = alike_none _ _ _ _ (ap (λ (g : GatewayValue). g.refusals) tells.gateway) (ap (λ (d : DriverValue). d.events_refused) tells.driver);
 }
 
 -- and nothing else is done: what was asked for is no event of the gateway
@@ -252,6 +261,7 @@ goes_quiet now what answer old new tells is = record {
   goes = λ setup writes trace earlier writing reached made.
       let x = (goes_peers old new tells).goes setup writes trace earlier writing reached made in
       ([], one_step setup writes trace (Asks now what answer) [] (is setup writes trace), x.2, x.3);
+  refusals = (goes_peers old new tells).refusals;
 }
 
 -- it is left at rest, where what is due lies later
@@ -261,6 +271,7 @@ pub goes_rest : (now : ℕ) (line : LineValue)
 goes_rest now line later = record {
   goes = λ setup writes trace earlier writing reached made.
       ([], one_step setup writes trace (Rests now) [] (refl, later setup writes trace reached), record { reached = reached; wanting = tt; carried = carries_told line.wire line.wire (told_same line.wire) }, made);
+  refusals = alike_none _ _ _ _ refl refl;
 }
 
 -- it is woken
@@ -268,4 +279,5 @@ pub goes_wake : (line : LineValue) → Goes (Wakes ∷ []) line line
 goes_wake line = record {
   goes = λ setup writes trace earlier writing reached made.
       ([], one_step setup writes trace Wakes [] refl, record { reached = reached; wanting = tt; carried = carries_told line.wire line.wire (told_same line.wire) }, made);
+  refusals = alike_none _ _ _ _ refl refl;
 }

@@ -15,7 +15,7 @@ use Rattle.fax_gateway.specs.Reached.{GatewayValue, IsReachedBy}
 use Rattle.fax_gateway.specs.Restored.{RestoredCall}
 use Rattle.fax_gateway.specs.Setups.{AreSetWith, Setup}
 use Rattle.fax_gateway.specs.Wires.{KnownWire}
-use Rattle.fax_gateway.specs.Driving.{Accepts, DriverValue, Entry, HasMade, Happens, IsTurn, RefusesRing, events, failed_in_a_row, most_failed, receipts}
+use Rattle.fax_gateway.specs.Driving.{Accepts, DriverValue, Entry, HasMade, Happens, IsTurn, RefusesRing, RiseAlike, events, failed_in_a_row, most_failed, receipts}
 use Rattle.fax_gateway.specs.Turns.{TellTicks, call_of_rep}
 use Rattle.fax_repeat.specs.Peers.{Peers}
 use Rattle.fax_repeat.specs.Policies.{IsToldAs}
@@ -100,11 +100,12 @@ AreSteps setup writes trace (action ∷ earlier) log =
     (newer : List Entry) × (older : List Entry) × (log ≡ newer ++ older) × IsStep setup writes (events older ++ trace) action newer × AreSteps setup writes trace earlier older
 
 -- By these actions a line came from the one state to the other: whatever trace led to its gateway goes on with the events of
--- their log, and its wire carried the rest.
+-- their log, and its wire carried the rest. What its driver told as refused is what its gateway refused.
 pub record Goes (actions : List Action) (old new : LineValue) : Type 0 where
   pub goes :
       (setup : Setup) (writes : Writing) (trace : List Event) (earlier : List Entry) → IsWriting writes → IsReachedBy setup writes trace old.gateway → HasMade earlier old.driver
       → (log : List Entry) × AreSteps setup writes trace actions log × Happens setup writes log trace new.gateway old.wire new.wire × HasMade (log ++ earlier) new.driver
+  pub refusals : RiseAlike old.gateway.refusals new.gateway.refusals old.driver.events_refused new.driver.events_refused
 
 -- A gateway is driven: of the trace that this made longer, what the ticks told by which it did. What its wire holds back is what was handed
 -- over, the wire was told the moment, and the peers of its legs stay, or are heard.

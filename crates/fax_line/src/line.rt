@@ -522,6 +522,7 @@ fn place(gateway: &mut Gateway<PackedRows>, connected: bool, now: u64) -> Result
     ensures placed { OnOk result (Advances gateway.old (Placed now connected) gateway.new) }
     ensures not_asked { OfJobAsked gateway.old (λ job. result ≡ Err PlaceFault.NotAsked ↔ (job ≡ None)) }
     ensures err { OnErr result (gateway.new ≡ gateway.old) }
+    ensures refusals { gateway.new.refusals ≡ gateway.old.refusals }
 {
     if connected {
         gateway.connect(now)

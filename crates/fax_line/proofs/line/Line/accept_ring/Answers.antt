@@ -12,7 +12,7 @@ returns-in-Ok-clause-goes g c = λ ringing.
     let new : LineValue = line_of c.ring.new.self c.self.inside.engine (g.W.Wire.known c.cease.new.self) (due_of g.W.TimedWire.due c.cease.new.self) (g.W.LineWire.holding c.cease.new.self) (peers_of g.W.LegWire.peer_at c.cease.new.self) c.self.inside.turned in
     subst (λ (l : LineValue). Goes (Asks c.args.now (asked.Ring ringing) (rung_as (Ok c.in-Ok.number)) ∷ []) l new) c.self.view_is
     (goes_ring c.args.now c.in-Ok.number ringing c.self.inside.gateway c.ring.new.self c.self.inside.engine (g.W.Wire.known c.self.inside.wire) (g.W.Wire.known c.cease.new.self)
-    (due_of g.W.TimedWire.due c.self.inside.wire) (due_of g.W.TimedWire.due c.cease.new.self) (g.W.LineWire.holding c.self.inside.wire) (g.W.LineWire.holding c.cease.new.self) (peers_of g.W.LegWire.peer_at c.self.inside.wire) (peers_of g.W.LegWire.peer_at c.cease.new.self) c.self.inside.turned c.cease.ensures.told c.in-Ok.ensures.rung)
+    (due_of g.W.TimedWire.due c.self.inside.wire) (due_of g.W.TimedWire.due c.cease.new.self) (g.W.LineWire.holding c.self.inside.wire) (g.W.LineWire.holding c.cease.new.self) (peers_of g.W.LegWire.peer_at c.self.inside.wire) (peers_of g.W.LegWire.peer_at c.cease.new.self) c.self.inside.turned c.cease.ensures.told c.in-Ok.ensures.rung c.in-Ok.ensures.refusals)
 
 pub returns-in-Err-clause-goes : goal.returns-in-Err-clause-goes
 returns-in-Err-clause-goes g c = λ ringing.

@@ -22,7 +22,8 @@ returns-clause-goes g c =
     (goes_turn c.args.now c.self.inside.gateway c.turn-self-inside.new.gateway c.self.inside.engine c.turn-self-inside.new.self (g.W.Wire.known c.self.inside.wire) (g.W.Wire.known c.go_on.new.self)
     (g.W.Wire.known c.turn-self-inside.new.wire) (due_of g.W.TimedWire.due c.self.inside.wire) (due_of g.W.TimedWire.due c.turn-self-inside.new.wire) (g.W.LineWire.holding c.self.inside.wire) (g.W.LineWire.holding c.turn-self-inside.new.wire) (peers_of g.W.LegWire.peer_at c.self.inside.wire) (peers_of g.W.LegWire.peer_at c.turn-self-inside.new.wire) c.self.inside.turned c.turn-self-inside.result c.go_on.ensures.told
     (λ (setup : Setup) (writes : Writing) (trace : List Event) (earlier : List Entry) (writing : IsWriting writes) (reached : IsReachedBy setup writes trace c.self.inside.gateway) (made : HasMade earlier c.self.inside.engine).
-    let t = c.turn-self-inside.ensures.turned setup writes trace earlier writing reached made in (t.0, t.1, t.2, t.3, t.4)))
+    let t = c.turn-self-inside.ensures.turned setup writes trace earlier writing reached made in (t.0, t.1, t.2, t.3, t.4))
+    c.turn-self-inside.ensures.refusals)
 
 pub returns-clause-drives : goal.returns-clause-drives
 returns-clause-drives g c =
