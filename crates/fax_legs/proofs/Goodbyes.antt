@@ -6,10 +6,10 @@ use Rattle.fax_udptl.specs.Taking.{IsAfter}
 use Rattle.fax_udptl.proofs.SlotLemmas.{is_nearest}
 use Rattle.fax_legs.specs.HangUps.{HaveNumbers, is_late, newer_of, newest_of, number_after}
 
-late_so : (m n : ℕ) → nat_lt m n ≡ true → m < n
+pub late_so : (m n : ℕ) → nat_lt m n ≡ true → m < n
 late_so m n h = grind (arith)
 
-early_so : (m n : ℕ) → nat_lt m n ≡ false → n ≤ m
+pub early_so : (m n : ℕ) → nat_lt m n ≡ false → n ≤ m
 early_so m n h = grind (arith)
 
 -- what is nearest lies after the greatest exactly where its number is not late
@@ -25,11 +25,11 @@ newer : (n g near : ℕ) (late : Bool) → is_late (g % 65536) n ≡ late → n 
 newer n g near true h low agrees above below = ap (λ (m : ℕ). Some (m % 65536)) (let same = still n g near low agrees above below (late_so ((65536 + g % 65536 - n) % 65536) 32768 h) in omega (arith, same))
 newer n g near false h low agrees above below = ap (λ (m : ℕ). Some m) (let same = moved n g near low agrees above below (early_so ((65536 + g % 65536 - n) % 65536) 32768 h) in omega (arith, same))
 
-grown : (d : DatagramValue) (earlier : List DatagramValue) → HaveNumbers (d ∷ earlier) → 65536 ≤ greatest (d ∷ earlier)
+pub grown : (d : DatagramValue) (earlier : List DatagramValue) → HaveNumbers (d ∷ earlier) → 65536 ≤ greatest (d ∷ earlier)
 grown d [] low = omega arith
 grown d (e ∷ earlier) low = let least = grown e earlier low.1 in omega (arith, least)
 
-newest_is : (d : DatagramValue) (earlier : List DatagramValue) → HaveNumbers (d ∷ earlier) → newest_of (d ∷ earlier) ≡ Some (greatest (d ∷ earlier) % 65536)
+pub newest_is : (d : DatagramValue) (earlier : List DatagramValue) → HaveNumbers (d ∷ earlier) → newest_of (d ∷ earlier) ≡ Some (greatest (d ∷ earlier) % 65536)
 newest_is d [] low = ap (λ (m : ℕ). Some m) (let small : d.number < 65536 = low.0 in omega (arith, small))
 newest_is d (e ∷ earlier) low =
     let g = greatest (e ∷ earlier) in

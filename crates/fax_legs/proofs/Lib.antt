@@ -1,3 +1,4 @@
 pub mod Bounds
 pub mod Cuts
 mod Goodbyes
+mod Handings

@@ -7,9 +7,11 @@ use Rattle.fax_repeat.specs.Peers.{Hears, PeerValue, heard, learned, no_bounds, 
 use Rattle.fax_repeat.specs.declared.peers.Peer.{Peer}
 use Rattle.fax_legs.specs.Bounding.{sent_as}
 use Rattle.fax_legs.specs.Counts.{no_counts, one_handed, one_not_received, one_received, one_unsent}
+use Rattle.fax_legs.specs.Handing.{handed_over, may_have, nothing_handed, with_at_most}
 use Rattle.fax_legs.specs.HangUps.{due_again, is_over, newest_after}
 use Rattle.fax_legs.specs.Sockets.{SentDatagram, SocketValue, connected, handed_to}
 use Rattle.fax_legs.specs.declared.bounding.Limits.{Limits}
+use Rattle.fax_legs.specs.declared.handing.Handed.{Handed}
 use Rattle.fax_legs.specs.declared.hang_up.PeerCall.{PeerCall}
 use Rattle.fax_legs.specs.declared.hang_up.Standing.TheVariants as standings
 use Rattle.fax_legs.specs.declared.leg_peer.LegPeer.{LegPeer}
@@ -56,17 +58,18 @@ abbrev pub first_said : Option ℕ → Option ℕ → Option ℕ
 first_said (Some said) other = Some said
 first_said None other = other
 
--- A leg: its peer, and that one's part in the call that is on; how many packets before its own a datagram of its line has, where
--- nothing else is said; what is counted; and what its socket tells.
+-- A leg: its peer, and that one's part in the call that is on; what it was handed over in that call; how many packets before its own a
+-- datagram of its line has, where nothing else is said; what is counted; and what its socket tells.
 pub record LegValue : Type 0 where
   pub peer : PeerValue
   pub call : PeerCall
+  pub handed : Handed
   pub redundancy : ℕ
   pub counts : LegCounts
   pub socket : Option SocketValue
 
 abbrev pub new_leg : ℕ → Option SocketValue → LegValue
-new_leg redundancy socket = record { peer = nobody; call = no_call; redundancy = redundancy; counts = no_counts; socket = socket }
+new_leg redundancy socket = record { peer = nobody; call = no_call; handed = nothing_handed; redundancy = redundancy; counts = no_counts; socket = socket }
 
 -- what bounds its datagrams: what was said of the call, else of the peer, else what its line has
 abbrev pub limits_of : ℕ → PeerValue → Limits
@@ -76,14 +79,24 @@ limits_of redundancy peer =
       octets = first_said peer.in_call.octets peer.bounds.octets;
     }
 
--- A DATAGRAM IS HANDED OVER, to be sent: ONE is handed to the socket, to go to the peer, as the bounds have it; or NONE, where there is no peer.
-abbrev pub sent_by : List ℕ → Bool → Option SocketAddr → LegValue → LegValue
-sent_by octets is_sent None old = record old { counts = one_unsent old.counts }
-sent_by octets is_sent (Some peer) old =
+-- Of a datagram that is handed over, to be sent to the peer, these packets before its own may go; or not its own either, and none is sent.
+abbrev pub sent_to : SocketAddr → List ℕ → Bool → Option ℕ → LegValue → LegValue
+sent_to peer octets is_sent None old = record old { counts = one_unsent old.counts }
+sent_to peer octets is_sent (Some before) old =
     record old {
       counts = one_handed is_sent old.counts;
-      socket = option_map (handed_to (Some peer) (sent_as (limits_of old.redundancy old.peer) octets)) old.socket;
+      socket = option_map (handed_to (Some peer) (sent_as (with_at_most before (limits_of old.redundancy old.peer)) octets)) old.socket;
     }
+
+-- it is noted, while there is a peer or not
+abbrev pub hands : Bool → List ℕ → LegValue → LegValue
+hands has_peer octets old = record old { handed = handed_over has_peer octets old.handed }
+
+-- A DATAGRAM IS HANDED OVER, to be sent: ONE is handed to the socket, to go to the peer, as the bounds have it, with NO PACKET from when
+-- there was no peer; or NONE, where there is none, or was none when its own packet was handed over.
+abbrev pub sent_by : List ℕ → Bool → Option SocketAddr → LegValue → LegValue
+sent_by octets is_sent None old = hands false octets (record old { counts = one_unsent old.counts })
+sent_by octets is_sent (Some peer) old = hands true octets (sent_to peer octets is_sent (may_have old.handed octets) old)
 
 -- a datagram came from the peer, or from one that is learned by it
 abbrev pub heard_by : List ℕ → LegValue → LegValue
@@ -116,6 +129,7 @@ all_sent (Some socket) = Some socket.sent
 -- BY A RECEIVE a leg's peer stays, or is heard, and NOTHING IS SENT.
 pub record Receives (old new : LegValue) : Type 0 where
   pub hears : Hears old.peer new.peer
+  pub handed : new.handed ≡ old.handed
   pub redundancy : new.redundancy ≡ old.redundancy
   pub sent : all_sent new.socket ≡ all_sent old.socket
 

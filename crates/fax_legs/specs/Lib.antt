@@ -1,6 +1,8 @@
 pub mod Bounding
 pub mod BoundingLaws
 pub mod Counts
+pub mod Handing
+pub mod HandingLaws
 pub mod HangUps
 pub mod PeersKept
 pub mod Legs

@@ -5,7 +5,8 @@ use Rattle.fax_gateway.specs.declared.leg.Leg.{Leg}
 use Rattle.fax_gateway.specs.declared.leg.Leg.TheVariants as legs
 use Rattle.fax_repeat.specs.Peers.{HearsOn, PeerValue, Peers}
 use Rattle.std.specs.declared.net.socket_addr.SocketAddr.{SocketAddr}
-use Rattle.fax_legs.specs.Legs.{LegValue, ReceivesOn, SendsOn, UdpValue, leg_on, sent_by}
+use Rattle.fax_legs.specs.Handing.{may_have}
+use Rattle.fax_legs.specs.Legs.{LegValue, ReceivesOn, SendsOn, UdpValue, leg_on, sent_by, sent_to}
 
 -- the peers of both legs
 abbrev pub told_peer : Leg → UdpValue → Option PeerValue
@@ -21,7 +22,11 @@ keeps_on_receive legs.Called old new h = record { hears = h.leg.hears; beside = 
 -- a send leaves the peer of its leg
 sent_peer : (octets : List ℕ) (is_sent : Bool) (address : Option SocketAddr) (leg : LegValue) → (sent_by octets is_sent address leg).peer ≡ leg.peer
 sent_peer octets is_sent None leg = refl
-sent_peer octets is_sent (Some address) leg = refl
+sent_peer octets is_sent (Some address) leg = by (may_have leg.handed octets)
+  where
+    by : (before : Option ℕ) → (sent_to address octets is_sent before leg).peer ≡ leg.peer
+    by None = refl
+    by (Some before) = refl
 
 both : (calling called calling_was called_was : PeerValue) → calling ≡ calling_was → called ≡ called_was
     → record { calling = Some calling; called = Some called } ≡ (let peers : Peers = record { calling = Some calling_was; called = Some called_was } in peers)

@@ -3,6 +3,7 @@ ghost use Rattle.std.specs.Prelude.{◌≡◌, ◌⊎◌, ◌+◌, ◌-◌, ◌*
 ghost use Rattle.fax_udptl.specs.Datagrams.{datagram_of, written_datagram, written_length, written_packet};
 ghost use Rattle.fax_repeat.specs.Repeats.{same_octets};
 ghost use Rattle.fax_legs.specs.Bounding.{are_short, cut_as, fewer, fitting, is_sendable, kept};
+ghost use Rattle.fax_legs.specs.Handing.{with_at_most};
 
 use fax_udptl::{Datagram, Secondaries, read};
 
@@ -25,6 +26,21 @@ pub(crate) struct Limits {
 }
 
 impl Limits {
+    /// With no more packets before its own than so many.
+    pub(crate) fn at_most(self, before: u16) -> Limits
+        ensures { result ≡ with_at_most before self }
+    {
+        let redundancy = if u16::from(self.redundancy) <= before {
+            self.redundancy
+        } else {
+            before as u8
+        };
+        Limits {
+            redundancy,
+            octets: self.octets,
+        }
+    }
+
     /// How many secondaries are kept of a datagram of so many octets.
     fn kept(&self, octets: usize, datagram: &Datagram<'_>) -> u8
         ensures kept { result ≡ kept self.now octets datagram.now }

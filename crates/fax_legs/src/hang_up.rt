@@ -1,6 +1,6 @@
 //! How the end of a peer's call is brought in where a word says it: a datagram with a DCN is handed out, as if it had come.
 ghost use Rattle.std.specs.Prelude.{◌≡◌, ◌≤◌, ◌↔◌, true, false, length, IsTrue};
-ghost use Rattle.fax_legs.specs.HangUps.{HandsOut, due_again, goodbye, is_over, newest_after, number_after, is_late};
+ghost use Rattle.fax_legs.specs.HangUps.{HandsOut, due_again, goodbye, is_over, newer_of, newest_after, number_after, is_late};
 
 /// How many octets a datagram with a DCN has.
 pub(crate) const GOODBYE_OCTETS: usize = 14;
@@ -92,10 +92,20 @@ impl PeerCall {
 }
 
 /// Whether a number lies before the newest one, or is that.
-fn is_late(newest: u16, number: u16) -> bool
+pub(crate) fn is_late(newest: u16, number: u16) -> bool
     ensures { result ≡ is_late newest number }
 {
     newest.wrapping_sub(number) < 32_768
+}
+
+/// The number of the newest datagram, once one of this number came.
+pub(crate) fn newer(newest: Option<u16>, number: u16) -> Option<u16>
+    ensures { result ≡ newer_of newest number }
+{
+    match newest {
+        Some(newest) if is_late(newest, number) => Some(newest),
+        _ => Some(number),
+    }
 }
 
 /// The number after the newest one.

@@ -3,10 +3,12 @@ ghost use Rattle.std.specs.Prelude.{◌≡◌, ◌≤◌, ◌||◌, Ok, None, So
 ghost use Rattle.fax_repeat.specs.Peers.{bounded, cut_off, gone, said, settled, state_of};
 ghost use Rattle.fax_legs.specs.Counts.{one_not_received};
 ghost use Rattle.fax_legs.specs.HangUps.{HandsOut};
-ghost use Rattle.fax_legs.specs.Legs.{HearsSystem, Receives, at_address, call_settled, fixed, gone_call, new_leg, no_call, sent_by};
+ghost use Rattle.fax_legs.specs.Handing.{may_have, nothing_handed};
+ghost use Rattle.fax_legs.specs.Legs.{HearsSystem, Receives, at_address, call_settled, fixed, gone_call, new_leg, no_call, sent_by, sent_to};
 ghost use Rattle.fax_legs.specs.Sockets.{connected};
 ghost use Rattle.fax_legs.specs.declared.hang_up.Standing.TheVariants as standings;
 
+use crate::handing::Handed;
 use crate::hang_up::GOODBYE_OCTETS;
 use crate::leg_peer::LegPeer;
 use crate::sending::send_bounded;
@@ -31,7 +33,7 @@ pub struct LegCounts {
     pub sent: u64,
     pub receive_failures: u64,
     pub send_failures: u64,
-    /// Datagrams that were dropped, since no peer was known.
+    /// Datagrams that were dropped, since no peer was known, or none was when they were handed over first.
     pub unsent: u64,
 }
 
@@ -40,6 +42,8 @@ pub struct LegCounts {
 pub struct LegSocket<S: DatagramSocket + Drop> {
     socket: S,
     peer: LegPeer,
+    /// What it was handed over in the call that is on.
+    handed: Handed,
     /// How many packets before its own a datagram has at most, where nothing else is said.
     redundancy: u8,
     /// Whether the system tells when a datagram comes.
@@ -56,7 +60,7 @@ impl<S: DatagramSocket + Drop> Model for LegSocket<S> {
 
     ghost Value = { LegValue };
 
-    ghost view = { λ leg. record { peer = peer_of leg.peer; call = leg.peer.call; redundancy = leg.redundancy; counts = leg.counts; socket = S.known leg.socket } };
+    ghost view = { λ leg. record { peer = peer_of leg.peer; call = leg.peer.call; handed = leg.handed; redundancy = leg.redundancy; counts = leg.counts; socket = S.known leg.socket } };
 
     ghost invariant = { λ leg. IsConnected leg.peer.address (S.known leg.socket) };
 }
@@ -72,6 +76,7 @@ impl<S: DatagramSocket + Drop> LegSocket<S> {
         Ok(LegSocket {
             socket,
             peer: LegPeer::new(),
+            handed: Handed::new(),
             redundancy,
             is_watched: Cell::new(false),
             may_have_come: Cell::new(true),
@@ -113,11 +118,12 @@ impl<S: DatagramSocket + Drop> LegSocket<S> {
         self.peer.cut();
     }
 
-    /// A call begins, whose datagrams are bounded so. Nothing is known of its peer's call.
+    /// A call begins, whose datagrams are bounded so. Nothing is known of its peer's call, and it was handed nothing yet.
     pub fn begin(&mut self, bounds: Bounds)
-        ensures { self.new ≡ record self.old { peer = bounded bounds self.old.peer; call = no_call } }
+        ensures { self.new ≡ record self.old { peer = bounded bounds self.old.peer; call = no_call; handed = nothing_handed } }
     {
         self.peer.begin(bounds);
+        self.handed = Handed::new();
     }
 
     /// The peer's call is gone: from now on a datagram with a DCN is received once a turn, as if it had come, until the call of
@@ -305,17 +311,35 @@ impl<S: DatagramSocket + Drop> LegSocket<S> {
         Err(error)
     }
 
-    /// Sends a datagram, as the bounds have it. It is counted, or that it could not be sent. While there is no peer it is dropped,
-    /// and that is counted.
+    /// Sends a datagram, as the bounds have it, without the packets that were handed over while there was no peer. It is counted, or
+    /// that it could not be sent. While there is no peer it is dropped, and where its own packet is one of those; that is counted.
     pub fn send(&mut self, octets: &[u8]) -> io::Result<()>
         ensures sent { self.new ≡ sent_by octets.now (is_ok result) self.old.peer.address self.old }
         ensures unsent { self.old.peer.address ≡ None → IsOk result }
+        ensures missed { may_have self.old.handed octets.now ≡ None → IsOk result }
     {
         if self.peer.address.is_none() {
+            self.handed.note(false, octets);
             self.counts.unsent = self.counts.unsent.saturating_add(1);
             return Ok(());
         }
-        match send_bounded(&mut self.socket, self.peer.limits(self.redundancy), octets) {
+        let before = self.handed.may_have(octets);
+        self.handed.note(true, octets);
+        self.send_after(before, octets)
+    }
+
+    /// Sends a datagram to the peer, with no more packets before its own than so many; where not its own either, it is dropped.
+    fn send_after(&mut self, before: Option<u16>, octets: &[u8]) -> io::Result<()>
+        requires { IsSome self.old.peer.address }
+        ensures sent { IfSome self.old.peer.address (λ peer. self.new ≡ sent_to peer octets.now (is_ok result) before self.old) }
+        ensures missed { before ≡ None → IsOk result }
+    {
+        let Some(before) = before else {
+            self.counts.unsent = self.counts.unsent.saturating_add(1);
+            return Ok(());
+        };
+        let limits = self.peer.limits(self.redundancy).at_most(before);
+        match send_bounded(&mut self.socket, limits, octets) {
             Ok(_) => {
                 self.counts.sent = self.counts.sent.saturating_add(1);
                 Ok(())

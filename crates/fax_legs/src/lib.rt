@@ -2,6 +2,7 @@
 #![tactic(auto)]
 
 mod bounding;
+mod handing;
 mod hang_up;
 pub mod laws;
 mod leg_peer;
