@@ -2,13 +2,15 @@
 import time
 from concurrent.futures import ThreadPoolExecutor
 
-from calls import CALLER_DCN, CALLER_EOP, CFR, CNG, GATEWAY_DIS, MCF, PREAMBLE, Called, Caller, datagram
+from calls import CALLER_DCN, CALLER_EOP, CFR, CNG, GATEWAY_DIS, MCF, PREAMBLE, Called, Caller, Datagram, datagram
 from server import Peer, Play, address, until
 
 BUSY, IN_CALL, NO_WORD = ["refused 1 Busy"], ["refused 6 InCall"], ["refused 8 NoWord"]
 NO_LINE, FIXED = ["refused 7 NoLine"], ["refused 12 Fixed"]
 # Longer than a turn of a line, and long enough to see that nothing comes, in seconds.
 TURN, QUIET = 0.2, 0.6
+# A gateway has said its first DIS then, and does not say the next before 3 s (T.30, T4), in seconds.
+BETWEEN = 1.5
 # How many packets of before each datagram of a line has, where nothing is said of it.
 REDUNDANCY = 3
 
@@ -83,6 +85,24 @@ class AnyLine(Peers):
         self.say_ok(f"peer a1 calling {address(second.port)}")
         self.assertEqual(self.late(Caller(second)).call(), MCF)
         self.assertEqual(first.hear_all(TURN), [])
+
+    def test_who_comes_late_hears_nothing_old(self):
+        """A peer that is said after the first DIS hears the next one, once, and no packet from before it, in no datagram."""
+        a1 = self.line(calling_peer=False)
+        self.server = self.serve(a1)
+        peer = self.machine(a1.calling)
+        self.assertEqual(self.ring(), ("a1", 0))
+        time.sleep(BETWEEN)
+        self.say_ok(f"peer a1 calling {address(peer.port)}")
+        caller = self.late(Caller(peer))
+        caller.wait_for(GATEWAY_DIS)
+        peer.hear_all(TURN)
+        came = [Datagram(octets) for _, octets, _ in peer.heard]
+        packets = {it.number - back: packet for it in came for back, packet in enumerate([it.packet, *it.earlier])}
+        self.assertEqual([packets[number] for number in sorted(packets)], [PREAMBLE, GATEWAY_DIS])
+        self.assertGreater(min(packets), 0)
+        caller.check()
+        self.assertEqual(caller.send_page(), MCF)
 
     def test_where_each_has_a_peer(self):
         """Lines whose calling legs have peers of the configuration are never taken."""

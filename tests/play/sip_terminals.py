@@ -11,8 +11,9 @@ from sip_peer import audio_offer, fax_offer, port_of
 
 # How many of 100 datagrams are lost on each way, where some are.
 LOST_PERCENT = 5
-# After how many seconds a change to T.38 is answered that comes late: the gateway has said its first DIS to nobody then.
-LATE = 3
+# By how many seconds a change to T.38 comes later in each call than in the one before. What the gateway says in a call begins before that:
+# so machines join it at all places of what it says and says again.
+LATER = 0.2
 
 
 def over_audio_late(call):
@@ -20,12 +21,33 @@ def over_audio_late(call):
     leg = call.leg()
     call.trunk.call(call.number, audio_offer(9), LONGEST)
     again = call.trunk.request("INVITE", LONGEST)
-    time.sleep(LATE)
+    time.sleep(call.late())
     call.trunk.take(again, fax_offer(leg.port))
     call.confirm(leg, again)
 
 
-TERMINAL_KINDS = KINDS | {"audio that is changed late": (over_audio_late, to_t38, "t38")}
+def over_audio_late_in_glare(call):
+    """The same; the first change meets one of theirs."""
+    leg = call.leg()
+    call.trunk.call(call.number, audio_offer(9), LONGEST)
+    call.trunk.answer(call.trunk.request("INVITE", LONGEST), 491)
+    again = call.trunk.request("INVITE", LONGEST)
+    time.sleep(call.late())
+    call.trunk.take(again, fax_offer(leg.port))
+    call.confirm(leg, again)
+
+
+def to_audio_late(call):
+    """Audio, which the called side changes, later in each call, but before the server does, after 4 s."""
+    dialog = call.trunk.take(call.invited("audio"), audio_offer(9))
+    time.sleep(call.late() % 3.2)
+    call.delivered(lambda machine: call.trunk.again(dialog, "INVITE", fax_offer(machine.leg.port)))
+
+
+TERMINAL_KINDS = KINDS | {
+    "audio that is changed late": (over_audio_late, to_audio_late, "audio"),
+    "audio that is changed late, and changes that meet": (over_audio_late_in_glare, to_t38, "t38"),
+}
 
 
 class Terminals:
@@ -88,6 +110,10 @@ class TerminalCall(Call):
     def __init__(self, terminals, number, *more):
         super().__init__(*more)
         self.terminals, self.place = terminals, number
+
+    def late(self):
+        """How late a change of its audio comes, in seconds."""
+        return LATER * self.place
 
     def leg(self):
         return types.SimpleNamespace(port=self.terminals.ports[self.place][0])
