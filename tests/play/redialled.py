@@ -2,6 +2,7 @@
 import contextlib
 import itertools
 import json
+import math
 import os
 import random
 import re
@@ -12,7 +13,7 @@ import t4
 import tiff6
 from asked import NO_CALL, page, rows_of
 from calls import CALLED_DIS, CALLER_DCN, CALLER_EOP, CED, CFR, CHECK, GATEWAY_DIS, MCF, PREAMBLE, TRAINING, Called, Caller, image
-from server import LONGEST, Peer, Server, address, event_line, until
+from server import LONGEST, SLOW, Peer, Server, address, event_line, until
 from undelivered import MOST_IN_MEMORY, ROUNDS, Failing
 
 BUSY, IN_CALL, NO_LINE = ["refused 1 Busy"], ["refused 6 InCall"], ["refused 7 NoLine"]
@@ -297,14 +298,20 @@ class SomePages(Redialled):
         self.caller.send(PREAMBLE, CALLER_DCN)
 
 
+class Lost(AssertionError):
+    """What must not come even once: a play of chance that raises it is not played again (`tools/play`)."""
+
+
 class Driven(Redialled):
     """Lines and redial lines, machines that call with pages of which no two are alike, and such as take them or are busy; and which pages
     were confirmed, came, and are listed."""
 
     LINES, REDIALS = 3, 6
+    # how a machine takes pages
+    MACHINE = Called
 
-    def begin_driven(self, *after_seconds, set_up=None):
-        """A server of some lines and redial lines, which begins once its folder is set up."""
+    def begin_driven(self, *after_seconds, set_up=None, **options):
+        """A server of some lines and redial lines, with such options, which begins once this was done with it."""
         # pages, by the tag of their call and their number in it: those that were confirmed, and those that came
         self.confirmed, self.got, self.wrong = set(), set(), []
         # the tags of calls that a word dropped, and of those of which the server did not say so before it was killed
@@ -314,10 +321,10 @@ class Driven(Redialled):
         self.lines = [self.line(f"a{number + 1}", called_peer=False) for number in range(self.LINES)]
         self.callers = {line.name: Caller(self.peer(line, "calling")) for line in self.lines}
         retry = [Retry(*after_seconds)] if after_seconds else []
-        self.server = Server([*self.lines, *retry, *self.redials], spool=True)
+        self.server = Server([*self.lines, *retry, *self.redials], spool=True, **options)
         self.addCleanup(self.server.close)
         if set_up:
-            set_up(self.server.spool)
+            set_up(self.server)
         self.server.start()
         self.client = self.server.events()
         self.ports_of = {line.name: line.called for line in (*self.lines, *self.redials)}
@@ -352,14 +359,23 @@ class Driven(Redialled):
         self.assertEqual({of_call[0] for of_call in found}, {job["tag"] for job in jobs})
         return found
 
-    def drain(self, within):
-        """No call is refused any more, and what is undelivered is tried again by words, until all is there."""
-        end = time.monotonic() + within
-        while self.missing() and time.monotonic() < end:
+    def drain(self):
+        """No call is refused any more, and what is undelivered is tried again by words, until all is there, or nothing comes for long."""
+        came, since = -1, time.monotonic()
+        while self.missing() and time.monotonic() < since + LONGEST:
+            if len(self.got) > came:
+                came, since = len(self.got), time.monotonic()
             self.live(time.monotonic() + 1, lambda: False)
             for told in self.told():
                 self.server.say(f"retry {told['line']} {told['life']} {told['call']}")
-        self.assertEqual((self.missing(), self.wrong), (set(), []), "pages that are lost, and such as were not sent")
+        self.see_none_lost(self.listed() if self.missing() else set(), "in the end")
+        self.assertEqual(self.missing(), set(), "pages that are listed, and do not come")
+
+    def see_none_lost(self, listed, when):
+        """Each page that was confirmed has come, is listed, or was dropped by a word; and none has come that was not sent."""
+        lost = self.missing() - listed
+        if lost or self.wrong:
+            raise Lost(f"{when}: lost: {sorted(lost)[:10]}, of {len(lost)}; not sent: {self.wrong[:10]}")
 
     def call_once(self, line, tag):
         """A machine calls with this tag, and sends a page or two; each is confirmed, or the server is killed before."""
@@ -368,9 +384,9 @@ class Driven(Redialled):
             caller.forget()
             if not self.server.say(f"ring {line.name} {tag}")[0].startswith("ok"):
                 return
-            caller.wait_for(GATEWAY_DIS, within=3)
+            self.hear(caller, GATEWAY_DIS)
             caller.send(caller.dcs, TRAINING, CHECK)
-            caller.wait_for(CFR, within=3)
+            self.hear(caller, CFR)
             commands = random.choice([(CALLER_EOP,), (CALLER_MPS, CALLER_EOP)])
             for number, command in enumerate(commands, 1):
                 self.send_page(caller, (tag, number), command)
@@ -380,8 +396,18 @@ class Driven(Redialled):
         """A page that no other is like is sent and confirmed."""
         self.rows[of_call] = rows = self.rows_of(next(self.numbers))
         caller.send(TRAINING, image(t4.text(rows).hex()), PREAMBLE, command)
-        caller.wait_for(MCF, within=3)
+        self.hear(caller, MCF)
         self.confirmed.add(of_call)
+
+    def hear(self, caller, packet):
+        """Waits for a packet, while the server is there."""
+        end = time.monotonic() + 3 * SLOW
+        while True:
+            try:
+                return caller.wait_for(packet, within=0.3)
+            except AssertionError:
+                if self.server.process.poll() is not None or time.monotonic() > end:
+                    raise
 
     @staticmethod
     def rows_of(number):
@@ -406,7 +432,7 @@ class Driven(Redialled):
             self.client.say(f"refuse {line} busy")
             return
         peer = Peer(0, self.ports_of[line])
-        self.begin_thread(self.take_pages, Called(peer), line, tag, is_refused())
+        self.begin_thread(self.take_pages, self.MACHINE(peer), line, tag, is_refused())
         self.client.say(f"peer {line} called {address(peer.socket.getsockname()[1])}")
 
     def take_pages(self, machine, line, tag, leaves):
@@ -433,6 +459,27 @@ class Driven(Redialled):
         if len(pages) != 1:
             self.wrong.append((tag, text))
 
+    def say_words(self, end=math.inf):
+        """Somebody looks at what is undelivered, and tries a job again or drops it, until a moment, or until the server is gone."""
+        with contextlib.suppress(OSError, AssertionError):
+            while time.monotonic() < end:
+                time.sleep(random.uniform(0, 1))
+                undelivered = self.told()
+                if undelivered:
+                    self.say_of(random.choice(undelivered))
+
+    def say_of(self, told):
+        """A word about a job that is undelivered: one of three drops it."""
+        call = f"{told['line']} {told['life']} {told['call']}"
+        if random.random() < 0.67:
+            self.retried += self.server.say(f"retry {call}") == ["ok"]
+            return
+        self.said.add(told["tag"])
+        answer = self.server.say(f"discard {call}")
+        self.said.discard(told["tag"])
+        if answer == ["ok"]:
+            self.dropped.add(told["tag"])
+
 
 def marks(text):
     """The text of a page, each EOL of which is a mark, whatever fill stands before it."""
@@ -455,34 +502,13 @@ class Killed(Driven):
             for thread in (*callers, operator):
                 thread.join()
             self.client.close()
-            self.assertEqual(self.missing() - self.listed(), set(), "pages that are lost")
+            self.see_none_lost(self.listed(), f"after kill {number}")
             self.server.start()
             self.client = self.server.events()
-        self.drain(LONGEST + 3 * KILLS)
+        self.drain()
         if KILLS > 3:
             print(
                 f"{KILLS} kills: {len(self.confirmed)} pages confirmed, {len(self.confirmed & self.got)} came, {len(self.dropped)} calls dropped,"
                 f" and {len(self.said)} by a word that was not answered; {self.retried} tried again by a word",
                 flush=True,
             )
-
-    def say_words(self):
-        """Somebody looks at what is undelivered, and tries a job again or drops it, until the server is gone."""
-        with contextlib.suppress(OSError, AssertionError):
-            while True:
-                time.sleep(random.uniform(0, 1))
-                undelivered = self.told()
-                if undelivered:
-                    self.say_of(random.choice(undelivered))
-
-    def say_of(self, told):
-        """A word about a job that is undelivered: one of three drops it."""
-        call = f"{told['line']} {told['life']} {told['call']}"
-        if random.random() < 0.67:
-            self.retried += self.server.say(f"retry {call}") == ["ok"]
-            return
-        self.said.add(told["tag"])
-        answer = self.server.say(f"discard {call}")
-        self.said.discard(told["tag"])
-        if answer == ["ok"]:
-            self.dropped.add(told["tag"])
