@@ -146,9 +146,9 @@ class Caller(Machine):
 
 
 class Called(Machine):
-    """A machine that is called, and takes a page; its DIS says whether the page may be fine."""
+    """A machine that is called, and takes a page; its DIS says whether the page may be fine, and at which rate, whose packets begin so."""
 
-    dis = CALLED_DIS
+    dis, data = CALLED_DIS, "c201"
 
     def answer(self):
         """Waits until it is called, and says what it can: 2400 bit/s alone."""
@@ -164,7 +164,7 @@ class Called(Machine):
         """Waits for the end of an image, and gives its octets as hex."""
         end, octets = time.monotonic() + within, ""
         while (packet := self.next(end)) is not None:
-            if packet.startswith("c201"):
+            if packet.startswith(self.data):
                 octets += packet[10:]
                 if packet[4:6] == LAST_FIELD:
                     return octets

@@ -249,6 +249,8 @@ class Server:
         self.control = self.path("control" if control is True else control) if control else None
         self.spool = self.path("spool") if spool else None
         self.process, self._clients, self._runs = None, [], []
+        # words before each run of the program
+        self.before = []
         if control is True:
             head += f"\ncontrol = '{self.control}'\n"
         if spool:
@@ -297,7 +299,7 @@ class Server:
         return self
 
     def _begin(self, words, **streams):
-        process = subprocess.Popen([program()] + words, cwd=self.folder, **streams)
+        process = subprocess.Popen([*self.before, program(), *words], cwd=self.folder, **streams)
         self._runs.append(process)
         return process
 
