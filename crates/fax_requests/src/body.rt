@@ -1,4 +1,8 @@
 //! What we tell of our media.
+ghost use Rattle.std.specs.Prelude.{◌≡◌, [], ◌∷◌, IfOk, string_bytes};
+ghost use Rattle.fax_sdp.specs.Writing.{description_lines, text_of};
+ghost use Rattle.fax_requests.specs.Bodies.{origin_by, section_by};
+
 use fax_sdp::{
     AudioFormats, AudioSection, FaxSection, Origin, Section, answer_sections, read_sdp, write_sdp,
 };
@@ -25,7 +29,9 @@ pub struct OurMedia {
 }
 
 /// An offer of our media.
-pub fn describe_ours(alloc: Global, ours: OurMedia) -> Result<String, AllocError> {
+pub fn describe_ours(alloc: Global, ours: OurMedia) -> Result<String, AllocError>
+    ensures { IfOk result (λ text. string_bytes text ≡ text_of (description_lines (origin_by ours) (section_by ours AudioFormats.Both ∷ []))) }
+{
     let section = section_of(ours, AudioFormats::Both);
     write_sdp(alloc, &origin_of(ours), &[section])
 }
@@ -53,7 +59,9 @@ pub fn answer_theirs(alloc: Global, ours: OurMedia, body: &[u8]) -> Result<Strin
 }
 
 /// Whose description it is.
-fn origin_of(ours: OurMedia) -> Origin {
+fn origin_of(ours: OurMedia) -> Origin
+    ensures { result ≡ origin_by ours }
+{
     Origin {
         session: ours.session,
         version: ours.version,
@@ -62,7 +70,9 @@ fn origin_of(ours: OurMedia) -> Origin {
 }
 
 /// What is told of our medium.
-fn section_of(ours: OurMedia, formats: AudioFormats) -> Section<'static> {
+fn section_of(ours: OurMedia, formats: AudioFormats) -> Section<'static>
+    ensures { result ≡ section_by ours formats }
+{
     match ours.offer {
         Offer::Fax => Section::Fax(FaxSection {
             port: ours.address.port(),

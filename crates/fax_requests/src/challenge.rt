@@ -1,4 +1,7 @@
 //! Challenges, and the credentials that answer them.
+ghost use Rattle.std.specs.Prelude.{◌≡◌, ◌++◌, IfOk, OnOk, option_map};
+ghost use Rattle.fax_requests.specs.Responding.{answer_part, credentials_value, opaque_part, quoted, rest_part, who_part, word_of as word_for};
+
 use fax_digest::{Algorithm, Credentials, response};
 use fax_sip::{credential, unquoted};
 use std::alloc::{AllocError, Global};
@@ -71,43 +74,94 @@ pub fn write_credentials(
     alloc: Global,
     challenge: &Challenge<'_>,
     asked: &Credentials<'_>,
-) -> Result<Vec<u8>, AllocError> {
-    let digits = response(alloc, challenge.algorithm, asked)?;
-    let mut value = Vec::from_slice(alloc, b"Digest ")?;
-    put_quoted(&mut value, b"username=", asked.user)?;
-    put_quoted(&mut value, b", realm=", asked.realm)?;
-    put_quoted(&mut value, b", nonce=", asked.nonce)?;
-    put_quoted(&mut value, b", uri=", asked.uri)?;
-    put_quoted(&mut value, b", response=", digits.as_bytes())?;
-    put_quoted(&mut value, b", cnonce=", asked.client_nonce)?;
-    if let Some(opaque) = challenge.opaque {
-        put_quoted(&mut value, b", opaque=", opaque)?;
-    }
-    put_plain(&mut value, b", nc=", asked.count)?;
-    put_plain(&mut value, b", qop=", b"auth")?;
-    put_plain(&mut value, b", algorithm=", word_of(challenge.algorithm))?;
+) -> Result<Vec<u8>, AllocError>
+    ensures { IfOk result (λ value. value.items ≡ credentials_value challenge.now asked.now) }
+{
+    let mut value = write_who(alloc, asked)?;
+    put_answer(&mut value, alloc, challenge, asked)?;
+    put_rest(&mut value, challenge, asked)?;
     Ok(value)
 }
 
+/// Who answers, and what.
+fn write_who(alloc: Global, asked: &Credentials<'_>) -> Result<Vec<u8>, AllocError>
+    ensures { IfOk result (λ value. value.items ≡ who_part asked.now) }
+{
+    let mut value = Vec::new(alloc);
+    put_quoted(&mut value, b"Digest username=", asked.user)?;
+    put_quoted(&mut value, b", realm=", asked.realm)?;
+    put_quoted(&mut value, b", nonce=", asked.nonce)?;
+    put_quoted(&mut value, b", uri=", asked.uri)?;
+    Ok(value)
+}
+
+/// Writes the answer, and what it was made of.
+fn put_answer(
+    value: &mut Vec<u8>,
+    alloc: Global,
+    challenge: &Challenge<'_>,
+    asked: &Credentials<'_>,
+) -> Result<(), AllocError>
+    ensures { OnOk result (value.new.items ≡ value.old.items ++ answer_part challenge.now asked.now) }
+{
+    let digits = response(alloc, challenge.algorithm, asked)?;
+    put_quoted(value, b", response=", digits.as_bytes())?;
+    put_quoted(value, b", cnonce=", asked.client_nonce)?;
+    put_opaque(value, challenge.opaque)?;
+    Ok(())
+}
+
+/// Writes what is to be told again, where there is something.
+fn put_opaque(value: &mut Vec<u8>, opaque: Option<&[u8]>) -> Result<(), AllocError>
+    ensures { OnOk result (value.new.items ≡ value.old.items ++ opaque_part (option_map (λ text. text.now) opaque.entry)) }
+{
+    if let Some(text) = opaque {
+        put_quoted(value, b", opaque=", text)?;
+    }
+    Ok(())
+}
+
+/// Writes what follows.
+fn put_rest(
+    value: &mut Vec<u8>,
+    challenge: &Challenge<'_>,
+    asked: &Credentials<'_>,
+) -> Result<(), AllocError>
+    ensures { OnOk result (value.new.items ≡ value.old.items ++ rest_part challenge.now asked.now) }
+{
+    put_plain(value, b", nc=", asked.count)?;
+    put_plain(
+        value,
+        b", qop=auth, algorithm=",
+        word_of(challenge.algorithm),
+    )?;
+    Ok(())
+}
+
 /// The word of an algorithm.
-fn word_of(algorithm: Algorithm) -> &'static [u8] {
+fn word_of(algorithm: Algorithm) -> &'static [u8]
+    ensures { result.now ≡ word_for algorithm }
+{
     match algorithm {
         Algorithm::Md5 => b"MD5",
         Algorithm::Sha256 => b"SHA-256",
     }
 }
 
-/// Writes a name and a text in quotation marks.
-fn put_quoted(value: &mut Vec<u8>, name: &[u8], text: &[u8]) -> Result<(), AllocError> {
-    value.extend_from_slice(name)?;
-    value.push(b'"')?;
-    value.extend_from_slice(text)?;
-    value.push(b'"')?;
-    Ok(())
-}
-
 /// Writes a name and a text.
-fn put_plain(value: &mut Vec<u8>, name: &[u8], text: &[u8]) -> Result<(), AllocError> {
+fn put_plain(value: &mut Vec<u8>, name: &[u8], text: &[u8]) -> Result<(), AllocError>
+    ensures { OnOk result (value.new.items ≡ value.old.items ++ (name.now ++ text.now)) }
+{
     value.extend_from_slice(name)?;
     value.extend_from_slice(text)
+}
+
+/// Writes a name and a text in quotation marks.
+fn put_quoted(value: &mut Vec<u8>, name: &[u8], text: &[u8]) -> Result<(), AllocError>
+    ensures { OnOk result (value.new.items ≡ value.old.items ++ quoted name.now text.now) }
+{
+    value.extend_from_slice(name)?;
+    value.extend_from_slice(b"\"")?;
+    value.extend_from_slice(text)?;
+    value.extend_from_slice(b"\"")
 }

@@ -1,0 +1,2 @@
+pub mod HangingLemmas
+pub mod SecondsLemmas
