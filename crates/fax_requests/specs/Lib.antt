@@ -1,5 +1,6 @@
 pub mod Bodies
 pub mod Hanging
+pub mod Intervals
 pub mod Reasons
 pub mod Refreshing
 pub mod Responding
