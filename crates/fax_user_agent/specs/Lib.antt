@@ -1,4 +1,6 @@
 pub mod Agents
 pub mod Events
+pub mod Intervals
+pub mod Invites
 pub mod Orders
 pub mod Senders

@@ -1,27 +1,15 @@
 //! Our answers to their INVITEs.
+use crate::agreeing::agreed_on;
 use crate::call::{Asked, CallState, Kept};
 use crate::desk::Desk;
 use crate::offering::ALLOW;
 use crate::out::Progress;
 use crate::profile::Profile;
-use fax_dialogs::{Agent, Agreement, TimerEvent, agree_on};
-use fax_requests::{answer_theirs, read_refresher, read_seconds};
-use fax_sip::{Field, Message, Name, read_message};
+use fax_dialogs::Agent;
+use fax_requests::answer_theirs;
+use fax_sip::{Field, Name, read_message};
 use fax_switch::Offer;
 use std::alloc::AllocError;
-
-/// What an INVITE asks of the session's interval, and what it is answered.
-pub(crate) fn agreement_on(invite: &Message<'_>) -> Option<(u32, Agreement)> {
-    let value = invite.value(Name::SessionExpires)?;
-    let seconds = read_seconds(value)?;
-    let is_supported = invite
-        .elements(Name::Supported)
-        .any(|word| word.eq_ignore_ascii_case(b"timer"));
-    Some((
-        seconds,
-        agree_on(seconds, read_refresher(value), is_supported),
-    ))
-}
 
 impl Desk {
     /// Their INVITE is answered with 200 and this.
@@ -42,7 +30,9 @@ impl Desk {
         }
         let ours = call.ours(profile, offer);
         let body = answer_theirs(self.alloc, ours, invite.body)?;
-        let agreed = self.agree(call, &invite);
+        call.hear_least(&invite);
+        let agreed = agreed_on(&invite);
+        call.agree(self.now, agreed, false);
         let interval = self.interval_text(agreed)?;
         let mut fields = Vec::new(self.alloc);
         put_answer_fields(
@@ -78,23 +68,6 @@ impl Desk {
             self.tell(call, Progress::Answered)?;
         }
         self.answer_as(asked.server, asked.to, 200, octets)
-    }
-
-    /// The interval of the session that their INVITE asks for and we agree on, with who refreshes.
-    fn agree(&mut self, call: &mut CallState, invite: &Message<'_>) -> Option<(u32, Agent)> {
-        match agreement_on(invite) {
-            Some((seconds, Agreement::With(agent))) => {
-                call.timer.step(
-                    self.now,
-                    TimerEvent::Agreed(seconds, agent.refresher(false)),
-                );
-                Some((seconds, agent))
-            }
-            Some((_, Agreement::TooSmall | Agreement::Without)) | None => {
-                call.timer.step(self.now, TimerEvent::NotAgreed);
-                None
-            }
-        }
     }
 
     /// The value of `Session-Expires`; empty where nothing was agreed on.

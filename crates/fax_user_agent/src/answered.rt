@@ -3,6 +3,7 @@ ghost use Rattle.std.specs.Prelude.{◌≤◌, ◌<◌, IfSome};
 ghost use Rattle.fax_sip.specs.Messages.{message_text};
 ghost use Rattle.fax_user_agent.specs.Events.{Brings, IsRefusal, MayBeAnswer};
 
+use crate::agreeing::agreed_by;
 use crate::book::Book;
 use crate::call::CallState;
 use crate::client::Purpose;
@@ -10,11 +11,9 @@ use crate::desk::{Desk, written};
 use crate::offering::Credential;
 use crate::outbox::count;
 use crate::profile::Profile;
-use fax_dialogs::{Agent, Dialog, MIN_SE, Role, TimerEvent, glare_pause, longer_interval};
+use fax_dialogs::{Dialog, Role, glare_pause};
 use fax_digest::Credentials;
-use fax_requests::{
-    Challenge, read_challenge, read_refresher, read_seconds, write_ack, write_credentials,
-};
+use fax_requests::{Challenge, read_challenge, write_ack, write_credentials};
 use fax_sip::{Message, Name, Start, read_message};
 use fax_switch::{CallEvent, Description, Event, describe};
 use fax_transactions::{ClientAction, ClientEvent};
@@ -109,22 +108,6 @@ impl Desk {
             }
             _ => Ok(()),
         }
-    }
-
-    /// What is agreed on of the interval of a session that our INVITE asked for, as its 2xx says.
-    fn agree_by(&mut self, call: &mut CallState, answer: &Message<'_>) {
-        let event = match answer.value(Name::SessionExpires) {
-            Some(value) => match read_seconds(value) {
-                Some(seconds) => {
-                    let agent = read_refresher(value).unwrap_or(Agent::Uac);
-                    call.interval = seconds.max(MIN_SE);
-                    TimerEvent::Agreed(seconds, agent.refresher(true))
-                }
-                None => TimerEvent::NotAgreed,
-            },
-            None => TimerEvent::NotAgreed,
-        };
-        call.timer.step(self.now, event);
     }
 }
 
@@ -294,7 +277,7 @@ fn accepted(
             call.dialog = Some(dialog);
         }
     }
-    desk.agree_by(call, answer);
+    call.agree(desk.now, agreed_by(answer), true);
     let said = describe(answer.body);
     Event::Within(call.id, CallEvent::InviteAnswered(status, 0, said))
 }
@@ -322,13 +305,8 @@ fn is_asked_again(
         desk.invite(profile, call, offer, Some(credential))?;
         return Ok(true);
     }
-    if status == 422
-        && !call.inviting.is_longer
-        && let Some(value) = answer.value(Name::MinSe)
-        && let Some(least) = read_seconds(value)
-    {
+    if status == 422 && !call.inviting.is_longer && call.hear_least(answer) {
         call.inviting.is_longer = true;
-        call.interval = longer_interval(call.interval, least);
         desk.invite(profile, call, offer, None)?;
         return Ok(true);
     }

@@ -6,7 +6,7 @@ ghost use Rattle.fax_sip.specs.declared.start.Method.TheVariants as asked;
 ghost use Rattle.fax_trunks.specs.RouteValues.{RouteValue};
 ghost use Rattle.fax_user_agent.specs.Events.{Brings, IsRouted, MayBeRequest, is_within as within_dialog};
 
-use crate::accepting::agreement_on;
+use crate::agreeing::agreement_on;
 use crate::book::Book;
 use crate::call::{Asked, CallState, Inviting, nowhere, tag_of};
 use crate::desk::ANSWER_MS;
@@ -14,13 +14,16 @@ use crate::offering::ALLOW;
 use crate::out::Direction;
 use crate::profile::Profile;
 use fax_dialogs::{Agreement, Dialog, SessionTimer};
-use fax_requests::Token;
+use fax_requests::{Interval, Token};
 use fax_sip::{Field, Key, Message, Method, Name, parameter, user_of};
 use fax_switch::{CallEvent, Event, Offer, describe};
 use fax_transactions::{ServerAction, ServerEvent, Serving};
 use fax_trunks::Number;
 use std::alloc::AllocError;
 use std::net::SocketAddr;
+
+/// The interval that we wish for where none was agreed on, in seconds.
+const WISHED_SECONDS: u32 = 1_800;
 
 /// A request, with what is known of it at once.
 #[derive(Clone, Copy)]
@@ -396,7 +399,7 @@ impl Book {
             },
             ack: None,
             timer: SessionTimer::Off,
-            interval: 1_800,
+            interval: Interval::new(WISHED_SECONDS),
             version: 0,
             ring_until: None,
             rang: false,

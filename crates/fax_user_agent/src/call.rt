@@ -2,7 +2,7 @@
 use crate::out::{CallTold, Direction, Progress, Tag};
 use crate::profile::Profile;
 use fax_dialogs::{Dialog, SessionTimer};
-use fax_requests::{OurMedia, Token};
+use fax_requests::{Interval, OurMedia, Token};
 use fax_switch::Offer;
 use std::net::{IpAddr, Ipv4Addr, SocketAddr};
 
@@ -68,8 +68,8 @@ pub(crate) struct CallState {
     /// Our last ACK of a 2xx.
     pub ack: Option<Kept>,
     pub timer: SessionTimer,
-    /// The interval that our INVITEs ask for, in seconds.
-    pub interval: u32,
+    /// What our next INVITE says of the interval of its session.
+    pub interval: Interval,
     pub version: u64,
     /// When our INVITE is given up.
     pub ring_until: Option<u64>,

@@ -5,6 +5,7 @@
 
 mod accepting;
 mod agent;
+mod agreeing;
 mod answered;
 mod asked;
 mod book;

@@ -1,11 +1,16 @@
 //! Our INVITEs, their ACKs and CANCELs, and BYEs.
+ghost use Rattle.std.specs.Prelude.{◌≡◌, [], ◌∷◌, ◌++◌, OnOk, map};
+ghost use Rattle.std.specs.Option.{option_copied};
+ghost use Rattle.fax_dialogs.specs.Within.{field_text};
+ghost use Rattle.fax_user_agent.specs.Invites.{credential_lines, invite_lines};
+
 use crate::call::{CallState, Kept};
 use crate::client::Purpose;
 use crate::desk::{Desk, written};
 use crate::out::Progress;
 use crate::profile::Profile;
 use fax_dialogs::Within;
-use fax_requests::{branch_of, describe_ours, next_hop, write_cancel};
+use fax_requests::{IntervalText, branch_of, describe_ours, next_hop, write_cancel};
 use fax_sip::{Field, Name, Party, Request, read_message, write_request};
 use fax_switch::Offer;
 use fax_transactions::ClientEvent;
@@ -27,39 +32,40 @@ pub(crate) struct Credential {
 fn put_invite_fields<'a>(
     fields: &mut Vec<Field<'a>>,
     contact: &'a [u8],
-    interval: &'a [u8],
+    interval: &'a IntervalText,
     credential: Option<&'a Credential>,
-) -> Result<(), AllocError> {
-    fields.push(Field {
-        name: Name::Contact,
-        value: contact,
-    })?;
-    fields.push(Field {
-        name: Name::Allow,
-        value: ALLOW,
-    })?;
-    fields.push(Field {
-        name: Name::Supported,
-        value: b"timer",
-    })?;
-    fields.push(Field {
-        name: Name::SessionExpires,
-        value: interval,
-    })?;
-    fields.push(Field {
-        name: Name::MinSe,
-        value: b"90",
-    })?;
+) -> Result<(), AllocError>
+    ensures { OnOk result (map field_text fields.new.items ≡ map field_text fields.old.items ++ invite_lines contact.now interval.now.interval (option_copied credential.entry)) }
+{
+    put_line(fields, Name::Contact, contact)?;
+    put_line(fields, Name::Allow, ALLOW)?;
+    interval.put(fields)?;
+    put_credential(fields, credential)?;
+    put_line(fields, Name::ContentType, b"application/sdp")?;
+    Ok(())
+}
+
+/// A line more.
+fn put_line<'a>(fields: &mut Vec<Field<'a>>, name: Name, value: &'a [u8]) -> Result<(), AllocError>
+    ensures { OnOk result (map field_text fields.new.items ≡ map field_text fields.old.items ++ (name, value.now) ∷ []) }
+{
+    fields.push(Field { name, value })?;
+    Ok(())
+}
+
+/// The line of credentials, where there are some.
+fn put_credential<'a>(
+    fields: &mut Vec<Field<'a>>,
+    credential: Option<&'a Credential>,
+) -> Result<(), AllocError>
+    ensures { OnOk result (map field_text fields.new.items ≡ map field_text fields.old.items ++ credential_lines (option_copied credential.entry)) }
+{
     if let Some(credential) = credential {
         fields.push(Field {
             name: credential.name,
             value: credential.value.as_slice(),
         })?;
     }
-    fields.push(Field {
-        name: Name::ContentType,
-        value: b"application/sdp",
-    })?;
     Ok(())
 }
 
@@ -155,13 +161,12 @@ impl Desk {
         call.ack = None;
         let ours = call.ours(profile, offer);
         let body = describe_ours(self.alloc, ours)?;
-        let interval = call.interval;
-        let interval = format!(in self.alloc; "{interval}")?;
+        let interval = IntervalText::new(self.alloc, call.interval)?;
         let mut fields = Vec::new(self.alloc);
         put_invite_fields(
             &mut fields,
             profile.contact.as_bytes(),
-            interval.as_bytes(),
+            &interval,
             credential.as_ref(),
         )?;
         let branch = branch_of(self.random.token());
