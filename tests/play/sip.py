@@ -351,6 +351,40 @@ class FaxesOverAudio(AtATrunk):
         self.taken(machine, 6)
 
 
+class Intervals(AtATrunk):
+    """The interval of a session, as our INVITEs ask for it (RFC 4028, 7.3 and 7.4). What takes longer is in sip_sessions.py."""
+
+    def asks(self, invite, seconds, least):
+        """An INVITE of ours asks for an interval, and tells the least one."""
+        self.assertEqual((invite.one("Session-Expires"), invite.one("Min-SE")), (str(seconds), str(least)))
+
+    def test_a_call_that_asks_for_too_little_is_made_again(self):
+        self.begin()
+        for rows, wanted, asked in ((3, 2000, 2000), (4, 400, 1800)):
+            self.comes("+4930123", rows)
+            first = self.goes_out("004930123")
+            self.asks(first, 1800, 90)
+            self.trunk.answer(first, 422, more=[("Min-SE", str(wanted))])
+            second = self.goes_out("004930123")
+            self.asks(second, asked, wanted)
+            machine = self.machine()
+            self.trunk.take(second, fax_offer(machine.leg.port))
+            self.taken(machine, rows)
+
+    def test_our_change_asks_for_what_was_agreed_on(self):
+        self.begin()
+        self.idle()
+        leg = self.leg()
+        asked = [("Supported", "timer"), ("Session-Expires", "200;refresher=uac"), ("Min-SE", "100")]
+        _, answer = self.trunk.call("+4930123", audio_offer(self.ports.take()), more=asked)
+        self.assertEqual((answer.status, answer.one("Session-Expires")), (200, "200;refresher=uac"))
+        again = self.trunk.request("INVITE")
+        self.asks(again, 200, 100)
+        self.trunk.take(again, fax_offer(leg.port))
+        self.confirm(leg, again, 4)
+        self.trunk.answer(self.trunk.request("BYE"), 200)
+
+
 class Registrations(AtATrunk):
     """A trunk that is registered with."""
 

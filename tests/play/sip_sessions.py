@@ -121,9 +121,9 @@ class SessionCall(threading.Thread):
         assert port_of(answer.body, "image") == machine.leg.peer, "a refresh moved the medium"
 
     def refreshed(self, machine, *more):
-        """They refresh the session at half of its interval: the refresh is answered so."""
+        """They refresh the session at half of its interval, and ask for that interval again: the refresh is answered so."""
         invite = self.comes_at("INVITE", HALF)
-        assert told(invite)[0] >= INTERVAL, f"a refresh that asks for {told(invite)}"
+        assert told(invite)[0] == INTERVAL, f"a refresh that asks for {told(invite)}"
         assert port_of(invite.body, "image") == machine.leg.peer, "a refresh moves the medium"
         self.trunk.take(invite, fax_offer(machine.leg.port), more=more)
 
