@@ -1,1 +1,2 @@
+pub mod DueLemmas
 pub mod Hearing

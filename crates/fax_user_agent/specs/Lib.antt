@@ -1,4 +1,5 @@
 pub mod Agents
+pub mod Dues
 pub mod Events
 pub mod Intervals
 pub mod Invites

@@ -3,6 +3,7 @@ ghost use Rattle.std.specs.Prelude.{◌≡◌, [], IfOk, None, OnErr, OnOk, map}
 ghost use Rattle.fax_sip.specs.Messages.{message_of, message_text};
 ghost use Rattle.fax_switch.specs.Tables.{begun};
 ghost use Rattle.fax_user_agent.specs.Agents.{Hears, HearsDatagram, HearsDial, HearsInPart, HearsOne, IsQuiet, MayHear, MayHearInPart, MayHearMessageInPart, Queues};
+ghost use Rattle.fax_user_agent.specs.Dues.{ComesByAll};
 ghost use Rattle.fax_user_agent.specs.Events.{Brings, MayBe};
 ghost use Rattle.fax_user_agent.specs.Orders.{word_of};
 ghost use Rattle.fax_user_agent.specs.Senders.{trunk_of};
@@ -216,7 +217,9 @@ impl UserAgent {
     }
 
     /// The moment from which something is due although nothing else happens.
-    pub fn next_due(&self) -> Option<u64> {
+    pub fn next_due(&self) -> Option<u64>
+        ensures { ComesByAll result self.now.switch.entries }
+    {
         self.book.due_with(due_of_entries(self.switch.entries()))
     }
 

@@ -1,4 +1,7 @@
 //! What is due as time passes.
+ghost use Rattle.std.specs.Prelude.{◌≡◌, ℕ, Option};
+ghost use Rattle.fax_user_agent.specs.Dues.{ComesBy, ComesByAll, due_of, earlier_of};
+
 use crate::book::Book;
 use crate::call::CallState;
 use crate::client::Purpose;
@@ -11,7 +14,9 @@ use fax_trunks::RegistrationEvent;
 use std::alloc::AllocError;
 
 /// The earlier of two moments.
-fn earlier(one: Option<u64>, other: Option<u64>) -> Option<u64> {
+fn earlier(one: Option<u64>, other: Option<u64>) -> Option<u64>
+    ensures { result ≡ earlier_of one other }
+{
     match (one, other) {
         (Some(one), Some(other)) => Some(one.min(other)),
         (Some(one), None) => Some(one),
@@ -20,7 +25,9 @@ fn earlier(one: Option<u64>, other: Option<u64>) -> Option<u64> {
 }
 
 /// The moment from which time does something in a call of the switch.
-fn due_of_stage(stage: Stage) -> Option<u64> {
+fn due_of_stage(stage: Stage) -> Option<u64>
+    ensures { result ≡ due_of stage }
+{
     match stage {
         Stage::Asking(_, until) | Stage::Dropped(until) | Stage::Cancelling(until) => Some(until),
         Stage::Talking(session, _) => session.next_due(),
@@ -46,7 +53,9 @@ fn is_reached(due: Option<u64>, now: u64) -> bool {
 }
 
 /// The earliest moment of calls of the switch.
-pub(crate) fn due_of_entries(entries: &[Entry]) -> Option<u64> {
+pub(crate) fn due_of_entries(entries: &[Entry]) -> Option<u64>
+    ensures { ComesByAll result entries.now }
+{
     let mut due = None;
     for entry in entries {
         due = earlier(due, due_of_stage(entry.call.stage));
@@ -186,7 +195,10 @@ impl Book {
     }
 
     /// The earlier of that moment and another.
-    pub fn due_with(&self, other: Option<u64>) -> Option<u64> {
+    #[tactic(auto, using(crate::proofs::DueLemmas::still_comes_with))]
+    pub fn due_with(&self, other: Option<u64>) -> Option<u64>
+        ensures { (moment : Option ℕ) → ComesBy other moment → ComesBy result moment }
+    {
         earlier(self.next_due(), other)
     }
 }
