@@ -143,6 +143,37 @@ class Undelivered(Failing):
         kept = sum(size for name, size in sizes.items() if name.startswith("undelivered"))
         self.assertGreater(kept, 2 * (GATE + HEAD))
 
+    def first_pair(self):
+        """The files of what waits, as they stand."""
+        for name in ("pages", "pages-wal"):
+            path = os.path.join(self.server.spool, name)
+            with open(path, "rb") as file:
+                yield path, file.read()
+
+    def test_a_job_that_a_crash_left_in_both_pairs(self):
+        """Its pages are kept, and its end is not noted: it is sent once more, and where it fails again its page is told and dropped once."""
+        self.begin(spool=True)
+        self.confirm(2, "tag")
+        self.asked("tag")
+        before = list(self.first_pair())
+        self.assertEqual(self.client.say("refuse a1 busy"), ["ok"])
+        self.client.event("undelivered", tag="tag", pages=1)
+        self.server.kill()
+        for path, octets in before:
+            with open(path, "wb") as file:
+                file.write(octets)
+        self.server.start()
+        self.client = self.server.events()
+        self.refuse("tag", "486")
+        self.client.event("undelivered", tag="tag", pages=1, cause="486")
+        self.assert_kept(1, 1)
+        self.server.kill()
+        self.server.start()
+        (told,) = self.told()
+        self.assertEqual((told["tag"], told["pages"], told["cause"], told["tries"]), ("tag", 1, "486", 1))
+        self.assertEqual(self.server.say("discard a1 1 0"), ["ok"])
+        self.assertEqual(self.told(), [])
+
     def spool(self, *words):
         """What `faxgate spool` tells of the server's folder, and how it ends."""
         process = self.server.run("spool", self.server.spool, *words)

@@ -6,39 +6,19 @@ use Rattle.fax_spool.specs.RecordOctets.{EndedValue, PageValue}
 use Rattle.fax_spool.specs.Torn.{CallName}
 use Rattle.fax_spool.specs.Waits.{ends, name_of, without}
 use Rattle.fax_undelivered.specs.Cards.{card_in}
-use Rattle.fax_undelivered.specs.Calls.{CallValue, begun_by, but, calls_after, end_of, is_named, is_of, is_page, one_more, told_by, with_card, with_page}
-use Rattle.fax_undelivered.proofs.Listing.{begun, heard, not_begun, not_heard}
+use Rattle.fax_undelivered.specs.Calls.{CallValue, begun_by, but, calls_after, end_of, is_named, is_of, is_page, told_by, with_card, with_number, with_page}
+use Rattle.fax_undelivered.proofs.Listing
+use Rattle.fax_undelivered.proofs.Listing.{begun, heard, name_still, not_begun, not_heard}
 
 -- ---- names
 
-and_three : (a b c : Bool) → (a && b && c) ≡ true → (a ≡ true) × (b ≡ true) × (c ≡ true)
-and_three true true true is = (refl, refl, refl)
-and_three true true false is = cc
-and_three true false c is = cc
-and_three false b c is = cc
-
-same_number : (a b : ℕ) → nat_eq a b ≡ true → a ≡ b
-same_number a b is = grind (arith, nat_tests)
-
 -- a call that has a record has its name
 pub name_of_it : (name : CallName) (c : CallValue) (page : PageValue) → is_of c page ≡ true → is_named name c ≡ is_named name (begun_by page)
-name_of_it name c page is =
-    let parts = and_three (nat_eq c.life page.life) (nat_eq c.call page.call) (bytes_eq c.line page.line) is in
-    let life : c.life ≡ page.life = same_number c.life page.life parts.0 in
-    let call : c.call ≡ page.call = same_number c.call page.call parts.1 in
-    let line : c.line ≡ page.line = (bytes_eq-Decides c.line page.line).0 parts.2 in
-    ap (λ (n : ℕ). nat_eq n name.life && nat_eq c.call name.call && bytes_eq c.line name.line) life
-    ∙ ap (λ (n : ℕ). nat_eq page.life name.life && nat_eq n name.call && bytes_eq c.line name.line) call
-    ∙ ap (λ (l : List ℕ). nat_eq page.life name.life && nat_eq page.call name.call && bytes_eq l name.line) line
-
-told_with : (name : CallName) (c : CallValue) (o : Bool) (p : Bool) (page : PageValue) → is_named name (cond o (with_card (card_in page.text) c) (cond p (one_more c) c)) ≡ is_named name c
-told_with name c true p page = elim (card_in page.text) as (λ o. is_named name (with_card o c) ≡ is_named name c) [ None ↦ refl | Some card ↦ refl ]
-told_with name c false true page = refl
-told_with name c false false page = refl
+name_of_it name c page is = ap (λ (n : CallName). nat_eq n.life name.life && nat_eq n.call name.call && bytes_eq n.line name.line) (Listing.name_of_it c page is)
 
 -- and keeps it
 pub named_still : (name : CallName) (page : PageValue) (c : CallValue) → is_named name (told_by page c) ≡ is_named name c
-named_still name page c = told_with name c (nat_eq page.number 0) (is_page page) page
+named_still name page c = ap (λ (n : CallName). nat_eq n.life name.life && nat_eq n.call name.call && bytes_eq n.line name.line) (name_still page c)
 
 -- ---- one call of a list
 
@@ -112,8 +92,8 @@ module _ (page : PageValue) (high : 2 ^ 32 - 1 ≤ page.number) where
 
   same_told : (c : CallValue) → told_by page c ≡ c
   same_told c =
-      subst (λ (o : Bool). cond o (with_card (card_in page.text) c) (cond (is_page page) (one_more c) c) ≡ c) (sym none_first)
-      (subst (λ (p : Bool). cond p (one_more c) c ≡ c) (sym none_page) refl)
+      subst (λ (o : Bool). cond o (with_card (card_in page.text) c) (cond (is_page page) (with_number page.number c) c) ≡ c) (sym none_first)
+      (subst (λ (p : Bool). cond p (with_number page.number c) c ≡ c) (sym none_page) refl)
 
   next_none : (c : CallValue) (calls : List CallValue) (b : Bool) → is_of c page ≡ b → with_page page calls ≡ calls → with_page page (c ∷ calls) ≡ c ∷ calls
   next_none c calls true so rest = heard page c calls so ∙ ap (λ (x : CallValue). x ∷ calls) (same_told c)

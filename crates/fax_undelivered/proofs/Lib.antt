@@ -1,5 +1,6 @@
 pub mod CardBack
 pub mod Listing
+mod PutAgain
 mod Dropping
 mod Closing
 mod Coming

@@ -1,19 +1,20 @@
 -- The calls of which pages wait that could not be delivered, by the records of pages and cards. Lists have the oldest first. (This project's
 -- profile.)
-use Rattle.std.specs.Prelude.{◌≡◌, ℕ, ◌+◌, ◌-◌, ◌^◌, min, Bool, true, false, not, ◌&&◌, nat_eq, nat_lt, bytes_eq, List, [], ◌∷◌, ◌++◌, Option, Some, None, if◌then◌else◌}
-use Rattle.std.specs.List.{filter}
+use Rattle.std.specs.Prelude.{◌≡◌, ℕ, ◌+◌, ◌-◌, ◌^◌, min, Bool, true, false, not, ◌&&◌, nat_eq, nat_lt, bytes_eq, List, [], ◌∷◌, ◌++◌, Option, Some, None, MatchOption, slice_get, take, if◌then◌else◌}
+use Rattle.std.specs.List.{filter, list_any}
 use Rattle.fax_jobs.specs.declared.outcome.Outcome.TheVariants.{NotPlaced}
 use Rattle.fax_spool.specs.RecordOctets.{EndedValue, PageValue}
 use Rattle.fax_spool.specs.Torn.{CallName, call_of}
 use Rattle.fax_undelivered.specs.Cards.{CardValue, card_format, card_in, card_octets, card_record, unknown}
 
--- which call, the tag that it had, how many of its pages wait, and its card
+-- which call, the tag that it had, how many of its pages wait, under which numbers, and its card
 pub record CallValue : Type 0 where
   pub line : List ℕ
   pub life : ℕ
   pub call : ℕ
   pub tag : List ℕ
   pub pages : ℕ
+  pub numbers : List ℕ
   pub card : CardValue
 
 -- the record is of this call
@@ -28,21 +29,26 @@ abbrev pub is_page : PageValue → Bool
 is_page page = nat_lt 0 page.number && nat_lt page.number (2 ^ 32 - 1)
 
 -- one page more of a call
-abbrev pub one_more : CallValue → CallValue
-one_more call = record { line = call.line; life = call.life; call = call.call; tag = call.tag; pages = min (call.pages + 1) (2 ^ 32 - 1); card = call.card }
+abbrev pub one_more : (number : ℕ) → CallValue → CallValue
+one_more number call = record { line = call.line; life = call.life; call = call.call; tag = call.tag; pages = min (call.pages + 1) (2 ^ 32 - 1); numbers = call.numbers ++ number ∷ []; card = call.card }
+
+-- A PAGE THAT IS PUT AGAIN COUNTS ONCE: a job whose end was not noted before a crash is sent again, and where it fails again its pages are put
+-- under their numbers once more.
+abbrev pub with_number : (number : ℕ) → CallValue → CallValue
+with_number number call = if list_any (λ n. nat_eq n number) call.numbers then call else one_more number call
 
 -- another card, where it can be read
 abbrev pub with_card : Option CardValue → CallValue → CallValue
 with_card None call = call
-with_card (Some card) call = record { line = call.line; life = call.life; call = call.call; tag = call.tag; pages = call.pages; card = card }
+with_card (Some card) call = record { line = call.line; life = call.life; call = call.call; tag = call.tag; pages = call.pages; numbers = call.numbers; card = card }
 
 -- one record more of it
 abbrev pub told_by : PageValue → CallValue → CallValue
-told_by page call = if nat_eq page.number 0 then with_card (card_in page.text) call else (if is_page page then one_more call else call)
+told_by page call = if nat_eq page.number 0 then with_card (card_in page.text) call else (if is_page page then with_number page.number call else call)
 
 -- a call of which this is the first page
 abbrev pub begun_by : PageValue → CallValue
-begun_by page = record { line = page.line; life = page.life; call = page.call; tag = page.tag; pages = 1; card = unknown }
+begun_by page = record { line = page.line; life = page.life; call = page.call; tag = page.tag; pages = 1; numbers = page.number ∷ []; card = unknown }
 
 -- A call is listed from its first page on; of its cards the last one counts, and one before its first page is none.
 abbrev pub with_page : PageValue → List CallValue → List CallValue
@@ -56,6 +62,14 @@ calls_after calls (page ∷ pages) = calls_after (with_page page calls) pages
 -- THE CALLS OF WHICH PAGES WAIT, by the records that wait.
 abbrev pub calls_of : List PageValue → List CallValue
 calls_of pages = calls_after [] pages
+
+-- the name of a call
+abbrev pub name_of : CallValue → CallName
+name_of call = record { life = call.life; call = call.call; line = call.line }
+
+-- No call before place i has the name of the one there, where one is.
+abbrev pub IsFirst : List CallValue → ℕ → Type 0
+IsFirst calls i = MatchOption (slice_get calls i) (Unit {0}) (λ call. list_any (is_named (name_of call)) (take i calls) ≡ false)
 
 -- all but one
 abbrev pub but : CallName → List CallValue → List CallValue
@@ -81,3 +95,13 @@ card_records (page ∷ pages) text = card_record (call_of page) page.tag text �
 -- pages of a job, and its card after them
 abbrev pub with_its_card : List PageValue → CardValue → List PageValue
 with_its_card pages card = pages ++ card_records pages (card_octets card)
+
+-- ---- the pages of a call
+
+abbrev pub has_number : (number : ℕ) → PageValue → Bool
+has_number number page = nat_eq page.number number
+
+-- THE PAGES OF A CALL: of those that were put under one number the last one.
+abbrev pub latest : List PageValue → List PageValue
+latest [] = []
+latest (page ∷ pages) = if list_any (has_number page.number) pages then latest pages else page ∷ latest pages

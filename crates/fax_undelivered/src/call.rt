@@ -1,8 +1,9 @@
 //! A call of which pages wait that could not be delivered.
-ghost use Rattle.std.specs.Prelude.{◌≡◌, ◌≤◌, ◌<◌, ◌++◌, true, take, drop, length, slice_index_or, IfOk, OnOk, slice_get, MatchOption, false};
+ghost use Rattle.std.specs.Prelude.{◌≡◌, ◌≤◌, true, take, length, IfOk, OnOk, slice_get, MatchOption, false};
 ghost use Rattle.std.specs.List.{list_any};
 ghost use Rattle.fax_undelivered.specs.Cards.{card_in, unknown};
-ghost use Rattle.fax_undelivered.specs.Calls.{begun_by, calls_after, is_named, is_of, is_page, told_by, with_card, with_page};
+ghost use Rattle.fax_spool.specs.Torn.{call_of};
+ghost use Rattle.fax_undelivered.specs.Calls.{IsFirst, begun_by, calls_after, is_named, is_of, is_page, told_by, with_card, with_number, with_page};
 
 use crate::card::{Card, read_card};
 use fax_jobs::Outcome;
@@ -23,6 +24,8 @@ pub struct UndeliveredCall {
     pub tag: Vec<u8>,
     /// How many of its pages wait.
     pub pages: u32,
+    /// Their numbers, in the order in which they came first.
+    pub numbers: Vec<u32>,
     /// How its last job ended.
     pub card: Card,
 }
@@ -32,7 +35,7 @@ impl Model for UndeliveredCall {
 
     ghost Value = { CallValue };
 
-    ghost view = { λ c. record { line = c.line.items; life = c.life; call = c.call; tag = c.tag.items; pages = c.pages; card = c.card } };
+    ghost view = { λ c. record { line = c.line.items; life = c.life; call = c.call; tag = c.tag.items; pages = c.pages; numbers = c.numbers.items; card = c.card } };
 }
 
 impl UndeliveredCall {
@@ -46,6 +49,7 @@ impl UndeliveredCall {
             call: page.call,
             tag: page.tag.to_vec(alloc)?,
             pages: 1,
+            numbers: [page.number].to_vec(alloc)?,
             card: unknown_card(alloc)?,
         })
     }
@@ -60,6 +64,7 @@ impl UndeliveredCall {
             call: self.call,
             tag: self.tag.as_slice().to_vec(alloc)?,
             pages: self.pages,
+            numbers: self.numbers.as_slice().to_vec(alloc)?,
             card: self.card.copy(alloc)?,
         })
     }
@@ -85,8 +90,20 @@ impl UndeliveredCall {
         if page.number == 0 {
             self.hear_card(alloc, page.text)?;
         } else if is_page(page) {
-            self.pages = self.pages.saturating_add(1);
+            self.hear_page(page.number)?;
         }
+        Ok(())
+    }
+
+    /// The page of this number, which may have come before.
+    fn hear_page(&mut self, number: u32) -> Result<(), AllocError>
+        ensures { OnOk result (self.new ≡ with_number number self.old) }
+    {
+        if self.numbers.as_slice().contains(&number) {
+            return Ok(());
+        }
+        self.numbers.push(number)?;
+        self.pages = self.pages.saturating_add(1);
         Ok(())
     }
 
@@ -135,7 +152,8 @@ pub(crate) fn copies_of(
     Ok(copies)
 }
 
-/// More records of pages and cards wait.
+/// More records of pages and cards wait. Those of a call stand together but for cards of tries: where the last one's call is, the next one's
+/// is looked for first.
 pub(crate) fn add_pages(
     calls: &mut Vec<UndeliveredCall>,
     alloc: Global,
@@ -143,35 +161,62 @@ pub(crate) fn add_pages(
 ) -> Result<(), AllocError>
     ensures { OnOk result (calls.new.items ≡ calls_after calls.old.items pages.now) }
 {
+    let mut last = calls.len();
     for page in pages {
-        add_page(calls, alloc, page)?;
+        last = add_page(calls, alloc, page, last)?;
     }
     Ok(())
 }
 
-/// One record more waits.
+/// One record more waits, whose call may be that at the place `last`. It answers the place of its call.
 fn add_page(
     calls: &mut Vec<UndeliveredCall>,
     alloc: Global,
     page: &PageRecord<'_>,
-) -> Result<(), AllocError>
-    ensures { OnOk result (calls.new.items ≡ with_page page.now calls.old.items) }
+    last: usize,
+) -> Result<usize, AllocError>
+    requires { IsFirst calls.old.items last }
+    ensures calls { OnOk result (calls.new.items ≡ with_page page.now calls.old.items) }
+    ensures first { IfOk result (λ place. IsFirst calls.new.items place) }
 {
-    let place = place_of(calls.as_slice(), page);
+    let place = place_of(calls.as_slice(), page, last);
     if place < calls.len() {
         calls[place].hear(alloc, page)?;
-        return Ok(());
+        return Ok(place);
     }
     if is_page(page) {
         calls.push(UndeliveredCall::begun_by(alloc, page)?)?;
     }
-    Ok(())
+    Ok(place)
 }
 
-/// The place of the call that a record is of, of these: where there is none, how many there are.
-fn place_of(calls: &[UndeliveredCall], page: &PageRecord<'_>) -> usize
+/// The place of the call that a record is of, of these, which may be this one: where there is none, how many there are.
+fn place_of(calls: &[UndeliveredCall], page: &PageRecord<'_>, last: usize) -> usize
+    requires { IsFirst calls.now last }
     ensures within { result ≤ length calls.now }
-    ensures before { with_page page.now calls.now ≡ take result calls.now ++ with_page page.now (drop result calls.now) }
+    ensures before { list_any (is_named (call_of page.now)) (take result calls.now) ≡ false }
+    ensures found { MatchOption (slice_get calls.now result) (result ≡ length calls.now) (λ call. is_of call page.now ≡ true) }
+{
+    if has_at(calls, last, page) {
+        return last;
+    }
+    first_of(calls, page)
+}
+
+/// Whether a record is of the call at a place of these.
+fn has_at(calls: &[UndeliveredCall], i: usize, page: &PageRecord<'_>) -> bool
+    ensures { MatchOption (slice_get calls.now i) (result ≡ false) (λ call. result ≡ is_of call page.now) }
+{
+    match calls.get(i) {
+        Some(call) => call.has(page),
+        None => false,
+    }
+}
+
+/// The place of the first of these calls that a record is of: where there is none, how many there are.
+fn first_of(calls: &[UndeliveredCall], page: &PageRecord<'_>) -> usize
+    ensures within { result ≤ length calls.now }
+    ensures before { list_any (is_named (call_of page.now)) (take result calls.now) ≡ false }
     ensures found { MatchOption (slice_get calls.now result) (result ≡ length calls.now) (λ call. is_of call page.now ≡ true) }
 {
     for (i, call) in calls.iter().enumerate() {

@@ -5,6 +5,7 @@
 mod call;
 mod card;
 mod keeping;
+mod latest;
 pub mod laws;
 mod undelivered;
 
