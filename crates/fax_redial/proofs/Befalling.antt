@@ -7,7 +7,7 @@ use Rattle.fax_gateway.specs.Restored.{RestoredCall}
 use Rattle.fax_line.specs.Actions.{BeginsWith}
 use Rattle.fax_line.specs.Runs.{DoneOrder}
 use Rattle.fax_redial.specs.Befalls.{AreApart, Asked, Befall, Befell, Begun, Ended, IsBefallen, Tries, Turned, fault_at, is_under_way}
-use Rattle.fax_redial.specs.Laws.{AreIdle, Beginning, HasBegun, begun_on, one_if, times_begun, times_ended, times_on}
+use Rattle.fax_redial.specs.Laws.{AreIdle, AreNotOwed, Beginning, HasBegun, begun_on, one_if, times_begun, times_ended, times_on}
 use Rattle.fax_redial.specs.Totals.{end_if}
 use Rattle.fax_redial.specs.Tries.{GoesOn, IsTried, TryValue, is_of, same_name}
 use Rattle.fax_redial.specs.declared.job.RetryEnd.{RetryEnd}
@@ -101,7 +101,7 @@ begins_apart tries i held name apart free job none =
         let e : true ≡ false = sym any ∙ none in cc
 
 pub apart_by : (befall : Befall) (old new : Tries) → AreApart old → IsBefallen befall old new → AreApart new
-apart_by (Begun i job line) old new apart is =
+apart_by (Begun i queues job line) old new apart is =
     subst (λ (t : Tries). AreApart t) (sym is.tries) (begins_apart old i is.held job.name apart is.free (ap (λ (j : RetryJob). j.name) is.begins.job) is.other)
 apart_by (Turned i now cause) old new apart is = subst (λ (t : Tries). AreApart t) (sym is.tries) (goes_apart old i is.held is.next apart is.there is.turns.job)
 apart_by (Asked i now what answer) old new apart is = subst (λ (t : Tries). AreApart t) (sym is.tries) (goes_apart old i is.held is.next apart is.there is.asked.job)
@@ -158,9 +158,9 @@ have_same : (befell : List Befall) (a b : Tries) → b ≡ a → HaveBegun befel
 have_same befell a b same have = subst (λ (t : Tries). HaveBegun befell t) (sym same) have
 
 begun_by : (befall : Befall) (earlier : List Befall) (old new : Tries) → HaveBegun earlier old → IsBefallen befall old new → HaveBegun (befall ∷ earlier) new
-begun_by (Begun k job line) earlier old new have is =
+begun_by (Begun k queues job line) earlier old new have is =
     let begun : Beginning = record { job = job; line = line } in
-    have_same (Begun k job line ∷ earlier) (slice_set old k (Some is.held)) new is.tries
+    have_same (Begun k queues job line ∷ earlier) (slice_set old k (Some is.held)) new is.tries
     (λ i now at. begins_at old k is.held begun earlier is.free is.begins.job is.begins.tried have i now (nat_eq k i) refl at)
 begun_by (Turned k moment cause) earlier old new have is =
     have_same (Turned k moment cause ∷ earlier) (slice_set old k (Some is.next)) new is.tries
@@ -223,7 +223,7 @@ goes_on name tries i held next there job =
     (on_set name tries i (Some next) (Some held) there ∙ ap (λ (j : RetryJob). one_if (same_name j.name name) (times_on name tries)) job)
 
 counted_by : (name : CallName) (befall : Befall) (earlier : List Befall) (old new : Tries) → IsCounted name earlier old → IsBefallen befall old new → IsCounted name (befall ∷ earlier) new
-counted_by name (Begun k job line) earlier old new counted is =
+counted_by name (Begun k queues job line) earlier old new counted is =
     more_on (same_name job.name name) (times_ended name earlier) (times_on name old) (times_on name new) (times_begun name earlier)
     (ap (times_on name) is.tries ∙ on_set name old k (Some is.held) None is.free ∙ ap (λ (j : RetryJob). one_if (same_name j.name name) (times_on name old)) is.begins.job) counted
 counted_by name (Turned k moment cause) earlier old new counted is =
@@ -241,8 +241,18 @@ counted_along (befall ∷ earlier) old new idle (between, before, is) name = cou
 
 -- ---- where a try begins
 
-pub fault_none : (at : Option (Option TryValue)) (is_tried : Bool) (waiting : ℕ) → fault_at at is_tried waiting ≡ None → (at ≡ Some None) × (is_tried ≡ false)
-fault_none None is_tried waiting is = (cc)
-fault_none (Some (Some held)) is_tried waiting is = (cc)
-fault_none (Some None) true waiting is = (cc)
-fault_none (Some None) false waiting is = (refl, refl)
+pub fault_none : (at : Option (Option TryValue)) (is_tried is_owed_now : Bool) (waiting : ℕ) → fault_at at is_tried is_owed_now waiting ≡ None → (at ≡ Some None) × (is_tried ≡ false) × (is_owed_now ≡ false)
+fault_none None is_tried is_owed_now waiting is = (cc)
+fault_none (Some (Some held)) is_tried is_owed_now waiting is = (cc)
+fault_none (Some None) true is_owed_now waiting is = (cc)
+fault_none (Some None) false true waiting is = (cc)
+fault_none (Some None) false false waiting is = (refl, refl, refl)
+
+-- ---- what its line owes
+
+pub not_owed_along : (befell : List Befall) (old new : Tries) → Befell befell old new → AreNotOwed befell
+not_owed_along [] old new is = tt
+not_owed_along (Begun k queues job line ∷ earlier) old new (between, before, is) = (is.not_owed, not_owed_along earlier old between before)
+not_owed_along (Turned k moment cause ∷ earlier) old new (between, before, is) = not_owed_along earlier old between before
+not_owed_along (Asked k moment what answer ∷ earlier) old new (between, before, is) = not_owed_along earlier old between before
+not_owed_along (Ended k end ∷ earlier) old new (between, before, is) = not_owed_along earlier old between before

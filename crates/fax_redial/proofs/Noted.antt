@@ -1,14 +1,17 @@
 -- What is noted of a try that ended.
-use Rattle.std.proofs.Common.{◌≡◌, ℕ, Bool, true, false, [], ◌∷◌, ◌++◌, List, Some, sym, ◌∙◌, ap, subst}
+use Rattle.std.proofs.Common.{◌≡◌, ℕ, Bool, true, false, [], ◌∷◌, ◌++◌, List, Some, Result, Ok, Err, OnErr, sym, ◌∙◌, ap, subst}
 use Rattle.std.specs.Bool.{MatchBool}
 use Rattle.std.specs.List.{list_any}
-use Rattle.fax_redial.specs.Noting.{IsOneTryMore, NotesDelivered, NotesFailed, card_named}
+use Rattle.fax_redial.specs.Noting.{IsOneTryMore, MayPutCard, NotesDelivered, NotesFailed, card_named}
 use Rattle.fax_redial.specs.declared.job.RetryEnd.{RetryEnd}
+use Rattle.fax_spool.specs.Calls.{Does, Ends, Puts}
 use Rattle.fax_spool.specs.RecordOctets.{PageValue}
 use Rattle.fax_spool.specs.Torn.{CallName}
 use Rattle.fax_spool.specs.Waits.{without}
+use Rattle.fax_spool.specs.declared.spool.Spool.{Spool}
+use Rattle.fax_spool.proofs.Doing.{does_nothing}
 use Rattle.fax_undelivered.specs.Calls.{CallValue, end_of, is_named}
-use Rattle.fax_undelivered.specs.Cards.{CardValue, card_page}
+use Rattle.fax_undelivered.specs.Cards.{CardValue, card_page, unknown}
 use Rattle.fax_undelivered.specs.Keeps.{Keeps, KeepsStill}
 use Rattle.fax_undelivered.specs.declared.undelivered.Undelivered.{Undelivered}
 
@@ -43,3 +46,20 @@ EndsCall seen may_leave is_usable name was old new =
 pub notes_delivered : {D : Type 0} (seen : D → List ℕ) (may_leave : D → List ℕ → Type 0) (is_usable : D → Bool) (name called : CallName) (was : Bool) (old new : Undelivered D)
     → name ≡ called → EndsCall seen may_leave is_usable name was old new → NotesDelivered seen may_leave is_usable called was old new
 notes_delivered {D} seen may_leave is_usable name called was old new same ends = subst (λ (n : CallName). EndsCall {D = D} seen may_leave is_usable n was old new) same ends
+
+-- ---- where that is no `Ok`
+
+pub may_put : {D T E : Type 0} (seen : D → List ℕ) (may_leave : D → List ℕ → Type 0) (is_usable : D → Bool) (name called : CallName) (card : CardValue) (answer : Result T E) (old new : Spool D) → name ≡ called
+    → OnErr answer ((tag : List ℕ) × Does seen may_leave is_usable (Puts (card_page name tag card ∷ [])) false old new) → OnErr answer (MayPutCard seen may_leave is_usable called old new)
+may_put seen may_leave is_usable name called card (Ok it) old new same put = tt
+may_put seen may_leave is_usable name called card (Err e) old new same put =
+    (card, put.0, subst (λ (n : CallName). Does seen may_leave is_usable (Puts (card_page n put.0 card ∷ [])) false old new) same put.1)
+
+pub puts_none : {D T E : Type 0} (seen : D → List ℕ) (may_leave : D → List ℕ → Type 0) (is_usable : D → Bool) (name : CallName) (answer : Result T E) (old : Spool D) → OnErr answer (MayPutCard seen may_leave is_usable name old old)
+puts_none seen may_leave is_usable name (Ok it) old = tt
+puts_none seen may_leave is_usable name (Err e) old = (unknown, [], does_nothing seen may_leave is_usable old old (Puts (card_page name [] unknown ∷ [])))
+
+pub may_end : {D T E : Type 0} (seen : D → List ℕ) (may_leave : D → List ℕ → Type 0) (is_usable : D → Bool) (name called : CallName) (P : Type 0) (answer : Result T E) (old new : Spool D) → name ≡ called
+    → OnErr answer (Does seen may_leave is_usable (Ends (end_of name)) false old new) → OnErr answer (P → Does seen may_leave is_usable (Ends (end_of called)) false old new)
+may_end seen may_leave is_usable name called P (Ok it) old new same ends = tt
+may_end seen may_leave is_usable name called P (Err e) old new same ends = λ p. subst (λ (n : CallName). Does seen may_leave is_usable (Ends (end_of n)) false old new) same ends

@@ -5,6 +5,8 @@ use Rattle.fax_desk.specs.declared.questions.Cause.{Cause}
 use Rattle.fax_line.specs.Actions.{LineValue}
 use Rattle.fax_line.specs.declared.asked.LineAnswer.{LineAnswer}
 use Rattle.fax_line.specs.declared.asked.LineRequest.{LineRequest}
+use Rattle.fax_queue.specs.Queues.{QueueValue}
+use Rattle.fax_redial.specs.Owing.{is_owed}
 use Rattle.fax_redial.specs.Tries.{Begins, IsAsked, TryValue, Turns, end_of, is_of, is_over}
 use Rattle.fax_redial.specs.declared.fault.BeginFault.{BeginFault}
 use Rattle.fax_redial.specs.declared.fault.BeginFault.TheVariants as faults
@@ -32,18 +34,19 @@ job_at (Some (Some held)) = Some held.job
 
 -- ---- whether a try begins
 
-abbrev pub fault_of_job : (is_tried : Bool) → (waiting : ℕ) → Option BeginFault
-fault_of_job true waiting = Some faults.UnderWay
-fault_of_job false waiting = if nat_eq waiting 0 then Some faults.NoPage else None
+abbrev pub fault_of_job : (is_tried is_owed_now : Bool) → (waiting : ℕ) → Option BeginFault
+fault_of_job true is_owed_now waiting = Some faults.UnderWay
+fault_of_job false true waiting = Some faults.Owed
+fault_of_job false false waiting = if nat_eq waiting 0 then Some faults.NoPage else None
 
-abbrev pub fault_at : Option (Option TryValue) → (is_tried : Bool) → (waiting : ℕ) → Option BeginFault
-fault_at None is_tried waiting = Some faults.NoLine
-fault_at (Some (Some held)) is_tried waiting = Some faults.Busy
-fault_at (Some None) is_tried waiting = fault_of_job is_tried waiting
+abbrev pub fault_at : Option (Option TryValue) → (is_tried is_owed_now : Bool) → (waiting : ℕ) → Option BeginFault
+fault_at None is_tried is_owed_now waiting = Some faults.NoLine
+fault_at (Some (Some held)) is_tried is_owed_now waiting = Some faults.Busy
+fault_at (Some None) is_tried is_owed_now waiting = fault_of_job is_tried is_owed_now waiting
 
--- NONE BEGINS of a job that is tried already, or on a line that has a try, or without a page.
-abbrev pub fault_of : Tries → ℕ → RetryJob → LineValue → Option BeginFault
-fault_of tries i job line = fault_at (slice_get tries i) (is_under_way job.name tries) (length line.gateway.book.waiting)
+-- NONE BEGINS of a job that is tried already, or that its own line owes, or on a line that has a try, or without a page.
+abbrev pub fault_of : Tries → ℕ → List QueueValue → RetryJob → LineValue → Option BeginFault
+fault_of tries i queues job line = fault_at (slice_get tries i) (is_under_way job.name tries) (is_owed queues job.name) (length line.gateway.book.waiting)
 
 -- else it begins, but for want of memory
 abbrev pub BeginsUnless : Option BeginFault → Result (Unit {0}) BeginFault → Type 0
@@ -53,9 +56,10 @@ BeginsUnless None (Err fault) = fault ≡ faults.NoMemory
 
 -- ---- what befalls the try of one line: all others stay as they were
 
-pub record BeginsAt (i : ℕ) (job : RetryJob) (line : LineValue) (old new : Tries) : Type 0 where
+pub record BeginsAt (i : ℕ) (queues : List QueueValue) (job : RetryJob) (line : LineValue) (old new : Tries) : Type 0 where
   pub free : slice_get old i ≡ Some None
   pub other : is_under_way job.name old ≡ false
+  pub not_owed : is_owed queues job.name ≡ false
   pub held : TryValue
   pub begins : Begins job line held
   pub tries : new ≡ slice_set old i (Some held)
@@ -82,13 +86,13 @@ pub record EndsAt (i : ℕ) (end : RetryEnd) (old new : Tries) : Type 0 where
   pub tries : new ≡ slice_set old i None
 
 pub data Befall : Type 0 where
-  Begun : (i : ℕ) → (job : RetryJob) → (line : LineValue) → Befall
+  Begun : (i : ℕ) → (queues : List QueueValue) → (job : RetryJob) → (line : LineValue) → Befall
   Turned : (i now : ℕ) → (cause : Option Cause) → Befall
   Asked : (i now : ℕ) → (what : LineRequest) → (answer : Option LineAnswer) → Befall
   Ended : (i : ℕ) → (end : RetryEnd) → Befall
 
 abbrev pub IsBefallen : Befall → Tries → Tries → Type 0
-IsBefallen (Begun i job line) old new = BeginsAt i job line old new
+IsBefallen (Begun i queues job line) old new = BeginsAt i queues job line old new
 IsBefallen (Turned i now cause) old new = TurnsAt i now cause old new
 IsBefallen (Asked i now what answer) old new = IsAskedAt i now what answer old new
 IsBefallen (Ended i end) old new = EndsAt i end old new

@@ -6,6 +6,7 @@ use Rattle.fax_gateway.specs.Restored.{RestoredCall}
 use Rattle.fax_line.specs.Actions.{BeginsWith, LineValue}
 use Rattle.fax_line.specs.Runs.{DoneOrder}
 use Rattle.fax_redial.specs.Befalls.{AreApart, Asked, Befall, Befell, Begun, Ended, Tries, Turned}
+use Rattle.fax_redial.specs.Owing.{is_owed}
 use Rattle.fax_redial.specs.Tries.{IsTried, TryValue, is_of, same_name}
 use Rattle.fax_redial.specs.declared.job.RetryJob.{RetryJob}
 use Rattle.fax_spool.specs.Torn.{CallName}
@@ -17,6 +18,19 @@ AreIdle tries = All (λ held. held ≡ None) tries
 abbrev pub NoJobIsTriedTwice : Type 0
 NoJobIsTriedTwice = (befell : List Befall) (old new : Tries) → AreIdle old → Befell befell old new → AreApart new
 
+-- ---- what a line owes when a try begins
+
+abbrev pub AreNotOwed : List Befall → Type 0
+AreNotOwed [] = Unit {0}
+AreNotOwed (Begun k queues job line ∷ earlier) = (is_owed queues job.name ≡ false) × AreNotOwed earlier
+AreNotOwed (Turned k now cause ∷ earlier) = AreNotOwed earlier
+AreNotOwed (Asked k now what answer ∷ earlier) = AreNotOwed earlier
+AreNotOwed (Ended k end ∷ earlier) = AreNotOwed earlier
+
+-- NO JOB IS TRIED THAT ITS LINE OWES: no page of it waits on a queue as its try begins.
+abbrev pub NoJobThatIsOwedIsTried : Type 0
+NoJobThatIsOwedIsTried = (befell : List Befall) (old new : Tries) → Befell befell old new → AreNotOwed befell
+
 -- ---- the job and the line of the try that began last on redial line i
 
 pub record Beginning : Type 0 where
@@ -25,7 +39,7 @@ pub record Beginning : Type 0 where
 
 abbrev pub begun_on : ℕ → List Befall → Option Beginning
 begun_on i [] = None
-begun_on i (Begun k job line ∷ earlier) = if nat_eq k i then Some (record { job = job; line = line }) else begun_on i earlier
+begun_on i (Begun k queues job line ∷ earlier) = if nat_eq k i then Some (record { job = job; line = line }) else begun_on i earlier
 begun_on i (Turned k now cause ∷ earlier) = begun_on i earlier
 begun_on i (Asked k now what answer ∷ earlier) = begun_on i earlier
 begun_on i (Ended k end ∷ earlier) = begun_on i earlier
@@ -49,14 +63,14 @@ one_if false count = count
 
 abbrev pub times_begun : CallName → List Befall → ℕ
 times_begun name [] = 0
-times_begun name (Begun k job line ∷ earlier) = one_if (same_name job.name name) (times_begun name earlier)
+times_begun name (Begun k queues job line ∷ earlier) = one_if (same_name job.name name) (times_begun name earlier)
 times_begun name (Turned k now cause ∷ earlier) = times_begun name earlier
 times_begun name (Asked k now what answer ∷ earlier) = times_begun name earlier
 times_begun name (Ended k end ∷ earlier) = times_begun name earlier
 
 abbrev pub times_ended : CallName → List Befall → ℕ
 times_ended name [] = 0
-times_ended name (Begun k job line ∷ earlier) = times_ended name earlier
+times_ended name (Begun k queues job line ∷ earlier) = times_ended name earlier
 times_ended name (Turned k now cause ∷ earlier) = times_ended name earlier
 times_ended name (Asked k now what answer ∷ earlier) = times_ended name earlier
 times_ended name (Ended k end ∷ earlier) = one_if (same_name end.name name) (times_ended name earlier)

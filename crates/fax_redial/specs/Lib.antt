@@ -2,6 +2,7 @@ pub mod Befalls
 pub mod Begun
 pub mod Laws
 pub mod Noting
+pub mod Owing
 pub mod Picking
 pub mod Retrying
 pub mod Seeing

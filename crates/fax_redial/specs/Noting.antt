@@ -7,8 +7,10 @@ use Rattle.fax_desk.specs.Questions.{cause_text}
 use Rattle.fax_desk.specs.declared.questions.Cause.{Cause}
 use Rattle.fax_redial.specs.declared.job.RetryEnd.{RetryEnd}
 use Rattle.fax_spool.specs.RecordOctets.{PageValue}
+use Rattle.fax_spool.specs.Calls.{Does, Puts}
 use Rattle.fax_spool.specs.Torn.{CallName}
 use Rattle.fax_spool.specs.Waits.{without}
+use Rattle.fax_spool.specs.declared.spool.Spool.{Spool}
 use Rattle.fax_undelivered.specs.Calls.{CallValue, end_of, is_named}
 use Rattle.fax_undelivered.specs.Cards.{CardValue, card_page}
 use Rattle.fax_undelivered.specs.Keeps.{Keeps, KeepsStill}
@@ -51,3 +53,7 @@ pub record NotesTry {D : Type 0} (seen : D → List ℕ) (may_leave : D → List
 abbrev pub NotesFailed : {D : Type 0} → (D → List ℕ) → (D → List ℕ → Type 0) → (D → Bool) → RetryEnd → (at : ℕ) → (was : Bool) → (old new : Undelivered D) → Type 0
 NotesFailed seen may_leave is_usable end at was old new =
     (list_any (is_named end.name) old.calls.items ≡ was) × MatchBool was (NotesTry seen may_leave is_usable end at old new) (new ≡ old)
+
+-- AN END THAT COULD NOT BE NOTED: at most a card of that call was asked for, which each crash leaves there or not.
+abbrev pub MayPutCard : {D : Type 0} → (D → List ℕ) → (D → List ℕ → Type 0) → (D → Bool) → CallName → (old new : Spool D) → Type 0
+MayPutCard seen may_leave is_usable name old new = (card : CardValue) × (tag : List ℕ) × Does seen may_leave is_usable (Puts (card_page name tag card ∷ [])) false old new

@@ -13,6 +13,9 @@ pub enum BeginFault {
     /// The job is tried already, on this redial line or another one.
     #[error("the job is tried already")]
     UnderWay,
+    /// A page of the job waits on the queue of its own line, which will send it.
+    #[error("its line owes the job")]
+    Owed,
     /// No page waits on the line.
     #[error("no page waits")]
     NoPage,

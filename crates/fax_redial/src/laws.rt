@@ -1,9 +1,14 @@
 //! Laws of the definitions: functions that do nothing, each of whose contracts is a theorem.
-ghost use Rattle.fax_redial.specs.Laws.{EachEndIsToldOnce, NoJobIsTriedTwice, TriesAreOfTheirJobs};
+ghost use Rattle.fax_redial.specs.Laws.{EachEndIsToldOnce, NoJobIsTriedTwice, NoJobThatIsOwedIsTried, TriesAreOfTheirJobs};
 
 /// No job is tried on two redial lines at one time.
 pub fn no_job_is_tried_twice()
     ensures { NoJobIsTriedTwice }
+{}
+
+/// No job is tried that its own line owes, which will send it.
+pub fn no_job_that_is_owed_is_tried()
+    ensures { NoJobThatIsOwedIsTried }
 {}
 
 /// Each try is of the job that began last on its redial line, and goes on from the line that it began with, by itself.

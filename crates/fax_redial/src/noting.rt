@@ -1,15 +1,16 @@
 //! What is noted of a try that ended.
-ghost use Rattle.std.specs.Prelude.{◌≡◌, false, IfOk, MatchOption};
+ghost use Rattle.std.specs.Prelude.{◌≡◌, false, IfOk, OnErr, MatchOption};
 ghost use Rattle.std.specs.List.{list_any};
 ghost use Rattle.fax_jobs.specs.declared.outcome.Outcome.TheVariants as outcomes;
-ghost use Rattle.fax_redial.specs.Noting.{IsCauseOf, IsOneTryMore, NotesDelivered, NotesFailed, card_named};
-ghost use Rattle.fax_undelivered.specs.Calls.{is_named};
+ghost use Rattle.fax_redial.specs.Noting.{IsCauseOf, IsOneTryMore, MayPutCard, NotesDelivered, NotesFailed, card_named};
+ghost use Rattle.fax_spool.specs.Calls.{Does, Ends};
+ghost use Rattle.fax_undelivered.specs.Calls.{end_of, is_named};
 ghost use Rattle.fax_undelivered.specs.Cards.{CardValue};
 
 use crate::job::RetryEnd;
+use crate::picking::is_named;
 use fax_desk::Cause;
 use fax_jobs::Outcome;
-use fax_spool::CallName;
 use fax_undelivered::{Card, Undelivered, UndeliveredCall};
 use sqlite_disk::Disk;
 use std::alloc::{AllocError, Global};
@@ -25,6 +26,9 @@ pub fn note_end<D: Disk>(
 ) -> io::Result<bool>
     ensures delivered { IfOk result (λ was. end.now.outcome ≡ outcomes.Delivered → NotesDelivered D.seen D.may_leave D.is_usable end.now.name was kept.old kept.new) }
     ensures failed { IfOk result (λ was. ¬ (end.now.outcome ≡ outcomes.Delivered) → NotesFailed D.seen D.may_leave D.is_usable end.now at was kept.old kept.new) }
+    ensures not_gone { OnErr result (end.now.outcome ≡ outcomes.Delivered → Does D.seen D.may_leave D.is_usable (Ends (end_of end.now.name)) false kept.old.spool kept.new.spool) }
+    ensures not_told { OnErr result (¬ (end.now.outcome ≡ outcomes.Delivered) → MayPutCard D.seen D.may_leave D.is_usable end.now.name kept.old.spool kept.new.spool) }
+    ensures same { OnErr result (kept.new.calls.items ≡ kept.old.calls.items) }
 {
     let name = &end.name;
     match end.outcome {
@@ -40,7 +44,9 @@ fn note_failed<D: Disk>(
     end: &RetryEnd,
     at: u64,
 ) -> io::Result<bool>
-    ensures { IfOk result (λ was. NotesFailed D.seen D.may_leave D.is_usable end.now at was kept.old kept.new) }
+    ensures noted { IfOk result (λ was. NotesFailed D.seen D.may_leave D.is_usable end.now at was kept.old kept.new) }
+    ensures not_told { OnErr result (MayPutCard D.seen D.may_leave D.is_usable end.now.name kept.old.spool kept.new.spool) }
+    ensures same { OnErr result (kept.new.calls.items ≡ kept.old.calls.items) }
 {
     let name = &end.name;
     let Some(card) = card_after(alloc, kept.calls(), end, at)? else {
@@ -65,13 +71,6 @@ fn card_after(
         }
     }
     Ok(None)
-}
-
-/// Whether it is the call of this name.
-fn is_named(call: &UndeliveredCall, name: &CallName) -> bool
-    ensures { result ≡ is_named name.now call.now }
-{
-    call.life == name.life && call.call == name.call && call.line.as_slice() == name.line.as_slice()
 }
 
 /// The card after one try more.

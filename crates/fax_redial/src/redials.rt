@@ -9,6 +9,7 @@ ghost use Rattle.fax_redial.specs.Tries.{Turns, is_of, report_of};
 use crate::fault::BeginFault;
 use crate::job::{RetryEnd, RetryJob};
 use crate::job_try::JobTry;
+use crate::picking::is_owed;
 use crate::seeing::first_of;
 use fax_bits::NoMemory;
 use fax_desk::{Card, Cause, Desk, Listener, Turn, tell_turn};
@@ -16,6 +17,7 @@ use fax_gateway::TurnReport;
 use fax_holding_wire::HoldingWire;
 use fax_jobs::Report;
 use fax_line::Line;
+use fax_queue::Queue;
 use fax_repeat::TimedWire;
 use std::alloc::Global;
 use std::marker::Model;
@@ -100,20 +102,21 @@ impl<W: TimedWire + Drop> Redials<W> {
         self.tries.iter().all(|held| !held.is_some())
     }
 
-    /// A try of a job begins on redial line i, by a line that was restored with its pages, and with nothing else. An `Err` changes nothing,
-    /// and lets the line go.
+    /// A try of a job begins on redial line i, by a line that was restored with its pages, and with nothing else, where its own line owes
+    /// it by none of these queues. An `Err` changes nothing, and lets the line go.
     pub fn begin(
         &mut self,
         i: usize,
         line: Line<HoldingWire<W>>,
         job: RetryJob,
+        queues: &[Queue],
     ) -> Result<(), BeginFault>
-        ensures answer { BeginsUnless (fault_of self.old.tries i job line) result }
-        ensures begun { OnOk result (BeginsAt i job line self.old.tries self.new.tries) }
+        ensures answer { BeginsUnless (fault_of self.old.tries i queues.now job line) result }
+        ensures begun { OnOk result (BeginsAt i queues.now job line self.old.tries self.new.tries) }
         ensures desk { self.new.desk ≡ self.old.desk }
         ensures err { OnErr result (self.new ≡ self.old) }
     {
-        if let Some(fault) = self.fault(i, &line, &job) {
+        if let Some(fault) = self.fault(i, &line, &job, queues) {
             return Err(fault);
         }
         let held = JobTry::new(self.alloc, line, job)?;
@@ -122,8 +125,14 @@ impl<W: TimedWire + Drop> Redials<W> {
     }
 
     /// Why none begins, but for want of memory.
-    fn fault(&self, i: usize, line: &Line<HoldingWire<W>>, job: &RetryJob) -> Option<BeginFault>
-        ensures { result ≡ fault_of self.now.tries i job.now line.now }
+    fn fault(
+        &self,
+        i: usize,
+        line: &Line<HoldingWire<W>>,
+        job: &RetryJob,
+        queues: &[Queue],
+    ) -> Option<BeginFault>
+        ensures { result ≡ fault_of self.now.tries i queues.now job.now line.now }
     {
         match self.tries.get(i) {
             None => Some(BeginFault::NoLine),
@@ -131,7 +140,8 @@ impl<W: TimedWire + Drop> Redials<W> {
             Some(None) => {
                 let name = &job.name;
                 let is_tried = self.is_under_way(name.line.as_slice(), name.life, name.call);
-                fault_of_job(is_tried, line.waiting())
+                let owes = is_owed(queues, name.line.as_slice(), name.life, name.call);
+                fault_of_job(is_tried, owes, line.waiting())
             }
         }
     }
@@ -162,11 +172,13 @@ impl<W: TimedWire + Drop> Redials<W> {
 }
 
 /// Why no try of a job begins on a line that is free.
-fn fault_of_job(is_tried: bool, waiting: usize) -> Option<BeginFault>
-    ensures { result ≡ fault_of_job is_tried waiting }
+fn fault_of_job(is_tried: bool, is_owed: bool, waiting: usize) -> Option<BeginFault>
+    ensures { result ≡ fault_of_job is_tried is_owed waiting }
 {
     if is_tried {
         Some(BeginFault::UnderWay)
+    } else if is_owed {
+        Some(BeginFault::Owed)
     } else if waiting == 0 {
         Some(BeginFault::NoPage)
     } else {
