@@ -298,6 +298,42 @@ class SomePages(Redialled):
         self.caller.send(PREAMBLE, CALLER_DCN)
 
 
+class TwoJobsOfACall(Redialled):
+    """A caller says of each of two pages that it is the last one, so that they are two jobs, and the first fails while its call is on."""
+
+    def fail_both(self):
+        """While the call is on no try begins, since the end of one would drop what comes meanwhile."""
+        self.assertEqual(self.server.say("ring a1 tag"), ["ok 0"])
+        self.caller.begin_anew()
+        self.caller.train()
+        self.assertEqual(self.caller.send_page(page(1)), MCF)
+        self.refuse("tag")
+        self.client.event("undelivered", tag="tag", pages=1)
+        self.client.no_event("dial", QUIET)
+        self.assertEqual(self.server.say("retry a1 1 0"), IN_CALL)
+        self.assertEqual(self.caller.send_page(page(2)), MCF)
+        self.caller.send(PREAMBLE, CALLER_DCN)
+        self.refuse("tag")
+        self.client.event("undelivered", tag="tag", pages=2)
+
+    def deliver_both(self):
+        """Behind its end both go out, a job each."""
+        for rows in (1, 2):
+            self.deliver_again("tag", 2, rows)
+        until(lambda: self.server.metrics()["faxgate_pages_undelivered"] == 0, what="nothing that is undelivered")
+
+    def test_with_a_spool(self):
+        self.begin_redial(1)
+        self.fail_both()
+        self.deliver_both()
+        self.none_waits()
+
+    def test_in_memory(self):
+        self.begin_redial(1, spool=False)
+        self.fail_both()
+        self.deliver_both()
+
+
 class Lost(AssertionError):
     """What must not come even once: a play of chance that raises it is not played again (`tools/play`)."""
 
@@ -378,7 +414,7 @@ class Driven(Redialled):
             raise Lost(f"{when}: lost: {sorted(lost)[:10]}, of {len(lost)}; not sent: {self.wrong[:10]}")
 
     def call_once(self, line, tag):
-        """A machine calls with this tag, and sends a page or two; each is confirmed, or the server is killed before."""
+        """A machine calls with this tag, and sends a page or two, which are a job or two; each is confirmed, or the server is killed before."""
         with contextlib.suppress(OSError, AssertionError, TimeoutError):
             caller = self.callers[line.name]
             caller.forget()
@@ -387,7 +423,7 @@ class Driven(Redialled):
             self.hear(caller, GATEWAY_DIS)
             caller.send(caller.dcs, TRAINING, CHECK)
             self.hear(caller, CFR)
-            commands = random.choice([(CALLER_EOP,), (CALLER_MPS, CALLER_EOP)])
+            commands = random.choice([(CALLER_EOP,), (CALLER_MPS, CALLER_EOP), (CALLER_EOP, CALLER_EOP)])
             for number, command in enumerate(commands, 1):
                 self.send_page(caller, (tag, number), command)
             caller.send(PREAMBLE, CALLER_DCN)
