@@ -10,9 +10,9 @@ import subprocess
 import time
 import unittest
 
-from calls import Called
-from redialled import Driven
-from server import LONGEST, until
+from calls import Called, Caller
+from redialled import Driven, Redial, Redialled
+from server import LONGEST, Server, until
 
 FILLS = int(os.environ.get("FAXGATE_FILLS", "2"))
 # T.30, table 2: it receives at up to 14,400 bit/s (V.17), and wants no time for a row.
@@ -70,18 +70,45 @@ class LimitOfFiles:
     def fill(self):
         path = os.path.join(self.folder, random.choice(FILES))
         with open(path, "rb") as file:
-            self._limit(len(file.read().rstrip(b"\0")) + random.choice((0, 20, 500, 3_000)))
+            self.limit(len(file.read().rstrip(b"\0")) + random.choice((0, 20, 500, 3_000)))
 
     def give_room(self):
         if self.server.process.poll() is None:
-            self._limit(resource.RLIM_INFINITY)
+            self.limit(resource.RLIM_INFINITY)
 
-    def _limit(self, octets):
+    def limit(self, octets):
+        """No file gets longer than this, and nothing is written behind it."""
         _, most = resource.prlimit(self.server.process.pid, resource.RLIMIT_FSIZE)
         resource.prlimit(self.server.process.pid, resource.RLIMIT_FSIZE, (octets, most))
 
     def close(self):
         pass
+
+
+def keeps(server):
+    """Whether pages are stored; between two runs nobody listens."""
+    with contextlib.suppress(OSError, AssertionError):
+        return any(line.startswith("spool keeps ") for line in server.say("status"))
+
+
+class ATryThatEnds(Redialled):
+    def test_it_holds_up_nothing(self):
+        """Its end cannot be noted. The spool is opened anew 10 s later all the same, and not when a stop would be over; the job is there."""
+        self.redials, self.a1 = [Redial(self.ports)], self.line(called_peer=False)
+        self.server = Server([self.a1, *self.redials], spool=True, head="stop_seconds = 600")
+        self.addCleanup(self.server.close)
+        self.client = self.server.start().events()
+        self.caller = Caller(self.peer(self.a1, "calling"))
+        self.fail(1, "tag")
+        self.assertEqual(self.client.say("retry a1 1 0"), ["ok"])
+        self.asked_again("tag", 2)
+        disk = LimitOfFiles(self.server)
+        disk.limit(0)
+        self.assertEqual(self.client.say("refuse r1 busy"), ["ok"])
+        self.client.event("spool_failed")
+        disk.give_room()
+        until(lambda: keeps(self.server), what="a spool that keeps")
+        self.assertEqual([(told["tag"], told["tries"]) for told in self.told()], [("tag", 1)])
 
 
 class Full(Driven):
@@ -140,7 +167,7 @@ class Full(Driven):
         self.see_none_lost(self.listed(), "while the disk is full")
         if self.server.process.poll() is None:
             self.disk.give_room()
-            until(self.keeps, 2 * LONGEST, "a spool that keeps")
+            until(lambda: keeps(self.server), 2 * LONGEST, "a spool that keeps")
         else:
             self.start_full()
         self.see_none_lost(self.listed(), "once the disk has room")
@@ -166,11 +193,6 @@ class Full(Driven):
             if time.monotonic() > end:
                 return
             time.sleep(0.1)
-
-    def keeps(self):
-        """Whether pages are stored; between two runs nobody listens."""
-        with contextlib.suppress(OSError, AssertionError):
-            return any(line.startswith("spool keeps ") for line in self.server.say("status"))
 
     def count_failure(self):
         """Notes whether the disk has failed by now, and at what."""
