@@ -77,13 +77,15 @@ memory: all bench/c_tests
 # time the next process has to find what was told as put, and at most the one under way besides. Then kills `faxgate serve` with
 # machines on its lines, 20 times: each page whose MCF its caller saw has to come in the end. Then turns an octet of a spool, 40
 # times, and, as root, fills the disk under one: nothing wrong may be sent. Then kills it while jobs fail, are tried again and are
-# dropped by words, 300 times. It wants Python 3, a C compiler, and some forty minutes after the proofs of the crates.
+# dropped by words, 300 times; fills its disk meanwhile, 60 times, half of them as root; turns an octet in either pair of files, 40
+# times in each; and opens a folder of 10,000 jobs that failed. It wants Python 3, a C compiler, and some hour after the proofs.
 crash: all
 	cd crates/spool_tests && $(RT) test > /dev/null
 	tools/crash crates/spool_tests/out/spool_tests_tests
 	tools/crash-serve $(PROGRAM)
 	tools/damage-serve $(PROGRAM)
-	FAXGATE_KILLS=300 tools/play $(PROGRAM) --slow 10 -k Killed
+	FAXGATE_KILLS=300 FAXGATE_FILLS=30 FAXGATE_TURNS=40 tools/play $(PROGRAM) --slow 10 -k Killed -k full_disk -k damaged
+	FAXGATE_UNDELIVERED=10000 tools/play $(PROGRAM) -k many_undelivered
 
 # Checks that the tables of code words are those that tools/code-tables makes of the words of ITU-T T.4. It wants
 # Python 3 and no `rt`.
