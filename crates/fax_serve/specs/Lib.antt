@@ -1,8 +1,1 @@
-pub mod Desking
-pub mod Histories
-pub mod StoredRuns
-pub mod Openings
-pub mod Runs
-pub mod Views
-pub mod Crossings
 pub mod Damages

@@ -2,28 +2,26 @@
 ghost use Rattle.std.specs.Prelude.{◌≡◌, IfOk, None, OnOk, true, false, is_some, length};
 ghost use Rattle.fax_line.specs.Operations.{AreBegun, AreNew};
 ghost use Rattle.fax_serve.specs.Damages.{damage_found};
-ghost use Rattle.fax_serve.specs.StoredRuns.{RunIsStored, ServedOver, ServedWith};
-ghost use Rattle.fax_serve.specs.Runs.{ServedAlone};
+ghost use Rattle.fax_runs.specs.StoredRuns.{RunIsStored, ServedOver, ServedWith};
+ghost use Rattle.fax_runs.specs.Runs.{ServedAlone};
 
-use crate::clock::Stopwatch;
-use crate::control::{close_control, open_control};
-use crate::fault::ServeFault;
-use crate::pace::RealPace;
-use crate::redials::{RedialLines, open_redials};
+use crate::redials::{RedialLines, RedialWire, open_redials};
 use crate::sip::{SipFront, open_sip};
-use crate::sockets::{ServedWire, SocketLegs, SocketWire, open_lines, open_restored_lines};
-use crate::store::KeepingStore;
-use crate::watch::Watch;
 use fax_clients::Clients;
 use fax_config::{Config, LineConfig};
 use fax_desk::{Card, Damage, Desk, RunEnd};
 use fax_held::HeldPages;
 use fax_holding_wire::{HoldingWire, PageStore};
 use fax_line::{Lines, PageToStore, RunStore, serve};
+use fax_opening::{
+    ServeFault, ServedWire, SocketWire, Stopwatch, close_control, open_control, open_lines,
+    open_restored_lines,
+};
+use fax_pace::{RealPace, RedialSide, Seen, SeenLines, SipSide, Watch};
 use fax_queue::Storage;
 use fax_spool::OpenedSpool;
 use fax_spool_folder::{Folders, SpoolFolderFile};
-use fax_undelivered::Undelivered;
+use fax_undelivered::{KeepingStore, Undelivered};
 use fax_visitors::Visitors;
 use sqlite_disk::{Disk, Start};
 use std::alloc::Global;
@@ -110,7 +108,7 @@ fn serve_with_sip<
     ensures kept { OnOk result (is_some config.now.spool ≡ true → ServedOver ⟦<SpoolFolderFile<S> as Disk>⟧.seen ⟦<SpoolFolderFile<S> as Disk>⟧.may_leave ⟦<SpoolFolderFile<S> as Disk>⟧.is_usable ⟦<SpoolFolderFile<S> as Disk>⟧.is_clean ⟦<KeepingStore<SpoolFolderFile<S>, SpoolFolderFile<T>> as RunStore>⟧.is_same ⟦<KeepingStore<SpoolFolderFile<S>, SpoolFolderFile<T>> as PageStore<PageToStore>>⟧.puts ⟦<KeepingStore<SpoolFolderFile<S>, SpoolFolderFile<T>> as RunStore>⟧.notes ⟦<KeepingStore<SpoolFolderFile<S>, SpoolFolderFile<T>> as RunStore>⟧.ends (λ store. store.storage.spool) (λ store. store.storage.queues.items) S.db S.log config.now.lines.items) }
 {
     let sip = open_sip(system, alloc, config)?;
-    serve_clients(
+    serve_over::<ServedWire, SipFront, N, I, O, S, T>(
         system,
         alloc,
         config,
@@ -122,35 +120,10 @@ fn serve_with_sip<
     )
 }
 
-/// Serves the lines of a configuration until one of these clients says `stop`, or its spool has failed; with SIP, where that is open.
-pub fn serve_clients<N: Net + Clock + Folders, I: Read + Drop, O: Write + Drop, S: Start, T: Start>(
-    system: &N,
-    alloc: Global,
-    config: &Config,
-    clients: Clients<I, O>,
-    sip: Option<SipFront>,
-    spool_failures: u64,
-    start: S,
-    undelivered: T,
-) -> Result<RunEnd, ServeFault>
-    ensures alone { OnOk result (ServedAlone (length config.now.lines.items) (is_some config.now.spool)) }
-    ensures kept { OnOk result (is_some config.now.spool ≡ true → ServedOver ⟦<SpoolFolderFile<S> as Disk>⟧.seen ⟦<SpoolFolderFile<S> as Disk>⟧.may_leave ⟦<SpoolFolderFile<S> as Disk>⟧.is_usable ⟦<SpoolFolderFile<S> as Disk>⟧.is_clean ⟦<KeepingStore<SpoolFolderFile<S>, SpoolFolderFile<T>> as RunStore>⟧.is_same ⟦<KeepingStore<SpoolFolderFile<S>, SpoolFolderFile<T>> as PageStore<PageToStore>>⟧.puts ⟦<KeepingStore<SpoolFolderFile<S>, SpoolFolderFile<T>> as RunStore>⟧.notes ⟦<KeepingStore<SpoolFolderFile<S>, SpoolFolderFile<T>> as RunStore>⟧.ends (λ store. store.storage.spool) (λ store. store.storage.queues.items) S.db S.log config.now.lines.items) }
-{
-    serve_over::<ServedWire, N, I, O, S, T>(
-        system,
-        alloc,
-        config,
-        clients,
-        sip,
-        spool_failures,
-        start,
-        undelivered,
-    )
-}
-
-/// The same over wires of this type.
+/// The same over wires of this type, with SIP of this type, and over the sockets of redial lines.
 fn serve_over<
     W: SocketWire + Drop,
+    P: SipSide + Drop,
     N: Net + Clock + Folders,
     I: Read + Drop,
     O: Write + Drop,
@@ -161,7 +134,7 @@ fn serve_over<
     alloc: Global,
     config: &Config,
     clients: Clients<I, O>,
-    sip: Option<SipFront>,
+    sip: Option<P>,
     spool_failures: u64,
     start: S,
     undelivered: T,
@@ -170,12 +143,53 @@ fn serve_over<
     ensures kept { OnOk result (is_some config.now.spool ≡ true → ServedOver ⟦<SpoolFolderFile<S> as Disk>⟧.seen ⟦<SpoolFolderFile<S> as Disk>⟧.may_leave ⟦<SpoolFolderFile<S> as Disk>⟧.is_usable ⟦<SpoolFolderFile<S> as Disk>⟧.is_clean ⟦<KeepingStore<SpoolFolderFile<S>, SpoolFolderFile<T>> as RunStore>⟧.is_same ⟦<KeepingStore<SpoolFolderFile<S>, SpoolFolderFile<T>> as PageStore<PageToStore>>⟧.puts ⟦<KeepingStore<SpoolFolderFile<S>, SpoolFolderFile<T>> as RunStore>⟧.notes ⟦<KeepingStore<SpoolFolderFile<S>, SpoolFolderFile<T>> as RunStore>⟧.ends (λ store. store.storage.spool) (λ store. store.storage.queues.items) S.db S.log config.now.lines.items) }
 {
     let sockets = open_redials(system, alloc, config.redial.as_slice())?;
-    let redials = RedialLines::new(alloc, config, sockets.as_slice())?;
+    let redials: RedialLines<'_, RedialWire<'_>> = RedialLines::new(
+        alloc,
+        config,
+        sockets.as_slice(),
+    )?;
+    serve_beside::<W, P, RedialLines<'_, RedialWire<'_>>, N, I, O, S, T>(
+        system,
+        alloc,
+        config,
+        clients,
+        sip,
+        redials,
+        spool_failures,
+        start,
+        undelivered,
+    )
+}
+
+/// The same beside redial lines of this type.
+fn serve_beside<
+    W: SocketWire + Drop,
+    P: SipSide + Drop,
+    R: RedialSide + Drop,
+    N: Net + Clock + Folders,
+    I: Read + Drop,
+    O: Write + Drop,
+    S: Start,
+    T: Start,
+>(
+    system: &N,
+    alloc: Global,
+    config: &Config,
+    clients: Clients<I, O>,
+    sip: Option<P>,
+    redials: R,
+    spool_failures: u64,
+    start: S,
+    undelivered: T,
+) -> Result<RunEnd, ServeFault>
+    ensures alone { OnOk result (ServedAlone (length config.now.lines.items) (is_some config.now.spool)) }
+    ensures kept { OnOk result (is_some config.now.spool ≡ true → ServedOver ⟦<SpoolFolderFile<S> as Disk>⟧.seen ⟦<SpoolFolderFile<S> as Disk>⟧.may_leave ⟦<SpoolFolderFile<S> as Disk>⟧.is_usable ⟦<SpoolFolderFile<S> as Disk>⟧.is_clean ⟦<KeepingStore<SpoolFolderFile<S>, SpoolFolderFile<T>> as RunStore>⟧.is_same ⟦<KeepingStore<SpoolFolderFile<S>, SpoolFolderFile<T>> as PageStore<PageToStore>>⟧.puts ⟦<KeepingStore<SpoolFolderFile<S>, SpoolFolderFile<T>> as RunStore>⟧.notes ⟦<KeepingStore<SpoolFolderFile<S>, SpoolFolderFile<T>> as RunStore>⟧.ends (λ store. store.storage.spool) (λ store. store.storage.queues.items) S.db S.log config.now.lines.items) }
+{
     match &config.spool {
-        None => serve_in_memory::<W, N, I, O, SpoolFolderFile<S>, SpoolFolderFile<T>>(
+        None => serve_in_memory::<W, P, R, N, I, O, SpoolFolderFile<S>, SpoolFolderFile<T>>(
             system, alloc, config, clients, sip, redials,
         ),
-        Some(folder) => serve_spooled::<W, N, I, O, S, T>(
+        Some(folder) => serve_spooled::<W, P, R, N, I, O, S, T>(
             system,
             alloc,
             config,
@@ -192,57 +206,63 @@ fn serve_over<
 
 /// The same where pages are kept in memory alone, and on no disk of this type.
 fn serve_in_memory<
-    'a,
     W: SocketWire + Drop,
+    P: SipSide + Drop,
+    R: RedialSide + Drop,
     N: Net + Clock,
     I: Read + Drop,
     O: Write + Drop,
     D: Disk + Drop,
     U: Disk + Drop,
 >(
-    system: &'a N,
+    system: &N,
     alloc: Global,
     config: &Config,
     clients: Clients<I, O>,
-    sip: Option<SipFront>,
-    redials: RedialLines<'a>,
+    sip: Option<P>,
+    redials: R,
 ) -> Result<RunEnd, ServeFault>
     ensures { OnOk result (ServedAlone (length config.now.lines.items) false) }
 {
     let lines: Lines<HoldingWire<W>> = open_lines(system, alloc, config.lines.as_slice())?;
     let held = held_pages(alloc, config.lines.as_slice())?;
+    let seen = Seen::<HoldingWire<W>, D, U> {
+        lines: &lines,
+        store: None,
+    };
     let mut pace = pace_of(
         system,
         alloc,
         config,
         clients,
         sip,
-        &lines,
+        &seen,
         redials,
         Some(held),
         0,
     )?;
-    serve_new::<W, N, I, O, D, U>(lines, &mut pace);
+    serve_new::<W, P, R, N, I, O, D, U>(lines, &mut pace);
     Ok(pace.finish())
 }
 
 /// The same where pages are stored in the spool of this folder: each line begins with those of its own that wait there, but for calls that
 /// lack a page.
 fn serve_spooled<
-    'a,
     W: SocketWire + Drop,
+    P: SipSide + Drop,
+    R: RedialSide + Drop,
     N: Net + Clock + Folders,
     I: Read + Drop,
     O: Write + Drop,
     S: Start,
     T: Start,
 >(
-    system: &'a N,
+    system: &N,
     alloc: Global,
     config: &Config,
     clients: Clients<I, O>,
-    sip: Option<SipFront>,
-    redials: RedialLines<'a>,
+    sip: Option<P>,
+    redials: R,
     folder: &str,
     spool_failures: u64,
     start: S,
@@ -253,7 +273,7 @@ fn serve_spooled<
 {
     let opened = system.open_spool(folder, start)?;
     let kept = system.open_undelivered(folder, undelivered)?;
-    serve_opened::<W, N, I, O, SpoolFolderFile<S>, SpoolFolderFile<T>>(
+    serve_opened::<W, P, R, N, I, O, SpoolFolderFile<S>, SpoolFolderFile<T>>(
         system,
         alloc,
         config,
@@ -268,20 +288,21 @@ fn serve_spooled<
 
 /// The same where the spool is open.
 fn serve_opened<
-    'a,
     W: SocketWire + Drop,
+    P: SipSide + Drop,
+    R: RedialSide + Drop,
     N: Net + Clock,
     I: Read + Drop,
     O: Write + Drop,
     D: Disk + Drop,
     U: Disk + Drop,
 >(
-    system: &'a N,
+    system: &N,
     alloc: Global,
     config: &Config,
     clients: Clients<I, O>,
-    sip: Option<SipFront>,
-    redials: RedialLines<'a>,
+    sip: Option<P>,
+    redials: R,
     opened: OpenedSpool<D>,
     kept: OpenedSpool<U>,
     spool_failures: u64,
@@ -308,13 +329,17 @@ fn serve_opened<
         torn.as_slice(),
         &mut queues,
     )?;
+    let seen = Seen::<HoldingWire<W>, D, U> {
+        lines: &lines,
+        store: None,
+    };
     let mut pace = pace_of(
         system,
         alloc,
         config,
         clients,
         sip,
-        &lines,
+        &seen,
         redials,
         None,
         spool_failures,
@@ -357,37 +382,39 @@ fn held_pages(alloc: Global, configs: &[LineConfig]) -> Result<HeldPages, ServeF
     Ok(held)
 }
 
-/// What gives the orders to these lines, whose pages are kept in memory so, or on a spool that has failed so often before.
-fn pace_of<'a, W: SocketLegs + Drop, N: Net + Clock, I: Read + Drop, O: Write + Drop>(
+/// What gives the orders to lines that are seen so, whose pages are kept in memory so, or on a spool that has failed so often before.
+fn pace_of<
+    'a,
+    L: SeenLines,
+    P: SipSide + Drop,
+    R: RedialSide + Drop,
+    N: Net + Clock,
+    I: Read + Drop,
+    O: Write + Drop,
+>(
     system: &'a N,
     alloc: Global,
     config: &Config,
     clients: Clients<I, O>,
-    sip: Option<SipFront>,
-    lines: &Lines<W>,
-    redials: RedialLines<'a>,
+    sip: Option<P>,
+    seen: &L,
+    redials: R,
     held: Option<HeldPages>,
     spool_failures: u64,
-) -> Result<RealPace<'a, N, I, O>, ServeFault>
+) -> Result<RealPace<'a, N, I, O, R, P>, ServeFault>
     ensures { IfOk result (λ pace. pace.waits ≡ None) }
 {
     let stop_ms = u64::from(config.stop_seconds).saturating_mul(SECOND_MS);
     let desk = desk_of(alloc, config.lines.as_slice(), stop_ms)?;
-    let clock = match Stopwatch::new(system) {
-        Ok(clock) => clock,
-        Err(error) => return Err(ServeFault::Clock(error)),
-    };
-    let watch = Watch::new(system, alloc, lines).ok();
-    let visitors = match config.http {
-        Some(address) => Some(open_visitors(system, alloc, address)?),
-        None => None,
-    };
+    let clock = clock_of(system)?;
+    let watch = Watch::new(system, alloc, seen).ok();
+    let visitors = visitors_of(system, alloc, config)?;
     Ok(RealPace::new(
         alloc,
         clock,
         clients,
         desk,
-        lines.len(),
+        seen.len(),
         watch,
         visitors,
         sip,
@@ -395,6 +422,26 @@ fn pace_of<'a, W: SocketLegs + Drop, N: Net + Clock, I: Read + Drop, O: Write + 
         held,
         spool_failures,
     )?)
+}
+
+/// The clock, from now on.
+fn clock_of<C: Clock>(system: &C) -> Result<Stopwatch<'_, C>, ServeFault> {
+    match Stopwatch::new(system) {
+        Ok(clock) => Ok(clock),
+        Err(error) => Err(ServeFault::Clock(error)),
+    }
+}
+
+/// Those who look at the server over HTTP, where the configuration has an address for them.
+fn visitors_of<N: Net>(
+    system: &N,
+    alloc: Global,
+    config: &Config,
+) -> Result<Option<Visitors>, ServeFault> {
+    match config.http {
+        Some(address) => Ok(Some(open_visitors(system, alloc, address)?)),
+        None => Ok(None),
+    }
 }
 
 /// Those who look at the server over HTTP, at this address.
@@ -412,12 +459,14 @@ fn open_visitors<N: Net>(
 /// Serves lines that are new.
 fn serve_new<
     W: SocketWire + Drop,
+    P: SipSide + Drop,
+    R: RedialSide + Drop,
     C: Clock,
     I: Read + Drop,
     O: Write + Drop,
     D: Disk + Drop,
     U: Disk + Drop,
->(mut lines: Lines<HoldingWire<W>>, pace: &mut RealPace<'_, C, I, O>)
+>(mut lines: Lines<HoldingWire<W>>, pace: &mut RealPace<'_, C, I, O, R, P>)
     requires new { AreNew lines.lines }
     requires idle { pace.old.waits ≡ None }
     ensures { ServedAlone (length lines.lines) false }
@@ -429,12 +478,18 @@ fn serve_new<
 /// Serves lines that begin with the pages that wait.
 fn serve_restored<
     W: SocketWire + Drop,
+    P: SipSide + Drop,
+    R: RedialSide + Drop,
     C: Clock,
     I: Read + Drop,
     O: Write + Drop,
     D: Disk + Drop,
     U: Disk + Drop,
->(mut lines: Lines<HoldingWire<W>>, store: KeepingStore<D, U>, pace: &mut RealPace<'_, C, I, O>)
+>(
+    mut lines: Lines<HoldingWire<W>>,
+    store: KeepingStore<D, U>,
+    pace: &mut RealPace<'_, C, I, O, R, P>,
+)
     requires begun { AreBegun lines.lines }
     requires first { lines.slot ≡ 0 }
     requires idle { pace.old.waits ≡ None }

@@ -1,8 +1,8 @@
 //! What nobody is told: passwords, and what is random.
 ghost use Rattle.std.specs.Prelude.{◌≤◌, length, IfOk};
 
-use crate::fault::ServeFault;
 use fax_config::{SipConfig, TrunkConfig};
+use fax_opening::ServeFault;
 use fax_sip_service::Passwords;
 use std::alloc::{AllocError, Global};
 use std::fs::{File, Files};

@@ -1,16 +1,19 @@
 //! SIP over its sockets.
-use crate::fault::ServeFault;
 use crate::secrets::{Secrets, read_secrets};
 use fax_bits::NoMemory;
 use fax_config::{Config, SipConfig};
-use fax_sip_service::{SetupFault, SipService};
+use fax_control::Word;
+use fax_desk::{LineEvent, Reply, Tag, View};
+use fax_opening::ServeFault;
+use fax_pace::{SipNews, SipSide};
+use fax_sip_service::{Said, SetupFault, SipService};
 use std::alloc::{AllocError, Global};
 use std::fs::Files;
 use std::io;
 use std::net::{Net, SocketAddr, UdpSocket};
 
 /// SIP is looked at so often, in milliseconds: what came is heard, what is due is done, and what is to go out is sent.
-pub(crate) const BETWEEN_SIP_MS: u64 = 5;
+const BETWEEN_SIP_MS: u64 = 5;
 
 /// It is looked so often, in milliseconds, whether a line is idle.
 const BETWEEN_OPENINGS_MS: u64 = 200;
@@ -28,8 +31,9 @@ const COUNTS_END: &str = "# EOF\n";
 
 /// SIP, and the sockets over which it and all audio go.
 #[derive(Drop)]
-pub struct SipFront {
-    pub(crate) service: SipService,
+pub(crate) struct SipFront {
+    alloc: Global,
+    service: SipService,
     sip: UdpSocket,
     audio: UdpSocket,
     buffer: Vec<u8>,
@@ -75,6 +79,7 @@ pub(crate) fn open_sip<N: Net + Files>(
     let mut buffer = Vec::new(alloc);
     buffer.resize(MOST_OCTETS, 0)?;
     Ok(Some(SipFront {
+        alloc,
         service,
         sip,
         audio,
@@ -104,45 +109,6 @@ fn service_of(
 }
 
 impl SipFront {
-    /// Whether it is looked at now; if so, it is looked at again later.
-    pub fn is_due(&mut self, now: u64) -> bool {
-        if now < self.due {
-            return false;
-        }
-        self.due = now.saturating_add(BETWEEN_SIP_MS);
-        true
-    }
-
-    /// Whether SIP says something now, before clients do: it did not just before.
-    pub fn goes_first(&mut self) -> bool {
-        let goes_first = !self.has_said;
-        self.has_said = false;
-        goes_first
-    }
-
-    /// SIP gave an order.
-    pub fn note_order(&mut self) {
-        self.has_said = true;
-    }
-
-    /// Whether it is looked now whether a line is idle; if so, it is again later.
-    pub fn is_open_due(&mut self, now: u64) -> bool {
-        if now < self.open_due {
-            return false;
-        }
-        self.open_due = now.saturating_add(BETWEEN_OPENINGS_MS);
-        true
-    }
-
-    /// Hears what came, does what is due, and sends what is to go out.
-    pub fn look(&mut self, now: u64) {
-        self.hear(now);
-        self.pass_audio_over();
-        self.service.go_on(now);
-        self.send();
-        self.sound(now);
-    }
-
     /// Hears what came.
     fn hear(&mut self, now: u64) {
         for _ in 0..MOST_DATAGRAMS {
@@ -167,14 +133,14 @@ impl SipFront {
     }
 
     /// Sends what is to go out. What the system does not take is lost, as on the way.
-    pub fn send(&mut self) {
+    fn send(&mut self) {
         for datagram in self.service.take_datagrams() {
             let _ = self.sip.send_to(datagram.octets.as_slice(), datagram.to);
         }
     }
 
     /// Sends the audio that is due.
-    fn sound(&mut self, now: u64) {
+    fn send_audio(&mut self, now: u64) {
         for i in 0..self.service.sounds() {
             if let Some(packet) = self.service.sound(i, now) {
                 let _ = self.audio.send_to(&packet.octets, packet.to);
@@ -183,26 +149,122 @@ impl SipFront {
     }
 }
 
-/// The text of counts, with those of SIP before its end.
-pub(crate) fn with_counts(text: String, sip: Option<&SipFront>) -> Result<String, NoMemory> {
-    let Some(sip) = sip else {
-        return Ok(text);
-    };
-    match add_counts(text, sip) {
-        Ok(text) => Ok(text),
-        Err(AllocError) => Err(NoMemory),
+impl SipSide for SipFront {
+    fn is_due(&mut self, now: u64) -> bool {
+        if now < self.due {
+            return false;
+        }
+        self.due = now.saturating_add(BETWEEN_SIP_MS);
+        true
+    }
+
+    fn is_open_due(&mut self, now: u64) -> bool {
+        if now < self.open_due {
+            return false;
+        }
+        self.open_due = now.saturating_add(BETWEEN_OPENINGS_MS);
+        true
+    }
+
+    fn goes_first(&mut self) -> bool {
+        let goes_first = !self.has_said;
+        self.has_said = false;
+        goes_first
+    }
+
+    fn wait_for(&mut self, said: Said) {
+        self.service.wait_for(said);
+        self.has_said = true;
+    }
+
+    fn look(&mut self, now: u64) {
+        self.hear(now);
+        self.pass_audio_over();
+        self.service.go_on(now);
+        self.send();
+        self.send_audio(now);
+    }
+
+    fn set_open(&mut self, is_open: bool) {
+        self.service.set_open(is_open);
+    }
+
+    fn leave(&mut self, now: u64) {
+        self.service.leave(now);
+    }
+
+    fn end_all(&mut self, now: u64) {
+        self.service.leave(now);
+        self.service.end_all(now);
+        self.look(now);
+    }
+
+    fn is_settled(&self) -> bool {
+        self.service.is_settled()
+    }
+
+    fn next_news(&mut self, now: u64, is_wanted: bool) -> SipNews {
+        let Some(told) = self.service.next_told() else {
+            return SipNews::Nothing;
+        };
+        if !is_wanted {
+            return SipNews::Untold;
+        }
+        match self.service.event_line(&told, now) {
+            Ok(line) => SipNews::Line(line),
+            Err(_) => SipNews::Untold,
+        }
+    }
+
+    fn next_said(&mut self) -> Option<Said> {
+        self.service.next_said()
+    }
+
+    fn word<'s, V: View>(&'s self, said: &'s Said, view: &V) -> Option<Word<'s>> {
+        self.service.word(said, view)
+    }
+
+    fn answered(&mut self, now: u64, said: &Said, reply: Reply) {
+        self.service.answered(now, said, reply);
+    }
+
+    fn done(&mut self, now: u64, reply: Reply) {
+        self.service.done(now, reply);
+        self.send();
+    }
+
+    fn happened(&mut self, now: u64, i: usize, what: LineEvent) {
+        self.service.happened(now, i, what);
+    }
+
+    fn places(&self, tag: &Option<Tag>) -> bool {
+        self.service.places(tag)
+    }
+
+    fn put_status(&self, text: &mut Vec<u8>) -> Result<(), NoMemory> {
+        let mut told = String::new(self.alloc);
+        self.service.put_status(&mut told)?;
+        text.extend_from_slice(told.as_bytes())?;
+        Ok(())
+    }
+
+    fn with_counts(&self, text: String) -> Result<String, NoMemory> {
+        match add_counts(text, &self.service) {
+            Ok(text) => Ok(text),
+            Err(AllocError) => Err(NoMemory),
+        }
     }
 }
 
-/// The same where SIP is spoken.
-fn add_counts(mut text: String, sip: &SipFront) -> Result<String, AllocError> {
+/// The text of counts, with those of SIP before its end.
+fn add_counts(mut text: String, service: &SipService) -> Result<String, AllocError> {
     if text.as_str().ends_with(COUNTS_END)
         && let Some(left) = text.len().checked_sub(COUNTS_END.len())
         && text.as_str().is_char_boundary(left)
     {
         text.truncate(left);
     }
-    sip.service.put_counts(&mut text)?;
+    service.put_counts(&mut text)?;
     text.push_str(COUNTS_END)?;
     Ok(text)
 }

@@ -1,11 +1,8 @@
 //! What clients are answered while no line is served, since the spool cannot be opened.
-use crate::answers::answer_text;
-use crate::clock::Stopwatch;
-use crate::control::{close_control, open_control};
-use crate::fault::ServeFault;
 use fax_clients::{Clients, MOST_CLIENTS};
 use fax_control::{Answer, HeardLine, Refusal, Word, read_word};
 use fax_desk::{Reply, unserved_reply};
+use fax_opening::{ServeFault, Stopwatch, close_control, open_control};
 use std::alloc::Global;
 use std::fs::Files;
 use std::net::Net;
@@ -72,8 +69,8 @@ fn answer_words(alloc: Global, clients: &mut Clients<UnixStream, UnixStream>) ->
             return UnservedWord::Nothing;
         };
         let answer = answer_to(&heard);
-        if let Ok(text) = answer_text(alloc, answer) {
-            clients.answer(asker, text);
+        if let Ok(text) = format!(in alloc; "{answer}\n") {
+            clients.answer(asker, text.into_bytes());
         }
         if let Answer::Done = answer {
             return UnservedWord::Stop;

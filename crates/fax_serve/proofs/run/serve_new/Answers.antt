@@ -1,5 +1,5 @@
 use Rattle.std.proofs.Common.{[], refl}
-use Rattle.fax_serve.proofs.Desking.{paces_do_words}
+use Rattle.fax_runs.proofs.Desking.{paces_do_words}
 use Rattle.fax_serve.proofs.run.serve_new.Goals as goal
 
 pub returns : goal.returns

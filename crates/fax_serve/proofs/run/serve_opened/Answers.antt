@@ -5,7 +5,7 @@ use Rattle.fax_spool.specs.Torn.{CallName}
 use Rattle.fax_queue.specs.Restorations.{whole_pages}
 use Rattle.fax_queue.specs.Queues.{QueueValue}
 use Rattle.fax_queue.specs.declared.storage.Storage.{Storage}
-use Rattle.fax_serve.specs.StoredRuns.{AreRestored}
+use Rattle.fax_opening.specs.Openings.{AreRestored}
 use Rattle.fax_serve.proofs.run.serve_opened.Goals as goal
 
 pub returns-clause-kept : goal.returns-clause-kept

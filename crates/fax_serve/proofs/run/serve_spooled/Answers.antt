@@ -1,4 +1,4 @@
-use Rattle.fax_serve.proofs.Openings.{over_these}
+use Rattle.fax_runs.proofs.Openings.{over_these}
 use Rattle.fax_serve.proofs.run.serve_spooled.Goals as goal
 
 pub returns-clause-kept : goal.returns-clause-kept

@@ -1,0 +1,434 @@
+//! What gives the orders: the clock, and those who say words.
+ghost use Rattle.std.specs.Prelude.{◌≡◌, [], IfOk, None, Some};
+ghost use Rattle.fax_runs.specs.Desking.{GivesOrder, given_by};
+
+mod held;
+mod sip;
+mod turning;
+mod visits;
+mod words;
+
+use self::held::{drop_all_beyond, hold_slot};
+use self::sip::{BETWEEN_FINISHING_MS, FINISHING_MS, tell_of_sip, turn_redials};
+use crate::aside::{tell_pages_aside, tell_torn_pages};
+use crate::redial_side::RedialSide;
+use crate::retries::{Beside, Retries};
+use crate::rounds::Rounds;
+use crate::seen::{SeenLines, are_calm, are_idle};
+use crate::sip_side::SipSide;
+use crate::storing::{set_causes, set_tags};
+use crate::telling::Teller;
+use crate::view::{Seen, has_failed};
+use crate::visiting::Visiting;
+use crate::waking::Waking;
+use crate::watch::Watch;
+use fax_clients::Clients;
+use fax_control::Refusal;
+use fax_desk::{Damage, Desk, RunEnd};
+use fax_held::HeldPages;
+use fax_line::{LineAnswer, Lines, Order, Pace, SlotEnd};
+use fax_opening::{SocketLegs, Stopwatch};
+use fax_queue::Queue;
+use fax_spool::{CallName, WaitingPage};
+use fax_undelivered::KeepingStore;
+use fax_visitors::Visitors;
+use sqlite_disk::Disk;
+use std::alloc::{AllocError, Global};
+use std::io::{Read, Write};
+use std::marker::Model;
+use std::rt::Clock;
+
+/// The most words and wake-ups between two turns.
+const MOST_WAKES: u32 = 100_000;
+
+/// The most looks at SIP as the server ends.
+const MOST_FINISHING: u32 = 10_000;
+
+/// The clock and the clients, the desk at which their words come in, and what stands beside it.
+#[derive(Drop)]
+pub struct RealPace<
+    'a,
+    C: Clock,
+    I: Read + Drop,
+    O: Write + Drop,
+    R: RedialSide + Drop,
+    S: SipSide + Drop,
+> {
+    alloc: Global,
+    clock: Stopwatch<'a, C>,
+    rounds: Rounds,
+    desk: Desk,
+    waking: Waking,
+    teller: Teller<I, O>,
+    /// When the pages of a slot were handed to the spool, in microseconds, where that is to be told.
+    put_from: Option<u64>,
+    visiting: Visiting,
+    /// SIP, where that is configured.
+    sip: Option<S>,
+    /// The redial lines, and words about calls.
+    retries: Retries<R>,
+    /// What keeps pages in memory, where there is no spool.
+    held: Option<HeldPages>,
+}
+
+/// Contracts see what the desk waits to be told of.
+impl<'a, C: Clock, I: Read + Drop, O: Write + Drop, R: RedialSide + Drop, S: SipSide + Drop> Model
+    for RealPace<'a, C, I, O, R, S> {
+    ghost use Rattle.fax_runs.specs.Desking.{PaceValue};
+
+    ghost Value = { PaceValue };
+
+    ghost view = { λ p. record { waits = p.desk.waits } };
+}
+
+impl<
+    'a,
+    C: Clock,
+    I: Read + Drop,
+    O: Write + Drop,
+    R: RedialSide + Drop,
+    S: SipSide + Drop,
+> RealPace<'a, C, I, O, R, S> {
+    /// The time begins now, and nothing was ordered of so many lines, whose legs are watched so, or not. The spool has failed so often in runs
+    /// before this one.
+    pub fn new(
+        alloc: Global,
+        clock: Stopwatch<'a, C>,
+        clients: Clients<I, O>,
+        desk: Desk,
+        lines: usize,
+        watch: Option<Watch>,
+        visitors: Option<Visitors>,
+        sip: Option<S>,
+        redials: R,
+        held: Option<HeldPages>,
+        spool_failures: u64,
+    ) -> Result<Self, AllocError>
+        requires { desk.waits ≡ None }
+        ensures { IfOk result (λ pace. pace.waits ≡ None) }
+    {
+        let teller = Teller::new(alloc, clients, lines, spool_failures, sip.is_some())?;
+        let waking = Waking::new(alloc, watch, lines)?;
+        Ok(RealPace {
+            alloc,
+            clock,
+            rounds: Rounds::new(),
+            desk,
+            waking,
+            teller,
+            put_from: None,
+            visiting: Visiting::new(visitors),
+            sip,
+            retries: Retries::new(alloc, redials),
+            held,
+        })
+    }
+
+    /// Tells what the spool was found to hold that is not sent: this damage; and of the pages that waited those of calls that lack one,
+    /// those of lines that are not served, and those whose texts mean none. It is kept for those who come later.
+    pub fn tell_aside(
+        &mut self,
+        damage: Damage,
+        pages: &[WaitingPage],
+        torn: &[CallName],
+        queues: &[Queue],
+    )
+        ensures { self.new ≡ self.old }
+    {
+        self.desk.set_damage(damage);
+        self.teller.tell_damage(damage);
+        tell_pages_aside(&mut self.teller, &self.desk, pages, torn, queues);
+    }
+
+    /// Tells the pages of these that could not be delivered whose calls lack a page: such a job is tried again by a word alone.
+    pub fn tell_kept_aside(
+        &mut self,
+        pages: &[WaitingPage],
+        torn: &[CallName],
+    ) -> Result<(), AllocError>
+        ensures { self.new ≡ self.old }
+    {
+        tell_torn_pages(&mut self.teller, pages, torn);
+        self.retries.redials.leave(torn)
+    }
+
+    /// Reads the clock. Where it does not tell, the moment is the one before.
+    fn read_clock(&mut self)
+        ensures { self.new ≡ self.old }
+    {
+        if let Some(now) = self.clock.now() {
+            self.rounds.now = now;
+        }
+        self.desk.go_on(self.rounds.now, self.teller.tell_events());
+    }
+
+    /// Whether the run ends.
+    fn is_over<L: SeenLines>(&mut self, seen: &L) -> bool
+        ensures { self.new ≡ self.old }
+    {
+        let now = self.rounds.now;
+        if !self.desk.is_stopping() && self.teller.have_ended() {
+            self.desk.stop(now);
+        }
+        let may_end = self.desk.is_stopping() || self.desk.has_failed();
+        if !may_end {
+            return false;
+        }
+        let is_at_rest = self.retries.redials.are_idle();
+        let are_idle = are_idle(seen) && is_at_rest;
+        let are_calm = are_calm(seen) && is_at_rest;
+        self.desk.is_over(now, are_idle, are_calm)
+    }
+
+    /// Looks whether the spool has failed, and tells that once.
+    fn look_at_spool(&mut self, has_failed: bool)
+        ensures { self.new ≡ self.old }
+    {
+        if self.desk.see_spool(has_failed, self.rounds.now) {
+            self.teller.tell_spool_failed(self.rounds.now);
+        }
+    }
+
+    /// What clients order until the next turn is due. It answers the first order of theirs.
+    fn hear_words<L: SeenLines>(&mut self, seen: &L) -> Option<Order>
+        requires { self.old.waits ≡ None }
+        ensures { GivesOrder result self.old self.new }
+    {
+        for _ in 0..MOST_WAKES {
+            let are_idle = self.retries.redials.are_idle();
+            let most = self.rounds.most_waited(are_idle, seen);
+            if self.rounds.asks_clients()
+                && let Some(order) = self.wait(most, seen)
+            {
+                return Some(order);
+            }
+            if self.rounds.left() == 0 || self.is_over(seen) {
+                return None;
+            }
+        }
+        None
+    }
+
+    /// The turn of the next slot, after the lines that are to be woken.
+    fn turn_or_wake<L: SeenLines>(&mut self, seen: &L) -> Order
+        ensures same { self.new ≡ self.old }
+        ensures no_ask { given_by (Some result) ≡ [] }
+    {
+        match self.waking.woken.pop() {
+            Some(line) => Order::Wake { line },
+            None => Order::Turn {
+                now: self.begin_turn(seen.slot()),
+            },
+        }
+    }
+
+    /// The turn of a slot begins, and redial lines have theirs. It answers its moment.
+    fn begin_turn(&mut self, slot: usize) -> u64
+        ensures { self.new ≡ self.old }
+    {
+        let begun = self.rounds.begin(slot);
+        if begun.is_late {
+            let name = self.desk.name(slot);
+            self.teller.tell_late(&mut self.rounds, name, begun.late);
+        }
+        let first = self.desk.cards.len();
+        let now = self.rounds.now;
+        let redials = &mut self.retries.redials;
+        turn_redials(
+            &mut self.sip,
+            redials,
+            &mut self.teller,
+            first,
+            now,
+            begun.moment,
+        );
+        begun.moment
+    }
+
+    /// What is to be done next, where nothing waits at the desk.
+    fn next_order<L: SeenLines>(&mut self, seen: &L) -> Option<Order>
+        requires { self.old.waits ≡ None }
+        ensures { GivesOrder result self.old self.new }
+    {
+        if let Some(order) = self.look_at_questions(seen) {
+            return Some(order);
+        }
+        if self.rounds.has_looked {
+            return Some(self.turn_or_wake(seen));
+        }
+        self.read_clock();
+        if self.is_over(seen) {
+            return None;
+        }
+        if let Some(order) = self.hear_words(seen) {
+            return Some(order);
+        }
+        if self.is_over(seen) {
+            return None;
+        }
+        self.rounds.has_looked = true;
+        self.waking.look(seen);
+        Some(self.turn_or_wake(seen))
+    }
+
+    /// Writes what clients are still to be told, for a while. It answers how the run ends.
+    pub fn finish(&mut self) -> RunEnd {
+        self.finish_sip();
+        self.teller.finish();
+        self.desk.end()
+    }
+
+    /// The server has stopped: SIP ends all calls and registrations, and has a while for it.
+    fn finish_sip(&mut self) {
+        let Some(sip) = &mut self.sip else {
+            return;
+        };
+        let until = self.rounds.now.saturating_add(FINISHING_MS);
+        sip.end_all(self.rounds.now);
+        for _ in 0..MOST_FINISHING {
+            if let Some(now) = self.clock.now() {
+                self.rounds.now = now;
+            }
+            sip.look(self.rounds.now);
+            if sip.is_settled() || self.rounds.now >= until {
+                break;
+            }
+            self.teller.wait(BETWEEN_FINISHING_MS);
+        }
+        tell_of_sip(sip, &mut self.teller, self.rounds.now);
+    }
+
+    /// The pages of the slot whose turn was ordered are held in memory, where there is no spool, and its jobs that ended are told of.
+    fn hold_turned<L: SeenLines>(&mut self, seen: &L)
+        ensures { self.new ≡ self.old }
+    {
+        if let Some(slot) = self.rounds.turned
+            && let Some(held) = &mut self.held
+        {
+            let day = self.clock.day().unwrap_or(0);
+            hold_slot(self.alloc, held, &self.desk, day, slot, seen);
+        }
+    }
+
+    /// Of pages that are kept in memory: tells what could not be delivered since that was told last, does what words named, notes tries and
+    /// begins others, and drops what is more than is kept.
+    fn see_held(&mut self)
+        ensures { self.new ≡ self.old }
+    {
+        let Some(held) = &mut self.held else {
+            return;
+        };
+        held.mend();
+        let beside = Beside {
+            queues: held.queues.as_slice(),
+            has_failed: false,
+            is_stopping: self.desk.is_stopping(),
+            refusal: Refusal::NoMemory,
+            now: self.rounds.now,
+            day: self.clock.day(),
+        };
+        let kept = &mut held.undelivered;
+        self.retries.see_kept(kept, beside, &mut self.teller);
+        self.visiting
+            .show_picture(self.alloc, beside.now, kept, !beside.is_stopping);
+        drop_all_beyond(
+            self.alloc,
+            kept,
+            &self.retries,
+            &mut self.teller,
+            beside.now,
+        );
+    }
+
+    /// The same of pages that are kept on a disk, but that none is dropped, by this second since 1970.
+    fn see_stored<D: Disk, U: Disk>(&mut self, day: Option<u64>, store: &mut KeepingStore<D, U>)
+        ensures same { self.new ≡ self.old }
+        ensures storage { store.new.storage ≡ store.old.storage }
+    {
+        if let Some(kept) = &mut store.undelivered {
+            let beside = Beside {
+                queues: store.storage.queues(),
+                has_failed: store.storage.refuses(),
+                is_stopping: self.desk.is_stopping(),
+                refusal: Refusal::NoSpool,
+                now: self.rounds.now,
+                day,
+            };
+            self.retries.see_kept(kept, beside, &mut self.teller);
+            let may_read = !beside.is_stopping && !beside.has_failed;
+            self.visiting
+                .show_picture(self.alloc, beside.now, kept, may_read);
+        }
+    }
+}
+
+impl<
+    'a,
+    C: Clock,
+    I: Read + Drop,
+    O: Write + Drop,
+    R: RedialSide + Drop,
+    S: SipSide + Drop,
+    W: SocketLegs + Drop,
+    D: Disk,
+    U: Disk,
+> Pace<W, KeepingStore<D, U>> for RealPace<'a, C, I, O, R, S> {
+    ghost use Rattle.std.specs.Prelude.{None};
+    ghost use Rattle.fax_runs.specs.Desking.{GivesOrder, Hears, SeesNothing};
+
+    ghost words = { λ _. None };
+
+    ghost gives = { λ order old new. GivesOrder order old new };
+
+    ghost hears = { λ line answer old new. Hears answer old new };
+
+    ghost sees = { λ old new. SeesNothing old new };
+
+    fn next(&mut self, lines: &Lines<W>, store: Option<&KeepingStore<D, U>>) -> Option<Order> {
+        if !self.desk.is_free() {
+            self.tell_done(None);
+        }
+        let seen = Seen { lines, store };
+        self.look_at_spool(has_failed(store));
+        self.next_order(&seen)
+    }
+
+    fn before_put(&mut self, lines: &Lines<W>, store: &mut KeepingStore<D, U>) {
+        self.waking.begin_slot();
+        let Some(slot) = self.rounds.turned else {
+            return;
+        };
+        store.begin_slot();
+        let day = self.clock.day();
+        self.see_stored(day, store);
+        let seen = Seen::<W, D, U> { lines, store: None };
+        set_causes(store, day, &self.desk, slot, &seen);
+        if set_tags(store, &self.desk, slot, &seen) {
+            self.put_from = Some(self.clock.micros().unwrap_or(0));
+        }
+    }
+
+    fn after_put(&mut self, lines: &Lines<W>, end: &SlotEnd) {
+        if let Some(slot) = self.rounds.turned
+            && let Some(before) = self.put_from.take()
+        {
+            let after = self.clock.micros().unwrap_or(0);
+            self.teller.count_put(after.saturating_sub(before));
+            let seen = Seen::<W, D, U> { lines, store: None };
+            self.waking.note_lost(slot, end, &seen);
+        }
+    }
+
+    fn turned(&mut self, lines: &Lines<W>, store: Option<&KeepingStore<D, U>>) {
+        let seen = Seen { lines, store };
+        self.read_clock();
+        self.hold_turned(&seen);
+        self.tell_turned(&seen);
+        self.see_held();
+    }
+
+    fn done(&mut self, line: usize, answer: Option<LineAnswer>) {
+        let _ = self.waking.woken.push(line);
+        self.tell_done(answer);
+    }
+}

@@ -1,0 +1,68 @@
+//! What is told of turns.
+ghost use Rattle.std.specs.Prelude.{◌≡◌};
+
+use super::RealPace;
+use super::sip::tell_sip;
+use crate::redial_side::RedialSide;
+use crate::seen::SeenLines;
+use crate::sip_side::SipSide;
+use fax_desk::tell_turn;
+use fax_line::SLOTS;
+use std::io::{Read, Write};
+use std::rt::Clock;
+
+impl<
+    'a,
+    C: Clock,
+    I: Read + Drop,
+    O: Write + Drop,
+    R: RedialSide + Drop,
+    S: SipSide + Drop,
+> RealPace<'a, C, I, O, R, S> {
+    /// Tells what the turn that was ordered came to, of each line that was not left at rest in it.
+    pub(super) fn tell_turned<L: SeenLines>(&mut self, seen: &L)
+        ensures { self.new ≡ self.old }
+    {
+        let Some(slot) = self.rounds.turned.take() else {
+            return;
+        };
+        let looks = self.rounds.looks(slot);
+        let rounds = seen.len() / SLOTS + 1;
+        for round in 0..rounds {
+            let i = round.saturating_mul(SLOTS).saturating_add(slot);
+            if i < seen.len() {
+                self.tell_line(i, looks, seen);
+            }
+        }
+    }
+
+    /// Tells what the turn of line i came to, where it had one. Where something may come over its legs still, and where they are to be
+    /// asked, it is to be woken; and where its question is to be looked at, that is noted.
+    fn tell_line<L: SeenLines>(&mut self, i: usize, looks: bool, seen: &L)
+        ensures { self.new ≡ self.old }
+    {
+        let has_turned = seen.has_turned(i);
+        if has_turned {
+            self.tell_turn(i, seen);
+        }
+        self.waking.see(i, looks, seen);
+        let asks_for_a_call = (has_turned || looks) && seen.asks_for_a_call(i);
+        if self.desk.is_due(i, asks_for_a_call) {
+            let _ = self.waking.to_ask.push(i);
+        }
+    }
+
+    /// Tells what the turn of line i came to.
+    fn tell_turn<L: SeenLines>(&mut self, i: usize, seen: &L)
+        ensures { self.new ≡ self.old }
+    {
+        let now = self.rounds.now;
+        if let Some(turn) = seen.turn(i, self.waking.is_stored(i)) {
+            tell_turn(&mut self.desk, i, turn, now, &mut self.teller);
+        }
+        tell_sip(&mut self.sip, &mut self.teller, now, i);
+        if let Some(name) = self.desk.name(i) {
+            self.teller.tell_failures(i, name, seen, now);
+        }
+    }
+}

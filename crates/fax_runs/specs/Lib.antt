@@ -1,0 +1,5 @@
+pub mod Desking
+pub mod Histories
+pub mod StoredRuns
+pub mod Runs
+pub mod Crossings

@@ -1,8 +1,0 @@
-use Rattle.fax_serve.proofs.Crossings.{killed_servers_cross}
-use Rattle.fax_serve.proofs.laws.killed_servers_cross.Goals as goal
-
-pub returns : goal.returns
-returns g c =
-    killed_servers_cross _ _ _ _ (λ k. k.storage.queues.items) (λ k. k.storage.spool) _ _ _ _
-    (record { unchanged = λ old new is. is; put = λ pages is_stored old new is. is; noted = λ line call old new is. is; ended = λ line report old new is. is.ends })
-    c.whole_lines_are_restored.ensures c.killed_runs_cross.ensures.crosses

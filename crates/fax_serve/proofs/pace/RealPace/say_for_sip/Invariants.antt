@@ -1,7 +1,0 @@
-use Rattle.std.proofs.Common.{◌≡◌, None}
-use Rattle.fax_serve.specs.Desking.{GivesOrder}
-use Rattle.fax_serve.proofs.pace.RealPace.say_for_sip.Given as goal
-
--- no order was given so far
-abbrev pub invariant-loop : goal.invariant-loop
-invariant-loop g l = GivesOrder None l.initial.self l.self × (l.self.waits ≡ None)

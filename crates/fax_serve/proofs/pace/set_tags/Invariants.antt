@@ -1,6 +1,0 @@
-use Rattle.fax_queue.specs.SpoolStorage.{IsUnchanged}
-use Rattle.fax_serve.proofs.pace.set_tags.Given as goal
-
--- what is kept is the same so far
-abbrev pub invariant-loop-round : goal.invariant-loop-round
-invariant-loop-round g l = IsUnchanged l.initial.store.storage.queues.items l.store.storage.queues.items l.initial.store.storage.spool l.store.storage.spool

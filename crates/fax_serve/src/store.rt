@@ -1,3 +1,0 @@
-//! What keeps the pages of a server on a disk.
-
-pub use fax_undelivered::KeepingStore;
