@@ -8,6 +8,7 @@
 
 mod answers;
 mod aside;
+mod calls_on;
 mod failures;
 mod kept_calls;
 mod pace;

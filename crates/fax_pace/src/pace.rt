@@ -11,6 +11,7 @@ mod words;
 use self::held::{drop_all_beyond, hold_slot};
 use self::sip::{BETWEEN_FINISHING_MS, FINISHING_MS, tell_of_sip, turn_redials};
 use crate::aside::{tell_pages_aside, tell_torn_pages};
+use crate::calls_on::calls_if;
 use crate::redial_side::RedialSide;
 use crate::retries::{Beside, Retries};
 use crate::rounds::Rounds;
@@ -174,9 +175,8 @@ impl<
         if !may_end {
             return false;
         }
-        let is_at_rest = self.retries.redials.are_idle();
-        let are_idle = are_idle(seen) && is_at_rest;
-        let are_calm = are_calm(seen) && is_at_rest;
+        let are_idle = are_idle(seen) && self.retries.redials.are_idle();
+        let are_calm = are_calm(seen) && self.retries.redials.are_calm();
         self.desk.is_over(now, are_idle, are_calm)
     }
 
@@ -312,15 +312,22 @@ impl<
 
     /// Of pages that are kept in memory: tells what could not be delivered since that was told last, does what words named, notes tries and
     /// begins others, and drops what is more than is kept.
-    fn see_held(&mut self)
+    fn see_held<L: SeenLines>(&mut self, seen: &L)
         ensures { self.new ≡ self.old }
     {
         let Some(held) = &mut self.held else {
             return;
         };
         held.mend();
+        let on = calls_if(
+            self.retries.may_begin(self.rounds.now),
+            self.alloc,
+            &self.desk,
+            seen,
+        );
         let beside = Beside {
             queues: held.queues.as_slice(),
+            on: on.as_ref(),
             has_failed: false,
             is_stopping: self.desk.is_stopping(),
             refusal: Refusal::NoMemory,
@@ -341,13 +348,25 @@ impl<
     }
 
     /// The same of pages that are kept on a disk, but that none is dropped, by this second since 1970.
-    fn see_stored<D: Disk, U: Disk>(&mut self, day: Option<u64>, store: &mut KeepingStore<D, U>)
+    fn see_stored<L: SeenLines, D: Disk, U: Disk>(
+        &mut self,
+        day: Option<u64>,
+        store: &mut KeepingStore<D, U>,
+        seen: &L,
+    )
         ensures same { self.new ≡ self.old }
         ensures storage { store.new.storage ≡ store.old.storage }
     {
+        let on = calls_if(
+            self.retries.may_begin(self.rounds.now),
+            self.alloc,
+            &self.desk,
+            seen,
+        );
         if let Some(kept) = &mut store.undelivered {
             let beside = Beside {
                 queues: store.storage.queues(),
+                on: on.as_ref(),
                 has_failed: store.storage.refuses(),
                 is_stopping: self.desk.is_stopping(),
                 refusal: Refusal::NoSpool,
@@ -400,8 +419,8 @@ impl<
         };
         store.begin_slot();
         let day = self.clock.day();
-        self.see_stored(day, store);
         let seen = Seen::<W, D, U> { lines, store: None };
+        self.see_stored(day, store, &seen);
         set_causes(store, day, &self.desk, slot, &seen);
         if set_tags(store, &self.desk, slot, &seen) {
             self.put_from = Some(self.clock.micros().unwrap_or(0));
@@ -424,7 +443,7 @@ impl<
         self.read_clock();
         self.hold_turned(&seen);
         self.tell_turned(&seen);
-        self.see_held();
+        self.see_held(&seen);
     }
 
     fn done(&mut self, line: usize, answer: Option<LineAnswer>) {

@@ -16,6 +16,9 @@ pub trait RedialSide: View {
     /// Whether none has a try, and no end is to be noted.
     fn are_idle(&self) -> bool;
 
+    /// Whether none has a try. An end that could not be noted so far is none.
+    fn are_calm(&self) -> bool;
+
     /// The first that has no try.
     fn free(&self) -> Option<usize>;
 
@@ -28,8 +31,15 @@ pub trait RedialSide: View {
     /// The jobs of these calls, which lack a page, are tried again by a word alone.
     fn leave(&mut self, torn: &[CallName]) -> Result<(), AllocError>;
 
-    /// The first of these calls whose time has come by this second since 1970, that no queue owes, and that lacks no page.
-    fn due(&self, day: u64, calls: &[UndeliveredCall], queues: &[Queue]) -> Option<usize>;
+    /// The first of these calls, from the one of this number on, whose time has come by this second since 1970, that no queue owes, and that
+    /// lacks no page.
+    fn due(
+        &self,
+        day: u64,
+        calls: &[UndeliveredCall],
+        queues: &[Queue],
+        from: usize,
+    ) -> Option<usize>;
 
     /// A try of a call begins on redial line i, of which these pages wait. An `Err`: none begins.
     fn begin(
@@ -75,8 +85,11 @@ pub trait RedialSide: View {
     /// Whether the end of a try is to be noted.
     fn has_end(&self) -> bool;
 
-    /// Whether it is looked now what is due; if so, it is again later.
-    fn is_look_due(&mut self, now: u64) -> bool;
+    /// Whether it is looked now what is due.
+    fn is_look_due(&self, now: u64) -> bool;
+
+    /// It was looked what is due; it is again later.
+    fn note_look(&mut self, now: u64);
 }
 
 /// Redial lines, the first of which is counted so.

@@ -1,4 +1,5 @@
 //! Calls of which pages could not be delivered: the words that drop them or try their jobs again, and the redial lines.
+use crate::calls_on::{CallOn, is_on};
 use crate::kept_calls::KeptCalls;
 use crate::redial_side::RedialSide;
 use crate::telling::Teller;
@@ -39,6 +40,8 @@ impl SaidCall {
 pub(crate) struct Beside<'a> {
     /// The pages of lines that wait.
     pub queues: &'a [Queue],
+    /// The calls that are on. `None`: they are not known.
+    pub on: Option<&'a Vec<CallOn<'a>>>,
     /// Whether the disk of those has failed, and whether the server stops.
     pub has_failed: bool,
     pub is_stopping: bool,
@@ -72,6 +75,11 @@ impl<R: RedialSide + Drop> Retries<R> {
     /// Whether a word is to be done at the end of the next turn.
     pub(crate) fn is_said(&self) -> bool {
         self.discard.is_some() || self.retry.is_some()
+    }
+
+    /// Whether a try may begin at this moment: a word says so, or it is looked what is due.
+    pub(crate) fn may_begin(&self, now: u64) -> bool {
+        self.retry.is_some() || self.redials.is_look_due(now)
     }
 
     /// The pages of a call are to be dropped, where something keeps calls. An `Err` says why not.
@@ -136,6 +144,7 @@ impl<R: RedialSide + Drop> Retries<R> {
         if let Some(day) = beside.day
             && self.redials.is_look_due(beside.now)
         {
+            self.redials.note_look(beside.now);
             self.try_due(day, kept, beside, teller);
         }
     }
@@ -204,7 +213,7 @@ impl<R: RedialSide + Drop> Retries<R> {
         let Some(k) = place_of(kept.calls(), line, said.life, said.call) else {
             return Answer::Refused(Refusal::NoCall);
         };
-        if self.is_under_way(line, said.life, said.call, beside.queues) {
+        if self.is_under_way(line, said.life, said.call, beside) {
             return Answer::Refused(Refusal::InCall);
         }
         let Some(i) = self.redials.free() else {
@@ -217,9 +226,25 @@ impl<R: RedialSide + Drop> Retries<R> {
         }
     }
 
-    /// Whether a job is under way: a try of it is on or to be noted, or its line owes it.
-    fn is_under_way(&self, line: &[u8], life: u32, call: u32, queues: &[Queue]) -> bool {
-        self.redials.has(line, life, call) || is_owed(queues, line, life, call)
+    /// Whether a job is under way: a try of it is on or to be noted, its line owes it, or more of its pages may come.
+    fn is_under_way(&self, line: &[u8], life: u32, call: u32, beside: Beside<'_>) -> bool {
+        self.redials.has(line, life, call)
+            || is_owed(beside.queues, line, life, call)
+            || is_on(beside.on, line, call)
+    }
+
+    /// The first of these calls whose time has come by this second since 1970, and of which no more pages may come.
+    fn due(&self, day: u64, calls: &[UndeliveredCall], beside: Beside<'_>) -> Option<usize> {
+        let mut from = 0;
+        for _ in 0..calls.len() {
+            let k = self.redials.due(day, calls, beside.queues, from)?;
+            let call = calls.get(k)?;
+            if !is_on(beside.on, call.line.as_slice(), call.call) {
+                return Some(k);
+            }
+            from = k.saturating_add(1);
+        }
+        None
     }
 
     /// Tries those whose time has come by this second since 1970, while a redial line is idle.
@@ -238,7 +263,7 @@ impl<R: RedialSide + Drop> Retries<R> {
             let Some(i) = self.redials.free() else {
                 return;
             };
-            let Some(k) = self.redials.due(day, kept.calls(), beside.queues) else {
+            let Some(k) = self.due(day, kept.calls(), beside) else {
                 return;
             };
             match self.try_call(i, k, kept) {

@@ -28,6 +28,9 @@ pub trait SeenLines: View {
     /// The same for the desk, where the page that was confirmed in it was kept, or not.
     fn turn(&self, i: usize, is_stored: bool) -> Option<Turn>;
 
+    /// The call that is on on the calling leg of line i.
+    fn call(&self, i: usize) -> Option<u32>;
+
     /// Whether line i has no call on either leg.
     fn is_calm(&self, i: usize) -> bool;
 

@@ -73,6 +73,13 @@ impl<'a, W: SocketLegs + Drop, D: Disk, U: Disk> SeenLines for Seen<'a, W, D, U>
         }
     }
 
+    fn call(&self, i: usize) -> Option<u32> {
+        match self.lines.line(i) {
+            Some(line) => line.call(),
+            None => None,
+        }
+    }
+
     fn is_calm(&self, i: usize) -> bool {
         match self.lines.line(i) {
             Some(line) => is_calm(line),

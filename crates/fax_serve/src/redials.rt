@@ -217,6 +217,10 @@ impl<'a, W: TryWire<'a>> RedialSide for RedialLines<'a, W> {
         self.on.is_empty() && self.ended.is_none()
     }
 
+    fn are_calm(&self) -> bool {
+        self.on.is_empty()
+    }
+
     fn free(&self) -> Option<usize> {
         self.redials.free()
     }
@@ -249,9 +253,16 @@ impl<'a, W: TryWire<'a>> RedialSide for RedialLines<'a, W> {
         Ok(())
     }
 
-    fn due(&self, day: u64, calls: &[UndeliveredCall], queues: &[Queue]) -> Option<usize> {
+    fn due(
+        &self,
+        day: u64,
+        calls: &[UndeliveredCall],
+        queues: &[Queue],
+        from: usize,
+    ) -> Option<usize> {
         for (k, call) in calls.iter().enumerate() {
-            if let Some(one) = calls.get(k..k.saturating_add(1))
+            if k >= from
+                && let Some(one) = calls.get(k..k.saturating_add(1))
                 && !self.leaves(call)
                 && first_due(one, queues, &self.redials, day, self.after_seconds).is_some()
             {
@@ -326,12 +337,12 @@ impl<'a, W: TryWire<'a>> RedialSide for RedialLines<'a, W> {
         self.ended.is_some()
     }
 
-    fn is_look_due(&mut self, now: u64) -> bool {
-        if now < self.look_from {
-            return false;
-        }
+    fn is_look_due(&self, now: u64) -> bool {
+        self.look_from <= now
+    }
+
+    fn note_look(&mut self, now: u64) {
         self.look_from = now.saturating_add(BETWEEN_LOOKS_MS);
-        true
     }
 }
 
