@@ -41,12 +41,13 @@ pub trait RedialSide: View {
         from: usize,
     ) -> Option<usize>;
 
-    /// A try of a call begins on redial line i, of which these pages wait. An `Err`: none begins.
+    /// A try of a call begins on redial line i, of which these pages wait, where none of these queues owes its job. An `Err`: none begins.
     fn begin(
         &mut self,
         i: usize,
         call: &UndeliveredCall,
         pages: &[WaitingPage],
+        queues: &[Queue],
     ) -> Result<(), BeginFault>;
 
     /// How many have a try.

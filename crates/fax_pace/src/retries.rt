@@ -219,7 +219,7 @@ impl<R: RedialSide + Drop> Retries<R> {
         let Some(i) = self.redials.free() else {
             return Answer::Refused(Refusal::Busy);
         };
-        match self.try_call(i, k, kept) {
+        match self.try_call(i, k, kept, beside.queues) {
             Ok(()) => Answer::Done,
             Err(BeginFault::NoMemory) => Answer::Refused(Refusal::NoMemory),
             Err(_) => Answer::Refused(beside.refusal),
@@ -266,7 +266,7 @@ impl<R: RedialSide + Drop> Retries<R> {
             let Some(k) = self.due(day, kept.calls(), beside) else {
                 return;
             };
-            match self.try_call(i, k, kept) {
+            match self.try_call(i, k, kept, beside.queues) {
                 Ok(()) => {}
                 Err(BeginFault::NoMemory) => return,
                 Err(_) => {
@@ -283,6 +283,7 @@ impl<R: RedialSide + Drop> Retries<R> {
         i: usize,
         k: usize,
         kept: &mut K,
+        queues: &[Queue],
     ) -> Result<(), BeginFault> {
         let name = name_at(self.alloc, kept.calls(), k)?;
         let pages = kept.pages_of(self.alloc, name.line.as_slice(), name.life, name.call);
@@ -290,7 +291,7 @@ impl<R: RedialSide + Drop> Retries<R> {
             return Err(BeginFault::NoMemory);
         };
         match kept.calls().get(k) {
-            Some(call) => self.redials.begin(i, call, pages.as_slice()),
+            Some(call) => self.redials.begin(i, call, pages.as_slice(), queues),
             None => Err(BeginFault::NoPage),
         }
     }

@@ -143,14 +143,6 @@ impl<'a, W: TryWire<'a>> RedialLines<'a, W> {
         })
     }
 
-    /// Whether the job of a call is tried again by a word alone.
-    fn leaves(&self, call: &UndeliveredCall) -> bool {
-        let line = call.line.as_slice();
-        self.torn.iter().any(|name| {
-            name.life == call.life && name.call == call.call && name.line.as_slice() == line
-        })
-    }
-
     /// Those that have a try no more are forgotten.
     fn forget_idle(&mut self) {
         let redials = &self.redials;
@@ -260,16 +252,10 @@ impl<'a, W: TryWire<'a>> RedialSide for RedialLines<'a, W> {
         queues: &[Queue],
         from: usize,
     ) -> Option<usize> {
-        for (k, call) in calls.iter().enumerate() {
-            if k >= from
-                && let Some(one) = calls.get(k..k.saturating_add(1))
-                && !self.leaves(call)
-                && first_due(one, queues, &self.redials, day, self.after_seconds).is_some()
-            {
-                return Some(k);
-            }
-        }
-        None
+        let rest = calls.get(from..)?;
+        let left = self.torn.as_slice();
+        let k = first_due(rest, left, queues, &self.redials, day, self.after_seconds)?;
+        Some(from.saturating_add(k))
     }
 
     fn begin(
@@ -277,10 +263,11 @@ impl<'a, W: TryWire<'a>> RedialSide for RedialLines<'a, W> {
         i: usize,
         call: &UndeliveredCall,
         pages: &[WaitingPage],
+        queues: &[Queue],
     ) -> Result<(), BeginFault> {
         let job = job_of(self.alloc, call)?;
         let line = self.line_of(i, call, pages)?;
-        self.redials.begin(i, line, job)?;
+        self.redials.begin(i, line, job, queues)?;
         let _ = self.on.push(i);
         Ok(())
     }
