@@ -24,9 +24,7 @@ pub fn first_due<W: TimedWire + Drop>(
 ) -> Option<usize>
     ensures { result ≡ position (is_next left.now queues.now redials.now.tries now after_seconds.now) calls.now }
 {
-    calls
-        .iter()
-        .position(|call| is_next(call, left, queues, redials, now, after_seconds))
+    calls.iter().position(|call| is_next(call, left, queues, redials, now, after_seconds))
 }
 
 /// Whether the job of a call is to be tried again by now.
