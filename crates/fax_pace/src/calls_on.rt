@@ -1,26 +1,20 @@
 //! The calls that are on on calling legs of lines.
 use crate::seen::SeenLines;
-use fax_desk::Desk;
+use fax_queue::Queue;
 use std::alloc::{AllocError, Global};
 
-/// A call that is on on the calling leg of the line of this name.
+/// A call that is on on the calling leg of this line.
 #[derive(Clone, Copy)]
-pub(crate) struct CallOn<'a> {
-    pub line: &'a str,
+pub(crate) struct CallOn {
+    pub line: usize,
     pub call: u32,
 }
 
 /// The calls that are on.
-fn calls_on<'a, L: SeenLines>(
-    alloc: Global,
-    desk: &'a Desk,
-    seen: &L,
-) -> Result<Vec<CallOn<'a>>, AllocError> {
+fn calls_on<L: SeenLines>(alloc: Global, seen: &L) -> Result<Vec<CallOn>, AllocError> {
     let mut on = Vec::new(alloc);
-    for i in 0..seen.len() {
-        if let Some(call) = seen.call(i)
-            && let Some(line) = desk.name(i)
-        {
+    for line in 0..seen.len() {
+        if let Some(call) = seen.call(line) {
             on.push(CallOn { line, call })?;
         }
     }
@@ -28,26 +22,33 @@ fn calls_on<'a, L: SeenLines>(
 }
 
 /// The same, where they are to be known. `None`: they are not, or memory was refused.
-pub(crate) fn calls_if<'a, L: SeenLines>(
+pub(crate) fn calls_if<L: SeenLines>(
     are_wanted: bool,
     alloc: Global,
-    desk: &'a Desk,
     seen: &L,
-) -> Option<Vec<CallOn<'a>>> {
+) -> Option<Vec<CallOn>> {
     if are_wanted {
-        calls_on(alloc, desk, seen).ok()
+        calls_on(alloc, seen).ok()
     } else {
         None
     }
 }
 
-/// Whether a call of this number is on on the line of this name, where these are on, or may be on, where they are not known. Then more of
-/// its pages may come, which a try of those before would not send, and the end of that would drop.
-pub(crate) fn is_on(on: Option<&Vec<CallOn<'_>>>, line: &[u8], call: u32) -> bool {
+/// Whether a call of this number is on on the line of this name, one of those with these queues, where these calls are on, or may be on,
+/// where they are not known. Then more of its pages may come, which a try of those before would not send, and the end of that would drop.
+pub(crate) fn is_on(on: Option<&Vec<CallOn>>, queues: &[Queue], line: &[u8], call: u32) -> bool {
     match on {
         Some(on) => on
             .iter()
-            .any(|it| it.call == call && it.line.as_bytes() == line),
+            .any(|it| it.call == call && has_name(queues, it.line, line)),
+        None => true,
+    }
+}
+
+/// Whether the line of queue i has this name.
+fn has_name(queues: &[Queue], i: usize, line: &[u8]) -> bool {
+    match queues.get(i) {
+        Some(queue) => queue.line().as_bytes() == line,
         None => true,
     }
 }

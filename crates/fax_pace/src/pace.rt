@@ -315,36 +315,33 @@ impl<
     fn see_held<L: SeenLines>(&mut self, seen: &L)
         ensures { self.new ≡ self.old }
     {
-        let Some(held) = &mut self.held else {
-            return;
-        };
-        held.mend();
-        let on = calls_if(
-            self.retries.may_begin(self.rounds.now),
-            self.alloc,
-            &self.desk,
-            seen,
-        );
-        let beside = Beside {
-            queues: held.queues.as_slice(),
-            on: on.as_ref(),
-            has_failed: false,
-            is_stopping: self.desk.is_stopping(),
-            refusal: Refusal::NoMemory,
-            now: self.rounds.now,
-            day: self.clock.day(),
-        };
-        let kept = &mut held.undelivered;
-        self.retries.see_kept(kept, beside, &mut self.teller);
-        self.visiting
-            .show_picture(self.alloc, beside.now, kept, !beside.is_stopping);
-        drop_all_beyond(
-            self.alloc,
-            kept,
-            &self.retries,
-            &mut self.teller,
-            beside.now,
-        );
+        if let Some(held) = &mut self.held {
+            held.mend();
+            let may_begin = self.retries.may_begin(self.rounds.now);
+            let on = calls_if(may_begin, self.alloc, seen);
+            let beside = Beside {
+                queues: held.queues.as_slice(),
+                on: on.as_ref(),
+                has_failed: false,
+                is_stopping: self.desk.is_stopping(),
+                refusal: Refusal::NoMemory,
+                now: self.rounds.now,
+                day: self.clock.day(),
+            };
+            let (now, may_read) = (beside.now, !beside.is_stopping);
+            self.retries
+                .see_kept(&mut held.undelivered, beside, &mut self.teller);
+            self.visiting
+                .show_picture(self.alloc, now, &mut held.undelivered, may_read);
+            let teller = &mut self.teller;
+            drop_all_beyond(
+                self.alloc,
+                &mut held.undelivered,
+                &self.retries,
+                teller,
+                now,
+            );
+        }
     }
 
     /// The same of pages that are kept on a disk, but that none is dropped, by this second since 1970.
@@ -357,12 +354,8 @@ impl<
         ensures same { self.new ≡ self.old }
         ensures storage { store.new.storage ≡ store.old.storage }
     {
-        let on = calls_if(
-            self.retries.may_begin(self.rounds.now),
-            self.alloc,
-            &self.desk,
-            seen,
-        );
+        let may_begin = self.retries.may_begin(self.rounds.now);
+        let on = calls_if(may_begin, self.alloc, seen);
         if let Some(kept) = &mut store.undelivered {
             let beside = Beside {
                 queues: store.storage.queues(),

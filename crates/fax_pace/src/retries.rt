@@ -41,7 +41,7 @@ pub(crate) struct Beside<'a> {
     /// The pages of lines that wait.
     pub queues: &'a [Queue],
     /// The calls that are on. `None`: they are not known.
-    pub on: Option<&'a Vec<CallOn<'a>>>,
+    pub on: Option<&'a Vec<CallOn>>,
     /// Whether the disk of those has failed, and whether the server stops.
     pub has_failed: bool,
     pub is_stopping: bool,
@@ -230,7 +230,7 @@ impl<R: RedialSide + Drop> Retries<R> {
     fn is_under_way(&self, line: &[u8], life: u32, call: u32, beside: Beside<'_>) -> bool {
         self.redials.has(line, life, call)
             || is_owed(beside.queues, line, life, call)
-            || is_on(beside.on, line, call)
+            || is_on(beside.on, beside.queues, line, call)
     }
 
     /// The first of these calls whose time has come by this second since 1970, and of which no more pages may come.
@@ -239,7 +239,7 @@ impl<R: RedialSide + Drop> Retries<R> {
         for _ in 0..calls.len() {
             let k = self.redials.due(day, calls, beside.queues, from)?;
             let call = calls.get(k)?;
-            if !is_on(beside.on, call.line.as_slice(), call.call) {
+            if !is_on(beside.on, beside.queues, call.line.as_slice(), call.call) {
                 return Some(k);
             }
             from = k.saturating_add(1);
