@@ -37,11 +37,11 @@ impl SaidCall {
 
 /// What is beside the pages that could not be delivered.
 #[derive(Clone, Copy)]
-pub(crate) struct Beside<'a> {
+pub(crate) struct Beside<'a, 'b> {
     /// The pages of lines that wait.
     pub queues: &'a [Queue],
     /// The calls that are on. `None`: they are not known.
-    pub on: Option<&'a Vec<CallOn>>,
+    pub on: Option<&'b Vec<CallOn>>,
     /// Whether the disk of those has failed, and whether the server stops.
     pub has_failed: bool,
     pub is_stopping: bool,
@@ -127,7 +127,7 @@ impl<R: RedialSide + Drop> Retries<R> {
     pub(crate) fn see_kept<K: KeptCalls, I: Read + Drop, O: Write + Drop>(
         &mut self,
         kept: &mut K,
-        beside: Beside<'_>,
+        beside: Beside<'_, '_>,
         teller: &mut Teller<I, O>,
     ) {
         let news = kept.take_news(self.alloc);
@@ -154,7 +154,7 @@ impl<R: RedialSide + Drop> Retries<R> {
         &mut self,
         said: &SaidCall,
         kept: &mut K,
-        beside: Beside<'_>,
+        beside: Beside<'_, '_>,
         teller: &mut Teller<I, O>,
     ) -> Answer<'static> {
         let (line, life, call) = (said.line.as_str(), said.life, said.call);
@@ -183,7 +183,7 @@ impl<R: RedialSide + Drop> Retries<R> {
     fn note_end<K: KeptCalls, I: Read + Drop, O: Write + Drop>(
         &mut self,
         kept: &mut K,
-        beside: Beside<'_>,
+        beside: Beside<'_, '_>,
         teller: &mut Teller<I, O>,
     ) {
         let Some(end) = self.redials.take_end() else {
@@ -201,7 +201,7 @@ impl<R: RedialSide + Drop> Retries<R> {
         &mut self,
         said: &SaidCall,
         kept: &mut K,
-        beside: Beside<'_>,
+        beside: Beside<'_, '_>,
     ) -> Answer<'static> {
         if beside.is_stopping {
             return Answer::Refused(Refusal::Stopping);
@@ -227,14 +227,14 @@ impl<R: RedialSide + Drop> Retries<R> {
     }
 
     /// Whether a job is under way: a try of it is on or to be noted, its line owes it, or more of its pages may come.
-    fn is_under_way(&self, line: &[u8], life: u32, call: u32, beside: Beside<'_>) -> bool {
+    fn is_under_way(&self, line: &[u8], life: u32, call: u32, beside: Beside<'_, '_>) -> bool {
         self.redials.has(line, life, call)
             || is_owed(beside.queues, line, life, call)
             || is_on(beside.on, beside.queues, line, call)
     }
 
     /// The first of these calls whose time has come by this second since 1970, and of which no more pages may come.
-    fn due(&self, day: u64, calls: &[UndeliveredCall], beside: Beside<'_>) -> Option<usize> {
+    fn due(&self, day: u64, calls: &[UndeliveredCall], beside: Beside<'_, '_>) -> Option<usize> {
         let mut from = 0;
         for _ in 0..calls.len() {
             let k = self.redials.due(day, calls, beside.queues, from)?;
@@ -252,7 +252,7 @@ impl<R: RedialSide + Drop> Retries<R> {
         &mut self,
         day: u64,
         kept: &mut K,
-        beside: Beside<'_>,
+        beside: Beside<'_, '_>,
         teller: &mut Teller<I, O>,
     ) {
         let has_failed = beside.has_failed || kept.refuses();
@@ -301,7 +301,7 @@ impl<R: RedialSide + Drop> Retries<R> {
         &mut self,
         k: usize,
         kept: &mut K,
-        beside: Beside<'_>,
+        beside: Beside<'_, '_>,
         teller: &mut Teller<I, O>,
     ) {
         if let Ok(name) = name_at(self.alloc, kept.calls(), k) {
