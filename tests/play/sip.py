@@ -62,8 +62,8 @@ add = '00'
         self.client = self.server.events()
 
     def leg(self, **more):
-        """An end of a leg."""
-        leg = Leg(**more)
+        """An end of a leg. It may come to a call that is on: what was said before, nobody says again."""
+        leg = Leg(joins=True, **more)
         self.addCleanup(leg.close)
         return leg
 
