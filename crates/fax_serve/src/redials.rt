@@ -59,7 +59,7 @@ impl<'a> TryWire<'a> for RepeatingWire<UdpWire<LentSocket<'a>>> {
 
 /// Redial lines, and what is known of their tries.
 #[derive(Drop)]
-pub(crate) struct RedialLines<'a, W: TryWire<'a>> {
+pub(crate) struct RedialLines<'a, W: TimedWire + Drop> {
     alloc: Global,
     redials: Redials<W>,
     configs: &'a [RedialConfig],
@@ -120,6 +120,14 @@ fn names_of(alloc: Global, configs: &[RedialConfig]) -> Result<Vec<String>, NoMe
     Ok(names)
 }
 
+impl<W: TimedWire + Drop> RedialLines<'_, W> {
+    /// Those that have a try no more are forgotten.
+    fn forget_idle(&mut self) {
+        let redials = &self.redials;
+        self.on.retain(|i| redials.has_try(*i));
+    }
+}
+
 impl<'a, W: TryWire<'a>> RedialLines<'a, W> {
     /// The redial lines of a configuration over these sockets, without a try.
     pub(crate) fn new(
@@ -141,12 +149,6 @@ impl<'a, W: TryWire<'a>> RedialLines<'a, W> {
             ended: None,
             look_from: 0,
         })
-    }
-
-    /// Those that have a try no more are forgotten.
-    fn forget_idle(&mut self) {
-        let redials = &self.redials;
-        self.on.retain(|i| redials.has_try(*i));
     }
 
     /// Takes a try that is over away, so that its end is to be noted, where none is.
