@@ -37,7 +37,7 @@ int main(void) {
     fax_outcome read = fax_read_runs(text, written.filled, WIDTH, true, runs, RUNS + 1);
     must(is_outcome(read, FAX_DONE, ROWS, RUNS), "the page is not read");
     must(memcmp(runs, page, sizeof page) == 0, "another page is read");
-    must(runs[RUNS] == 7, "the slice is changed behind what was filled");
+    must(runs[RUNS] == 7, "the slice is changed after what was filled");
 
     read = fax_read_pixels(text, written.filled, WIDTH, true, pixels, sizeof pixels);
     must(is_outcome(read, FAX_DONE, ROWS, sizeof pixels), "the picture elements are not read");

@@ -22,7 +22,7 @@ NOT_WHOLE = "the image is not whole"
 GAP_AFTER = "something is missing or began between the image and the command"
 SEVERAL = "more than one image came since the last CFR or MCF"
 NO_IMAGE = "no image came before the command"
-UNTRAINED = "an image came behind EOM, and no DCS before it"
+UNTRAINED = "an image came after EOM, and no DCS before it"
 
 
 def part(octet, count=16_378):

@@ -61,7 +61,7 @@ class Datagram:
         for _ in range(count):
             packet, at = take(octets, at)
             self.earlier.append(packet)
-        assert at == len(octets), "octets behind a datagram"
+        assert at == len(octets), "octets after a datagram"
 
 
 class Machine:

@@ -77,7 +77,7 @@ class Turned(Driven):
         return bool(lacking)
 
     def turn(self, pair):
-        """Turns an octet of what stands in a file of this pair, or a little behind, and says which."""
+        """Turns an octet of what stands in a file of this pair, or a little after, and says which."""
         files = {name: self.octets(name) for name in pair}
         name = random.choices(pair, [len(files[name]) for name in pair])[0]
         octets = bytearray(files[name])

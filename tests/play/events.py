@@ -88,10 +88,10 @@ class Told(Play):
         self.assertIn(len(told) - len(taken), (MOST_WAITING, MOST_WAITING + 1))
         self.assertEqual(server.metrics()["faxgate_events_lost_total"], lost)
         self.assertEqual(says.say("ring a0 last"), ["ok 12"])
-        behind = self.lines_until(slow, '"tag":"last"}')
+        later = self.lines_until(slow, '"tag":"last"}')
         all_told += self.lines_until(fast, '"tag":"last"}')
         self.assertEqual(told, all_told[: len(told)])
-        self.assertEqual(behind, all_told[len(told) + lost :])
+        self.assertEqual(later, all_told[len(told) + lost :])
 
     def lines_until(self, client, part):
         """The lines of a client up to the first that has this part."""

@@ -62,7 +62,7 @@ class DiskOfItsOwn:
 
 
 class LimitOfFiles:
-    """A write behind a place in a file fails (setrlimit(2)): a little behind the end of what one of the files tells."""
+    """A write after a place in a file fails (setrlimit(2)): a little after the end of what one of the files tells."""
 
     def __init__(self, server):
         self.server, self.folder = server, server.spool
@@ -77,7 +77,7 @@ class LimitOfFiles:
             self.limit(resource.RLIM_INFINITY)
 
     def limit(self, octets):
-        """No file gets longer than this, and nothing is written behind it."""
+        """No file gets longer than this, and nothing is written after it."""
         _, most = resource.prlimit(self.server.process.pid, resource.RLIMIT_FSIZE)
         resource.prlimit(self.server.process.pid, resource.RLIMIT_FSIZE, (octets, most))
 

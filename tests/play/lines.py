@@ -266,9 +266,9 @@ class ANewCallBegins(Playing):
         time.sleep(max(0, due - 0.016 - time.time()))
         self.assertEqual(client.say(f"ring {line.name}"), ["ok 1"])
         rung = time.time()
-        behind = until(lambda: self.came_behind(leg, rung, 2), what="the new call's DIS")
-        self.assertNotIn(octets, [it[1] for it in behind])
-        self.assertLessEqual(set(numbers(behind)), {0, 1, 2})
+        later = until(lambda: self.came_after(leg, rung, 2), what="the new call's DIS")
+        self.assertNotIn(octets, [it[1] for it in later])
+        self.assertLessEqual(set(numbers(later)), {0, 1, 2})
         return rung < due - 0.002
 
     @staticmethod
@@ -279,13 +279,13 @@ class ANewCallBegins(Playing):
         return (octets, moments) if len(moments) == len(FULL) else None
 
     @staticmethod
-    def came_behind(leg, moment, number):
+    def came_after(leg, moment, number):
         """What came after a moment, once the datagram of this number is the last of it."""
         leg.drain()
-        behind = [it for it in leg.came if it[0] > moment]
-        return behind if behind and numbers(behind)[-1] == number else None
+        later = [it for it in leg.came if it[0] > moment]
+        return later if later and numbers(later)[-1] == number else None
 
-    def test_jobs_behind_one_another(self):
+    def test_jobs_one_after_another(self):
         """Two jobs of a line, the second of which waits: its call begins anew, and no datagram of the first comes into it."""
         line = Line(self.ports)
         server, events = self.serve(line)

@@ -31,10 +31,10 @@ class Peers(Play):
     def say_ok(self, word):
         self.assertEqual(self.server.say(word), ["ok"], word)
 
-    def each(self, *deeds):
+    def each(self, *actions):
         """What these actions came to, done at once."""
-        with ThreadPoolExecutor(len(deeds)) as pool:
-            return [deed.result() for deed in [pool.submit(deed) for deed in deeds]]
+        with ThreadPoolExecutor(len(actions)) as pool:
+            return [action.result() for action in [pool.submit(action) for action in actions]]
 
 
 class AnyLine(Peers):

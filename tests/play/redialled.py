@@ -317,7 +317,7 @@ class TwoJobsOfACall(Redialled):
         self.client.event("undelivered", tag="tag", pages=2)
 
     def deliver_both(self):
-        """Behind its end both go out, a job each."""
+        """After its end both go out, a job each."""
         for rows in (1, 2):
             self.deliver_again("tag", 2, rows)
         until(lambda: self.server.metrics()["faxgate_pages_undelivered"] == 0, what="nothing that is undelivered")

@@ -21,10 +21,10 @@ class Settings(Play):
             self.assertEqual(server.say(f"ring {line.name}"), ["ok 0"])
         return callers, called
 
-    def each(self, *deeds):
+    def each(self, *actions):
         """What these actions came to, done at once."""
-        with ThreadPoolExecutor(len(deeds)) as pool:
-            return [deed.result() for deed in [pool.submit(deed) for deed in deeds]]
+        with ThreadPoolExecutor(len(actions)) as pool:
+            return [action.result() for action in [pool.submit(action) for action in actions]]
 
 
 class Redundancy(Settings):

@@ -131,7 +131,7 @@ def to_t38(call):
 
 
 def to_audio(call):
-    """Audio, which the called side changes."""
+    """Audio, which the called machine changes."""
     dialog = call.trunk.take(call.invited("audio"), audio_offer(9))
     call.delivered(lambda machine: call.trunk.again(dialog, "INVITE", fax_offer(machine.leg.port)))
 

@@ -199,7 +199,7 @@ def we_refresh_our_call(call):
 
 
 def callee_refreshes(call):
-    """a call goes out, and the called side refreshes"""
+    """a call goes out, and the called machine refreshes"""
     machine, dialog = call.goes_out(expires("uas"))
     call.at(HALF)
     call.refresh(dialog, machine, "uac")
@@ -207,7 +207,7 @@ def callee_refreshes(call):
 
 
 def callee_does_not_refresh(call):
-    """a call goes out, and the called side was to refresh"""
+    """a call goes out, and the called machine was to refresh"""
     machine, _ = call.goes_out(expires("uas"))
     call.expires_at(END, machine)
 

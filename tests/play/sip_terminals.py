@@ -38,7 +38,7 @@ def over_audio_late_in_glare(call):
 
 
 def to_audio_late(call):
-    """Audio, which the called side changes, later in each call, but before the server does, after 4 s."""
+    """Audio, which the called machine changes, later in each call, but before the server does, after 4 s."""
     dialog = call.trunk.take(call.invited("audio"), audio_offer(9))
     time.sleep(call.late() % 3.2)
     call.delivered(lambda machine: call.trunk.again(dialog, "INVITE", fax_offer(machine.leg.port)))

@@ -348,8 +348,8 @@ class DamagedRecords(Spooling):
         line = Line(self.ports)
         self.silent(line)
         server = self.serve(line)
-        behind = len(file_of(*self.PAGES[1:])) - HEADER - len(SHUT)
-        for at in [*range(-HEADER, 0), *range(behind, behind + len(SHUT))]:
+        last = len(file_of(*self.PAGES[1:])) - HEADER - len(SHUT)
+        for at in [*range(-HEADER, 0), *range(last, last + len(SHUT))]:
             self.assertEqual(self.told_of(server, at), (0, 3, 0), at)
 
     def test_a_call_before_octets_that_are_passed_over_is_set_aside(self):
@@ -396,13 +396,13 @@ class AFullDisk(Spooling):
         self.assertEqual(server.say("ring a1"), [f"ok {call}"])
         events.event("not_kept", PATIENCE, call=call)
         events.event("spool_failed", PATIENCE)
-        mute = time.time() + 0.1
+        silenced = time.time() + 0.1
         machine.join(PATIENCE)
         leg = machine.leg
         leg.drain()
         self.assertTrue(machine.hears_dis)
         self.assertEqual((machine.confirmed, machine.answers), (confirmed, [t38.MCF] * confirmed))
-        self.assertEqual([numbers([it]) for it in leg.came if it[0] > mute], [])
+        self.assertEqual([numbers([it]) for it in leg.came if it[0] > silenced], [])
         machine.end()
         self.assertEqual(server.say("hangup a1 calling"), ["ok"])
         events.event("ended", PATIENCE, call=call, how="NotKept")

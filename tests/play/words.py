@@ -108,11 +108,11 @@ class Words(Play):
 
     def test_a_client_that_does_not_read_holds_up_itself_alone(self):
         server = self.serve(*(self.line(f"a{i}") for i in range(100)))
-        mute = server.client()
-        mute.stream.setblocking(False)
+        slow = server.client()
+        slow.stream.setblocking(False)
         with contextlib.suppress(BlockingIOError):
             for _ in range(100_000):
-                mute.stream.send(b"status\n")
+                slow.stream.send(b"status\n")
         for _ in range(20):
             self.assertEqual(len(server.say("status")), 101)
 

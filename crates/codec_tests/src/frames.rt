@@ -195,9 +195,9 @@ const READINGS: &[(&[u8], Option<Frame>)] = &[
     (b"\xFF\xC8\xC1\x00\x40\x01\xFF", Some(Frame::Other)),
     // all but error correction
     (b"\xFF\xC8\xC1\x00\x40\x01\xDF", Some(Frame::Dcs(LEAST_DCS))),
-    // behind no extend bit
+    // after no extend bit
     (b"\xFF\xC8\xC1\x00\x40\x00\x20", Some(Frame::Dcs(LEAST_DCS))),
-    // nothing behind the extend bit
+    // nothing after the extend bit
     (b"\xFF\xC8\xC1\x00\x40\x01", Some(Frame::Dcs(LEAST_DCS))),
     // bits that are not read: none
     (b"\xFF\xC8\xC1\x00\x00\x00", Some(Frame::Dcs(LEAST_DCS))),

@@ -110,7 +110,7 @@ const ONE_MACHINE: &str =
     "'--caller <ADDRESS>' and '--called <ADDRESS>' mean one machine: of one host, say both ports";
 
 const ABOUT: &str =
-    "Read a capture made at a gateway (pcap or pcapng), and print the script of its calls for faxgate trace: the rings, the datagrams of both machines at their ticks, and ticks until 40 s behind the last";
+    "Read a capture made at a gateway (pcap or pcapng), and print the script of its calls for faxgate trace: the rings, the datagrams of both machines at their ticks, and ticks until 40 s after the last";
 
 const LINES_AND_STATUSES: &str = "\
 Reads:
@@ -121,7 +121,7 @@ Reads:
 Prints:
   R       it rings: first, and where the caller's UDPTL numbers start over, or 60 s pass without a datagram of it
   T MS    a tick each 40 ms: T 0 is the moment of the first datagram that one of the two sent or was sent
-  A HEX   a datagram that the caller sent, behind the tick at or before it
+  A HEX   a datagram that the caller sent, after the tick at or before it
   B HEX   a datagram that the called machine sent
 Or one line of what is wrong.
 

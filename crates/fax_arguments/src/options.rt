@@ -49,7 +49,7 @@ pub(crate) fn preamble_option<'a>(alloc: Global) -> Arg<'a> {
         alloc,
         "preamble",
         "MS",
-        "How long the packet behind a preamble waits, from 40 to 2000 milliseconds: 1000 where a machine stands behind a media gateway",
+        "How long the packet after a preamble waits, from 40 to 2000 milliseconds: 1000 where a machine stands behind a media gateway",
     )
     .value_parser(ValueParser::Unsigned(u64::from(LEAST_PREAMBLE_MS), u64::from(MOST_PREAMBLE_MS)))
     .default_value("40")

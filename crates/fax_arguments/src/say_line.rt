@@ -61,7 +61,7 @@ Says:
   none the server refuses.
 
 Prints:
-  The lines of the answer as they come, up to the last one: ok .., refused NUMBER NAME, or # EOF behind counts. Behind the ok
+  The lines of the answer as they come, up to the last one: ok .., refused NUMBER NAME, or # EOF after counts. After the ok
   of two words it goes on:
   stop    it waits until the server is gone
   events  it prints the events, until the server is gone or it is ended itself

@@ -45,7 +45,7 @@ Prints:
   pages are kept in memory alone: no spool is set
                                   where the configuration has no spool
 and, where there is no control socket, what clients of one are told:
-  ok .., refused NUMBER NAME      the answer to a word; behind the lines that it asked for
+  ok .., refused NUMBER NAME      the answer to a word; after the lines that it asked for
   {\"event\":\"job\",\"line\":\"a1\",..}   what happened: rung, page, refused_page, ended, dial,
                                   job, wire, late, not_kept, set_aside, lost
 

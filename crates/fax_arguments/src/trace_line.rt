@@ -46,7 +46,7 @@ Outcomes:
   NotReceiver              the called machine does not receive; WidthLacking, FineLacking: not such pages
   RatesSpent               the training failed at each rate
   NoAnswer                 the called machine sent no DIS
-  NoReply                  it left a command unanswered, or sent no DIS behind a page of another format
+  NoReply                  it left a command unanswered, or sent no DIS after a page of another format
   PageRefused              it refused a page three times
   HungUp                   it ended the call
   NotPlaced                it could not be reached

@@ -1,7 +1,7 @@
 mod BadGateways
 mod Begins
-mod CalledSide
-mod CallingSide
+mod CalledLeg
+mod CallingLeg
 mod Confirms
 mod Goodbye
 mod Images

@@ -18,7 +18,7 @@ refusal_text NotWhole = codes "the image is not whole"
 refusal_text GapBehind = codes "something is missing or began between the image and the command"
 refusal_text SeveralImages = codes "more than one image came since the last CFR or MCF"
 refusal_text NoImage = codes "no image came before the command"
-refusal_text Untrained = codes "an image came behind EOM, and no DCS before it"
+refusal_text Untrained = codes "an image came after EOM, and no DCS before it"
 
 -- which timer gives up a call on the calling leg (ITU-T T.30, 5.4.3)
 abbrev pub given_up_text : Exchange → List ℕ
@@ -65,7 +65,7 @@ is_answer Eop frame = answers_page frame
 -- ---- why a job ended so, after its report: with the command that had no answer, where one waited for it
 
 abbrev pub unanswered_text : Option Command → List ℕ
-unanswered_text None = codes ": T1, no DIS in 35 s behind EOM"
+unanswered_text None = codes ": T1, no DIS in 35 s after EOM"
 unanswered_text (Some command) = codes ": three times " ++ (command_name command ++ codes ", and no answer")
 
 abbrev pub ended_text : Outcome → (unanswered : Option Command) → List ℕ

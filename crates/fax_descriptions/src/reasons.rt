@@ -18,7 +18,7 @@ pub fn why_refused(refusal: Refusal) -> &'static str
         Refusal::GapBehind => "something is missing or began between the image and the command",
         Refusal::SeveralImages => "more than one image came since the last CFR or MCF",
         Refusal::NoImage => "no image came before the command",
-        Refusal::Untrained => "an image came behind EOM, and no DCS before it",
+        Refusal::Untrained => "an image came after EOM, and no DCS before it",
     }
 }
 
@@ -54,6 +54,6 @@ fn why_unanswered(alloc: Global, unanswered: Option<Command>) -> Result<String, 
             let name = command.name();
             Ok(format!(in alloc; ": three times {name}, and no answer")?)
         }
-        None => Ok(String::from_str(alloc, ": T1, no DIS in 35 s behind EOM")?),
+        None => Ok(String::from_str(alloc, ": T1, no DIS in 35 s after EOM")?),
     }
 }

@@ -152,7 +152,7 @@ impl CallingLeg {
         match self.exchange {
             Exchange::Before => {}
             Exchange::Awaited => tale.add(", again: T4, no DCS in 3 s")?,
-            Exchange::Answered => tale.add(", again: T2, nothing heard in 6 s behind EOM")?,
+            Exchange::Answered => tale.add(", again: T2, nothing heard in 6 s after EOM")?,
         }
         self.exchange = Exchange::Awaited;
         Ok(())

@@ -23,7 +23,7 @@ late_by n g near low agrees above below late = omega arith
 early_by : (n g near : ℕ) → n < 65536 → near % 65536 ≡ n → g + 1 ≤ near + 32768 → near ≤ g + 32768 → 32768 ≤ steps n (g % 65536) → g + steps (g % 65536) n ≡ near
 early_by n g near low agrees above below early = omega arith
 
--- what lies behind what was missed
+-- what comes after what was missed
 record Counts (missed near packets : ℕ) : Type 0 where
   pub within : 0 < packets → missed + packets ≤ near
   pub none : packets ≡ 0 → near ≤ missed
@@ -63,7 +63,7 @@ newest_known (h ∷ earlier) =
     ∙ noted_newest h.has_peer h.datagram.number (handed_after earlier)
     ∙ ap (λ (o : Option ℕ). newer_of o h.datagram.number) (newest_known earlier)
 
--- how many of the newest packets lie behind what was missed
+-- how many of the newest packets come after what was missed
 abbrev KnowsSince : List HandedDatagram → ℕ → Type 0
 KnowsSince [] since = since ≡ 65535
 KnowsSince (h ∷ earlier) since =
@@ -116,7 +116,7 @@ since_known (h ∷ earlier) low =
         let next = after_by number g (nearest (g + 1) number) (missed (e ∷ rest)) old.since (is_late (g % 65536) number) refl low.0 near.agrees near.above (let under = near.below in omega (arith, under)) known.0 known.1 in
         (ap (λ (o : Option ℕ). since_after o old.since number) is ∙ next.0, next.1)
 
--- how many packets of one more datagram lie behind that
+-- how many packets of one more datagram come after that
 counts_known : (earlier : List HandedDatagram) (d : DatagramValue) (handed : Handed) → HaveNumbers (d ∷ datagrams earlier) → handed.newest ≡ newest_of (datagrams earlier)
     → KnowsSince earlier handed.since → Counts (missed earlier) (integer_after (datagrams earlier) d) (since_of handed.newest handed.since d.number)
 counts_known [] d handed low newest known =
@@ -139,10 +139,10 @@ goes peer d is_sent leg socket m integer (suc before) s known counts =
     let limits = with_at_most before (limits_of leg.redundancy leg.peer) in
     let cut = are_cut limits d s in
     inr (record {
-      kept = cut.kept;
+      count = cut.kept;
       put = ap (option_map (handed_to (Some peer) (sent_as limits (written_datagram d)))) known ∙ ap (λ (os : List ℕ). Some (handed_to (Some peer) os socket)) cut.sent_is;
       read_as = read_fewer cut.kept d s;
-      behind = let all : m + suc before ≤ integer = counts.within (omega arith) in let few = cut.few in omega (arith, all, few);
+      after = let all : m + suc before ≤ integer = counts.within (omega arith) in let few = cut.few in omega (arith, all, few);
     })
 
 -- a send leaves what was handed over before

@@ -32,14 +32,14 @@ missed [] = 0
 missed (h ∷ earlier) = if h.has_peer then missed earlier else greatest (datagrams (h ∷ earlier))
 
 -- ONE datagram is put onto the socket, to go to the peer: with the first of the secondaries that it has, and each of its packets, its own
--- and those, lies BEHIND what the peer missed.
+-- and those, comes AFTER what the peer missed.
 pub record IsNew (peer : SocketAddr) (d : DatagramValue) (missed integer : ℕ) (old : SocketValue) (new : Option SocketValue) : Type 0 where
-  pub kept : ℕ
-  pub put : new ≡ Some (handed_to (Some peer) (written_datagram (fewer kept d)) old)
-  pub read_as : datagram_of (written_datagram (fewer kept d)) ≡ Ok (fewer kept d)
-  pub behind : missed + kept < integer
+  pub count : ℕ
+  pub put : new ≡ Some (handed_to (Some peer) (written_datagram (fewer count d)) old)
+  pub read_as : datagram_of (written_datagram (fewer count d)) ≡ Ok (fewer count d)
+  pub after : missed + count < integer
 
--- or NONE: there is no peer, or its own packet does not lie behind that
+-- or NONE: there is no peer, or its own packet does not come after that
 abbrev pub IsNewWhere : Option SocketAddr → DatagramValue → ℕ → ℕ → SocketValue → Option SocketValue → Type 0
 IsNewWhere None d missed integer old new = new ≡ Some old
 IsNewWhere (Some peer) d missed integer old new = ((integer ≤ missed) × (new ≡ Some old)) ⊎ IsNew peer d missed integer old new
