@@ -44,8 +44,8 @@ impl<'e, 'n, 's, E: Eprint, N: Net> ServiceManager for NamedManager<'e, 'n, 's, 
 /// error.
 pub(crate) fn manager_name<R: Eprint + Env + AllocGlobal>(rt: &R) -> Option<String> {
     match env::var(rt, VARIABLE) {
-        Ok(name) if !name.is_empty() => Some(name),
-        Ok(_) | Err(VarError::NotPresent) => None,
+        Ok(name) => { if name.is_empty() { None } else { Some(name) } }
+        Err(VarError::NotPresent) => None,
         Err(fault) => {
             tell(rt, format_args!("{VARIABLE}: {fault}"));
             None
