@@ -166,5 +166,8 @@ class Sockets(Play):
         text = (TOP / "samples" / "serve.toml").read_text(encoding="utf-8")
         for port in (40000, 40002, 40004, 40006, 40008, 40010, 40012, 6000, 6002, 6004, 6006):
             text = text.replace(address(port), address(self.ports.take()))
+        text = text.replace(address(9464), address(self.ports.take()))
+        # the port is held by a stream socket: it is let go for the server
+        self.ports._held.pop().close()
         server = self.enterContext(Server(text, control="faxgate.sock"))
         self.assertEqual(server.say("status"), [IDLE[0].replace("a1", name) for name in ("a1", "a2", "a3")] + ["redial r1 called idle", "ok"])
