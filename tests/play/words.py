@@ -4,6 +4,7 @@ import os
 import pathlib
 import re
 import socket
+import stat
 
 from server import NO_SPOOL, Client, Play, Server, address, finish
 
@@ -137,8 +138,9 @@ class Sockets(Play):
         line = self.line()
         server = self.serve(line)
         status, _, errors = finish(server.run("serve", "--config", "lines.toml"))
-        self.assertEqual((status, errors.count("\n")), (4, 1))
+        self.assertEqual((status, errors), (4, f"faxgate: lines.toml: control: {server.control}: another process serves there\n"))
         self.assertEqual(server.say("status"), IDLE)
+        self.assertEqual(stat.S_IMODE(os.stat(server.control).st_mode), 0o660)
         server.kill()
         self.assertTrue(os.path.exists(server.control))
         server.start()
@@ -152,8 +154,8 @@ class Sockets(Play):
         with open(server.path("more.toml"), "w", encoding="utf-8") as file:
             file.write(line.text().replace("a1", "a2"))
         status, output, errors = finish(server.run("serve", "--config", "more.toml"))
-        self.assertEqual((status, errors.count("\n")), (4, 1))
-        self.assertIn('"a2"', errors)
+        fault = f'line "a2": calling: {address(line.calling)}: Address already in use (os error 98)'
+        self.assertEqual((status, errors), (4, f"faxgate: more.toml: {fault}\n"))
 
     def test_the_first_line_says_that_pages_are_in_memory_alone(self):
         server = self.serve(self.line())
@@ -166,5 +168,8 @@ class Sockets(Play):
         text = (TOP / "samples" / "serve.toml").read_text(encoding="utf-8")
         for port in (40000, 40002, 40004, 40006, 40008, 40010, 40012, 6000, 6002, 6004, 6006):
             text = text.replace(address(port), address(self.ports.take()))
+        text = text.replace(address(9464), address(self.ports.take()))
+        # the port is held by a stream socket: it is let go for the server
+        self.ports._held.pop().close()
         server = self.enterContext(Server(text, control="faxgate.sock"))
         self.assertEqual(server.say("status"), [IDLE[0].replace("a1", name) for name in ("a1", "a2", "a3")] + ["redial r1 called idle", "ok"])

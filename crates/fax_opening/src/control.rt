@@ -1,4 +1,7 @@
 //! The control socket.
+ghost use Rattle.std.specs.Prelude.{IfErr};
+ghost use Rattle.fax_opening.specs.Faults.{IsOfControl};
+
 use crate::fault::ServeFault;
 use std::fs::{Files, Permissions};
 use std::io::ErrorKind;
@@ -10,8 +13,10 @@ use std::{fs, io};
 /// Its owner and its group read and write, and nobody else.
 const OWNER_AND_GROUP: u32 = 0o660;
 
-/// Opens the control socket at this path. A file that a server left there which is gone is removed.
-pub fn open_control<N: Net + Files>(system: &N, path: &str) -> Result<UnixListener, ServeFault> {
+/// Opens the control socket at this path. A file that a server left there which is gone is removed. An `Err` is of this socket.
+pub fn open_control<N: Net + Files>(system: &N, path: &str) -> Result<UnixListener, ServeFault>
+    ensures { IfErr result IsOfControl }
+{
     match bind(system, path) {
         Ok(listener) => Ok(listener),
         Err(error) if error.kind() == ErrorKind::AddrInUse => {

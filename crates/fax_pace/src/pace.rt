@@ -163,6 +163,11 @@ impl<
         self.desk.go_on(self.rounds.now, self.teller.tell_events());
     }
 
+    /// Whether the server was told to stop.
+    pub fn is_stopping(&self) -> bool {
+        self.desk.is_stopping()
+    }
+
     /// Whether the run ends.
     fn is_over<L: SeenLines>(&mut self, seen: &L) -> bool
         ensures { self.new ≡ self.old }

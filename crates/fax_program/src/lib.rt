@@ -6,6 +6,7 @@ mod captures;
 mod descriptors;
 mod failures;
 mod looking;
+mod manager;
 mod pictures;
 mod refusals;
 mod rights;

@@ -43,7 +43,7 @@ fn words_of<R: Env + AllocGlobal>(rt: &R) -> io::Result<Vec<String>> {
 }
 
 /// Does what is asked for.
-fn run_request<R: Print + Eprint + Input + AllocGlobal, N: Net + Files + Clock + AllocGlobal>(
+fn run_request<R: Print + Eprint + Input + Env + AllocGlobal, N: Net + Files + Clock + AllocGlobal>(
     rt: &R,
     system: &N,
     request: Request<'_>,

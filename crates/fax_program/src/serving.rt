@@ -4,6 +4,7 @@ ghost use Rattle.fax_program.specs.Statuses.{IsEndedBy, IsToldAs};
 
 use crate::descriptors::{descriptor_limit, most_descriptors};
 use crate::failures::tell_unprinted;
+use crate::manager::{NamedManager, manager_name};
 use crate::rights::{RightsFault, keep_from_others};
 use fax_command::Status;
 use fax_config::{Config, ConfigFault, Misfit, read_config};
@@ -12,7 +13,7 @@ use fax_spool_folder::{FolderFault, Folders};
 use sqlite_disk::Start;
 use std::fmt::Display;
 use std::net::Net;
-use std::rt::{Clock, Files};
+use std::rt::{Clock, Env, Files};
 use std::{fs, io};
 
 /// A spool that could not be opened anew is tried again so many milliseconds later.
@@ -27,6 +28,8 @@ pub struct Service {
     config: Config,
     /// How often the spool has failed.
     failures: u64,
+    /// The name of the socket of a service manager, where the environment has one.
+    manager: Option<String>,
     /// The fault that was told last for which the spool could not be opened anew, since it was open; else nothing.
     told: String,
 }
@@ -45,17 +48,7 @@ impl Service {
         if let Some(status) = self.tell_shared(rt, system) {
             return Some(status.code());
         }
-        let ran = run_serve(
-            system,
-            rt.alloc(),
-            &self.config,
-            rt.reader(),
-            io::writer(rt),
-            self.failures,
-            start,
-            undelivered,
-        );
-        let ended = match ran {
+        let ended = match self.serve(rt, system, start, undelivered) {
             Ok(end) => self.end(rt, end),
             Err(fault) => self.fail(rt, system, fault),
         };
@@ -63,6 +56,36 @@ impl Service {
             Some(status) => Some(status.code()),
             None => None,
         }
+    }
+
+    /// The run.
+    fn serve<
+        R: Print + Eprint + Input + AllocGlobal,
+        N: Net + Files + Clock + Folders,
+        S: Start,
+        T: Start,
+    >(&self, rt: &R, system: &N, start: S, undelivered: T) -> Result<RunEnd, ServeFault> {
+        let name = match &self.manager {
+            Some(name) => Some(name.as_str()),
+            None => None,
+        };
+        let mut manager = NamedManager {
+            stderr: rt,
+            net: system,
+            alloc: rt.alloc(),
+            name,
+        };
+        run_serve(
+            system,
+            rt.alloc(),
+            &self.config,
+            rt.reader(),
+            io::writer(rt),
+            self.failures,
+            &mut manager,
+            start,
+            undelivered,
+        )
     }
 
     /// Where others may write to the folder of the spool, or read its files, and that cannot be changed, it is told, and the status
@@ -152,7 +175,7 @@ impl Service {
 }
 
 /// The lines of the configuration in the file at this path. An `Err` is the status after a fault that was told.
-pub(crate) fn service_of<R: Print + Eprint + AllocGlobal, N: Files + AllocGlobal>(
+pub(crate) fn service_of<R: Print + Eprint + Env + AllocGlobal, N: Files + AllocGlobal>(
     rt: &R,
     system: &N,
     path: &str,
@@ -171,6 +194,7 @@ pub(crate) fn service_of<R: Print + Eprint + AllocGlobal, N: Files + AllocGlobal
             path,
             config,
             failures: 0,
+            manager: manager_name(rt),
             told: String::new(rt.alloc()),
         }),
         Err(_) => Err(tell_no_memory(rt, path)),

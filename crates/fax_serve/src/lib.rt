@@ -1,10 +1,12 @@
 //! A server of many lines in real time, over UDP: what `faxgate serve` runs. It opens what a configuration names, and serves that.
 #![tactic(auto)]
 
+mod noticing;
 mod redials;
 mod run;
 mod secrets;
 mod sip;
+mod stopping;
 mod unserved;
 
 pub use fax_desk::RunEnd;

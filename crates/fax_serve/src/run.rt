@@ -1,10 +1,12 @@
 //! A run of `faxgate serve`.
-ghost use Rattle.std.specs.Prelude.{◌≡◌, IfOk, None, OnOk, true, false, is_some, length};
+ghost use Rattle.std.specs.Prelude.{◌≡◌, IfOk, None, OnErr, OnOk, true, false, is_some, length};
 ghost use Rattle.fax_line.specs.Operations.{AreBegun, AreNew};
+ghost use Rattle.fax_notify.specs.Tellings.{ready_after};
 ghost use Rattle.fax_serve.specs.Damages.{damage_found};
 ghost use Rattle.fax_runs.specs.StoredRuns.{RunIsStored, ServedOver, ServedWith};
 ghost use Rattle.fax_runs.specs.Runs.{ServedAlone};
 
+use crate::noticing::NoticingPace;
 use crate::redials::{RedialLines, RedialWire, open_redials};
 use crate::sip::{SipFront, open_sip};
 use fax_clients::Clients;
@@ -13,6 +15,7 @@ use fax_desk::{Card, Damage, Desk, RunEnd};
 use fax_held::HeldPages;
 use fax_holding_wire::{HoldingWire, PageStore};
 use fax_line::{Lines, PageToStore, RunStore, serve};
+use fax_notify::ServiceManager;
 use fax_opening::{
     ServeFault, ServedWire, SocketWire, Stopwatch, close_control, open_control, open_lines,
     open_restored_lines,
@@ -36,8 +39,9 @@ const SECOND_MS: u64 = 1_000;
 /// Serves the lines of a configuration until it is told to stop, or its spool has failed and no line has a call, 10 s after the failure
 /// at the earliest: then it is to be served by another run, over a spool that is opened anew. Words come on the control socket where
 /// the configuration has one, and else on the input, whose answers go to the output; events go there in any case. The spool has failed so often in runs
-/// before this one. An `Err` tells why nothing was served.
+/// before this one. A service manager is told once all is open, and as the server begins to stop. An `Err` tells why nothing was served.
 pub fn run_serve<
+    M: ServiceManager + Drop,
     N: Net + Files + Clock + Folders,
     I: Read + Drop,
     O: Write + Drop,
@@ -50,11 +54,14 @@ pub fn run_serve<
     input: I,
     output: O,
     spool_failures: u64,
+    manager: &mut M,
     start: S,
     undelivered: T,
 ) -> Result<RunEnd, ServeFault>
     ensures alone { OnOk result (ServedAlone (length config.now.lines.items) (is_some config.now.spool)) }
     ensures kept { OnOk result (is_some config.now.spool ≡ true → ServedOver ⟦<SpoolFolderFile<S> as Disk>⟧.seen ⟦<SpoolFolderFile<S> as Disk>⟧.may_leave ⟦<SpoolFolderFile<S> as Disk>⟧.is_usable ⟦<SpoolFolderFile<S> as Disk>⟧.is_clean ⟦<KeepingStore<SpoolFolderFile<S>, SpoolFolderFile<T>> as RunStore>⟧.is_same ⟦<KeepingStore<SpoolFolderFile<S>, SpoolFolderFile<T>> as PageStore<PageToStore>>⟧.puts ⟦<KeepingStore<SpoolFolderFile<S>, SpoolFolderFile<T>> as RunStore>⟧.notes ⟦<KeepingStore<SpoolFolderFile<S>, SpoolFolderFile<T>> as RunStore>⟧.ends (λ store. store.storage.spool) (λ store. store.storage.queues.items) S.db S.log config.now.lines.items) }
+    ensures ready { OnOk result (M.told manager.new ≡ ready_after (length config.now.lines.items) (M.told manager.old)) }
+    ensures untold { OnErr result (M.told manager.new ≡ M.told manager.old) }
 {
     match &config.control {
         Some(path) => {
@@ -67,6 +74,7 @@ pub fn run_serve<
                 config,
                 clients,
                 spool_failures,
+                manager,
                 start,
                 undelivered,
             );
@@ -81,6 +89,7 @@ pub fn run_serve<
                 config,
                 clients,
                 spool_failures,
+                manager,
                 start,
                 undelivered,
             )
@@ -90,6 +99,7 @@ pub fn run_serve<
 
 /// The same with SIP, where the configuration tells of it.
 fn serve_with_sip<
+    M: ServiceManager + Drop,
     N: Net + Files + Clock + Folders,
     I: Read + Drop,
     O: Write + Drop,
@@ -101,20 +111,24 @@ fn serve_with_sip<
     config: &Config,
     clients: Clients<I, O>,
     spool_failures: u64,
+    manager: &mut M,
     start: S,
     undelivered: T,
 ) -> Result<RunEnd, ServeFault>
     ensures alone { OnOk result (ServedAlone (length config.now.lines.items) (is_some config.now.spool)) }
     ensures kept { OnOk result (is_some config.now.spool ≡ true → ServedOver ⟦<SpoolFolderFile<S> as Disk>⟧.seen ⟦<SpoolFolderFile<S> as Disk>⟧.may_leave ⟦<SpoolFolderFile<S> as Disk>⟧.is_usable ⟦<SpoolFolderFile<S> as Disk>⟧.is_clean ⟦<KeepingStore<SpoolFolderFile<S>, SpoolFolderFile<T>> as RunStore>⟧.is_same ⟦<KeepingStore<SpoolFolderFile<S>, SpoolFolderFile<T>> as PageStore<PageToStore>>⟧.puts ⟦<KeepingStore<SpoolFolderFile<S>, SpoolFolderFile<T>> as RunStore>⟧.notes ⟦<KeepingStore<SpoolFolderFile<S>, SpoolFolderFile<T>> as RunStore>⟧.ends (λ store. store.storage.spool) (λ store. store.storage.queues.items) S.db S.log config.now.lines.items) }
+    ensures ready { OnOk result (M.told manager.new ≡ ready_after (length config.now.lines.items) (M.told manager.old)) }
+    ensures untold { OnErr result (M.told manager.new ≡ M.told manager.old) }
 {
     let sip = open_sip(system, alloc, config)?;
-    serve_over::<ServedWire, SipFront, N, I, O, S, T>(
+    serve_over::<ServedWire, SipFront, M, N, I, O, S, T>(
         system,
         alloc,
         config,
         clients,
         sip,
         spool_failures,
+        manager,
         start,
         undelivered,
     )
@@ -124,6 +138,7 @@ fn serve_with_sip<
 fn serve_over<
     W: SocketWire + Drop,
     P: SipSide + Drop,
+    M: ServiceManager + Drop,
     N: Net + Clock + Folders,
     I: Read + Drop,
     O: Write + Drop,
@@ -136,11 +151,14 @@ fn serve_over<
     clients: Clients<I, O>,
     sip: Option<P>,
     spool_failures: u64,
+    manager: &mut M,
     start: S,
     undelivered: T,
 ) -> Result<RunEnd, ServeFault>
     ensures alone { OnOk result (ServedAlone (length config.now.lines.items) (is_some config.now.spool)) }
     ensures kept { OnOk result (is_some config.now.spool ≡ true → ServedOver ⟦<SpoolFolderFile<S> as Disk>⟧.seen ⟦<SpoolFolderFile<S> as Disk>⟧.may_leave ⟦<SpoolFolderFile<S> as Disk>⟧.is_usable ⟦<SpoolFolderFile<S> as Disk>⟧.is_clean ⟦<KeepingStore<SpoolFolderFile<S>, SpoolFolderFile<T>> as RunStore>⟧.is_same ⟦<KeepingStore<SpoolFolderFile<S>, SpoolFolderFile<T>> as PageStore<PageToStore>>⟧.puts ⟦<KeepingStore<SpoolFolderFile<S>, SpoolFolderFile<T>> as RunStore>⟧.notes ⟦<KeepingStore<SpoolFolderFile<S>, SpoolFolderFile<T>> as RunStore>⟧.ends (λ store. store.storage.spool) (λ store. store.storage.queues.items) S.db S.log config.now.lines.items) }
+    ensures ready { OnOk result (M.told manager.new ≡ ready_after (length config.now.lines.items) (M.told manager.old)) }
+    ensures untold { OnErr result (M.told manager.new ≡ M.told manager.old) }
 {
     let sockets = open_redials(system, alloc, config.redial.as_slice())?;
     let redials: RedialLines<'_, RedialWire<'_>> = RedialLines::new(
@@ -148,7 +166,7 @@ fn serve_over<
         config,
         sockets.as_slice(),
     )?;
-    serve_beside::<W, P, RedialLines<'_, RedialWire<'_>>, N, I, O, S, T>(
+    serve_beside::<W, P, RedialLines<'_, RedialWire<'_>>, M, N, I, O, S, T>(
         system,
         alloc,
         config,
@@ -156,6 +174,7 @@ fn serve_over<
         sip,
         redials,
         spool_failures,
+        manager,
         start,
         undelivered,
     )
@@ -166,6 +185,7 @@ fn serve_beside<
     W: SocketWire + Drop,
     P: SipSide + Drop,
     R: RedialSide + Drop,
+    M: ServiceManager + Drop,
     N: Net + Clock + Folders,
     I: Read + Drop,
     O: Write + Drop,
@@ -179,17 +199,20 @@ fn serve_beside<
     sip: Option<P>,
     redials: R,
     spool_failures: u64,
+    manager: &mut M,
     start: S,
     undelivered: T,
 ) -> Result<RunEnd, ServeFault>
     ensures alone { OnOk result (ServedAlone (length config.now.lines.items) (is_some config.now.spool)) }
     ensures kept { OnOk result (is_some config.now.spool ≡ true → ServedOver ⟦<SpoolFolderFile<S> as Disk>⟧.seen ⟦<SpoolFolderFile<S> as Disk>⟧.may_leave ⟦<SpoolFolderFile<S> as Disk>⟧.is_usable ⟦<SpoolFolderFile<S> as Disk>⟧.is_clean ⟦<KeepingStore<SpoolFolderFile<S>, SpoolFolderFile<T>> as RunStore>⟧.is_same ⟦<KeepingStore<SpoolFolderFile<S>, SpoolFolderFile<T>> as PageStore<PageToStore>>⟧.puts ⟦<KeepingStore<SpoolFolderFile<S>, SpoolFolderFile<T>> as RunStore>⟧.notes ⟦<KeepingStore<SpoolFolderFile<S>, SpoolFolderFile<T>> as RunStore>⟧.ends (λ store. store.storage.spool) (λ store. store.storage.queues.items) S.db S.log config.now.lines.items) }
+    ensures ready { OnOk result (M.told manager.new ≡ ready_after (length config.now.lines.items) (M.told manager.old)) }
+    ensures untold { OnErr result (M.told manager.new ≡ M.told manager.old) }
 {
     match &config.spool {
-        None => serve_in_memory::<W, P, R, N, I, O, SpoolFolderFile<S>, SpoolFolderFile<T>>(
-            system, alloc, config, clients, sip, redials,
+        None => serve_in_memory::<W, P, R, M, N, I, O, SpoolFolderFile<S>, SpoolFolderFile<T>>(
+            system, alloc, config, clients, sip, redials, manager,
         ),
-        Some(folder) => serve_spooled::<W, P, R, N, I, O, S, T>(
+        Some(folder) => serve_spooled::<W, P, R, M, N, I, O, S, T>(
             system,
             alloc,
             config,
@@ -198,6 +221,7 @@ fn serve_beside<
             redials,
             folder.as_str(),
             spool_failures,
+            manager,
             start,
             undelivered,
         ),
@@ -209,6 +233,7 @@ fn serve_in_memory<
     W: SocketWire + Drop,
     P: SipSide + Drop,
     R: RedialSide + Drop,
+    M: ServiceManager + Drop,
     N: Net + Clock,
     I: Read + Drop,
     O: Write + Drop,
@@ -221,8 +246,11 @@ fn serve_in_memory<
     clients: Clients<I, O>,
     sip: Option<P>,
     redials: R,
+    manager: &mut M,
 ) -> Result<RunEnd, ServeFault>
-    ensures { OnOk result (ServedAlone (length config.now.lines.items) false) }
+    ensures alone { OnOk result (ServedAlone (length config.now.lines.items) false) }
+    ensures ready { OnOk result (M.told manager.new ≡ ready_after (length config.now.lines.items) (M.told manager.old)) }
+    ensures untold { OnErr result (M.told manager.new ≡ M.told manager.old) }
 {
     let lines: Lines<HoldingWire<W>> = open_lines(system, alloc, config.lines.as_slice())?;
     let held = held_pages(alloc, config.lines.as_slice())?;
@@ -230,7 +258,7 @@ fn serve_in_memory<
         lines: &lines,
         store: None,
     };
-    let mut pace = pace_of(
+    let pace = pace_of(
         system,
         alloc,
         config,
@@ -241,8 +269,9 @@ fn serve_in_memory<
         Some(held),
         0,
     )?;
-    serve_new::<W, P, R, N, I, O, D, U>(lines, &mut pace);
-    Ok(pace.finish())
+    let mut pace = NoticingPace::begin(pace, manager, lines.len());
+    serve_new::<W, P, R, M, N, I, O, D, U>(lines, &mut pace);
+    Ok(pace.ordering.finish())
 }
 
 /// The same where pages are stored in the spool of this folder: each line begins with those of its own that wait there, but for calls that
@@ -251,6 +280,7 @@ fn serve_spooled<
     W: SocketWire + Drop,
     P: SipSide + Drop,
     R: RedialSide + Drop,
+    M: ServiceManager + Drop,
     N: Net + Clock + Folders,
     I: Read + Drop,
     O: Write + Drop,
@@ -265,15 +295,18 @@ fn serve_spooled<
     redials: R,
     folder: &str,
     spool_failures: u64,
+    manager: &mut M,
     start: S,
     undelivered: T,
 ) -> Result<RunEnd, ServeFault>
     ensures alone { OnOk result (ServedAlone (length config.now.lines.items) true) }
     ensures kept { OnOk result (ServedOver ⟦<SpoolFolderFile<S> as Disk>⟧.seen ⟦<SpoolFolderFile<S> as Disk>⟧.may_leave ⟦<SpoolFolderFile<S> as Disk>⟧.is_usable ⟦<SpoolFolderFile<S> as Disk>⟧.is_clean ⟦<KeepingStore<SpoolFolderFile<S>, SpoolFolderFile<T>> as RunStore>⟧.is_same ⟦<KeepingStore<SpoolFolderFile<S>, SpoolFolderFile<T>> as PageStore<PageToStore>>⟧.puts ⟦<KeepingStore<SpoolFolderFile<S>, SpoolFolderFile<T>> as RunStore>⟧.notes ⟦<KeepingStore<SpoolFolderFile<S>, SpoolFolderFile<T>> as RunStore>⟧.ends (λ store. store.storage.spool) (λ store. store.storage.queues.items) S.db S.log config.now.lines.items) }
+    ensures ready { OnOk result (M.told manager.new ≡ ready_after (length config.now.lines.items) (M.told manager.old)) }
+    ensures untold { OnErr result (M.told manager.new ≡ M.told manager.old) }
 {
     let opened = system.open_spool(folder, start)?;
     let kept = system.open_undelivered(folder, undelivered)?;
-    serve_opened::<W, P, R, N, I, O, SpoolFolderFile<S>, SpoolFolderFile<T>>(
+    serve_opened::<W, P, R, M, N, I, O, SpoolFolderFile<S>, SpoolFolderFile<T>>(
         system,
         alloc,
         config,
@@ -283,6 +316,7 @@ fn serve_spooled<
         opened,
         kept,
         spool_failures,
+        manager,
     )
 }
 
@@ -291,6 +325,7 @@ fn serve_opened<
     W: SocketWire + Drop,
     P: SipSide + Drop,
     R: RedialSide + Drop,
+    M: ServiceManager + Drop,
     N: Net + Clock,
     I: Read + Drop,
     O: Write + Drop,
@@ -306,9 +341,12 @@ fn serve_opened<
     opened: OpenedSpool<D>,
     kept: OpenedSpool<U>,
     spool_failures: u64,
+    manager: &mut M,
 ) -> Result<RunEnd, ServeFault>
     ensures alone { OnOk result (ServedAlone (length config.now.lines.items) true) }
     ensures kept { OnOk result (ServedWith ⟦<KeepingStore<D, U> as RunStore>⟧.is_same ⟦<KeepingStore<D, U> as PageStore<PageToStore>>⟧.puts ⟦<KeepingStore<D, U> as RunStore>⟧.notes ⟦<KeepingStore<D, U> as RunStore>⟧.ends (λ store. store.storage.spool) (λ store. store.storage.queues.items) config.now.lines.items opened) }
+    ensures ready { OnOk result (M.told manager.new ≡ ready_after (length config.now.lines.items) (M.told manager.old)) }
+    ensures untold { OnErr result (M.told manager.new ≡ M.told manager.old) }
 {
     let damage = damage_of(&opened, &kept);
     let OpenedSpool {
@@ -349,8 +387,9 @@ fn serve_opened<
     let undelivered = Undelivered::new(alloc, kept)?;
     let storage = Storage::new(alloc, spool, queues);
     let store = KeepingStore::new(alloc, storage, Some(undelivered));
+    let mut pace = NoticingPace::begin(pace, manager, lines.len());
     serve_restored(lines, store, &mut pace);
-    Ok(pace.finish())
+    Ok(pace.ordering.finish())
 }
 
 /// What both pairs of files were found to hold that cannot be read.
@@ -461,12 +500,13 @@ fn serve_new<
     W: SocketWire + Drop,
     P: SipSide + Drop,
     R: RedialSide + Drop,
+    M: ServiceManager + Drop,
     C: Clock,
     I: Read + Drop,
     O: Write + Drop,
     D: Disk + Drop,
     U: Disk + Drop,
->(mut lines: Lines<HoldingWire<W>>, pace: &mut RealPace<'_, C, I, O, R, P>)
+>(mut lines: Lines<HoldingWire<W>>, pace: &mut NoticingPace<RealPace<'_, C, I, O, R, P>, M>)
     requires new { AreNew lines.lines }
     requires idle { pace.old.waits ≡ None }
     ensures { ServedAlone (length lines.lines) false }
@@ -480,6 +520,7 @@ fn serve_restored<
     W: SocketWire + Drop,
     P: SipSide + Drop,
     R: RedialSide + Drop,
+    M: ServiceManager + Drop,
     C: Clock,
     I: Read + Drop,
     O: Write + Drop,
@@ -488,7 +529,7 @@ fn serve_restored<
 >(
     mut lines: Lines<HoldingWire<W>>,
     store: KeepingStore<D, U>,
-    pace: &mut RealPace<'_, C, I, O, R, P>,
+    pace: &mut NoticingPace<RealPace<'_, C, I, O, R, P>, M>,
 )
     requires begun { AreBegun lines.lines }
     requires first { lines.slot ≡ 0 }

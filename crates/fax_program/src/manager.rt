@@ -1,0 +1,54 @@
+//! A service manager, as the environment names it.
+use crate::failures::tell;
+use fax_notify::{LocalSockets, Notice, ServiceManager, send_notice};
+use std::alloc::Global;
+use std::env;
+use std::env::VarError;
+use std::net::Net;
+use std::rt::Env;
+
+/// The variable that names the socket of a service manager (sd_notify(3)).
+const VARIABLE: &str = "NOTIFY_SOCKET";
+
+/// The service manager whose socket has this name, or nobody. What fails is told in a line on the standard error.
+#[derive(Drop)]
+pub(crate) struct NamedManager<'e, 'n, 's, E: Eprint, N: Net> {
+    pub stderr: &'e E,
+    pub net: &'n N,
+    pub alloc: Global,
+    pub name: Option<&'s str>,
+}
+
+impl<'e, 'n, 's, E: Eprint, N: Net> ServiceManager for NamedManager<'e, 'n, 's, E, N> {
+    fn tell(&mut self, notice: Notice) {
+        let Some(name) = self.name else {
+            return;
+        };
+        let mut sockets = LocalSockets { net: self.net };
+        if let Err(fault) = send_notice(self.alloc, &mut sockets, name, notice) {
+            tell(self.stderr, format_args!("{VARIABLE}: {name}: {fault}"));
+        }
+    }
+
+    fn another(&self) -> Self {
+        NamedManager {
+            stderr: self.stderr,
+            net: self.net,
+            alloc: self.alloc,
+            name: self.name,
+        }
+    }
+}
+
+/// The name of the socket of a service manager, where the environment has one. Why it cannot be read is told in a line on the standard
+/// error.
+pub(crate) fn manager_name<R: Eprint + Env + AllocGlobal>(rt: &R) -> Option<String> {
+    match env::var(rt, VARIABLE) {
+        Ok(name) => { if name.is_empty() { None } else { Some(name) } }
+        Err(VarError::NotPresent) => None,
+        Err(fault) => {
+            tell(rt, format_args!("{VARIABLE}: {fault}"));
+            None
+        }
+    }
+}

@@ -1,0 +1,88 @@
+//! What gives the orders, and tells a service manager what becomes of the server.
+ghost use Rattle.std.specs.Prelude.{◌≡◌};
+ghost use Rattle.fax_notify.specs.Tellings.{ready_after};
+
+use crate::stopping::StoppingPace;
+use fax_holding_wire::LineWire;
+use fax_line::{LineAnswer, Lines, Order, Pace, RunStore, SlotEnd};
+use fax_notify::{Notice, ServiceManager};
+use std::marker::Model;
+
+/// What gives the orders, and a service manager, which is told as the server begins to stop.
+#[derive(Drop)]
+pub(crate) struct NoticingPace<P, M> {
+    /// What gives the orders.
+    pub ordering: P,
+    manager: M,
+    /// Whether the manager was told that the server stops.
+    has_told: bool,
+}
+
+/// Contracts see what gives the orders.
+impl<P, M> Model for NoticingPace<P, M> {
+    ghost Value = { P };
+
+    ghost view = { λ noticing. noticing.ordering };
+}
+
+impl<P: Drop, M: ServiceManager + Drop> NoticingPace<P, M> {
+    /// All is open, and the orders begin: the manager is told that so many lines are open.
+    pub(crate) fn begin(ordering: P, manager: &mut M, lines: usize) -> Self
+        ensures ordering { result ≡ ordering }
+        ensures ready { M.told manager.new ≡ ready_after lines (M.told manager.old) }
+    {
+        manager.tell(Notice::Ready { lines });
+        NoticingPace {
+            ordering,
+            manager: manager.another(),
+            has_told: false,
+        }
+    }
+}
+
+impl<W: LineWire + Drop, K: RunStore, P: Pace<W, K> + StoppingPace, M: ServiceManager> Pace<W, K>
+    for NoticingPace<P, M> {
+    ghost words = { P.words };
+
+    ghost gives = { P.gives };
+
+    ghost hears = { P.hears };
+
+    ghost sees = { P.sees };
+
+    ghost sees_stored = { P.sees_stored };
+
+    fn next(&mut self, lines: &Lines<W>, store: Option<&K>) -> Option<Order> {
+        let order = self.ordering.next(lines, store);
+        tell_stop(&self.ordering, &mut self.manager, &mut self.has_told);
+        order
+    }
+
+    fn before_put(&mut self, lines: &Lines<W>, store: &mut K) {
+        self.ordering.before_put(lines, store);
+    }
+
+    fn after_put(&mut self, lines: &Lines<W>, end: &SlotEnd) {
+        self.ordering.after_put(lines, end);
+    }
+
+    fn turned(&mut self, lines: &Lines<W>, store: Option<&K>) {
+        self.ordering.turned(lines, store);
+    }
+
+    fn done(&mut self, line: usize, answer: Option<LineAnswer>) {
+        self.ordering.done(line, answer);
+    }
+}
+
+/// The manager is told that the server stops, where it does, and that was not told.
+fn tell_stop<P: StoppingPace, M: ServiceManager>(
+    ordering: &P,
+    manager: &mut M,
+    has_told: &mut bool,
+) {
+    if !*has_told && ordering.is_stopping() {
+        *has_told = true;
+        manager.tell(Notice::Stopping);
+    }
+}

@@ -1,0 +1,23 @@
+//! Whether the server stops, as what gives the orders knows it.
+use fax_pace::{RealPace, RedialSide, SipSide};
+use std::io::{Read, Write};
+use std::rt::Clock;
+
+/// What gives the orders, and knows whether the server was told to stop.
+pub(crate) trait StoppingPace {
+    /// Whether it was.
+    fn is_stopping(&self) -> bool;
+}
+
+impl<
+    'a,
+    C: Clock,
+    I: Read + Drop,
+    O: Write + Drop,
+    R: RedialSide + Drop,
+    S: SipSide + Drop,
+> StoppingPace for RealPace<'a, C, I, O, R, S> {
+    fn is_stopping(&self) -> bool {
+        RealPace::is_stopping(self)
+    }
+}
