@@ -1,6 +1,5 @@
 -- The pages that a spool knows in memory.
 use Rattle.std.proofs.Common.{◌≡◌, ◌∙◌, ◌+◌, ◌<◌, ◌≤◌, ℕ, zero, suc, Bool, true, false, not, cond, ◌&&◌, List, [], ◌∷◌, ◌++◌, Vec, Global, length, map, take, get_or, refl, sym, ap, subst, arith, append_assoc}
-use Rattle.std.specs.Prelude.{IsTrue}
 use Rattle.std.specs.List.{filter, list_all}
 use Rattle.std.proofs.lemmas.List.{append-nil, map-append, map_push, take_all, take_more}
 use Rattle.fax_spool.specs.RecordOctets.{PageValue, EndedValue}
@@ -11,7 +10,6 @@ use Rattle.fax_spool.specs.declared.kept_page.KeptPage.{KeptPage}
 use Rattle.fax_spool.specs.declared.kept_page.RecordSource.{RecordSource}
 use Rattle.fax_spool.specs.declared.kept_page.RecordSource.TheVariants.{Memory, File}
 use Rattle.fax_spool.specs.declared.spool_record.SpoolRecord.{SpoolRecord}
-use Rattle.fax_spool.specs.declared.spool_record.SpoolRecord.TheVariants.{Page}
 use Rattle.fax_spool.specs.Places.{StandsAt, octets_of}
 use Rattle.fax_spool.specs.declared.record_place.RecordPlace.{RecordPlace}
 use Rattle.fax_spool.proofs.Places.{one_more, stands_more, stands_next}

@@ -1,5 +1,5 @@
 -- Where records stand in their file.
-use Rattle.std.proofs.Common.{◌≡◌, ℕ, ◌+◌, ◌<◌, zero, suc, Bool, not, true, false, cond, List, [], ◌∷◌, ◌++◌, Vec, Global, length, map, take, drop, get_or, refl, sym, ◌∙◌, ap, subst, arith, append_assoc, length-append}
+use Rattle.std.proofs.Common.{◌≡◌, ℕ, ◌+◌, ◌<◌, zero, suc, Bool, not, true, false, cond, List, [], ◌∷◌, ◌++◌, Vec, Global, length, take, drop, get_or, refl, sym, ◌∙◌, ap, subst, arith, append_assoc, length-append}
 use Rattle.std.specs.Vec.{vec_len}
 use Rattle.std.specs.List.{filter}
 use Rattle.std.proofs.lemmas.List.{drop-drop, drop_at, take_at}

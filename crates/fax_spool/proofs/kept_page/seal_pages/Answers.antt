@@ -6,7 +6,6 @@ use Rattle.fax_spool.specs.declared.spool_record.SpoolRecord.{SpoolRecord}
 use Rattle.fax_spool.specs.declared.spool_record.SpoolRecord.TheVariants.{Page}
 use Rattle.fax_spool.specs.Places.{octets_of}
 use Rattle.fax_spool.specs.KeptPages.{AreKept}
-use Rattle.fax_spool.specs.declared.kept_page.KeptPage.{KeptPage}
 use Rattle.fax_spool.proofs.Kept.{next_known, none_added, same_kept}
 use Rattle.fax_spool.proofs.Places.{vec_length}
 use Rattle.fax_spool.proofs.ReadRecords.{read_push, read_through}

@@ -1,4 +1,4 @@
-use Rattle.std.proofs.Common.{List, ℕ, [], ◌∷◌, ◌++◌, sym, subst}
+use Rattle.std.proofs.Common.{[], ◌∷◌, ◌++◌, sym, subst}
 use Rattle.fax_spool.specs.Places.{AreReadAt}
 use Rattle.fax_spool.specs.SpoolRecords.{IsReadAs}
 use Rattle.fax_spool.specs.Waits.{after, without}
