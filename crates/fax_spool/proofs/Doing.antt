@@ -78,8 +78,8 @@ module _ {D : Type 0} (seen : D → List ℕ) (may_leave : D → List ℕ → Ty
       newer = subst (λ (f : RecordFile D). IsSettled seen may_leave is_usable f.disk f.end k.newer_items) (sym newer) k.newer;
       older_read = k.older_read;
       newer_read = k.newer_read;
-      older_waits = same_kept _ _ _ _ older_pages refl k.older_waits;
-      newer_waits = same_kept _ _ _ _ newer_pages refl k.newer_waits;
+      older_waits = same_kept _ _ _ _ _ older_pages refl k.older_waits;
+      newer_waits = same_kept _ _ _ _ _ newer_pages refl k.newer_waits;
       epoch = omega (arith, k.epoch, epoch);
     };
     refuses = refuses;

@@ -1,73 +1,130 @@
 -- The pages that a spool knows in memory.
-use Rattle.std.proofs.Common.{◌≡◌, ◌∙◌, ◌+◌, ◌<◌, ◌≤◌, ℕ, zero, suc, true, false, not, cond, Option, None, Some, MatchOption, List, [], ◌∷◌, ◌++◌, Vec, Global, length, map, take, get_or, refl, sym, ap, subst, arith, append_assoc}
-use Rattle.std.specs.List.{filter}
+use Rattle.std.proofs.Common.{◌≡◌, ◌∙◌, ◌+◌, ◌<◌, ◌≤◌, ℕ, zero, suc, Bool, true, false, not, cond, ◌&&◌, List, [], ◌∷◌, ◌++◌, Vec, Global, length, map, take, get_or, refl, sym, ap, subst, arith, append_assoc}
+use Rattle.std.specs.List.{filter, list_all}
 use Rattle.std.proofs.lemmas.List.{append-nil, map-append, map_push, take_all, take_more}
 use Rattle.fax_spool.specs.RecordOctets.{PageValue, EndedValue}
 use Rattle.fax_spool.specs.Waits.{PageName, name_of, ends, without}
 use Rattle.fax_spool.specs.SpoolRecords.{AreReadAs, IsReadAs, kept_of}
-use Rattle.fax_spool.specs.KeptPages.{AreKept, AreRecordOf, IsKept, ended_alone, put_again}
+use Rattle.fax_spool.specs.KeptPages.{AreKept, IsKept, IsRecordOf, ended_alone, is_in_memory, memory_has, put_again}
 use Rattle.fax_spool.specs.declared.kept_page.KeptPage.{KeptPage}
+use Rattle.fax_spool.specs.declared.kept_page.RecordSource.{RecordSource}
+use Rattle.fax_spool.specs.declared.kept_page.RecordSource.TheVariants.{Memory, File}
 use Rattle.fax_spool.specs.declared.spool_record.SpoolRecord.{SpoolRecord}
-use Rattle.fax_spool.specs.declared.spool_record.SpoolRecord.TheVariants.{Page}
+use Rattle.fax_spool.specs.Places.{StandsAt, octets_of}
+use Rattle.fax_spool.specs.declared.record_place.RecordPlace.{RecordPlace}
+use Rattle.fax_spool.proofs.Places.{one_more, stands_more, stands_next}
 use Rattle.fax_spool.proofs.ReadRecords.{read_push}
 
-pub kept_append : (ks more : List KeptPage) (pages others : List PageValue) → AreKept ks pages → AreKept more others → AreKept (ks ++ more) (pages ++ others)
-kept_append [] more [] others are after = after
-kept_append [] more (p ∷ pages) others are after = absurd are
-kept_append (k ∷ ks) more [] others are after = absurd are
-kept_append (k ∷ ks) more (p ∷ pages) others are after = (are.0, kept_append ks more pages others are.1 after)
+pub kept_append : (items : List (List ℕ)) (ks more : List KeptPage) (pages others : List PageValue) → AreKept items ks pages → AreKept items more others → AreKept items (ks ++ more) (pages ++ others)
+kept_append items [] more [] others are after = after
+kept_append items [] more (p ∷ pages) others are after = absurd are
+kept_append items (k ∷ ks) more [] others are after = absurd are
+kept_append items (k ∷ ks) more (p ∷ pages) others are after = (are.0, kept_append items ks more pages others are.1 after)
 
 -- those that wait still, where a job ended
-pub kept_left : (e : EndedValue) (ks : List KeptPage) (pages : List PageValue) → AreKept ks pages → AreKept (filter (λ (k : KeptPage). not (ends e k.name)) ks) (without e pages)
-kept_left e [] [] are = tt
-kept_left e [] (p ∷ pages) are = absurd are
-kept_left e (k ∷ ks) [] are = absurd are
-kept_left e (k ∷ ks) (p ∷ pages) are =
+pub kept_left : (items : List (List ℕ)) (e : EndedValue) (ks : List KeptPage) (pages : List PageValue) → AreKept items ks pages → AreKept items (filter (λ (k : KeptPage). not (ends e k.name)) ks) (without e pages)
+kept_left items e [] [] are = tt
+kept_left items e [] (p ∷ pages) are = absurd are
+kept_left items e (k ∷ ks) [] are = absurd are
+kept_left items e (k ∷ ks) (p ∷ pages) are =
     let left : List KeptPage = filter (λ (k : KeptPage). not (ends e k.name)) ks in
-    let rest : AreKept left (without e pages) = kept_left e ks pages are.1 in
-    subst (λ (n : PageName). AreKept (cond (not (ends e n)) (k ∷ left) left) (without e (p ∷ pages))) (sym are.0.0)
-    (elim (ends e (name_of p)) as (λ b. AreKept (cond (not b) (k ∷ left) left) (cond (not b) (p ∷ without e pages) (without e pages))) [ true ↦ rest | false ↦ (are.0, rest) ])
+    let rest : AreKept items left (without e pages) = kept_left items e ks pages are.1 in
+    subst (λ (n : PageName). AreKept items (cond (not (ends e n)) (k ∷ left) left) (without e (p ∷ pages))) (sym are.0.0)
+    (elim (ends e (name_of p)) as (λ b. AreKept items (cond (not b) (k ∷ left) left) (cond (not b) (p ∷ without e pages) (without e pages))) [ true ↦ rest | false ↦ (are.0, rest) ])
 
-pub no_pages : (pages : List PageValue) → AreKept [] pages → pages ≡ []
-no_pages [] are = refl
-no_pages (p ∷ pages) are = absurd are
+pub no_pages : (items : List (List ℕ)) (pages : List PageValue) → AreKept items [] pages → pages ≡ []
+no_pages items [] are = refl
+no_pages items (p ∷ pages) are = absurd are
 
-pub none_kept : (ks : List KeptPage) → AreKept ks [] → ks ≡ []
-none_kept [] are = refl
-none_kept (k ∷ ks) are = absurd are
+pub none_kept : (items : List (List ℕ)) (ks : List KeptPage) → AreKept items ks [] → ks ≡ []
+none_kept items [] are = refl
+none_kept items (k ∷ ks) are = absurd are
 
 -- the same pages, in the same place
-pub same_kept : (ks others : List KeptPage) (pages more : List PageValue) → others ≡ ks → more ≡ pages → AreKept ks pages → AreKept others more
-same_kept ks others pages more same are kept =
-    subst (λ (l : List KeptPage). AreKept l more) (sym same) (subst (λ (l : List PageValue). AreKept ks l) (sym are) kept)
+pub same_kept : (items : List (List ℕ)) (ks others : List KeptPage) (pages more : List PageValue) → others ≡ ks → more ≡ pages → AreKept items ks pages → AreKept items others more
+same_kept items ks others pages more same are kept =
+    subst (λ (l : List KeptPage). AreKept items l more) (sym same) (subst (λ (l : List PageValue). AreKept items ks l) (sym are) kept)
 
--- the octets of its record, where they are kept
-pub is_record : (octets : Option (Vec ℕ Global)) (item : List ℕ) (page : PageValue) → IsReadAs item (Page page) → MatchOption octets (Unit {0}) (λ (kept : Vec ℕ Global). kept.items ≡ item) → AreRecordOf octets page
-is_record None item page is same = tt
-is_record (Some kept) item page is same = subst (λ (l : List ℕ). IsReadAs l (Page page)) (sym same) is
+-- ---- where their records are
+
+source_more : (items more : List (List ℕ)) (source : RecordSource) (page : PageValue) → IsRecordOf items source page → IsRecordOf (items ++ more) source page
+source_more items more (Memory octets) page is = is
+source_more items more (File place) page is = (is.0, stands_more items more place is.0 is.1, is.2)
+
+-- records that are put leave those before them where they are
+pub kept_more : (items more : List (List ℕ)) (ks : List KeptPage) (pages : List PageValue) → AreKept items ks pages → AreKept (items ++ more) ks pages
+kept_more items more [] [] are = tt
+kept_more items more [] (p ∷ pages) are = absurd are
+kept_more items more (k ∷ ks) [] are = absurd are
+kept_more items more (k ∷ ks) (p ∷ pages) are = ((are.0.0, source_more items more k.source p are.0.1), kept_more items more ks pages are.1)
+
+memory_anywhere : (items others : List (List ℕ)) (source : RecordSource) (page : PageValue) → memory_has source ≡ true → IsRecordOf items source page → IsRecordOf others source page
+memory_anywhere items others (Memory octets) page has is = is
+memory_anywhere items others (File place) page has is = cc
+
+both_true : (a b : Bool) → (a && b) ≡ true → (a ≡ true) × (b ≡ true)
+both_true true b both = (refl, both)
+both_true false b both = cc
+
+-- of pages whose records are in memory, it does not matter what their file has
+pub kept_anywhere : (items others : List (List ℕ)) (ks : List KeptPage) (pages : List PageValue) → list_all is_in_memory ks ≡ true → AreKept items ks pages → AreKept others ks pages
+kept_anywhere items others [] [] all are = tt
+kept_anywhere items others [] (p ∷ pages) all are = absurd are
+kept_anywhere items others (k ∷ ks) [] all are = absurd are
+kept_anywhere items others (k ∷ ks) (p ∷ pages) all are =
+    let parts = both_true (is_in_memory k) (list_all is_in_memory ks) all in
+    ((are.0.0, memory_anywhere items others k.source p parts.0 are.0.1), kept_anywhere items others ks pages parts.1 are.1)
+
+-- nor of none
+pub none_anywhere : (items others : List (List ℕ)) (ks : List KeptPage) → AreKept items ks [] → AreKept others ks []
+none_anywhere items others [] are = tt
+none_anywhere items others (k ∷ ks) are = absurd are
 
 -- one page more is known
-pub next_kept : (before after : List KeptPage) (k : KeptPage) (pages : List PageValue) (i : ℕ) (page : PageValue) → i < length pages → get_or pages i page ≡ page
-    → after ≡ before ++ k ∷ [] → IsKept k page → AreKept before (take i pages) → AreKept after (take (i + 1) pages)
-next_kept before after k pages i page lt got pushed is was =
-    same_kept (before ++ k ∷ []) after (take i pages ++ page ∷ []) (take (i + 1) pages) pushed (take_more pages i page lt ∙ ap (λ (p : PageValue). take i pages ++ p ∷ []) got)
-    (kept_append before (k ∷ []) (take i pages) (page ∷ []) was (is, tt))
+pub next_kept : (items : List (List ℕ)) (before after : List KeptPage) (k : KeptPage) (pages : List PageValue) (i : ℕ) (page : PageValue) → i < length pages → get_or pages i page ≡ page
+    → after ≡ before ++ k ∷ [] → IsKept items k page → AreKept items before (take i pages) → AreKept items after (take (i + 1) pages)
+next_kept items before after k pages i page lt got pushed is was =
+    same_kept items (before ++ k ∷ []) after (take i pages ++ page ∷ []) (take (i + 1) pages) pushed (take_more pages i page lt ∙ ap (λ (p : PageValue). take i pages ++ p ∷ []) got)
+    (kept_append items before (k ∷ []) (take i pages) (page ∷ []) was (is, tt))
+
+pub none_added : (before : List (List ℕ)) (items : List (Vec ℕ Global)) → items ≡ [] → before ++ map (λ (w : Vec ℕ Global). w.items) items ≡ before
+none_added before items none = ap (λ (l : List (Vec ℕ Global)). before ++ map (λ (w : Vec ℕ Global). w.items) l) none ∙ append-nil before
+
+-- one page more, whose record is put after the others
+pub next_known :
+    (before : List (List ℕ)) (items after : List (Vec ℕ Global)) (v : Vec ℕ Global) (item : List ℕ) (ks more : List KeptPage) (k : KeptPage) (pages : List PageValue) (i : ℕ) (page : PageValue) (at : ℕ) (place : RecordPlace)
+    → after ≡ items ++ v ∷ [] → item ≡ v.items → more ≡ ks ++ k ∷ [] → i < length pages → get_or pages i page ≡ page → place.at ≡ at + 15 → place.octets ≡ length v.items → k.name ≡ name_of page
+    → ((there : List (List ℕ)) → StandsAt there place item → IsRecordOf there k.source page)
+    → at ≡ octets_of (before ++ map (λ (w : Vec ℕ Global). w.items) items) → AreKept (before ++ map (λ (w : Vec ℕ Global). w.items) items) ks (take i pages)
+    → (place.at + place.octets ≡ octets_of (before ++ map (λ (w : Vec ℕ Global). w.items) after)) × AreKept (before ++ map (λ (w : Vec ℕ Global). w.items) after) more (take (i + 1) pages)
+next_known before items after v item ks more k pages i page at place pushed is known lt got here size named source ends was =
+    let rs : List (List ℕ) = before ++ map (λ (w : Vec ℕ Global). w.items) items in
+    let same : before ++ map (λ (w : Vec ℕ Global). w.items) after ≡ rs ++ v.items ∷ [] =
+    ap (λ (l : List (Vec ℕ Global)). before ++ map (λ (w : Vec ℕ Global). w.items) l) pushed ∙ ap (λ (l : List (List ℕ)). before ++ l) (map_push (λ (w : Vec ℕ Global). w.items) items v)
+    ∙ sym (append_assoc before (map (λ (w : Vec ℕ Global). w.items) items) (v.items ∷ [])) in
+    let stands : StandsAt (rs ++ v.items ∷ []) place v.items = stands_next rs [] place v.items (omega (arith, here, ends)) size in (
+      omega (arith, here, ends, size, one_more rs v.items, ap octets_of same),
+      subst (λ (l : List (List ℕ)). AreKept l more (take (i + 1) pages)) (sym same)
+          (next_kept (rs ++ v.items ∷ []) ks more k pages i page lt got known
+          (named, source (rs ++ v.items ∷ []) (subst (λ (l : List ℕ). StandsAt (rs ++ v.items ∷ []) place l) (sym is) stands))
+          (kept_more rs (v.items ∷ []) ks (take i pages) was)),
+    )
 
 -- which of the pages the one at a place is
-pub kept_at : (ks : List KeptPage) (pages : List PageValue) (i : ℕ) (k : KeptPage) → AreKept ks pages → i < length ks → get_or ks i k ≡ k
-    → (page : PageValue) × IsKept k page × (i < length pages) × (get_or pages i page ≡ page)
-kept_at [] pages i k are lt got = absurd (omega (arith, lt))
-kept_at (x ∷ ks) [] i k are lt got = absurd are
-kept_at (x ∷ ks) (p ∷ pages) zero k are lt got = (p, subst (λ (y : KeptPage). IsKept y p) got are.0, omega arith, refl)
-kept_at (x ∷ ks) (p ∷ pages) (suc i) k are lt got =
-    let it = kept_at ks pages i k are.1 (omega (arith, lt)) got in
+pub kept_at : (items : List (List ℕ)) (ks : List KeptPage) (pages : List PageValue) (i : ℕ) (k : KeptPage) → AreKept items ks pages → i < length ks → get_or ks i k ≡ k
+    → (page : PageValue) × IsKept items k page × (i < length pages) × (get_or pages i page ≡ page)
+kept_at items [] pages i k are lt got = absurd (omega (arith, lt))
+kept_at items (x ∷ ks) [] i k are lt got = absurd are
+kept_at items (x ∷ ks) (p ∷ pages) zero k are lt got = (p, subst (λ (y : KeptPage). IsKept items y p) got are.0, omega arith, refl)
+kept_at items (x ∷ ks) (p ∷ pages) (suc i) k are lt got =
+    let it = kept_at items ks pages i k are.1 (omega (arith, lt)) got in
     (it.0, it.1, omega (arith, it.2), it.3)
 
-pub as_many : (ks : List KeptPage) (pages : List PageValue) → AreKept ks pages → length pages ≡ length ks
-as_many [] [] are = refl
-as_many [] (p ∷ pages) are = absurd are
-as_many (k ∷ ks) [] are = absurd are
-as_many (k ∷ ks) (p ∷ pages) are = omega (arith, as_many ks pages are.1)
+pub as_many : (items : List (List ℕ)) (ks : List KeptPage) (pages : List PageValue) → AreKept items ks pages → length pages ≡ length ks
+as_many items [] [] are = refl
+as_many items [] (p ∷ pages) are = absurd are
+as_many items (k ∷ ks) [] are = absurd are
+as_many items (k ∷ ks) (p ∷ pages) are = omega (arith, as_many items ks pages are.1)
 
 -- ---- records of pages after others
 

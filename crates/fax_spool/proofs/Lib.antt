@@ -7,6 +7,7 @@ mod Numbers
 mod Shorts
 mod Digests
 mod ReadRecords
+mod Places
 mod Again
 mod Kept
 mod SpoolSteps

@@ -1,19 +1,20 @@
 -- What the calls of a spool make of its records.
-use Rattle.std.proofs.Common.{◌≡◌, ◌⊎◌, inl, inr, ℕ, ◌≤◌, Bool, List, [], ◌∷◌, ◌++◌, map, max, refl, sym, ◌∙◌, ap, subst, arith, append_assoc}
+use Rattle.std.proofs.Common.{◌≡◌, ◌⊎◌, inl, inr, ℕ, ◌≤◌, Bool, true, List, [], ◌∷◌, ◌++◌, map, max, refl, sym, ◌∙◌, ap, subst, arith, append_assoc}
 use Rattle.std.proofs.lemmas.List.{append-nil}
 use Rattle.fax_spool.specs.Records.{Stands}
 use Rattle.fax_spool.specs.Settled.{IsSettled}
 use Rattle.fax_spool.specs.RecordOctets.{PageValue}
 use Rattle.fax_spool.specs.SpoolRecords.{IsReadAs, AreReadAs, kept_of}
 use Rattle.fax_spool.specs.Waits.{left_of, after, left_after, waiting_after, waiting}
-use Rattle.fax_spool.specs.KeptPages.{AreKept, put_again}
+use Rattle.fax_spool.specs.KeptPages.{AreKept, is_in_memory, put_again}
 use Rattle.fax_spool.specs.Spools.{epoch_of, epoch_records, greatest_after, greatest_epoch, raised, Tells, MayLeaveBoth, Stores, NoneIsLeft, TellBoth}
 use Rattle.fax_spool.specs.declared.file.RecordFile.{RecordFile}
 use Rattle.fax_spool.specs.declared.spool.Spool.{Spool}
 use Rattle.fax_spool.specs.declared.spool_record.SpoolRecord.{SpoolRecord}
 use Rattle.fax_spool.specs.declared.spool_record.SpoolRecord.TheVariants.{Page, Ended, Epoch, Damaged}
 use Rattle.fax_spool.proofs.Again.{greatest_again, left_again, waits_again}
-use Rattle.fax_spool.proofs.Kept.{kept_append, no_pages, same_kept}
+use Rattle.std.specs.List.{list_all}
+use Rattle.fax_spool.proofs.Kept.{kept_anywhere, kept_append, kept_more, no_pages, none_anywhere, same_kept}
 pub use Rattle.fax_spool.proofs.ReadRecords.{read_all_through, read_append, read_push, read_through}
 use Rattle.fax_spool.proofs.Shares.{shares}
 use Rattle.fax_spool.proofs.Steps.{rests, none_open}
@@ -101,7 +102,7 @@ first_within records = within_after 0 records
 pub begun : {D : Type 0} (seen : D → List ℕ) (may_leave : D → List ℕ → Type 0) (is_usable : D → Bool) (spool : Spool D) (olds news : List SpoolRecord) (older_items newer_items : List (List ℕ))
     → IsSettled seen may_leave is_usable spool.older.disk spool.older.end older_items → AreReadAs older_items olds
     → IsSettled seen may_leave is_usable spool.newer.disk spool.newer.end newer_items → AreReadAs newer_items news
-    → AreKept spool.older_pages.items (left_after (waiting olds) news) → AreKept spool.newer_pages.items (waiting news)
+    → AreKept older_items spool.older_pages.items (left_after (waiting olds) news) → AreKept newer_items spool.newer_pages.items (waiting news)
     → greatest_epoch news ≤ spool.epoch → Stores seen may_leave is_usable spool olds news
 begun seen may_leave is_usable spool olds news older_items newer_items older olds_read newer news_read older_kept newer_kept most = record {
   older_items = older_items;
@@ -129,8 +130,8 @@ module _ {D : Type 0} (seen : D → List ℕ) (may_leave : D → List ℕ → Ty
   -- one more record
   pub keeps_more : (item : List ℕ) (r : SpoolRecord) → IsReadAs item r → new.older ≡ old.older
       → IsSettled seen may_leave is_usable new.newer.disk new.newer.end (k.newer_items ++ item ∷ [])
-      → AreKept new.older_pages.items (left_of (left_after (waiting olds) news) r)
-      → AreKept new.newer_pages.items (after (waiting news) r)
+      → AreKept k.older_items new.older_pages.items (left_of (left_after (waiting olds) news) r)
+      → AreKept (k.newer_items ++ item ∷ []) new.newer_pages.items (after (waiting news) r)
       → old.epoch ≤ new.epoch → greatest_epoch (r ∷ []) ≤ new.epoch → Stores seen may_leave is_usable new olds (news ++ r ∷ [])
   keeps_more item r is same settled older newer grows epoch = record {
     older_items = k.older_items;
@@ -139,8 +140,8 @@ module _ {D : Type 0} (seen : D → List ℕ) (may_leave : D → List ℕ → Ty
     newer = settled;
     older_read = k.older_read;
     newer_read = read_push k.newer_items news item r k.newer_read is;
-    older_waits = same_kept _ _ _ _ refl (left_push (waiting olds) news r) older;
-    newer_waits = same_kept _ _ _ _ refl (waiting_push [] news r) newer;
+    older_waits = same_kept _ _ _ _ _ refl (left_push (waiting olds) news r) older;
+    newer_waits = same_kept _ _ _ _ _ refl (waiting_push [] news r) newer;
     epoch = epoch_push news r new.epoch (omega (arith, k.epoch, grows)) epoch;
   }
 
@@ -157,7 +158,7 @@ module _ {D : Type 0} (seen : D → List ℕ) (may_leave : D → List ℕ → Ty
   -- the records of pages, one after the other
   pub keeps_pages : (items : List (List ℕ)) (pages : List PageValue) → AreReadAs items (map kept_of pages) → new.older ≡ old.older
       → IsSettled seen may_leave is_usable new.newer.disk new.newer.end (k.newer_items ++ items)
-      → new.older_pages.items ≡ old.older_pages.items → AreKept new.newer_pages.items (waiting news ++ pages) → new.epoch ≡ old.epoch
+      → new.older_pages.items ≡ old.older_pages.items → AreKept (k.newer_items ++ items) new.newer_pages.items (waiting news ++ pages) → new.epoch ≡ old.epoch
       → Stores seen may_leave is_usable new olds (news ++ map kept_of pages)
   keeps_pages items pages are same settled older newer epoch = record {
     older_items = k.older_items;
@@ -166,8 +167,8 @@ module _ {D : Type 0} (seen : D → List ℕ) (may_leave : D → List ℕ → Ty
     newer = settled;
     older_read = k.older_read;
     newer_read = read_append k.newer_items items news (map kept_of pages) k.newer_read are;
-    older_waits = same_kept _ _ _ _ older (left_pages (waiting olds) news pages) k.older_waits;
-    newer_waits = same_kept _ _ _ _ refl (waiting_pages [] news pages) newer;
+    older_waits = same_kept _ _ _ _ _ older (left_pages (waiting olds) news pages) k.older_waits;
+    newer_waits = same_kept _ _ _ _ _ refl (waiting_pages [] news pages) newer;
     epoch = omega (arith, greatest_pages news pages 0, k.epoch, epoch);
   }
 
@@ -184,17 +185,19 @@ module _ {D : Type 0} (seen : D → List ℕ) (may_leave : D → List ℕ → Ty
   -- all pages that wait, put again
   pub keeps_again : (items : List (List ℕ)) → AreReadAs items (put_again (waiting (olds ++ news))) → new.older ≡ old.older
       → IsSettled seen may_leave is_usable new.newer.disk new.newer.end (k.newer_items ++ items)
-      → new.older_pages.items ≡ [] → new.newer_pages.items ≡ old.older_pages.items ++ old.newer_pages.items → new.epoch ≡ old.epoch
+      → new.older_pages.items ≡ [] → new.newer_pages.items ≡ old.older_pages.items ++ old.newer_pages.items
+      → list_all is_in_memory old.older_pages.items ≡ true → list_all is_in_memory old.newer_pages.items ≡ true → new.epoch ≡ old.epoch
       → Stores seen may_leave is_usable new olds (news ++ put_again (waiting (olds ++ news)))
-  keeps_again items are same settled older newer epoch = record {
+  keeps_again items are same settled older newer olds_there news_there epoch = record {
     older_items = k.older_items;
     newer_items = k.newer_items ++ items;
     older = subst (λ (f : RecordFile D). IsSettled seen may_leave is_usable f.disk f.end k.older_items) (sym same) k.older;
     newer = settled;
     older_read = k.older_read;
     newer_read = read_append k.newer_items items news (put_again (waiting (olds ++ news))) k.newer_read are;
-    older_waits = same_kept [] _ [] _ older (left_again olds news) tt;
-    newer_waits = same_kept _ _ _ _ newer (waits_again olds news ∙ shares olds news) (kept_append _ _ _ _ k.older_waits k.newer_waits);
+    older_waits = same_kept _ [] _ [] _ older (left_again olds news) tt;
+    newer_waits = same_kept _ _ _ _ _ newer (waits_again olds news ∙ shares olds news)
+        (kept_append _ _ _ _ _ (kept_anywhere _ _ _ _ olds_there k.older_waits) (kept_anywhere _ _ _ _ news_there k.newer_waits));
     epoch = omega (arith, greatest_again news (waiting (olds ++ news)) 0, k.epoch, epoch);
   }
 
@@ -220,14 +223,14 @@ module _ {D : Type 0} (seen : D → List ℕ) (may_leave : D → List ℕ → Ty
     newer = settled;
     older_read = k.older_read;
     newer_read = read_append k.newer_items items news (epoch_records number) k.newer_read are;
-    older_waits = same_kept _ _ _ _ older (left_epochs (waiting olds) news number) k.older_waits;
-    newer_waits = same_kept _ _ _ _ newer (waiting_epochs [] news number) k.newer_waits;
+    older_waits = same_kept _ _ _ _ _ older (left_epochs (waiting olds) news number) k.older_waits;
+    newer_waits = same_kept _ _ _ _ _ newer (waiting_epochs [] news number) (kept_more _ items _ _ k.newer_waits);
     epoch = omega (arith, k.epoch, grow, epoch, greatest_epochs news number 0);
   }
 
   -- no page of the older file waits
   pub none_waits : old.older_pages.items ≡ [] → NoneIsLeft olds news
-  none_waits none = no_pages (left_after (waiting olds) news) (same_kept _ _ _ _ (sym none) refl k.older_waits)
+  none_waits none = no_pages k.older_items (left_after (waiting olds) news) (same_kept _ _ _ _ _ (sym none) refl k.older_waits)
 
   pub keeps_cleared : IsSettled seen may_leave is_usable new.older.disk new.older.end [] → new.newer ≡ old.newer → new.older_pages.items ≡ [] → new.newer_pages.items ≡ old.newer_pages.items → new.epoch ≡ old.epoch
       → Stores seen may_leave is_usable new [] news
@@ -238,8 +241,8 @@ module _ {D : Type 0} (seen : D → List ℕ) (may_leave : D → List ℕ → Ty
     newer = subst (λ (f : RecordFile D). IsSettled seen may_leave is_usable f.disk f.end k.newer_items) (sym same) k.newer;
     older_read = tt;
     newer_read = k.newer_read;
-    older_waits = same_kept [] _ [] _ none (none_left news) tt;
-    newer_waits = same_kept _ _ _ _ names refl k.newer_waits;
+    older_waits = same_kept _ [] _ [] _ none (none_left news) tt;
+    newer_waits = same_kept _ _ _ _ _ names refl k.newer_waits;
     epoch = omega (arith, k.epoch, epoch);
   }
 
@@ -272,8 +275,9 @@ module _ {D : Type 0} (seen : D → List ℕ) (may_leave : D → List ℕ → Ty
     newer = subst (λ (l : List (List ℕ)). IsSettled seen may_leave is_usable new.newer.disk new.newer.end (l ++ items)) (none_there empty) (settled k.older_items k.older);
     older_read = k.newer_read;
     newer_read = are;
-    older_waits = same_kept _ _ _ _ older refl k.newer_waits;
-    newer_waits = same_kept _ _ _ _ newer (sym (ap (λ (l : List SpoolRecord). left_after (waiting l) news) (none_told empty) ∙ none_left news)) k.older_waits;
+    older_waits = same_kept _ _ _ _ _ older refl k.newer_waits;
+    newer_waits = same_kept _ _ _ _ _ newer refl
+        (none_anywhere _ _ _ (same_kept _ _ _ _ _ refl (sym (ap (λ (l : List SpoolRecord). left_after (waiting l) news) (none_told empty) ∙ none_left news)) k.older_waits));
     epoch = omega (arith, epoch);
   }
 

@@ -92,7 +92,7 @@ built_end :
     → end_with e.life e.call e.first e.pages e.delivered e.format e.outcome e.line ≡ end_with f.life f.call f.first f.pages f.delivered f.format f.outcome f.line
 built_end e f life call first pages delivered format outcome line = cc
 
-same_page : (p q : PageValue) → PageFits p → PageFits q → page_octets p ≡ page_octets q → p ≡ q
+pub same_page : (p q : PageValue) → PageFits p → PageFits q → page_octets p ≡ page_octets q → p ≡ q
 same_page p q fp fq same =
     let part : (n m : ℕ) → take m (drop n (page_octets p)) ≡ take m (drop n (page_octets q)) = λ n m. ap (λ (l : List ℕ). take m (drop n l)) same in
     let octet : (n : ℕ) → get_or (page_octets p) n 0 ≡ get_or (page_octets q) n 0 = λ n. ap (λ (l : List ℕ). get_or l n 0) same in

@@ -1,29 +1,39 @@
 -- The pages that wait, as a spool knows them in memory, and their records, put again. (This project's profile.)
-use Rattle.std.specs.Prelude.{◌≡◌, ℕ, false, Option, None, Some, List, [], ◌∷◌, ◌++◌, map, Vec}
-use Rattle.std.specs.Global.{Global}
+use Rattle.std.specs.Prelude.{◌≡◌, ℕ, Bool, true, false, List, [], ◌∷◌, ◌++◌, map}
 use Rattle.fax_runcodes.specs.declared.Width.TheVariants.{W1728}
 use Rattle.fax_jobs.specs.declared.outcome.Outcome.TheVariants.{NotPlaced}
 use Rattle.fax_spool.specs.RecordOctets.{PageValue, EndedValue}
 use Rattle.fax_spool.specs.SpoolRecords.{IsReadAs, kept_of}
+use Rattle.fax_spool.specs.Places.{StandsAt}
 use Rattle.fax_spool.specs.Waits.{PageName, name_of}
 use Rattle.fax_spool.specs.declared.kept_page.KeptPage.{KeptPage}
+use Rattle.fax_spool.specs.declared.kept_page.RecordSource.{RecordSource}
+use Rattle.fax_spool.specs.declared.kept_page.RecordSource.TheVariants.{Memory, File}
 use Rattle.fax_spool.specs.declared.spool_record.SpoolRecord.{SpoolRecord}
 use Rattle.fax_spool.specs.declared.spool_record.SpoolRecord.TheVariants.{Page, Ended}
 
--- octets that are kept in memory, where they are, are the record of this page
-abbrev pub AreRecordOf : Option (Vec ℕ Global) → PageValue → Type 0
-AreRecordOf None page = Unit {0}
-AreRecordOf (Some octets) page = IsReadAs octets.items (Page page)
+-- The record of this page is there: its octets are in memory, or they stand at a place in a file of these records.
+abbrev pub IsRecordOf : List (List ℕ) → RecordSource → PageValue → Type 0
+IsRecordOf items (Memory octets) page = IsReadAs octets.items (Page page)
+IsRecordOf items (File place) page = (item : List ℕ) × StandsAt items place item × IsReadAs item (Page page)
 
--- it is this page that is known: its name, and where the octets of its record are kept, these
-abbrev pub IsKept : KeptPage → PageValue → Type 0
-IsKept kept page = (kept.name ≡ name_of page) × AreRecordOf kept.octets page
+-- it is this page that is known: its name, and where its record is
+abbrev pub IsKept : List (List ℕ) → KeptPage → PageValue → Type 0
+IsKept items kept page = (kept.name ≡ name_of page) × IsRecordOf items kept.source page
 
 -- they are these pages, in this order
-abbrev pub AreKept : List KeptPage → List PageValue → Type 0
-AreKept [] [] = Unit {0}
-AreKept (k ∷ kept) (page ∷ pages) = IsKept k page × AreKept kept pages
-AreKept kept pages = ⊥
+abbrev pub AreKept : List (List ℕ) → List KeptPage → List PageValue → Type 0
+AreKept items [] [] = Unit {0}
+AreKept items (k ∷ kept) (page ∷ pages) = IsKept items k page × AreKept items kept pages
+AreKept items kept pages = ⊥
+
+abbrev pub memory_has : RecordSource → Bool
+memory_has (Memory octets) = true
+memory_has (File place) = false
+
+-- the octets of its record are in memory
+abbrev pub is_in_memory : KeptPage → Bool
+is_in_memory kept = memory_has kept.source
 
 -- ---- put again
 

@@ -7,6 +7,7 @@ pub mod RecordOctets
 pub mod SpoolRecords
 pub mod Listed
 pub mod Waits
+pub mod Places
 pub mod KeptPages
 pub mod Torn
 pub mod Harm

@@ -50,8 +50,8 @@ TellsOneList = (file : List ℕ) (records others : List SpoolRecord) → Tells f
 abbrev pub MayLeaveBoth : {D : Type 0} → (D → List ℕ → Type 0) → Spool D → List ℕ → List ℕ → Type 0
 MayLeaveBoth may_leave spool older newer = may_leave spool.older.disk older × may_leave spool.newer.disk newer
 
--- A SPOOL KEEPS RECORDS: its older file those before the newer one's. Both files are settled, and it knows the pages that wait, some of
--- them with the octets of their records.
+-- A SPOOL KEEPS RECORDS: its older file those before the newer one's. Both files are settled, and it knows the pages that wait: which they
+-- are, and where the record of each is, in memory or in its file.
 pub record Stores {D : Type 0} (seen : D → List ℕ) (may_leave : D → List ℕ → Type 0) (is_usable : D → Bool) (spool : Spool D) (olds news : List SpoolRecord) : Type 0 where
   pub older_items : List (List ℕ)
   pub newer_items : List (List ℕ)
@@ -59,8 +59,8 @@ pub record Stores {D : Type 0} (seen : D → List ℕ) (may_leave : D → List �
   pub newer : IsSettled seen may_leave is_usable spool.newer.disk spool.newer.end newer_items
   pub older_read : AreReadAs older_items olds
   pub newer_read : AreReadAs newer_items news
-  pub older_waits : AreKept spool.older_pages.items (left_after (waiting olds) news)
-  pub newer_waits : AreKept spool.newer_pages.items (waiting news)
+  pub older_waits : AreKept older_items spool.older_pages.items (left_after (waiting olds) news)
+  pub newer_waits : AreKept newer_items spool.newer_pages.items (waiting news)
   pub epoch : greatest_epoch news ≤ spool.epoch
 
 -- no wrong answer of either file was taken as true

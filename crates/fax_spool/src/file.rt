@@ -14,7 +14,8 @@ use sqlite_disk::Disk;
 use std::alloc::{AllocError, Global};
 use std::io;
 
-const MOST: usize = 1 << 60;
+/// The most octets of a file to which records are put.
+pub(crate) const MOST: usize = 1 << 60;
 
 /// The most octets of a record.
 const MOST_OCTETS: usize = 0xffff_ffff;
@@ -23,7 +24,7 @@ const MOST_OCTETS: usize = 0xffff_ffff;
 const GATE: usize = 3;
 
 /// How many octets a header has.
-const HEADER: usize = 15;
+pub(crate) const HEADER: usize = 15;
 
 /// A file of records, with the place after the last of them, in octets. What `recover` answers begins one.
 #[derive(Drop)]

@@ -1,11 +1,15 @@
 //! A page that waits, as a spool knows it in memory.
-ghost use Rattle.std.specs.Prelude.{◌≡◌, ◌++◌, List, ℕ, map, MatchOption, IfOk, OnOk};
+ghost use Rattle.std.specs.Prelude.{◌≡◌, ◌++◌, List, ℕ, map, IfOk, OnOk};
+ghost use Rattle.std.specs.List.{list_all};
 ghost use Rattle.fax_spool.specs.RecordOctets.{PageValue};
-ghost use Rattle.fax_spool.specs.KeptPages.{AreKept, AreRecordOf, end_alone, ended_alone, put_again};
+ghost use Rattle.fax_spool.specs.KeptPages.{AreKept, IsRecordOf, end_alone, ended_alone, is_in_memory, put_again};
+ghost use Rattle.fax_spool.specs.Places.{AreReadAt, StandsAt, octets_of};
 ghost use Rattle.fax_spool.specs.SpoolRecords.{AreReadAs, IsReadAs, kept_of};
 ghost use Rattle.fax_spool.specs.declared.spool_record.SpoolRecord.{SpoolRecord as SpoolRecordShown};
 
 use crate::page_name::PageName;
+use crate::placed_page::PlacedPage;
+use crate::record_place::RecordPlace;
 use crate::spool_record::{seal_ended, seal_page};
 use crate::{EndedRecord, PageRecord, SpoolRecord};
 use fax_jobs::Outcome;
@@ -16,20 +20,26 @@ use std::io;
 /// The most octets of the name of a line, and of a tag.
 const MOST_NAME: usize = 255;
 
-/// What the sealed record of a page has beside its text, its line and its tag, in octets, at most.
-const RECORD_OCTETS: usize = 64;
-
 /// The format that the record of the end of a page alone has.
 const END_FORMAT: Format = Format {
     width: Width::W1728,
     fine: false,
 };
 
-/// A page that waits: which it is, and the octets of its record, where they are kept in memory.
+/// A page that waits: which it is, and where its record is.
 #[derive(Drop)]
 pub(crate) struct KeptPage {
     pub(crate) name: PageName,
-    pub(crate) octets: Option<Vec<u8>>,
+    pub(crate) source: RecordSource,
+}
+
+/// Where the record of a page is.
+#[derive(Drop)]
+pub(crate) enum RecordSource {
+    /// Its octets are in memory.
+    Memory(Vec<u8>),
+    /// They stand in its file.
+    File(RecordPlace),
 }
 
 /// How many octets of records are kept in memory still.
@@ -49,18 +59,29 @@ impl Room {
     }
 }
 
-/// A page of this name, with the octets of its record where there is room for them.
-pub(crate) fn keep_page(name: PageName, octets: Vec<u8>, room: &mut Room) -> KeptPage
-    ensures name { result.name ≡ name }
-    ensures octets { MatchOption result.octets (Unit {0}) (λ kept. kept.items ≡ octets.items) }
+/// Where a record is that stands at a place: in memory, where there is room for it.
+pub(crate) fn source_of(octets: Vec<u8>, place: RecordPlace, room: &mut Room) -> RecordSource
+    ensures { (items : List (List ℕ)) (page : PageValue) → StandsAt items place octets.items → IsReadAs octets.items (SpoolRecord.Page page) → IsRecordOf items result page }
 {
     if room.take(octets.len()) {
-        return KeptPage {
-            name,
-            octets: Some(octets),
-        };
+        return RecordSource::Memory(octets);
     }
-    KeptPage { name, octets: None }
+    RecordSource::File(place)
+}
+
+/// The same of octets that are copied into memory.
+fn source_of_copy(
+    alloc: Global,
+    item: &[u8],
+    place: RecordPlace,
+    room: &mut Room,
+) -> Result<RecordSource, AllocError>
+    ensures { IfOk result (λ source. (items : List (List ℕ)) (page : PageValue) → StandsAt items place item.now → IsReadAs item.now (SpoolRecord.Page page) → IsRecordOf items source page) }
+{
+    if room.take(item.len()) {
+        return Ok(RecordSource::Memory(item.to_vec(alloc)?));
+    }
+    Ok(RecordSource::File(place))
 }
 
 /// The records of pages, sealed, and the pages as they are known after that.
@@ -70,86 +91,67 @@ pub(crate) struct SealedPages {
     pub(crate) kept: Vec<KeptPage>,
 }
 
-/// The records of pages, sealed; and the pages with the octets of these, as long as there is room for them. It refuses a page whose line
-/// or tag has more than 255 octets.
+/// The records of pages, sealed, and the pages as they are known where these records are put at the end of a file. It refuses a page whose
+/// line or tag has more than 255 octets.
 pub(crate) fn seal_pages(
     alloc: Global,
     pages: &[PageRecord<'_>],
+    end: usize,
     room: &mut Room,
 ) -> io::Result<SealedPages>
     ensures items { IfOk result (λ sealed. AreReadAs (map (λ v. v.items) sealed.items.items) (map kept_of pages.now)) }
-    ensures kept { IfOk result (λ sealed. AreKept sealed.kept.items pages.now) }
+    ensures kept { IfOk result (λ sealed. (before : List (List ℕ)) → octets_of before ≡ end → AreKept (before ++ map (λ v. v.items) sealed.items.items) sealed.kept.items pages.now) }
 {
     let mut items = Vec::with_capacity(alloc, pages.len())?;
     let mut kept = Vec::with_capacity(alloc, pages.len())?;
+    let mut at = end;
     for page in pages {
         if page.line.len() > MOST_NAME || page.tag.len() > MOST_NAME {
             return Err(io::ErrorKind::InvalidInput.into());
         }
         let item = seal_page(alloc, page)?;
-        let octets = copy_within(alloc, item.as_slice(), room)?;
+        let place = RecordPlace::after(at, item.len())?;
+        let source = source_of_copy(alloc, item.as_slice(), place, room)?;
         let name = PageName::of_page(alloc, page)?;
-        kept.push(KeptPage { name, octets })?;
+        kept.push(KeptPage { name, source })?;
         items.push(item)?;
+        at = place.at + place.octets;
     }
     Ok(SealedPages { items, kept })
 }
 
-/// These octets once more, where there is room for them.
-fn copy_within(alloc: Global, item: &[u8], room: &mut Room) -> Result<Option<Vec<u8>>, AllocError>
-    ensures { IfOk result (λ octets. MatchOption octets (Unit {0}) (λ kept. kept.items ≡ item.now)) }
-{
-    if !room.take(item.len()) {
-        return Ok(None);
-    }
-    Ok(Some(item.to_vec(alloc)?))
-}
-
-/// Pages whose records were read: with their octets, as long as there is room for them.
-pub(crate) fn keep_read_pages(
+/// Pages whose records were read, as they are known: their octets in memory, as long as there is room for them.
+pub(crate) fn keep_placed_pages(
     alloc: Global,
-    pages: &[PageRecord<'_>],
+    pages: &[PlacedPage<'_>],
     room: &mut Room,
 ) -> Result<Vec<KeptPage>, AllocError>
-    ensures { IfOk result (λ kept. AreKept kept.items pages.now) }
+    ensures { IfOk result (λ kept. (items : List (List ℕ)) (waits : List PageValue) → AreReadAt items pages.now waits → AreKept items kept.items waits) }
 {
     let mut kept = Vec::with_capacity(alloc, pages.len())?;
-    for page in pages {
-        let octets = octets_of(alloc, page, room)?;
-        let name = PageName::of_page(alloc, page)?;
-        kept.push(KeptPage { name, octets })?;
+    for placed in pages {
+        let source = source_of_copy(alloc, placed.item(), placed.place(), room)?;
+        let name = PageName::of_page(alloc, placed.page())?;
+        kept.push(KeptPage { name, source })?;
     }
     Ok(kept)
 }
 
-/// The octets of a page's record, where there is room for them.
-fn octets_of(
-    alloc: Global,
-    page: &PageRecord<'_>,
-    room: &mut Room,
-) -> Result<Option<Vec<u8>>, AllocError>
-    ensures { IfOk result (λ octets. AreRecordOf octets page.now) }
+/// Whether the records of all of these pages are in memory.
+pub(crate) fn are_in_memory(pages: &[KeptPage]) -> bool
+    ensures { result ≡ list_all is_in_memory pages.now }
 {
-    if page.line.len() > MOST_NAME || page.tag.len() > MOST_NAME {
-        return Ok(None);
-    }
-    let names = page.line.len() + page.tag.len() + RECORD_OCTETS;
-    if !room.take(page.text.len().saturating_add(names)) {
-        return Ok(None);
-    }
-    Ok(Some(seal_page(alloc, page)?))
+    pages.iter().all(|page| is_in_memory(page))
 }
 
-/// How many octets the records of pages have; `None` where those of one are not kept.
-pub(crate) fn kept_octets(pages: &[KeptPage]) -> Option<usize> {
-    let mut octets: usize = 0;
-    for page in pages {
-        match &page.octets {
-            Some(kept) => octets = octets.saturating_add(kept.len()),
-            None => return None,
-        }
+/// Whether the record of a page is in memory.
+fn is_in_memory(page: &KeptPage) -> bool
+    ensures { result ≡ is_in_memory page.now }
+{
+    match &page.source {
+        RecordSource::Memory(_) => true,
+        RecordSource::File(_) => false,
     }
-    Some(octets)
 }
 
 /// What room is left, where `most` octets are kept at most and these pages wait.
@@ -159,25 +161,25 @@ pub(crate) fn room_left(most: usize, older: &[KeptPage], newer: &[KeptPage]) -> 
     }
 }
 
-/// How many octets are kept of pages.
-fn taken_by(pages: &[KeptPage]) -> usize {
+/// How many octets of the records of these pages are in memory.
+pub(crate) fn taken_by(pages: &[KeptPage]) -> usize {
     let mut octets: usize = 0;
     for page in pages {
-        if let Some(kept) = &page.octets {
+        if let RecordSource::Memory(kept) = &page.source {
             octets = octets.saturating_add(kept.len());
         }
     }
     octets
 }
 
-/// The records of the pages of two files that wait, put again: all of their ends, and then all of them. It refuses where the octets of one
-/// are not kept, and where the name of a line has more than 255 octets.
+/// The records of the pages of two files that wait, put again: all of their ends, and then all of them. It refuses where one of them is not
+/// in memory, and where the name of a line has more than 255 octets.
 pub(crate) fn records_again(
     alloc: Global,
     older: &[KeptPage],
     newer: &[KeptPage],
 ) -> io::Result<Vec<Vec<u8>>>
-    ensures { IfOk result (λ items. (olds news : List PageValue) → AreKept older.now olds → AreKept newer.now news
+    ensures { IfOk result (λ items. (older_items newer_items : List (List ℕ)) (olds news : List PageValue) → AreKept older_items older.now olds → AreKept newer_items newer.now news
         → AreReadAs (map (λ v. v.items) items.items) (put_again (olds ++ news))) }
 {
     let mut items = Vec::new(alloc);
@@ -190,7 +192,7 @@ pub(crate) fn records_again(
 
 /// The record of the end of each of these pages alone goes after others.
 fn push_ends(alloc: Global, items: &mut Vec<Vec<u8>>, pages: &[KeptPage]) -> io::Result<()>
-    ensures { OnOk result ((records : List SpoolRecordShown) (waits : List PageValue) → AreReadAs (map (λ v. v.items) items.old.items) records → AreKept pages.now waits
+    ensures { OnOk result ((there : List (List ℕ)) (records : List SpoolRecordShown) (waits : List PageValue) → AreReadAs (map (λ v. v.items) items.old.items) records → AreKept there pages.now waits
         → AreReadAs (map (λ v. v.items) items.new.items) (records ++ map ended_alone waits)) }
 {
     for page in pages {
@@ -222,21 +224,21 @@ fn seal_end_of(alloc: Global, page: &PageName) -> io::Result<Vec<u8>>
 
 /// The record of each of these pages goes after others.
 fn push_pages(alloc: Global, items: &mut Vec<Vec<u8>>, pages: &[KeptPage]) -> io::Result<()>
-    ensures { OnOk result ((records : List SpoolRecordShown) (waits : List PageValue) → AreReadAs (map (λ v. v.items) items.old.items) records → AreKept pages.now waits
+    ensures { OnOk result ((there : List (List ℕ)) (records : List SpoolRecordShown) (waits : List PageValue) → AreReadAs (map (λ v. v.items) items.old.items) records → AreKept there pages.now waits
         → AreReadAs (map (λ v. v.items) items.new.items) (records ++ map kept_of waits)) }
 {
     for page in pages {
-        items.push(record_of(alloc, &page.octets)?)?;
+        items.push(record_of(alloc, &page.source)?)?;
     }
     Ok(())
 }
 
-/// The record of a page, of its octets that are kept. It refuses where they are not.
-fn record_of(alloc: Global, octets: &Option<Vec<u8>>) -> io::Result<Vec<u8>>
-    ensures { IfOk result (λ item. (page : PageValue) → AreRecordOf octets.now page → IsReadAs item.items (SpoolRecord.Page page)) }
+/// The record of a page, copied from memory. It refuses where it is not there.
+fn record_of(alloc: Global, source: &RecordSource) -> io::Result<Vec<u8>>
+    ensures { IfOk result (λ item. (items : List (List ℕ)) (page : PageValue) → IsRecordOf items source.now page → IsReadAs item.items (SpoolRecord.Page page)) }
 {
-    match octets {
-        Some(octets) => Ok(octets.as_slice().to_vec(alloc)?),
-        None => Err(io::ErrorKind::InvalidInput.into()),
+    match source {
+        RecordSource::Memory(octets) => Ok(octets.as_slice().to_vec(alloc)?),
+        RecordSource::File(_) => Err(io::ErrorKind::InvalidInput.into()),
     }
 }

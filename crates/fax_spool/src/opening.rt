@@ -2,6 +2,7 @@
 ghost use Rattle.std.specs.Prelude.{◌≡◌, ◌<◌, ◌++◌, ◌∷◌, ◌||◌, [], List, ℕ, not, IfOk, OnOk, IsTrue};
 ghost use Rattle.std.specs.List.{list_any};
 ghost use Rattle.sqlite_disk.specs.Disk.{Only};
+ghost use Rattle.fax_spool.specs.Found.{items_of};
 ghost use Rattle.fax_spool.specs.Settled.{IsSettled};
 ghost use Rattle.fax_spool.specs.SpoolRecords.{AreReadAs};
 ghost use Rattle.fax_spool.specs.Waits.{waiting};
@@ -13,7 +14,7 @@ ghost use Rattle.fax_spool.specs.Torn.{damaged, same_call, with_destroyed};
 use crate::torn::{is_damaged, is_of_call, torn_calls};
 use crate::waiting::follow_all;
 use crate::{
-    CallName, PageRecord, RecordFile, Spool, SpoolRecord, WaitingPage, first_epoch,
+    CallName, FileContents, PageRecord, RecordFile, Spool, SpoolRecord, WaitingPage, first_epoch,
     read_spool_records, recover, waiting_pages,
 };
 use sqlite_disk::Disk;
@@ -69,51 +70,55 @@ pub fn open_spool<D: Disk + Drop>(alloc: Global, one: D, other: D) -> io::Result
         end: second.end,
     };
     if first_epoch(ones.as_slice()) > first_epoch(others.as_slice()) {
-        let passed = (second.passed_over, first.passed_over);
-        let destroyed = (second.is_destroyed, first.is_destroyed);
-        return Ok(begin(alloc, other, one, others, ones, passed, destroyed)?);
+        return Ok(begin(alloc, other, one, &second, &first, others, ones)?);
     }
-    let passed = (first.passed_over, second.passed_over);
-    let destroyed = (first.is_destroyed, second.is_destroyed);
-    Ok(begin(alloc, one, other, ones, others, passed, destroyed)?)
+    Ok(begin(alloc, one, other, &first, &second, ones, others)?)
 }
 
-/// Begins a life over two files, of which the older one is known, so many octets are passed over, and a header is destroyed or not, and
-/// tells what waits.
+/// Begins a life over two files, of which the older one is known, and which were found to hold this and to say this, and tells what waits.
 fn begin<D: Disk + Drop>(
     alloc: Global,
     older: RecordFile<D>,
     newer: RecordFile<D>,
+    older_found: &FileContents,
+    newer_found: &FileContents,
     olds: Vec<SpoolRecord<'_>>,
     news: Vec<SpoolRecord<'_>>,
-    passed_over: (usize, usize),
-    destroyed: (bool, bool),
 ) -> io::Result<OpenedSpool<D>>
-    ensures begun { IfOk result (λ opened. (older_items newer_items : List (List ℕ))
-        → IsSettled D.seen D.may_leave D.is_usable older.disk older.end older_items → AreReadAs older_items olds.entry.items
-        → IsSettled D.seen D.may_leave D.is_usable newer.disk newer.end newer_items → AreReadAs newer_items news.entry.items
+    ensures begun { IfOk result (λ opened.
+        IsSettled D.seen D.may_leave D.is_usable older.disk older.end (items_of older_found.now) → AreReadAs (items_of older_found.now) olds.entry.items
+        → IsSettled D.seen D.may_leave D.is_usable newer.disk newer.end (items_of newer_found.now) → AreReadAs (items_of newer_found.now) news.entry.items
         → Stores D.seen D.may_leave D.is_usable opened.spool olds.entry.items (news.entry.items ++ epoch_records (epoch_now opened.spool))) }
     ensures clean { IfOk result (λ opened. AreClean D.is_clean (files_of opened.spool) → AreClean D.is_clean (older, newer)) }
     ensures older_epochs { IfOk result (λ opened. greatest_epoch olds.entry.items < epoch_now opened.spool) }
     ensures newer_epochs { IfOk result (λ opened. greatest_epoch news.entry.items < epoch_now opened.spool) }
     ensures pages { IfOk result (λ opened. opened.pages.items ≡ closed (waiting (olds.entry.items ++ news.entry.items))) }
-    ensures torn { IfOk result (λ opened. opened.torn.items ≡ torn_found destroyed.0 destroyed.1 olds.entry.items news.entry.items) }
+    ensures torn { IfOk result (λ opened. opened.torn.items ≡ torn_found older_found.now.is_destroyed newer_found.now.is_destroyed olds.entry.items news.entry.items) }
     ensures older_damaged { IfOk result (λ opened. opened.older_damaged ≡ damaged olds.entry.items) }
     ensures newer_damaged { IfOk result (λ opened. opened.newer_damaged ≡ damaged news.entry.items) }
-    ensures older_passed_over { IfOk result (λ opened. opened.older_passed_over ≡ passed_over.0) }
-    ensures newer_passed_over { IfOk result (λ opened. opened.newer_passed_over ≡ passed_over.1) }
+    ensures older_passed_over { IfOk result (λ opened. opened.older_passed_over ≡ older_found.now.passed_over) }
+    ensures newer_passed_over { IfOk result (λ opened. opened.newer_passed_over ≡ newer_found.now.passed_over) }
     ensures accepts { IfOk result (λ opened. Accepts opened.spool) }
 {
     let pages = pages_of(alloc, olds.as_slice(), news.as_slice())?;
-    let spool = Spool::begin(alloc, older, newer, olds.as_slice(), news.as_slice())?;
+    let spool = Spool::begin(
+        alloc,
+        older,
+        newer,
+        older_found.items.as_slice(),
+        newer_found.items.as_slice(),
+        olds.as_slice(),
+        news.as_slice(),
+    )?;
+    let destroyed = (older_found.is_destroyed, newer_found.is_destroyed);
     Ok(OpenedSpool {
         spool,
         pages,
         older_damaged: damaged(olds.as_slice()),
         newer_damaged: damaged(news.as_slice()),
         torn: torn_with(alloc, olds, news, destroyed)?,
-        older_passed_over: passed_over.0,
-        newer_passed_over: passed_over.1,
+        older_passed_over: older_found.passed_over,
+        newer_passed_over: newer_found.passed_over,
     })
 }
 

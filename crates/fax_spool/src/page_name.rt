@@ -1,5 +1,5 @@
 //! Which page of all a page is.
-ghost use Rattle.std.specs.Prelude.{◌≡◌, IfOk};
+ghost use Rattle.std.specs.Prelude.{◌≡◌, ◌↔◌, IfOk, IsTrue};
 ghost use Rattle.fax_spool.specs.Waits.{PageName as PageNameValue, name_of, ends};
 
 use crate::{EndedRecord, PageRecord};
@@ -62,6 +62,16 @@ impl PageName {
         ensures { result.now ≡ self.now.line }
     {
         self.line.as_slice()
+    }
+
+    /// Whether it is the name of this page.
+    pub(crate) fn is_of(&self, page: &PageRecord<'_>) -> bool
+        ensures { IsTrue result ↔ (self.now ≡ name_of page.now) }
+    {
+        page.life == self.life
+            && page.call == self.call
+            && page.number == self.number
+            && page.line == self.line.as_slice()
     }
 
     /// Whether the job that ended had this page.

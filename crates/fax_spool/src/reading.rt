@@ -1,86 +1,135 @@
-//! What the files of a spool have on the disk, read back while the spool is in use.
-ghost use Rattle.std.specs.Prelude.{◌≡◌, ◌++◌, List, ℕ, map, IfOk, IsTrue};
+//! The pages that wait, read back while a spool is in use: each from its own record, wherever that is.
+ghost use Rattle.std.specs.Prelude.{◌≡◌, ◌++◌, [], ◌∷◌, List, ℕ, IfOk, IsTrue, OnOk};
+ghost use Rattle.fax_spool.specs.KeptPages.{AreKept, IsKept, IsRecordOf};
+ghost use Rattle.fax_spool.specs.Places.{StandsAt};
+ghost use Rattle.fax_spool.specs.RecordOctets.{PageValue};
 ghost use Rattle.fax_spool.specs.Settled.{IsSettled};
-ghost use Rattle.fax_spool.specs.SpoolRecords.{AreReadAs};
-ghost use Rattle.fax_spool.specs.Waits.{ended_by, waiting};
-ghost use Rattle.fax_spool.specs.declared.spool_record.SpoolRecord.{SpoolRecord as SpoolRecordShown};
+ghost use Rattle.fax_spool.specs.SpoolRecords.{IsReadAs};
+ghost use Rattle.fax_spool.specs.Waits.{ended_by};
 
-use crate::file::{read_all, records_of};
-use crate::page_name::had;
-use crate::waiting::follow_all;
-use crate::{
-    EndedRecord, PageRecord, RecordFile, SpoolRecord, WaitingPage, read_spool_records,
-    waiting_pages,
-};
+use crate::kept_page::{KeptPage, RecordSource};
+use crate::record_place::RecordPlace;
+use crate::{EndedRecord, PageRecord, RecordFile, SpoolRecord, WaitingPage, read_spool_record};
 use sqlite_disk::Disk;
 use std::alloc::{AllocError, Global};
 use std::io;
 
-/// The octets of the records of a file.
-pub(crate) fn read_items<D: Disk>(
+/// Of the pages of a file that wait, those that the job that ended had go after others, in their order. Of the file just their records
+/// are read.
+pub(crate) fn push_ended<D: Disk>(
     alloc: Global,
+    found: &mut Vec<WaitingPage>,
     file: &mut RecordFile<D>,
-) -> io::Result<Vec<Vec<u8>>>
-    ensures items { IfOk result (λ items. IsTrue (D.is_clean file.new.disk) → (rs : List (List ℕ)) → IsSettled D.seen D.may_leave D.is_usable file.old.disk file.old.end rs
-        → map (λ v. v.items) items.items ≡ rs) }
+    pages: &[KeptPage],
+    ended: &EndedRecord<'_>,
+) -> io::Result<()>
+    ensures found { OnOk result (IsTrue (D.is_clean file.new.disk) → (rs : List (List ℕ)) (waits : List PageValue) → IsSettled D.seen D.may_leave D.is_usable file.old.disk file.old.end rs → AreKept rs pages.now waits
+        → found.new.items ≡ found.old.items ++ ended_by ended.now waits) }
     ensures settled { (rs : List (List ℕ)) → IsSettled D.seen D.may_leave D.is_usable file.old.disk file.old.end rs
         → IsSettled D.seen D.may_leave D.is_usable file.new.disk file.new.end rs }
     ensures crash { (c : List ℕ) → D.may_leave file.new.disk c → D.may_leave file.old.disk c }
 {
+    for kept in pages {
+        push_page(alloc, found, file, kept, ended)?;
+    }
+    Ok(())
+}
+
+/// A page goes after others, where the job that ended had it. Else nothing is read.
+fn push_page<D: Disk>(
+    alloc: Global,
+    found: &mut Vec<WaitingPage>,
+    file: &mut RecordFile<D>,
+    kept: &KeptPage,
+    ended: &EndedRecord<'_>,
+) -> io::Result<()>
+    ensures found { OnOk result (IsTrue (D.is_clean file.new.disk) → (rs : List (List ℕ)) (page : PageValue) → IsSettled D.seen D.may_leave D.is_usable file.old.disk file.old.end rs → IsKept rs kept.now page
+        → found.new.items ≡ found.old.items ++ ended_by ended.now (page ∷ [])) }
+    ensures settled { (rs : List (List ℕ)) → IsSettled D.seen D.may_leave D.is_usable file.old.disk file.old.end rs
+        → IsSettled D.seen D.may_leave D.is_usable file.new.disk file.new.end rs }
+    ensures crash { (c : List ℕ) → D.may_leave file.new.disk c → D.may_leave file.old.disk c }
+    ensures clean { IsTrue (D.is_clean file.new.disk) → IsTrue (D.is_clean file.old.disk) }
+{
+    if !kept.name.is_ended_by(ended) {
+        return Ok(());
+    }
+    found.push(read_page(alloc, file, kept)?)?;
+    Ok(())
+}
+
+/// A page that waits, by its record. `InvalidData` where that is not the record of this page: its disk answers what is not on it.
+fn read_page<D: Disk>(
+    alloc: Global,
+    file: &mut RecordFile<D>,
+    kept: &KeptPage,
+) -> io::Result<WaitingPage>
+    ensures page { IfOk result (λ read. IsTrue (D.is_clean file.new.disk) → (rs : List (List ℕ)) (page : PageValue) → IsSettled D.seen D.may_leave D.is_usable file.old.disk file.old.end rs → IsKept rs kept.now page
+        → read ≡ page) }
+    ensures settled { (rs : List (List ℕ)) → IsSettled D.seen D.may_leave D.is_usable file.old.disk file.old.end rs
+        → IsSettled D.seen D.may_leave D.is_usable file.new.disk file.new.end rs }
+    ensures crash { (c : List ℕ) → D.may_leave file.new.disk c → D.may_leave file.old.disk c }
+    ensures clean { IsTrue (D.is_clean file.new.disk) → IsTrue (D.is_clean file.old.disk) }
+{
+    let page = read_source(alloc, file, &kept.source)?;
+    if !kept.name.is_of(&page.as_record()) {
+        return Err(io::ErrorKind::InvalidData.into());
+    }
+    Ok(page)
+}
+
+/// A page by its record, wherever that is.
+fn read_source<D: Disk>(
+    alloc: Global,
+    file: &mut RecordFile<D>,
+    source: &RecordSource,
+) -> io::Result<WaitingPage>
+    ensures page { IfOk result (λ read. IsTrue (D.is_clean file.new.disk) → (rs : List (List ℕ)) (page : PageValue) → IsSettled D.seen D.may_leave D.is_usable file.old.disk file.old.end rs → IsRecordOf rs source.now page
+        → read ≡ page) }
+    ensures settled { (rs : List (List ℕ)) → IsSettled D.seen D.may_leave D.is_usable file.old.disk file.old.end rs
+        → IsSettled D.seen D.may_leave D.is_usable file.new.disk file.new.end rs }
+    ensures crash { (c : List ℕ) → D.may_leave file.new.disk c → D.may_leave file.old.disk c }
+    ensures clean { IsTrue (D.is_clean file.new.disk) → IsTrue (D.is_clean file.old.disk) }
+{
+    match source {
+        RecordSource::Memory(octets) => Ok(page_of(alloc, octets.as_slice())?),
+        RecordSource::File(place) => {
+            let octets = read_record(alloc, file, *place)?;
+            Ok(page_of(alloc, octets.as_slice())?)
+        }
+    }
+}
+
+/// The octets of a record that stands at this place of a file.
+fn read_record<D: Disk>(
+    alloc: Global,
+    file: &mut RecordFile<D>,
+    place: RecordPlace,
+) -> io::Result<Vec<u8>>
+    ensures octets { IfOk result (λ octets. IsTrue (D.is_clean file.new.disk) → (rs : List (List ℕ)) (item : List ℕ) → IsSettled D.seen D.may_leave D.is_usable file.old.disk file.old.end rs → StandsAt rs place item
+        → octets.items ≡ item) }
+    ensures settled { (rs : List (List ℕ)) → IsSettled D.seen D.may_leave D.is_usable file.old.disk file.old.end rs
+        → IsSettled D.seen D.may_leave D.is_usable file.new.disk file.new.end rs }
+    ensures crash { (c : List ℕ) → D.may_leave file.new.disk c → D.may_leave file.old.disk c }
+    ensures clean { IsTrue (D.is_clean file.new.disk) → IsTrue (D.is_clean file.old.disk) }
+{
     if !file.disk.may_be_used() {
         return Err(io::ErrorKind::Other.into());
     }
-    let octets = read_all(alloc, &mut file.disk)?;
-    let found = records_of(alloc, octets.as_slice())?;
-    Ok(found.items)
+    let mut octets = Vec::from_elem(alloc, 0u8, place.octets)?;
+    file.disk.read_at(place.at, octets.as_mut_slice())?;
+    Ok(octets)
 }
 
-/// Of the pages that wait by the records of two files, of which these are the octets, those that the job that ended had.
-pub(crate) fn ended_pages(
-    alloc: Global,
-    olds: &[Vec<u8>],
-    news: &[Vec<u8>],
-    ended: &EndedRecord<'_>,
-) -> Result<Vec<WaitingPage>, AllocError>
-    ensures { IfOk result (λ pages. (older newer : List SpoolRecordShown) → AreReadAs (map (λ v. v.items) olds.now) older → AreReadAs (map (λ v. v.items) news.now) newer
-        → pages.items ≡ ended_by ended.now (waiting (older ++ newer))) }
+/// The page whose record octets are. `InvalidData` where they are none's.
+fn page_of(alloc: Global, octets: &[u8]) -> io::Result<WaitingPage>
+    ensures { IfOk result (λ read. (page : PageValue) → IsReadAs octets.now (SpoolRecord.Page page) → read ≡ page) }
 {
-    let olds = read_spool_records(alloc, olds)?;
-    let news = read_spool_records(alloc, news)?;
-    Ok(ended_of(alloc, olds.as_slice(), news.as_slice(), ended)?)
-}
-
-/// Of the pages that wait by these records those that the job that ended had.
-fn ended_of<'a>(
-    alloc: Global,
-    olds: &[SpoolRecord<'a>],
-    news: &[SpoolRecord<'a>],
-    ended: &EndedRecord<'_>,
-) -> Result<Vec<WaitingPage>, AllocError>
-    ensures { IfOk result (λ pages. pages.items ≡ ended_by ended.now (waiting (olds.now ++ news.now))) }
-{
-    let mut pages = waiting_pages(alloc, olds)?;
-    follow_all(&mut pages, news)?;
-    keep_job(&mut pages, ended);
-    Ok(copies_of(alloc, pages.as_slice())?)
-}
-
-/// Drops all pages but those of a job that ended.
-fn keep_job(pages: &mut Vec<PageRecord<'_>>, ended: &EndedRecord<'_>)
-    ensures { pages.new.items ≡ ended_by ended.now pages.old.items }
-{
-    pages.retain(|page| had(ended, page));
-}
-
-/// These pages, in memory of their own.
-fn copies_of(alloc: Global, pages: &[PageRecord<'_>]) -> Result<Vec<WaitingPage>, AllocError>
-    ensures { IfOk result (λ copies. copies.items ≡ pages.now) }
-{
-    let mut copies = Vec::with_capacity(alloc, pages.len())?;
-    for page in pages {
-        copies.push(copy_of(alloc, page)?)?;
+    match read_spool_record(octets) {
+        SpoolRecord::Page(page) => Ok(copy_of(alloc, &page)?),
+        SpoolRecord::Ended(_) => Err(io::ErrorKind::InvalidData.into()),
+        SpoolRecord::Epoch(_) => Err(io::ErrorKind::InvalidData.into()),
+        SpoolRecord::Damaged => Err(io::ErrorKind::InvalidData.into()),
     }
-    Ok(copies)
 }
 
 /// This page, in memory of its own.

@@ -1,25 +1,28 @@
 //! A spool: the records of confirmed pages and of jobs that ended, in two files in turn.
 ghost use Rattle.std.specs.Prelude.{◌≡◌, ◌⊎◌, ◌<◌, ◌≤◌, ◌++◌, [], ◌∷◌, List, ℕ, length, map, not, true, false, IfOk, OnOk, OnErr, IsErr, IsTrue};
-ghost use Rattle.std.specs.List.{filter};
+ghost use Rattle.std.specs.List.{filter, list_all};
 ghost use Rattle.std.specs.Bool.{MatchBool};
 ghost use Rattle.std.specs.Result.{is_ok};
 ghost use Rattle.fax_spool.specs.Calls.{Accepts, Does, IsRead, Puts, Ends, Refuses, Turns, refuses_now};
 ghost use Rattle.fax_spool.specs.Records.{Stands};
 ghost use Rattle.fax_spool.specs.Settled.{IsSettled};
 ghost use Rattle.fax_spool.specs.SpoolRecords.{AreReadAs, kept_of};
-ghost use Rattle.fax_spool.specs.KeptPages.{put_again};
+ghost use Rattle.fax_spool.specs.KeptPages.{is_in_memory, put_again};
 ghost use Rattle.fax_spool.specs.Waits.{ended_by, ends, waiting};
 ghost use Rattle.fax_spool.specs.Spools.{AreClean, Stores, NoneIsLeft, MayLeaveBoth, TellBoth, epoch_now, epoch_records, files_of, greatest_epoch};
 ghost use Rattle.fax_spool.specs.declared.spool_record.SpoolRecord.{SpoolRecord as SpoolRecordShown};
 
 use crate::kept_page::{
-    KeptPage, Room, keep_page, keep_read_pages, kept_octets, records_again, room_left, seal_pages,
+    KeptPage, Room, are_in_memory, keep_placed_pages, records_again, room_left, seal_pages,
+    source_of, taken_by,
 };
 use crate::page_name::PageName;
-use crate::reading::{ended_pages, read_items};
+use crate::placed_page::{drop_ended, placed_pages};
+use crate::reading::push_ended;
+use crate::record_place::RecordPlace;
 use crate::spool_record::{seal_ended, seal_epochs, seal_page};
-use crate::waiting::{drop_ended, newest_epoch};
-use crate::{EndedRecord, PageRecord, RecordFile, SpoolRecord, WaitingPage, waiting_pages};
+use crate::waiting::newest_epoch;
+use crate::{EndedRecord, PageRecord, RecordFile, SpoolRecord, WaitingPage};
 use sqlite_disk::Disk;
 use std::alloc::Global;
 use std::{io, mem};
@@ -49,18 +52,20 @@ pub struct Spool<D: Disk> {
 }
 
 impl<D: Disk + Drop> Spool<D> {
-    /// Begins a life over two files that were recovered, where what they say is this, and the records of `older` were put before
-    /// those of `newer`. Its epoch, which is the life's number, is greater than each before it.
+    /// Begins a life over two files that were recovered, where these are the octets of their records and what they say, and the records of
+    /// `older` were put before those of `newer`. Its epoch, which is the life's number, is greater than each before it.
     pub fn begin(
         alloc: Global,
         older: RecordFile<D>,
         newer: RecordFile<D>,
+        older_items: &[Vec<u8>],
+        newer_items: &[Vec<u8>],
         olds: &[SpoolRecord<'_>],
         news: &[SpoolRecord<'_>],
     ) -> io::Result<Self>
-        ensures begun { IfOk result (λ spool. (older_items newer_items : List (List ℕ))
-            → IsSettled D.seen D.may_leave D.is_usable older.disk older.end older_items → AreReadAs older_items olds.now
-            → IsSettled D.seen D.may_leave D.is_usable newer.disk newer.end newer_items → AreReadAs newer_items news.now
+        ensures begun { IfOk result (λ spool.
+            IsSettled D.seen D.may_leave D.is_usable older.disk older.end (map (λ v. v.items) older_items.now) → AreReadAs (map (λ v. v.items) older_items.now) olds.now
+            → IsSettled D.seen D.may_leave D.is_usable newer.disk newer.end (map (λ v. v.items) newer_items.now) → AreReadAs (map (λ v. v.items) newer_items.now) news.now
             → Stores D.seen D.may_leave D.is_usable spool olds.now (news.now ++ epoch_records (epoch_now spool))) }
         ensures clean { IfOk result (λ spool. AreClean D.is_clean (files_of spool) → AreClean D.is_clean (older, newer)) }
         ensures older_epochs { IfOk result (λ spool. greatest_epoch olds.now < epoch_now spool) }
@@ -72,12 +77,12 @@ impl<D: Disk + Drop> Spool<D> {
             return Err(io::ErrorKind::StorageFull.into());
         }
         let epoch = greatest + 1;
-        let mut pages = waiting_pages(alloc, olds)?;
+        let mut pages = placed_pages(alloc, older_items, olds)?;
         drop_ended(&mut pages, news);
         let mut room = Room { octets: MOST_KEPT };
-        let older_pages = keep_read_pages(alloc, pages.as_slice(), &mut room)?;
-        let pages = waiting_pages(alloc, news)?;
-        let newer_pages = keep_read_pages(alloc, pages.as_slice(), &mut room)?;
+        let older_pages = keep_placed_pages(alloc, pages.as_slice(), &mut room)?;
+        let pages = placed_pages(alloc, newer_items, news)?;
+        let newer_pages = keep_placed_pages(alloc, pages.as_slice(), &mut room)?;
         let items = seal_epochs(alloc, epoch)?;
         let mut newer = newer;
         let mut refuses = false;
@@ -142,10 +147,11 @@ impl<D: Disk> Spool<D> {
         }
         let name = PageName::of_page(alloc, page)?;
         let octets = seal_page(alloc, page)?;
+        let place = RecordPlace::after(self.newer.end, octets.len())?;
         self.newer_pages.reserve(1)?;
         append(&mut self.newer, &mut self.refuses, alloc, octets.as_slice())?;
-        let kept = keep_page(name, octets, &mut self.room);
-        self.newer_pages.push_reserved(kept);
+        let source = source_of(octets, place, &mut self.room);
+        self.newer_pages.push_reserved(KeptPage { name, source });
         Ok(())
     }
 
@@ -165,7 +171,7 @@ impl<D: Disk> Spool<D> {
             return Err(io::ErrorKind::Other.into());
         }
         let mut room = self.room;
-        let mut sealed = seal_pages(alloc, pages, &mut room)?;
+        let mut sealed = seal_pages(alloc, pages, self.newer.end, &mut room)?;
         self.newer_pages.append(&mut sealed.kept)?;
         append_all(
             &mut self.newer,
@@ -203,9 +209,10 @@ impl<D: Disk> Spool<D> {
         Ok(())
     }
 
-    /// The pages that wait and that this end of a job would end, in the order in which they were put, each as its record has it. Both
-    /// files are read through, and nothing is written. An `Err` (the disk's failure, no memory, or a spool that refuses) makes nothing
-    /// refuse.
+    /// The pages that wait and that this end of a job would end, in the order in which they were put, each as its record has it. It costs
+    /// a look at the name in memory of each page that waits, and the reading of the records of those that it answers, whatever else the
+    /// files have. Nothing is written. An `Err` (the disk's failure, no memory, `InvalidData`: a disk answered what is no record of the
+    /// page; or a spool that refuses) makes nothing refuse.
     pub fn pages_ended_by(
         &mut self,
         alloc: Global,
@@ -219,9 +226,12 @@ impl<D: Disk> Spool<D> {
         if self.refuses {
             return Err(io::ErrorKind::Other.into());
         }
-        let olds = read_items(alloc, &mut self.older)?;
-        let news = read_items(alloc, &mut self.newer)?;
-        Ok(ended_pages(alloc, olds.as_slice(), news.as_slice(), ended)?)
+        let mut found = Vec::new(alloc);
+        let older_pages = self.older_pages.as_slice();
+        push_ended(alloc, &mut found, &mut self.older, older_pages, ended)?;
+        let newer_pages = self.newer_pages.as_slice();
+        push_ended(alloc, &mut found, &mut self.newer, newer_pages, ended)?;
+        Ok(found)
     }
 
     /// Drops the records of the older file where none of its pages waits, and answers whether it did: not where one waits.
@@ -307,14 +317,16 @@ impl<D: Disk> Spool<D> {
         Ok(true)
     }
 
-    /// Whether the records of all pages that wait are kept in memory, and have at most so many octets.
-    fn are_kept_within(&self, most: usize) -> bool {
-        let older = kept_octets(self.older_pages.as_slice());
-        let newer = kept_octets(self.newer_pages.as_slice());
-        match (older, newer) {
-            (Some(older), Some(newer)) => older.saturating_add(newer) <= most,
-            _ => false,
-        }
+    /// Whether the records of all pages that wait are in memory, and have at most so many octets.
+    fn are_kept_within(&self, most: usize) -> bool
+        ensures older { IsTrue result → IsTrue (list_all is_in_memory self.now.older_pages.items) }
+        ensures newer { IsTrue result → IsTrue (list_all is_in_memory self.now.newer_pages.items) }
+    {
+        let older = self.older_pages.as_slice();
+        let newer = self.newer_pages.as_slice();
+        are_in_memory(older)
+            && are_in_memory(newer)
+            && taken_by(older).saturating_add(taken_by(newer)) <= most
     }
 }
 

@@ -1,7 +1,7 @@
 //! Which pages wait, by the records that were read.
 ghost use Rattle.std.specs.Prelude.{◌≡◌, ◌++◌, map, IfOk, OnOk};
 ghost use Rattle.fax_spool.specs.SpoolRecords.{AreReadAs};
-ghost use Rattle.fax_spool.specs.Waits.{left_of, after, left_after, waiting, waiting_after, without};
+ghost use Rattle.fax_spool.specs.Waits.{after, waiting, waiting_after, without};
 ghost use Rattle.fax_spool.specs.Spools.{epoch_of, greatest_epoch, raised};
 
 use crate::page_name::had;
@@ -47,15 +47,6 @@ pub(crate) fn follow_all<'a>(
         follow(pages, kept)?;
     }
     Ok(())
-}
-
-/// Drops the pages whose jobs ended by these records.
-pub(crate) fn drop_ended(pages: &mut Vec<PageRecord<'_>>, records: &[SpoolRecord<'_>])
-    ensures { pages.new.items ≡ left_after pages.old.items records.now }
-{
-    for kept in records {
-        drop_ended_by(pages, kept);
-    }
 }
 
 /// The number of the first epoch that can be read, 0 where there is none. Of the two files of a spool, that of the smaller number is
@@ -106,18 +97,6 @@ fn follow<'a>(pages: &mut Vec<PageRecord<'a>>, kept: &SpoolRecord<'a>) -> Result
         }
         SpoolRecord::Epoch(_) => Ok(()),
         SpoolRecord::Damaged => Ok(()),
-    }
-}
-
-/// Drops the pages whose job ended by this record.
-fn drop_ended_by(pages: &mut Vec<PageRecord<'_>>, kept: &SpoolRecord<'_>)
-    ensures { pages.new.items ≡ left_of pages.old.items kept.now }
-{
-    match kept {
-        SpoolRecord::Ended(ended) => drop_job(pages, ended),
-        SpoolRecord::Page(_) => {}
-        SpoolRecord::Epoch(_) => {}
-        SpoolRecord::Damaged => {}
     }
 }
 

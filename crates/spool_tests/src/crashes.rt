@@ -99,6 +99,35 @@ fn copy_forward(spool: &mut Spool<SpoolFolderFile<Unknown>>, alloc: Global) -> i
     Ok(())
 }
 
+/// Opens a folder, reads the job of one page of it back, and tells how many pages came and the nanoseconds that it took. `SPOOL_READ`:
+/// of which number the page is.
+#[test]
+fn reads_a_page(rt: HostRuntime) -> Result<(), Fail> {
+    let Ok(folder) = env::var(&rt, "SPOOL_READS") else {
+        return Ok(());
+    };
+    let opened = open_folder(&rt, folder.as_str(), Unknown)?;
+    let mut spool = opened.spool;
+    let [first, ..] = opened.pages.as_slice() else {
+        return Ok(());
+    };
+    let ended = EndedRecord {
+        life: first.life,
+        call: 0,
+        first: number_in(&rt, "SPOOL_READ", 1),
+        pages: 1,
+        delivered: 0,
+        format: FORMAT,
+        outcome: Outcome::NoAnswer,
+        line: b"a1",
+    };
+    let start = Instant::now(&rt)?;
+    let pages = spool.pages_ended_by(rt.alloc(), &ended)?;
+    let took = start.elapsed(&rt)?.as_nanos();
+    println!(rt; "read {} {took}", pages.len())?;
+    Ok(())
+}
+
 /// Ends the jobs of the pages that wait, and puts page after page, and tells each with the nanoseconds that it took. `SPOOL_PAGES`: how many; `SPOOL_OCTETS`: of which length;
 /// `SPOOL_ENDS`: whether the jobs of pages end as more come; `SPOOL_STAYS`: the first page that waits stays, and after so many puts what
 /// waits is copied forward.

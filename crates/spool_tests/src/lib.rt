@@ -8,4 +8,6 @@ mod crashes;
 #[cfg(test)]
 mod noted;
 #[cfg(test)]
+mod read_back;
+#[cfg(test)]
 mod reopened;

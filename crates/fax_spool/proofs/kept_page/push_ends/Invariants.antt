@@ -1,4 +1,4 @@
-use Rattle.std.proofs.Common.{List, ◌++◌, map, take}
+use Rattle.std.proofs.Common.{List, ℕ, ◌++◌, map, take}
 use Rattle.fax_spool.specs.RecordOctets.{PageValue}
 use Rattle.fax_spool.specs.SpoolRecords.{AreReadAs}
 use Rattle.fax_spool.specs.KeptPages.{AreKept, ended_alone}
@@ -8,5 +8,5 @@ use Rattle.fax_spool.proofs.kept_page.push_ends.Given as goal
 -- the records before, and those of the pages so far
 abbrev pub invariant-loop-page : goal.invariant-loop-page
 invariant-loop-page l =
-    (records : List SpoolRecord) (waits : List PageValue) → AreReadAs (map (λ v. v.items) l.initial.items.items) records → AreKept l.pages waits
+    (there : List (List ℕ)) (records : List SpoolRecord) (waits : List PageValue) → AreReadAs (map (λ v. v.items) l.initial.items.items) records → AreKept there l.pages waits
     → AreReadAs (map (λ v. v.items) l.items.items) (records ++ map ended_alone (take l.page-index waits))

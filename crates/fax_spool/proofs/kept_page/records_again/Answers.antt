@@ -6,10 +6,10 @@ use Rattle.fax_spool.proofs.Kept.{again_split}
 use Rattle.fax_spool.proofs.kept_page.records_again.Goals as goal
 
 pub returns : goal.returns
-returns c = λ olds news older newer.
+returns c = λ older_items newer_items olds news older newer.
     let empty = subst (λ (l : List (Vec ℕ Global)). AreReadAs (map (λ (v : Vec ℕ Global). v.items) l) []) (sym c.new-items.ensures.items) tt in
-    let one = c.in_ok-push_ends.ensures [] olds empty older in
-    let two = c.in_ok-push_ends-2.ensures (map ended_alone olds) news one newer in
-    let three = c.in_ok-push_pages.ensures (map ended_alone olds ++ map ended_alone news) olds two older in
-    let four = c.in_ok-push_pages-2.ensures ((map ended_alone olds ++ map ended_alone news) ++ map kept_of olds) news three newer in
+    let one = c.in_ok-push_ends.ensures older_items [] olds empty older in
+    let two = c.in_ok-push_ends-2.ensures newer_items (map ended_alone olds) news one newer in
+    let three = c.in_ok-push_pages.ensures older_items (map ended_alone olds ++ map ended_alone news) olds two older in
+    let four = c.in_ok-push_pages-2.ensures newer_items ((map ended_alone olds ++ map ended_alone news) ++ map kept_of olds) news three newer in
     subst (λ (l : List SpoolRecord). AreReadAs (map (λ (v : Vec ℕ Global). v.items) c.push_pages-2.new.items.items) l) (again_split olds news) four

@@ -1,8 +1,12 @@
-use Rattle.std.proofs.Common.{map, take}
+use Rattle.std.proofs.Common.{◌≡◌, List, ℕ, ◌++◌, map, take}
 use Rattle.fax_spool.specs.SpoolRecords.{AreReadAs, kept_of}
 use Rattle.fax_spool.specs.KeptPages.{AreKept}
+use Rattle.fax_spool.specs.Places.{octets_of}
 use Rattle.fax_spool.proofs.kept_page.seal_pages.Given as goal
 
--- the records of the pages so far, and these as they are known
+-- the records of the pages so far, and where they end after others; and these pages as they are known
 abbrev pub invariant-loop-page : goal.invariant-loop-page
-invariant-loop-page l = AreReadAs (map (λ v. v.items) l.items.items) (map kept_of (take l.page-index l.pages)) × AreKept l.kept.items (take l.page-index l.pages)
+invariant-loop-page l =
+    AreReadAs (map (λ v. v.items) l.items.items) (map kept_of (take l.page-index l.pages))
+    × ((before : List (List ℕ)) → octets_of before ≡ l.initial.at
+    → (l.at ≡ octets_of (before ++ map (λ v. v.items) l.items.items)) × AreKept (before ++ map (λ v. v.items) l.items.items) l.kept.items (take l.page-index l.pages))

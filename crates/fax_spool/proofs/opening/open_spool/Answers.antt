@@ -17,7 +17,7 @@ returns-then-first_epoch g c = record {
       (tells _ c.in_ok-first.first ones (c.in_ok-first.ensures.found clean.1).stands ones_read)
       (tells _ c.in_ok-second.second others (c.in_ok-second.ensures.found clean.0).stands others_read)
       (is_not_before (epoch_of ones) (epoch_of others) (omega (arith, one_epoch, other_epoch, c.if-first_epoch.true)))
-      (c.in_ok-begin.ensures.begun _ _ (c.in_ok-second.ensures.settled clean.0) others_read (c.in_ok-first.ensures.settled clean.1) ones_read)
+      (c.in_ok-begin.ensures.begun (c.in_ok-second.ensures.settled clean.0) others_read (c.in_ok-first.ensures.settled clean.1) ones_read)
       c.in_ok-begin.ensures.older_epochs c.in_ok-begin.ensures.newer_epochs c.in_ok-begin.ensures.pages (c.in_ok-begin.ensures.torn ∙ destroyed_are _ _ _ _ _ _ (c.in_ok-second.ensures.found clean.0).destroyed (c.in_ok-first.ensures.found clean.1).destroyed) c.in_ok-begin.ensures.older_damaged c.in_ok-begin.ensures.newer_damaged
       (c.in_ok-begin.ensures.older_passed_over ∙ (c.in_ok-second.ensures.found clean.0).passed_over) (c.in_ok-begin.ensures.newer_passed_over ∙ (c.in_ok-first.ensures.found clean.1).passed_over);
   accepts = c.in_ok-begin.ensures.accepts;
@@ -37,7 +37,7 @@ returns g c = record {
       (tells _ c.in_ok-first.first ones (c.in_ok-first.ensures.found clean.0).stands ones_read)
       (tells _ c.in_ok-second.second others (c.in_ok-second.ensures.found clean.1).stands others_read)
       (is_before (epoch_of ones) (epoch_of others) (omega (arith, one_epoch, other_epoch, c.if-first_epoch.false)))
-      (c.in_ok-begin-2.ensures.begun _ _ (c.in_ok-first.ensures.settled clean.0) ones_read (c.in_ok-second.ensures.settled clean.1) others_read)
+      (c.in_ok-begin-2.ensures.begun (c.in_ok-first.ensures.settled clean.0) ones_read (c.in_ok-second.ensures.settled clean.1) others_read)
       c.in_ok-begin-2.ensures.older_epochs c.in_ok-begin-2.ensures.newer_epochs c.in_ok-begin-2.ensures.pages (c.in_ok-begin-2.ensures.torn ∙ destroyed_are _ _ _ _ _ _ (c.in_ok-first.ensures.found clean.0).destroyed (c.in_ok-second.ensures.found clean.1).destroyed) c.in_ok-begin-2.ensures.older_damaged c.in_ok-begin-2.ensures.newer_damaged
       (c.in_ok-begin-2.ensures.older_passed_over ∙ (c.in_ok-first.ensures.found clean.0).passed_over) (c.in_ok-begin-2.ensures.newer_passed_over ∙ (c.in_ok-second.ensures.found clean.1).passed_over);
   accepts = c.in_ok-begin-2.ensures.accepts;

@@ -26,7 +26,7 @@ returns-clause-cleared g c = λ olds news k.
 
 pub returns-then-not-is_empty-clause-cleared : goal.returns-then-not-is_empty-clause-cleared
 returns-then-not-is_empty-clause-cleared g c = λ olds news k. (
-  λ none. let zero : length c.args.self.now.older_pages.items ≡ 0 = ap length (none_kept _ (same_kept _ _ _ _ refl (sym none) k.older_waits)) in absurd (grind (arith, c.if-not-is_empty.true, c.is_empty.ensures, zero)),
+  λ none. let zero : length c.args.self.now.older_pages.items ≡ 0 = ap length (none_kept _ _ (same_kept _ _ _ _ _ refl (sym none) k.older_waits)) in absurd (grind (arith, c.if-not-is_empty.true, c.is_empty.ensures, zero)),
   k,
 )
 

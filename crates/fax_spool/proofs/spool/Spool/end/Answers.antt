@@ -3,7 +3,7 @@ use Rattle.fax_spool.specs.Waits.{waiting, left_after}
 use Rattle.fax_spool.specs.declared.spool_record.SpoolRecord.TheVariants.{Ended}
 use Rattle.fax_spool.specs.Calls.{Ends}
 use Rattle.fax_spool.proofs.Doing.{does_err, does_nothing, does_put, may_have_put, one_more}
-use Rattle.fax_spool.proofs.Kept.{kept_left, same_kept}
+use Rattle.fax_spool.proofs.Kept.{kept_left, kept_more, same_kept}
 use Rattle.fax_spool.proofs.SpoolSteps.{at_rest, keeps_more, leaves_more, read_through}
 use Rattle.fax_spool.proofs.spool.Spool.end.Goals as goal
 
@@ -22,8 +22,8 @@ pub returns-clause-acknowledged : goal.returns-clause-acknowledged
 returns-clause-acknowledged g c = λ olds news k.
     keeps_more _ _ _ _ _ olds news k c.as_slice.result.now (Ended c.args.ended.now) (read_through _ _ (Ended c.args.ended.now) c.as_slice.ensures.value c.in_ok-octets.ensures) refl
     (c.in_ok-append.ensures.acknowledged k.newer_items k.newer)
-    (same_kept _ _ _ _ c.forget_ended.ensures refl (kept_left c.args.ended.now _ (left_after (waiting olds) news) k.older_waits))
-    (same_kept _ _ _ _ c.forget_ended-2.ensures refl (kept_left c.args.ended.now _ (waiting news) k.newer_waits))
+    (same_kept _ _ _ _ _ c.forget_ended.ensures refl (kept_left _ c.args.ended.now _ (left_after (waiting olds) news) k.older_waits))
+    (same_kept _ _ _ _ _ c.forget_ended-2.ensures refl (kept_left _ c.args.ended.now _ (waiting news) (kept_more _ _ _ _ k.newer_waits)))
     (omega arith) (omega arith)
 
 pub returns-then-self-clause-does : goal.returns-then-self-clause-does

@@ -1,4 +1,4 @@
-use Rattle.std.proofs.Common.{◌++◌, ◌∙◌, List, ℕ, Vec, Global, map, refl, sym, inl, ap, subst}
+use Rattle.std.proofs.Common.{◌++◌, ◌∙◌, List, ℕ, Vec, Global, map, refl, sym, inl, ap, subst, arith}
 use Rattle.fax_spool.specs.Calls.{Turns}
 use Rattle.fax_spool.specs.KeptPages.{put_again}
 use Rattle.fax_spool.specs.RecordOctets.{PageValue}
@@ -20,7 +20,7 @@ returns-in_err-append_all-clause-crash g c = λ olds news k.
     let are : AreReadAs octets (put_again (waiting (olds ++ news))) =
     read_all_through _ _ (put_again (waiting (olds ++ news))) (ap (λ (l : List (Vec ℕ Global)). map (λ (v : Vec ℕ Global). v.items) l) c.as_slice-3.ensures.value)
     (subst (λ (l : List PageValue). AreReadAs (map (λ (v : Vec ℕ Global). v.items) c.in_ok-items.items.items) (put_again l)) (sym (shares olds news))
-    (c.in_ok-items.ensures (left_after (waiting olds) news) (waiting news) (same_kept _ _ _ _ c.as_slice.ensures.value refl k.older_waits) (same_kept _ _ _ _ c.as_slice-2.ensures.value refl k.newer_waits))) in
+    (c.in_ok-items.ensures k.older_items k.newer_items (left_after (waiting olds) news) (waiting news) (same_kept _ _ _ _ _ c.as_slice.ensures.value refl k.older_waits) (same_kept _ _ _ _ _ c.as_slice-2.ensures.value refl k.newer_waits))) in
     leaves_again _ _ _ c.args.self.now (record c.args.self.now { newer = c.append_all.new.file }) olds news k octets are refl c.append_all.ensures.crash
 
 pub returns-clause-crash : goal.returns-clause-crash
@@ -29,7 +29,7 @@ returns-clause-crash g c = λ olds news k.
     let are : AreReadAs octets (put_again (waiting (olds ++ news))) =
     read_all_through _ _ (put_again (waiting (olds ++ news))) (ap (λ (l : List (Vec ℕ Global)). map (λ (v : Vec ℕ Global). v.items) l) c.as_slice-3.ensures.value)
     (subst (λ (l : List PageValue). AreReadAs (map (λ (v : Vec ℕ Global). v.items) c.in_ok-items.items.items) (put_again l)) (sym (shares olds news))
-    (c.in_ok-items.ensures (left_after (waiting olds) news) (waiting news) (same_kept _ _ _ _ c.as_slice.ensures.value refl k.older_waits) (same_kept _ _ _ _ c.as_slice-2.ensures.value refl k.newer_waits))) in
+    (c.in_ok-items.ensures k.older_items k.newer_items (left_after (waiting olds) news) (waiting news) (same_kept _ _ _ _ _ c.as_slice.ensures.value refl k.older_waits) (same_kept _ _ _ _ _ c.as_slice-2.ensures.value refl k.newer_waits))) in
     leaves_again _ _ _ c.args.self.now (record c.args.self.now { newer = c.append_all.new.file }) olds news k octets are refl c.append_all.ensures.crash
 
 pub returns-clause-put : goal.returns-clause-put
@@ -38,12 +38,14 @@ returns-clause-put g c = λ olds news k.
     let are : AreReadAs octets (put_again (waiting (olds ++ news))) =
     read_all_through _ _ (put_again (waiting (olds ++ news))) (ap (λ (l : List (Vec ℕ Global)). map (λ (v : Vec ℕ Global). v.items) l) c.as_slice-3.ensures.value)
     (subst (λ (l : List PageValue). AreReadAs (map (λ (v : Vec ℕ Global). v.items) c.in_ok-items.items.items) (put_again l)) (sym (shares olds news))
-    (c.in_ok-items.ensures (left_after (waiting olds) news) (waiting news) (same_kept _ _ _ _ c.as_slice.ensures.value refl k.older_waits) (same_kept _ _ _ _ c.as_slice-2.ensures.value refl k.newer_waits))) in (
+    (c.in_ok-items.ensures k.older_items k.newer_items (left_after (waiting olds) news) (waiting news) (same_kept _ _ _ _ _ c.as_slice.ensures.value refl k.older_waits) (same_kept _ _ _ _ _ c.as_slice-2.ensures.value refl k.newer_waits))) in (
       left_again olds news,
       keeps_again _ _ _ c.args.self.now (record c.args.self.now { newer = c.append_all.new.file; older_pages = c.swap.new.x; newer_pages = c.swap.new.y; refuses = c.append_all.new.refuses }) olds news k octets are refl
           (c.in_ok-append_all.ensures.acknowledged k.newer_items k.newer)
           (ap (λ (v : Vec KeptPage Global). v.items) c.swap.ensures.x_after ∙ c.in_ok-append.ensures.other_items)
           (ap (λ (v : Vec KeptPage Global). v.items) c.swap.ensures.y_after ∙ c.in_ok-append.ensures.items)
+          (grind (arith, c.are_kept_within.ensures.older, c.if-not-are_kept_within.false))
+          (grind (arith, c.are_kept_within.ensures.newer, c.if-not-are_kept_within.false))
           refl,
     )
 

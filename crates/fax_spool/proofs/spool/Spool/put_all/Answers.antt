@@ -1,9 +1,11 @@
-use Rattle.std.proofs.Common.{List, ℕ, Vec, Global, map, refl, inl, ap}
+use Rattle.std.proofs.Common.{◌++◌, List, ℕ, Vec, Global, map, refl, sym, subst, inl, ap}
 use Rattle.fax_spool.specs.SpoolRecords.{kept_of}
 use Rattle.fax_spool.specs.Calls.{Puts}
 use Rattle.fax_spool.proofs.Doing.{as_before, does_err, does_none, does_nothing, does_put, may_have_put, more_pages}
-use Rattle.fax_spool.proofs.Kept.{kept_append, same_kept}
+use Rattle.fax_spool.specs.KeptPages.{AreKept}
+use Rattle.fax_spool.proofs.Kept.{kept_append, kept_more, same_kept}
 use Rattle.fax_spool.proofs.Order.{above_pages}
+use Rattle.fax_spool.proofs.Places.{settled_end}
 use Rattle.fax_spool.proofs.SpoolSteps.{at_rest, keeps_pages, leaves_pages, read_all_through}
 use Rattle.fax_spool.proofs.spool.Spool.put_all.Goals as goal
 
@@ -22,7 +24,9 @@ returns-clause-acknowledged g c = λ olds news k.
     let are = read_all_through _ _ (map kept_of c.args.pages.now) (ap (λ (l : List (Vec ℕ Global)). map (λ (v : Vec ℕ Global). v.items) l) c.as_slice.ensures.value) c.in_ok-sealed.ensures.items in
     keeps_pages _ _ _ c.args.self.now _ olds news k (map (λ (v : Vec ℕ Global). v.items) c.as_slice.result.now) c.args.pages.now are refl
     (c.in_ok-append_all.ensures.acknowledged k.newer_items k.newer) refl
-    (same_kept _ _ _ _ c.in_ok-append.ensures.items refl (kept_append _ _ _ _ k.newer_waits c.in_ok-sealed.ensures.kept)) refl
+    (same_kept _ _ _ _ _ c.in_ok-append.ensures.items refl (kept_append _ _ _ _ _ (kept_more _ _ _ _ k.newer_waits)
+    (subst (λ (l : List (Vec ℕ Global)). AreKept (k.newer_items ++ map (λ (v : Vec ℕ Global). v.items) l) c.in_ok-sealed.sealed.kept.items c.args.pages.now) (sym c.as_slice.ensures.value)
+    (c.in_ok-sealed.ensures.kept k.newer_items (sym (settled_end _ _ _ _ _ _ k.newer)))))) refl
 
 pub returns-then-self-clause-does : goal.returns-then-self-clause-does
 returns-then-self-clause-does g c = does_nothing _ _ _ c.args.self.now c.args.self.now (Puts c.args.pages.now)
