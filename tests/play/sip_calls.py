@@ -195,21 +195,23 @@ KINDS = {
 }
 
 
-def configuration(count, ports, call_with):
-    """A server of so many lines, each with a trunk."""
+def configuration(count, ports, call_with, repeat="full"):
+    """A server of so many lines, each with a trunk; which of their datagrams are sent again."""
     text = f"[sip]\nlocal = '{address(ports)}'\naudio = '{address(ports + 1)}'\n"
     for i in range(count):
         text += f"[[trunks]]\nname = 't{i}'\naddress = '{address(ports + 100 + i)}'\ncall_with = '{call_with}'\n"
         text += f"[[routes]]\nprefix = '+4930{i:02}'\ntrunk = 't{i}'\n"
         first = ports + 200 + 2 * i
-        text += f"[[lines]]\nname = 'a{i}'\ncalling = {{ local = '{address(first)}' }}\ncalled = {{ local = '{address(first + 1)}' }}\n"
+        text += f"[[lines]]\nname = 'a{i}'\nrepeat = '{repeat}'\n"
+        text += f"calling = {{ local = '{address(first)}' }}\ncalled = {{ local = '{address(first + 1)}' }}\n"
     return text
 
 
 @contextlib.contextmanager
-def serving(program, folder, count, ports, call_with):
+def serving(program, folder, count, ports, call_with, repeat="full"):
     """A server of so many lines, which has begun."""
-    (folder / "many.toml").write_text("control = 'many'\n" + configuration(count, ports, call_with), encoding="utf-8")
+    text = "control = 'many'\n" + configuration(count, ports, call_with, repeat)
+    (folder / "many.toml").write_text(text, encoding="utf-8")
     server = subprocess.Popen([program, "serve", "--config", "many.toml"], cwd=folder, stdout=subprocess.DEVNULL)
     try:
         time.sleep(3)
@@ -241,12 +243,12 @@ def faults_of(calls):
     return [f"{call.number}: {call.fault}" for call in calls if call.fault]
 
 
-def many_calls(program, folder, kind, count, loses, ports=25000, least=1):
+def many_calls(program, folder, kind, count, loses, ports=25000, least=1, repeat="full"):
     """So many calls of a kind at a time, each with a page of its own, the shortest of so many rows. What went wrong; nothing where all is
     well."""
     comes, goes_out, call_with = KINDS[kind]
     way = losing(LOST_OF) if loses else clear
-    with serving(program, folder, count, ports, call_with):
+    with serving(program, folder, count, ports, call_with, repeat):
         faults = play_calls(
             [Call(ports + 100 + i, ports, f"+4930{i:02}{7 * i}", least + i, comes, goes_out, way) for i in range(count)]
         )
