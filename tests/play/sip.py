@@ -1,4 +1,7 @@
-"""`faxgate serve` at a trunk: calls over SIP come and go out."""
+"""`faxgate serve` at a trunk: calls over SIP come and go out.
+
+FAXGATE_RINGS says how many seconds a machine rings before it answers; `tools/sip` says 60.
+"""
 import os
 import pathlib
 import re
@@ -13,6 +16,9 @@ from t38 import Called, Calling, Leg
 TOP = pathlib.Path(__file__).resolve().parent.parent.parent
 # How long nothing is to come, in seconds.
 QUIET = 1
+RINGS = float(os.environ.get("FAXGATE_RINGS", "1"))
+# A bound of datagrams that a page at 14,400 bit/s wants more than, in octets.
+BOUND = 238
 EOL, WHITE_ROW = "000000000001", "01001101100110101"
 
 
@@ -157,13 +163,30 @@ class FaxesOverT38(AtATrunk):
         self.assertEqual(self.server.say("undelivered")[-1], "ok")
 
     def test_datagrams_are_bounded(self):
+        """None is longer than the other side takes; some would be."""
         self.begin()
-        leg = self.comes("+4930123", 5, octets=238)
+        self.assertGreater(self.longest(octets=None), BOUND)
+        self.assertLessEqual(self.longest(octets=BOUND), BOUND)
+
+    def longest(self, octets):
+        """A page comes from a side that takes datagrams of so many octets, and goes out to one: how long the longest is that came."""
+        leg = self.comes("+4930123", 5, octets)
         invite = self.goes_out("004930123")
         machine = self.machine()
-        self.trunk.take(invite, fax_offer(machine.leg.port, octets=238))
+        self.trunk.take(invite, fax_offer(machine.leg.port, octets))
         self.taken(machine, 5)
-        self.assertLessEqual(max(len(octets) for _, octets, _ in leg.came + machine.leg.came), 238)
+        return max(len(octets) for _, octets, _ in leg.came + machine.leg.came)
+
+    def test_a_machine_that_rings(self):
+        """However long it does, nothing more is said to it; its call begins when it answers, and T1 (35 s) with it."""
+        self.begin()
+        self.comes("+4930123", 3)
+        invite = self.goes_out("004930123")
+        self.trunk.answer(invite, 180)
+        self.assertTrue(self.trunk.is_silent(RINGS))
+        machine = self.machine()
+        self.trunk.take(invite, fax_offer(machine.leg.port))
+        self.taken(machine, 3)
 
 
 class TriedAgain(AtATrunk):
@@ -425,23 +448,33 @@ class Registrations(AtATrunk):
 class Others(AtATrunk):
     """What is no call that is taken."""
 
+    def of_lines(self):
+        """What is told of each line."""
+        return [told for told in self.server.say("status") if told.startswith("line ")]
+
     def test_a_number_without_a_route(self):
+        """It is refused, and so is what is no number; no line is touched."""
         self.begin()
         self.idle()
-        before = self.server.say("status")
-        request, dialog = self.trunk.invite("+33123", fax_offer(self.ports.take()))
-        answer = self.trunk.final(request)
-        self.trunk.ack(request, answer, dialog)
-        self.assertIn(answer.status, (403, 404))
-        self.assertEqual([it.split(" in ")[0] for it in self.server.say("status")], [it.split(" in ")[0] for it in before])
+        before = self.of_lines()
+        for number, status in (("+33123", 403), ("+4", 403), ("fax", 404)):
+            request, dialog = self.trunk.invite(number, fax_offer(self.ports.take()))
+            answer = self.trunk.final(request)
+            self.trunk.ack(request, answer, dialog)
+            self.assertEqual(answer.status, status, number)
+        self.assertEqual(self.of_lines(), before)
+        self.client.no_event("rung", QUIET)
 
     def test_a_stranger_hears_nothing(self):
         self.begin()
         stranger = SipPeer(0, self.sip_port, host="127.0.0.2")
         self.addCleanup(stranger.close)
+        self.idle()
+        before = self.of_lines()
         stranger.invite("+4930123", fax_offer(self.ports.take()))
         self.assertTrue(stranger.is_silent(QUIET))
         self.assertIn('faxgate_sip_dropped_total{why="stranger"} 1', self.server.say("metrics"))
+        self.assertEqual(self.of_lines(), before)
 
     def test_what_is_no_message_is_dropped(self):
         self.begin()

@@ -22,6 +22,8 @@ class Call(threading.Thread):
         super().__init__(daemon=True)
         self.trunk, self.number, self.rows, self.way = SipPeer(port, server), number, rows, way
         self.comes, self.goes_out, self.waits = comes, goes_out, waits
+        # when a change was refused, and how long BYE took then
+        self.refused = self.took = None
         # what went wrong, until it is over
         self.fault = "it is not over"
 
@@ -150,6 +152,39 @@ def to_audio_in_glare(call):
     call.take(call.trunk.request("INVITE", LONGEST))
 
 
+# How a change to T.38 is refused. The call is to end by BYE within a second; what is played notes when it was refused.
+
+
+def over_audio_refused(call):
+    """Audio at first; the server's change of it is refused."""
+    call.trunk.call(call.number, audio_offer(9), LONGEST)
+    refuse(call)
+
+
+def to_audio_refused(call):
+    """Audio is taken, and the server's change of it refused."""
+    call.trunk.take(call.invited("audio"), audio_offer(9))
+    refuse(call)
+    call.trunk.answer(call.trunk.request("BYE", LONGEST), 200)
+    is_over_soon(call)
+
+
+def refuse(call):
+    call.trunk.answer(call.trunk.request("INVITE", LONGEST), 488)
+    call.refused = time.monotonic()
+
+
+def is_over_soon(call):
+    """The BYE has come just now."""
+    call.took = time.monotonic() - call.refused
+    assert call.took <= 1, f"BYE came {call.took:.1f} s after its change was refused"
+
+
+# What is refused: both calls, as of KINDS.
+REFUSED = {
+    "the change of a call that comes": (over_audio_refused, is_over_soon, "t38"),
+    "the change of a call that goes out": (over_t38, to_audio_refused, "audio"),
+}
 # What both calls are, and by which offer the server calls.
 KINDS = {
     "T.38 on both sides": (over_t38, to_t38, "t38"),
@@ -160,21 +195,23 @@ KINDS = {
 }
 
 
-def configuration(count, ports, call_with):
-    """A server of so many lines, each with a trunk."""
+def configuration(count, ports, call_with, repeat="full"):
+    """A server of so many lines, each with a trunk; which of their datagrams are sent again."""
     text = f"[sip]\nlocal = '{address(ports)}'\naudio = '{address(ports + 1)}'\n"
     for i in range(count):
         text += f"[[trunks]]\nname = 't{i}'\naddress = '{address(ports + 100 + i)}'\ncall_with = '{call_with}'\n"
         text += f"[[routes]]\nprefix = '+4930{i:02}'\ntrunk = 't{i}'\n"
         first = ports + 200 + 2 * i
-        text += f"[[lines]]\nname = 'a{i}'\ncalling = {{ local = '{address(first)}' }}\ncalled = {{ local = '{address(first + 1)}' }}\n"
+        text += f"[[lines]]\nname = 'a{i}'\nrepeat = '{repeat}'\n"
+        text += f"calling = {{ local = '{address(first)}' }}\ncalled = {{ local = '{address(first + 1)}' }}\n"
     return text
 
 
 @contextlib.contextmanager
-def serving(program, folder, count, ports, call_with):
+def serving(program, folder, count, ports, call_with, repeat="full"):
     """A server of so many lines, which has begun."""
-    (folder / "many.toml").write_text("control = 'many'\n" + configuration(count, ports, call_with), encoding="utf-8")
+    text = "control = 'many'\n" + configuration(count, ports, call_with, repeat)
+    (folder / "many.toml").write_text(text, encoding="utf-8")
     server = subprocess.Popen([program, "serve", "--config", "many.toml"], cwd=folder, stdout=subprocess.DEVNULL)
     try:
         time.sleep(3)
@@ -206,12 +243,12 @@ def faults_of(calls):
     return [f"{call.number}: {call.fault}" for call in calls if call.fault]
 
 
-def many_calls(program, folder, kind, count, loses, ports=25000, least=1):
+def many_calls(program, folder, kind, count, loses, ports=25000, least=1, repeat="full"):
     """So many calls of a kind at a time, each with a page of its own, the shortest of so many rows. What went wrong; nothing where all is
     well."""
     comes, goes_out, call_with = KINDS[kind]
     way = losing(LOST_OF) if loses else clear
-    with serving(program, folder, count, ports, call_with):
+    with serving(program, folder, count, ports, call_with, repeat):
         faults = play_calls(
             [Call(ports + 100 + i, ports, f"+4930{i:02}{7 * i}", least + i, comes, goes_out, way) for i in range(count)]
         )
@@ -219,6 +256,20 @@ def many_calls(program, folder, kind, count, loses, ports=25000, least=1):
     lost = ", 5 % of the media lost" if loses else ""
     print(f"{kind}{lost}: {count - len(faults)} of {count}; {late} turns were late", flush=True)
     return faults[0] if faults else ""
+
+
+def refused_changes(program, folder, count, ports=28000):
+    """So many calls at a time whose change to T.38 is refused. What went wrong; nothing where all is well."""
+    faults = []
+    for kind, (comes, goes_out, call_with) in REFUSED.items():
+        with serving(program, folder, count, ports, call_with):
+            calls = [Call(ports + 100 + i, ports, f"+4930{i:02}{7 * i}", 1 + i, comes, goes_out, clear) for i in range(count)]
+            found = play_calls(calls)
+            late = late_turns(program, folder)
+        last = max((call.took for call in calls if call.took is not None), default=0)
+        print(f"{kind} is refused: {count - len(found)} of {count}, BYE after {1000 * last:.0f} ms at most; {late} turns were late", flush=True)
+        faults += found[:1]
+    return "\n".join(faults)
 
 
 def survive(program, folder, count, ports=27000):

@@ -55,32 +55,43 @@ def repeats_in(path):
     return found
 
 
-def judge(path):
-    """What is wrong with a capture; nothing where all is well."""
+def judge(path, repeat):
+    """What is wrong with a capture of calls of lines with this `repeat`; nothing where all is well. Where none repeats a datagram tshark
+    may mark no packet."""
     counts = collections.Counter(name for protocols, in read(path, "udp", "frame.protocols") for name in set(protocols.split(":")))
-    print(f"captured: {', '.join(f'{counts[name]} {name}' for name in WANTED)}, of {counts['udp']} datagrams", flush=True)
+    told = ", ".join(f"{counts[name]} {name}" for name in WANTED)
+    print(f"captured with repeat = '{repeat}': {told}, of {counts['udp']} datagrams", flush=True)
     missing = [name for name in WANTED if not counts[name]]
     if missing:
         return f"tshark finds no {missing[0]}"
     unknown = read(path, "data", "frame.number", "udp.srcport", "udp.dstport")
     if unknown:
         return f"tshark does not know packet {' '.join(unknown[0])} and {len(unknown) - 1} others"
-    marked, repeats = read(path, "_ws.malformed", "frame.number", "_ws.expert.message"), repeats_in(path)
+    marked = read(path, "_ws.malformed", "frame.number", "_ws.expert.message")
+    repeats = set() if repeat == "none" else repeats_in(path)
     malformed = [packet for packet in marked if packet[0] not in repeats]
     print(f"marked as malformed: {len(marked)}, of which {len(marked) - len(malformed)} are datagrams that are sent again", flush=True)
     return f"tshark finds packet {' '.join(malformed[0])} malformed, and {len(malformed) - 1} others" if malformed else ""
 
 
 def captured(program, folder):
-    """Calls of each kind are captured. What went wrong; nothing where all is well."""
-    path = folder / "calls.pcap"
+    """Calls of each kind are captured, where the last datagram of a leg is sent again and where none is. What went wrong; nothing where all
+    is well."""
     with Networks() as networks:
         networks.add("calls")
-        with networks.inside("calls"), Capturing(path) as capturing:
-            for kind in KINDS:
-                fault = many_calls(program, folder, kind, COUNT, False, PORTS, LEAST)
-                if fault:
-                    return f"{kind}: {fault}"
+        with networks.inside("calls"):
+            faults = [capture(program, folder, repeat) for repeat in ("full", "none")]
+    return "\n".join(filter(None, faults))
+
+
+def capture(program, folder, repeat):
+    """The same, in this network, where datagrams are sent again so."""
+    path = folder / f"{repeat}.pcap"
+    with Capturing(path) as capturing:
+        for kind in KINDS:
+            fault = many_calls(program, folder, kind, COUNT, False, PORTS, LEAST, repeat)
+            if fault:
+                return f"{kind}: {fault}"
     if capturing.dropped:
         return f"{capturing.dropped} datagrams are not in the capture"
-    return judge(path)
+    return judge(path, repeat)

@@ -103,7 +103,7 @@ class Hosts:
 
     def begin(self, number, rows, pace=0.01):
         """A call for a number is taken, and its machine begins to send: the name of its host, the machine, and the dialog."""
-        leg = Leg(host=TRUNK)
+        leg = Leg(host=TRUNK, joins=True)
         dialog, answer = self.trunk.call(number, fax_offer(leg.port, host=TRUNK))
         assert answer.status == 200, f"a call was answered {answer.status}"
         leg.there, leg.peer = host_of(answer.body), port_of(answer.body, "image")
@@ -127,7 +127,7 @@ class Hosts:
 
     def take(self, invite, rows):
         """A machine takes the page of a call, which has so many rows."""
-        machine = Called(Leg(host=TRUNK))
+        machine = Called(Leg(host=TRUNK, joins=True))
         machine.start()
         self.trunk.take(invite, fax_offer(machine.leg.port, host=TRUNK))
         self.trunk.answer(self.trunk.request("BYE", LONGEST), 200)

@@ -57,7 +57,7 @@ class SessionCall(threading.Thread):
 
     def comes(self, rows, *more):
         """A machine's call is taken and brings a page of so many rows: the machine, its dialog, and the 200."""
-        leg = Leg()
+        leg = Leg(joins=True)
         dialog, answer = self.trunk.call(self.dials, fax_offer(leg.port), LONGEST, more)
         assert answer.status == 200, f"a call was answered {answer.status}"
         self.begun = time.monotonic()
@@ -82,7 +82,7 @@ class SessionCall(threading.Thread):
         invite = self.trunk.request("INVITE", LONGEST)
         assert "timer" in (invite.one("Supported") or ""), "our INVITE does not say that it supports timers"
         assert told(invite)[0] >= INTERVAL, "our INVITE asks for too short an interval"
-        machine = Called(Leg(), bits=SLOW_BITS, patience=2 * LONGEST)
+        machine = Called(Leg(joins=True), bits=SLOW_BITS, patience=2 * LONGEST)
         machine.start()
         dialog = self.trunk.take(invite, fax_offer(machine.leg.port), more=more)
         self.begun = time.monotonic()
@@ -221,7 +221,7 @@ def callee_wants_more(call):
     again = call.trunk.request("INVITE", LONGEST)
     assert again.cseq[0] > first.cseq[0] and again.one("Call-ID") == first.one("Call-ID"), "another call, or the same number"
     assert told(again)[0] == 2000, f"our INVITE asks for {told(again)}"
-    machine = Called(Leg())
+    machine = Called(Leg(joins=True))
     machine.start()
     call.trunk.take(again, fax_offer(machine.leg.port), more=[expires("uac", 2000)])
     call.trunk.answer(call.trunk.request("BYE", LONGEST), 200)

@@ -22,10 +22,10 @@ pub trait SipSide {
     /// Whether it is looked now whether a line is idle; if so, it is again later.
     fn is_open_due(&mut self, now: u64) -> bool;
 
-    /// Whether SIP says something now, before clients do: it did not just before.
+    /// Whether SIP says something now, before clients do: it gave few orders since they were heard first.
     fn goes_first(&mut self) -> bool;
 
-    /// What was said gave an order: `done` tells how that ended. Clients are heard first then.
+    /// What was said gave an order: `done` tells how that ended.
     fn wait_for(&mut self, said: Said);
 
     /// Hears what came, does what is due, and sends what is to go out.

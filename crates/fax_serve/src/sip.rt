@@ -23,6 +23,9 @@ const MOST_DATAGRAMS: u32 = 16;
 
 const MOST_AUDIO: u32 = 64;
 
+/// The most orders that SIP gives before clients are heard. Where turns are late words are heard between some of them alone, so it is not one.
+const MOST_ORDERS: u32 = 16;
+
 /// The longest datagram.
 const MOST_OCTETS: usize = 65_535;
 
@@ -40,8 +43,8 @@ pub(crate) struct SipFront {
     /// The moments from which on it is looked at again, and from which on it is looked whether a line is idle.
     due: u64,
     open_due: u64,
-    /// Whether SIP gave the last order: then clients are heard first.
-    has_said: bool,
+    /// How many orders SIP gave since clients were heard before it.
+    orders: u32,
 }
 
 /// A socket that does not wait.
@@ -86,7 +89,7 @@ pub(crate) fn open_sip<N: Net + Files>(
         buffer,
         due: 0,
         open_due: 0,
-        has_said: false,
+        orders: 0,
     }))
 }
 
@@ -167,14 +170,16 @@ impl SipSide for SipFront {
     }
 
     fn goes_first(&mut self) -> bool {
-        let goes_first = !self.has_said;
-        self.has_said = false;
+        let goes_first = self.orders < MOST_ORDERS;
+        if !goes_first {
+            self.orders = 0;
+        }
         goes_first
     }
 
     fn wait_for(&mut self, said: Said) {
         self.service.wait_for(said);
-        self.has_said = true;
+        self.orders = self.orders.saturating_add(1);
     }
 
     fn look(&mut self, now: u64) {

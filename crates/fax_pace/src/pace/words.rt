@@ -92,7 +92,7 @@ impl<
         }
     }
 
-    /// What SIP has to say is said, until it orders something of a line. Where it did so last, clients are heard first.
+    /// What SIP has to say is said, until it orders something of a line. Where it did so often, clients are heard first.
     fn say_for_sip<L: SeenLines>(&mut self, seen: &L) -> Option<Order>
         requires { self.old.waits ≡ None }
         ensures { GivesOrder result self.old self.new }
