@@ -217,6 +217,8 @@ pub(super) struct Played {
     pub report: Option<Report>,
     /// Whether the gateway tells that report, the call is still on, and no job is sent or waits.
     pub is_at_rest: bool,
+    /// Whether it counts as refused just the datagrams and ticks that were.
+    pub counts_refusals: bool,
 }
 
 /// Whether the call was the whole one.
@@ -233,6 +235,7 @@ pub(super) fn is_whole_call(played: &Played) -> bool {
             refused: None,
             report: Some(DELIVERED),
             is_at_rest: true,
+            counts_refusals: true,
         }
 }
 
@@ -247,13 +250,16 @@ pub(super) fn play_call(alloc: Global, change: Change) -> (Played, u64) {
         refused: None,
         report: None,
         is_at_rest: false,
+        counts_refusals: false,
     };
     if let Some(mut gateway) = new_gateway(alloc, &mut refused) {
         if ring(&mut gateway, &mut refused) {
+            let before = refused;
             for turn in 0..TURNS {
                 come(&mut gateway, turn, change, &mut played, &mut refused);
                 tick(&mut gateway, turn, change, &mut played, &mut refused);
             }
+            played.counts_refusals = gateway.refusals() == refused.saturating_sub(before);
         }
         played.is_at_rest = is_at_rest(&gateway, played.report);
     }

@@ -28,6 +28,8 @@ struct Ran {
     sends: Sends,
     receives: u32,
     room: usize,
+    /// What the gateway counts as refused.
+    refusals: u64,
 }
 
 /// How many receives a whole call has: some bring a datagram, and two in each turn none.
@@ -166,6 +168,7 @@ fn whole(driven: Driven, sum: u64) -> Ran {
         },
         receives: RECEIVES,
         room: 65_536,
+        refusals: driven.events_refused,
     }
 }
 
@@ -186,6 +189,7 @@ fn run_of(alloc: Global, run: Run) -> Result<(Ran, u64), NoMemory> {
         sends: wire.sends,
         receives: wire.receives,
         room: wire.room,
+        refusals: refusals_of(&gateway),
     };
     Ok((ran, refused))
 }
@@ -202,6 +206,11 @@ fn driven_over<S: RowStore>(
 /// The first report.
 fn report_of<S: RowStore>(gateway: &Gateway<S>) -> Option<Report> {
     gateway.report(0)
+}
+
+/// What it counts as refused.
+fn refusals_of<S: RowStore>(gateway: &Gateway<S>) -> u64 {
+    gateway.refusals()
 }
 
 #[test]
@@ -235,7 +244,7 @@ fn is_left_out(alloc: Global, ran: Ran) -> bool {
         (0, 1) => is_without_one(alloc, ran),
         _ => false,
     };
-    is_left_out && ran.driven == told
+    is_left_out && ran.driven == told && ran.refusals == told.events_refused
 }
 
 /// Whether this is given in a call without one of the datagrams that come, or without one of the ticks.
