@@ -287,8 +287,9 @@ impl<R: RedialSide + Drop> Retries<R> {
     ) -> Result<(), BeginFault> {
         let name = name_at(self.alloc, kept.calls(), k)?;
         let pages = kept.pages_of(self.alloc, name.line.as_slice(), name.life, name.call);
+        // What cannot be read holds up no other job: it waits for its next time.
         let Some(pages) = pages else {
-            return Err(BeginFault::NoMemory);
+            return Err(BeginFault::NoPage);
         };
         match kept.calls().get(k) {
             Some(call) => self.redials.begin(i, call, pages.as_slice(), queues),
