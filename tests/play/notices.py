@@ -157,14 +157,23 @@ class Noticed(Play):
                 server.say("stop")
                 self.assertEqual((server.ends(), server.errors()), (0, 2 * said))
 
+    @staticmethod
+    def sends(sender, name):
+        """How many datagrams a socket sends until it would have to wait: of its own, or of those that wait there, there are too many."""
+        sender.setblocking(False)
+        count = 0
+        with contextlib.suppress(BlockingIOError):
+            while True:
+                sender.sendto(b"X=1", name)
+                count += 1
+        return count
+
     def test_who_does_not_hear_is_not_waited_for(self):
         """The datagrams that wait at a manager are as many as may: it is waited for a second, and the lines are served."""
         manager = self.manager()
-        with socket.socket(socket.AF_UNIX, socket.SOCK_DGRAM) as other:
-            other.setblocking(False)
-            with contextlib.suppress(BlockingIOError):
-                for _ in range(100_000):
-                    other.sendto(b"X=1", manager.name)
+        with contextlib.ExitStack() as senders:
+            while self.sends(senders.enter_context(socket.socket(socket.AF_UNIX, socket.SOCK_DGRAM)), manager.name):
+                pass
         server = self.server(manager.name, self.line()).start()
         self.assertEqual(server.errors(), f"faxgate: NOTIFY_SOCKET: {manager.name}: Resource temporarily unavailable (os error 11)\n")
         self.assertEqual(server.say("ring a1"), ["ok 0"])
