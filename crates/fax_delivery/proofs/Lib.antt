@@ -1,7 +1,7 @@
 mod BadGateways
 mod Begins
-mod CalledLeg
-mod CallingLeg
+mod CalledSide
+mod CallingSide
 mod Confirms
 mod Goodbye
 mod Images
