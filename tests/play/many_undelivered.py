@@ -1,4 +1,5 @@
-"""A spool's folder in which many jobs could not be delivered: how long a server and `faxgate spool` take to open it, and what they tell.
+"""A spool's folder in which many jobs could not be delivered: how long a server and `faxgate spool` take to open it, and what they
+tell; and how long it takes until one of them is tried again.
 
 FAXGATE_UNDELIVERED says how many jobs of a page of FAXGATE_OCTETS octets each; where it is said, times are judged and printed.
 """
@@ -9,6 +10,7 @@ import time
 
 import t4
 from asked import Asked
+from redialled import Redial
 from server import SLOW, Server
 from spools import Line, epochs, file_of, page
 
@@ -17,6 +19,9 @@ OCTETS = int(os.environ.get("FAXGATE_OCTETS", "1000"))
 ARE_JUDGED = "FAXGATE_UNDELIVERED" in os.environ
 # Such a folder is opened within so many seconds, by the specification of the service.
 MOST_SECONDS = 3 * SLOW
+# A word that has a job tried again is answered, and its call is asked for, within so many: it reads that job's pages alone.
+MOST_TO_TRY = 0.5 * SLOW
+TRIED = JOBS // 2
 NOT_PLACED, BUSY = 9, b"busy"
 ROW = [[7, 3, 1718]]
 
@@ -47,7 +52,7 @@ def put_jobs(folder, count, octets):
 class Many(Asked):
     def test_they_are_opened(self):
         """Each is told by the server and listed by `faxgate spool`, also after a start more."""
-        server = Server([Line(self.ports, "a1", called_peer=False)], spool=True)
+        server = Server([Line(self.ports, "a1", called_peer=False), Redial(self.ports)], spool=True)
         self.addCleanup(server.close)
         size = put_jobs(server.spool, JOBS, OCTETS)
         _, to_serve = self.seconds(server.start)
@@ -61,13 +66,22 @@ class Many(Asked):
         server.kill()
         _, again = self.seconds(server.start)
         self.assertEqual(server.metrics()["faxgate_pages_undelivered"], JOBS)
+        _, to_try = self.seconds(lambda: self.tries_one(server))
         if ARE_JUDGED:
             print(
                 f"{JOBS} jobs, {size} octets: listed in {to_list:.2f} s; served in {to_serve:.2f} s, and {again:.2f} s; told in {to_tell:.2f} s;"
-                f" {most} kB at most",
+                f" {most} kB at most; one was tried after {1000 * to_try:.0f} ms",
                 flush=True,
             )
             self.assertLess(max(to_list, to_serve, again), MOST_SECONDS)
+            self.assertLess(to_try, MOST_TO_TRY)
+
+    def tries_one(self, server):
+        """One of the jobs in the middle is tried again, since a word says so."""
+        client = server.events()
+        self.addCleanup(client.close)
+        self.assertEqual(client.say(f"retry a1 1 {TRIED}"), ["ok"])
+        client.event("dial", line="r1", tag=f"49/{TRIED}", pages=1)
 
     @staticmethod
     def seconds(what):
