@@ -207,6 +207,15 @@ def configuration(count, ports, call_with, repeat="full"):
     return text
 
 
+def await_server(program, folder, control, server):
+    """Waits until a server answers at its control socket."""
+    end = time.monotonic() + LONGEST
+    while subprocess.run([program, "say", control, "status"], cwd=folder, capture_output=True, timeout=LONGEST).returncode:
+        assert server.poll() is None, f"the server has ended with {server.returncode}"
+        assert time.monotonic() < end, f"the server has not begun in {LONGEST} s"
+        time.sleep(0.1)
+
+
 @contextlib.contextmanager
 def serving(program, folder, count, ports, call_with, repeat="full"):
     """A server of so many lines, which has begun."""
@@ -214,8 +223,7 @@ def serving(program, folder, count, ports, call_with, repeat="full"):
     (folder / "many.toml").write_text(text, encoding="utf-8")
     server = subprocess.Popen([program, "serve", "--config", "many.toml"], cwd=folder, stdout=subprocess.DEVNULL)
     try:
-        time.sleep(3)
-        assert server.poll() is None, f"the server has ended with {server.returncode}"
+        await_server(program, folder, "many", server)
         yield server
     finally:
         server.kill()
@@ -283,7 +291,7 @@ def survive(program, folder, count, ports=27000):
     server = subprocess.Popen(words, cwd=folder, stdout=subprocess.DEVNULL)
     waits = threading.Barrier(count + 1)
     try:
-        time.sleep(3)
+        await_server(program, folder, "survive", server)
         numbers = [f"+4930{i:02}{7 * i}" for i in range(count)]
         calls = [Call(ports + 100 + i, ports, number, i + 1, over_t38, to_t38, clear, waits) for i, number in enumerate(numbers)]
         for call in calls:
