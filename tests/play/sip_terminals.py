@@ -7,7 +7,7 @@ import time
 import types
 from typing import NamedTuple
 
-from sip_calls import KINDS, LONGEST, Call, late_turns, play_calls, serving, to_t38
+from sip_calls import KINDS, LONGEST, Call, change, late_turns, meet, play_calls, serving, to_t38
 from sip_peer import audio_offer, fax_offer, port_of
 
 # How many of 100 datagrams are lost on each way, where some are.
@@ -30,8 +30,8 @@ def over_audio_late(call):
 def over_audio_late_in_glare(call):
     """The same; the first change meets one of theirs."""
     leg = call.leg()
-    call.trunk.call(call.number, audio_offer(9), LONGEST)
-    call.trunk.answer(call.trunk.request("INVITE", LONGEST), 491)
+    dialog, _ = call.trunk.call(call.number, audio_offer(9), LONGEST)
+    meet(call, dialog)
     again = call.trunk.request("INVITE", LONGEST)
     time.sleep(call.late())
     call.trunk.take(again, fax_offer(leg.port))
@@ -42,7 +42,7 @@ def to_audio_late(call):
     """Audio, which the called machine changes, later in each call, but before the server does, after 4 s."""
     dialog = call.trunk.take(call.invited("audio"), audio_offer(9))
     time.sleep(call.late() % 3.2)
-    call.delivered(lambda machine: call.trunk.again(dialog, "INVITE", fax_offer(machine.leg.port)))
+    change(call, dialog)
 
 
 TERMINAL_KINDS = KINDS | {
