@@ -31,7 +31,8 @@ asked:
 	FAXGATE_TIMES=100 FAXGATE_JOBS=20 FAXGATE_RINGS=60 tools/play $(PROGRAM) --slow 4 -k asked
 
 # SIP: the head of tools/sip has its rows. It wants kamailio, sipp (Debian's sip-tester), spandsp (libspandsp-dev, libtiff-dev), tcpdump and
-# tshark, and root for networks of their own; what is missing is told and passed over, with status 77. It takes half an hour.
+# tshark, and root for networks of their own; what is missing is told and passed over, with status 77. It takes half an hour, and with
+# `tools/sip PROGRAM --at-once 3`, on a machine that has time, a third of that.
 sip: all
 	tools/sip $(PROGRAM)
 

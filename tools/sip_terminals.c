@@ -8,8 +8,9 @@
    machines. A line of its standard input, `call CALL PORT`, begins the call of a calling machine to a port; the called machine begins with
    the first datagram that comes to it, and sends to where that came from. `done CALL CONFIRMED` tells that a calling machine is over, and
    how many pages it had confirmed. At the end of its standard input the machines have 3 s more; then it prints, for each call, `page CALL
-   GOT DIFFER CONFIRMED STUCK`: how many pages the called machine got, how many of them are not the page that was sent, element for element,
-   how many the calling one had confirmed, and whether a terminal sent packets for ever (see docs/INTEROP.md). */
+   GOT DIFFER CONFIRMED STUCK LACKING`: how many pages the called machine got, how many of them are not the page that was sent, element for
+   element, how many the calling one had confirmed, whether a terminal sent packets for ever (see docs/INTEROP.md), and how many packets came
+   to nobody, since the datagram of each and those after it that have it too were lost. */
 #include "terminals.h"
 #include <arpa/inet.h>
 #include <errno.h>
@@ -35,6 +36,8 @@ typedef struct {
     Peer *calling, *called;
     int calling_socket, called_socket;
     int is_done, is_stuck, steps_behind;
+    /* what became of what goes to both machines, and of what they say */
+    Path to_calling, to_called, of_calling, of_called;
 } Call;
 
 static Call calls[MOST_CALLS];
@@ -81,6 +84,24 @@ static int open_socket(int *s) {
     return ntohs(here.sin_port);
 }
 
+/* Whether a datagram that came is lost, as many of them are. */
+static int is_lost(Path *path, const uint8_t *octets, ssize_t length) {
+    int it = (int)chance(100) < lost;
+    if (length > 2) note(path, (unsigned)(octets[0] << 8 | octets[1]), it);
+    return it;
+}
+
+/* How many packets of a path came to nobody: those of which the datagram of their own number and the next ones, which have them too, were
+   all lost. */
+static int packets_lost(const Path *path) {
+    int run = 0, count = 0;
+    for (int i = 0; i < MOST_NUMBERS; i++) {
+        run = path->fate[i] == LOST ? run + 1 : 0;
+        count += run > REDUNDANCY;
+    }
+    return count;
+}
+
 /* What comes to a call's called machine; the first datagram begins it. */
 static void hear_called(Call *c) {
     uint8_t octets[MOST_OUT];
@@ -89,10 +110,11 @@ static void hear_called(Call *c) {
     ssize_t length;
     while ((length = recvfrom(c->called_socket, octets, sizeof octets, 0, (struct sockaddr *)&from, &size)) > 0
            || (length < 0 && errno == ECONNREFUSED)) {
-        if (length <= 0 || (int)chance(100) < lost) continue;
+        if (length <= 0 || is_lost(&c->to_called, octets, length)) continue;
         if (!c->called) {
             connect_to(c->called_socket, &from);
             c->called = new_peer(&c->setting, NULL, c->got, send_over_socket, &c->called_socket);
+            c->called->path = &c->of_called;
         }
         receive(c->called, octets, (int)length);
     }
@@ -102,7 +124,7 @@ static void hear_calling(Call *c) {
     uint8_t octets[MOST_OUT];
     ssize_t length;
     while ((length = recv(c->calling_socket, octets, sizeof octets, 0)) > 0 || (length < 0 && errno == ECONNREFUSED))
-        if (length > 0 && c->calling && (int)chance(100) >= lost) receive(c->calling, octets, (int)length);
+        if (length > 0 && c->calling && !is_lost(&c->to_calling, octets, length)) receive(c->calling, octets, (int)length);
 }
 
 static int step(Peer *p) {
@@ -144,7 +166,8 @@ static void tell(Call *c, int i) {
     end_peer(c->calling);
     end_peer(c->called);
     int got = compare(c->got, &c->setting, &c->page, &differ);
-    printf("page %d %d %d %d %d\n", i, got, differ, confirmed, c->is_stuck);
+    int lacking = packets_lost(&c->to_calling) + packets_lost(&c->to_called) + packets_lost(&c->of_calling) + packets_lost(&c->of_called);
+    printf("page %d %d %d %d %d %d\n", i, got, differ, confirmed, c->is_stuck, lacking);
 }
 
 /* ---- pairs without a gateway, which read no clock ---- */
@@ -158,6 +181,7 @@ static void play_directly(void) {
         Call *c = &calls[i];
         c->calling = new_peer(&c->setting, c->sent, NULL, hand_over, &c->called);
         c->called = new_peer(&c->setting, NULL, c->got, hand_over, &c->calling);
+        c->calling->path = &c->of_calling, c->called->path = &c->of_called;
         for (int steps = 0; steps < MOST_STEPS && !is_over(c); steps++) step_call(c, 1);
     }
 }
@@ -175,6 +199,7 @@ static void obey(const char *line) {
     struct sockaddr_in there = at_port(port);
     connect_to(c->calling_socket, &there);
     c->calling = new_peer(&c->setting, c->sent, NULL, send_over_socket, &c->calling_socket);
+    c->calling->path = &c->of_calling;
 }
 
 /* The lines that came. It answers whether there may be more. */

@@ -16,6 +16,7 @@ enum {
     REDUNDANCY = 3,
     MOST_PACKET = 1024,
     MOST_OUT = 4 * (MOST_PACKET + 2) + 8,
+    MOST_NUMBERS = 8192,
 };
 
 static void fail(const char *why) {
@@ -35,6 +36,16 @@ typedef struct {
     int width, fine, two_dimensional, pages, lost_percent;
 } Setting;
 
+/* What became of the datagrams of a path, by their numbers: LOST, and once one of a number was not, CAME. */
+enum { LOST = 1, CAME = 2 };
+typedef struct {
+    uint8_t fate[MOST_NUMBERS];
+} Path;
+
+static void note(Path *path, unsigned number, int is_lost) {
+    if (path && number < MOST_NUMBERS && path->fate[number] != CAME) path->fate[number] = is_lost ? LOST : CAME;
+}
+
 typedef struct Peer {
     /* a T.38 terminal; or a media gateway with a fax machine on its telephone line */
     t38_terminal_state_t *terminal;
@@ -46,6 +57,8 @@ typedef struct Peer {
     void (*emit)(struct Peer *, const uint8_t *octets, int count);
     void *to;
     int lost_percent;
+    /* the path that it sends on, where that is noted */
+    Path *path;
     /* what it sent: packets, newest first, and the number of the next */
     uint8_t sent[REDUNDANCY + 1][MOST_PACKET];
     int sent_length[REDUNDANCY + 1];
@@ -87,9 +100,13 @@ static int send_packet(t38_core_state_t *core, void *user, const uint8_t *octets
     memmove(p->sent_length + 1, p->sent_length, sizeof p->sent_length[0] * REDUNDANCY);
     memcpy(p->sent[0], octets, (size_t)length);
     p->sent_length[0] = length;
-    int total = datagram_of(p, p->number++, out);
-    for (int i = 0; i < count; i++)
-        if ((int)chance(100) >= p->lost_percent) p->emit(p, out, total);
+    int total = datagram_of(p, p->number, out);
+    for (int i = 0; i < count; i++) {
+        int is_lost = (int)chance(100) < p->lost_percent;
+        note(p->path, p->number, is_lost);
+        if (!is_lost) p->emit(p, out, total);
+    }
+    p->number++;
     return 0;
 }
 

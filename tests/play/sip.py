@@ -338,13 +338,26 @@ class FaxesOverAudio(AtATrunk):
         self.trunk.answer(self.trunk.request("BYE", within=5 * SLOW), 200)
         self.client.event("ended", line="a0")
 
+    def meet(self, dialog):
+        """Our change is under way when theirs comes: either is refused (RFC 3261, 14.1 and 14.2)."""
+        change = self.trunk.request("INVITE")
+        self.assertEqual(self.trunk.again(dialog, "INVITE", fax_offer(self.ports.take())).status, 491)
+        self.trunk.answer(change, 491)
+
+    def changes(self, dialog):
+        """They change our call to T.38, and a machine takes its page, of 6 rows."""
+        machine = self.machine()
+        answer = self.trunk.again(dialog, "INVITE", fax_offer(machine.leg.port))
+        self.assertTrue(port_of(answer.body, "image"))
+        self.taken(machine, 6)
+
     def test_a_change_that_meets_theirs_is_made_again(self):
-        """491 (RFC 3261, 14.1)."""
+        """Ours first, since the Call-ID is theirs."""
         self.begin()
         self.idle()
         leg = self.leg()
-        self.trunk.call("+4930123", audio_offer(self.ports.take()))
-        self.trunk.answer(self.trunk.request("INVITE"), 491)
+        dialog, _ = self.trunk.call("+4930123", audio_offer(self.ports.take()))
+        self.meet(dialog)
         again = self.trunk.request("INVITE")
         self.trunk.take(again, fax_offer(leg.port))
         self.confirm(leg, again, 4)
@@ -356,11 +369,15 @@ class FaxesOverAudio(AtATrunk):
         self.trunk.answer(invite, 488)
         audio = self.goes_out("004930123")
         self.assertEqual([kind for kind, _, _ in media_of(audio.body)], ["audio"])
-        dialog = self.trunk.take(audio, audio_offer(self.ports.take(), 8))
-        machine = self.machine()
-        answer = self.trunk.again(dialog, "INVITE", fax_offer(machine.leg.port))
-        self.assertTrue(port_of(answer.body, "image"))
-        self.taken(machine, 6)
+        self.changes(self.trunk.take(audio, audio_offer(self.ports.take(), 8)))
+
+    def test_a_change_of_our_call_that_meets_theirs(self):
+        """Theirs is made again first, since the Call-ID is ours."""
+        self.begin(trunk="call_with = 'audio'")
+        self.comes("+4930123", 6)
+        dialog = self.trunk.take(self.goes_out("004930123"), audio_offer(self.ports.take()))
+        self.meet(dialog)
+        self.changes(dialog)
 
     def test_our_call_is_changed_by_us(self):
         self.begin(trunk="call_with = 'audio'")

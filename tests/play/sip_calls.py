@@ -11,6 +11,8 @@ from t38 import Called, Calling, Leg, clear, losing
 
 # How long a call, and what is waited for in it, may take, in seconds.
 LONGEST = 90
+# Where a change that is refused wants its medium: not where audio goes, so that a capture tells them apart.
+REFUSED_PORT = 10
 # One datagram of so many is lost on each way, where some are.
 LOST_OF = 20
 
@@ -100,13 +102,21 @@ def over_audio(call):
 
 
 def over_audio_in_glare(call):
-    """The same; the change meets one of theirs, and is made again."""
+    """The same; the change meets one of theirs, and is made again: first, since theirs is the Call-ID (RFC 3261, 14.1)."""
     leg = call.leg()
-    call.trunk.call(call.number, audio_offer(9), LONGEST)
-    call.trunk.answer(call.trunk.request("INVITE", LONGEST), 491)
+    dialog, _ = call.trunk.call(call.number, audio_offer(9), LONGEST)
+    meet(call, dialog)
     again = call.trunk.request("INVITE", LONGEST)
     call.trunk.take(again, fax_offer(leg.port))
     call.confirm(leg, again)
+
+
+def meet(call, dialog):
+    """The server's change is under way when theirs comes: either is refused. Nothing comes to its port, nor to that of the audio."""
+    change = call.trunk.request("INVITE", LONGEST)
+    status = call.trunk.again(dialog, "INVITE", fax_offer(REFUSED_PORT)).status
+    assert status == 491, f"a change that meets the server's was answered {status}"
+    call.trunk.answer(change, 491)
 
 
 def without_an_offer(call):
@@ -134,8 +144,17 @@ def to_t38(call):
 
 def to_audio(call):
     """Audio, which the called machine changes."""
-    dialog = call.trunk.take(call.invited("audio"), audio_offer(9))
-    call.delivered(lambda machine: call.trunk.again(dialog, "INVITE", fax_offer(machine.leg.port)))
+    change(call, call.trunk.take(call.invited("audio"), audio_offer(9)))
+
+
+def change(call, dialog):
+    """The called machine changes audio, and takes the page."""
+
+    def begin(machine):
+        status = call.trunk.again(dialog, "INVITE", fax_offer(machine.leg.port)).status
+        assert status == 200, f"a change was answered {status}"
+
+    call.delivered(begin)
 
 
 def to_audio_since_488(call):
@@ -146,10 +165,10 @@ def to_audio_since_488(call):
 
 
 def to_audio_in_glare(call):
-    """Audio is taken, and the server's change of it meets one of theirs."""
-    call.trunk.take(call.invited("audio"), audio_offer(9))
-    call.trunk.answer(call.trunk.request("INVITE", LONGEST), 491)
-    call.take(call.trunk.request("INVITE", LONGEST))
+    """Audio is taken, and the server's change of it meets one of theirs, which is made again first: its own is the Call-ID."""
+    dialog = call.trunk.take(call.invited("audio"), audio_offer(9))
+    meet(call, dialog)
+    change(call, dialog)
 
 
 # How a change to T.38 is refused. The call is to end by BYE within a second; what is played notes when it was refused.
@@ -207,6 +226,15 @@ def configuration(count, ports, call_with, repeat="full"):
     return text
 
 
+def await_server(program, folder, control, server):
+    """Waits until a server answers at its control socket."""
+    end = time.monotonic() + LONGEST
+    while subprocess.run([program, "say", control, "status"], cwd=folder, capture_output=True, timeout=LONGEST).returncode:
+        assert server.poll() is None, f"the server has ended with {server.returncode}"
+        assert time.monotonic() < end, f"the server has not begun in {LONGEST} s"
+        time.sleep(0.1)
+
+
 @contextlib.contextmanager
 def serving(program, folder, count, ports, call_with, repeat="full"):
     """A server of so many lines, which has begun."""
@@ -214,8 +242,7 @@ def serving(program, folder, count, ports, call_with, repeat="full"):
     (folder / "many.toml").write_text(text, encoding="utf-8")
     server = subprocess.Popen([program, "serve", "--config", "many.toml"], cwd=folder, stdout=subprocess.DEVNULL)
     try:
-        time.sleep(3)
-        assert server.poll() is None, f"the server has ended with {server.returncode}"
+        await_server(program, folder, "many", server)
         yield server
     finally:
         server.kill()
@@ -283,7 +310,7 @@ def survive(program, folder, count, ports=27000):
     server = subprocess.Popen(words, cwd=folder, stdout=subprocess.DEVNULL)
     waits = threading.Barrier(count + 1)
     try:
-        time.sleep(3)
+        await_server(program, folder, "survive", server)
         numbers = [f"+4930{i:02}{7 * i}" for i in range(count)]
         calls = [Call(ports + 100 + i, ports, number, i + 1, over_t38, to_t38, clear, waits) for i, number in enumerate(numbers)]
         for call in calls:

@@ -9,6 +9,7 @@ import time
 
 from networks import Networks
 from sip import page, rows_of
+from sip_calls import await_server
 from sip_peer import SipPeer, fax_offer, host_of, port_of, user_of
 from t38 import Called, Calling, Leg
 
@@ -87,6 +88,7 @@ class Hosts:
         with self.networks.inside(name):
             words = [self.program, "serve", "--config", path.name]
             self._servers[name] = subprocess.Popen(words, cwd=self.folder, stdout=subprocess.DEVNULL)
+        await_server(self.program, self.folder, f"control-{HOSTS[name]}", self._servers[name])
 
     def kill(self, name):
         """A host is gone at once."""

@@ -8,7 +8,7 @@ import time
 from sip import page, rows_of
 from sip_calls import LONGEST, faults_of, serving
 from sip_peer import SipPeer, fax_offer, port_of
-from t38 import DIS_BITS, Called, Calling, Leg
+from t38 import SLOW_BITS, Called, Calling, Leg
 
 SLOW = int(os.environ.get("FAXGATE_SLOW", "1"))
 # The interval, when it is half over, and when a session that was not refreshed ends (RFC 4028, 10), in seconds; and how much later each
@@ -18,8 +18,6 @@ LATE = 6 * SLOW
 # A page that takes some 76 s at 2,400 bit/s, and the seconds between two packets of it.
 LONG, PACE = 6300, 0.04
 TIMER = ("Supported", "timer")
-# a machine that receives at 2,400 bit/s alone (T.30, table 2: bits 11, 12 and 14)
-SLOW_BITS = tuple(bit for bit in DIS_BITS if bit not in (11, 12, 14))
 
 
 def expires(agent="", seconds=INTERVAL):

@@ -5,8 +5,9 @@ import subprocess
 import threading
 import time
 import types
+from typing import NamedTuple
 
-from sip_calls import KINDS, LONGEST, Call, late_turns, play_calls, serving, to_t38
+from sip_calls import KINDS, LONGEST, Call, change, late_turns, meet, play_calls, serving, to_t38
 from sip_peer import audio_offer, fax_offer, port_of
 
 # How many of 100 datagrams are lost on each way, where some are.
@@ -29,8 +30,8 @@ def over_audio_late(call):
 def over_audio_late_in_glare(call):
     """The same; the first change meets one of theirs."""
     leg = call.leg()
-    call.trunk.call(call.number, audio_offer(9), LONGEST)
-    call.trunk.answer(call.trunk.request("INVITE", LONGEST), 491)
+    dialog, _ = call.trunk.call(call.number, audio_offer(9), LONGEST)
+    meet(call, dialog)
     again = call.trunk.request("INVITE", LONGEST)
     time.sleep(call.late())
     call.trunk.take(again, fax_offer(leg.port))
@@ -41,13 +42,39 @@ def to_audio_late(call):
     """Audio, which the called machine changes, later in each call, but before the server does, after 4 s."""
     dialog = call.trunk.take(call.invited("audio"), audio_offer(9))
     time.sleep(call.late() % 3.2)
-    call.delivered(lambda machine: call.trunk.again(dialog, "INVITE", fax_offer(machine.leg.port)))
+    change(call, dialog)
 
 
 TERMINAL_KINDS = KINDS | {
     "audio that is changed late": (over_audio_late, to_audio_late, "audio"),
     "audio that is changed late, and changes that meet": (over_audio_late_in_glare, to_t38, "t38"),
 }
+
+
+class Came(NamedTuple):
+    """What came of a call: how many pages its called machine got, how many of them differ from what was sent, how many the calling one had
+    confirmed, whether a terminal was left, and how many packets came to nobody, since all datagrams that have them were lost."""
+
+    got: int
+    differ: int
+    confirmed: int
+    stuck: int
+    lacking: int
+
+    @property
+    def is_whole(self):
+        """Whether it brought its page, as it was sent."""
+        return (self.got, self.differ) == (1, 0)
+
+    @property
+    def is_right(self):
+        """Whether it did, or what it lacks no machine could mend: a page in which a packet lacks is refused, and is sent once."""
+        return self.is_whole or self.lacking > 0
+
+
+def came_of(line):
+    """What a line of the terminals tells of a call, which it numbers."""
+    return Came(*map(int, line.split()[2:]))
 
 
 class Terminals:
@@ -62,7 +89,7 @@ class Terminals:
         self._writes = threading.Lock()
         self.ports = [tuple(map(int, self.process.stdout.readline().split()[2:])) for _ in range(count)]
         self.done = [queue.SimpleQueue() for _ in range(count)]
-        # of each call: pages got, pages that differ, pages confirmed, and whether a terminal was left
+        # what came of each call
         self.pages = {}
         self._reader = threading.Thread(target=self._read, daemon=True)
         self._reader.start()
@@ -73,7 +100,7 @@ class Terminals:
             if what == "done":
                 self.done[int(number)].put(int(values[0]))
             else:
-                self.pages[int(number)] = tuple(map(int, values))
+                self.pages[int(number)] = came_of(line)
 
     def call(self, number, port):
         """The calling machine of a call begins its call to a port: how many pages it has confirmed."""
@@ -127,21 +154,23 @@ class TerminalCall(Call):
         self.trunk.answer(self.trunk.request("BYE", LONGEST), 200)
 
 
-def whole(pages):
-    """How many calls brought their page, as it was sent."""
-    return sum(1 for got, differ, _, _ in pages if (got, differ) == (1, 0))
+def told_of(pages):
+    """How many calls brought their page, of how many; and in how many of those that did not a packet came to nobody."""
+    lacking = sum(not it.is_whole and it.is_right for it in pages)
+    more = f" ({lacking} lack a packet that came to nobody)" if lacking else ""
+    return f"{sum(it.is_whole for it in pages)} of {len(pages)}{more}"
 
 
 def directly(program, folder, count, lost_percent):
-    """How many pages come between the same terminals where no gateway is between them."""
+    """What comes of calls between the same terminals where no gateway is between them."""
     words = [program, str(count), str(lost_percent), "direct"]
     told = subprocess.run(words, cwd=folder, capture_output=True, text=True, timeout=LONGEST, check=True).stdout
-    return whole(tuple(map(int, line.split()[2:])) for line in told.splitlines())
+    return [came_of(line) for line in told.splitlines()]
 
 
 def terminal_calls(program, terminals, folder, kind, count, lost_percent, ports=24000):
-    """So many calls of a kind at a time between terminals. What went wrong: a page that differs, or more that lack than where no gateway
-    is between the terminals; nothing where all is well."""
+    """So many calls of a kind at a time between terminals. What went wrong: a page that lacks or differs though each packet of its call came;
+    nothing where all is well."""
     comes, goes_out, call_with = TERMINAL_KINDS[kind]
     without = directly(terminals, folder, count, lost_percent)
     with serving(program, folder, count, ports, call_with), Terminals(terminals, folder, count, lost_percent) as machines:
@@ -150,11 +179,11 @@ def terminal_calls(program, terminals, folder, kind, count, lost_percent, ports=
         ]
         faults, pages = play_calls(calls), machines.end()
         late = late_turns(program, folder)
-    came, differ, stuck = whole(pages), sum(it[1] for it in pages), sum(it[3] for it in pages)
-    told = f"spandsp's terminals, {kind}, {lost_percent} % of the media lost: {came} of {count} pages, {differ} differ; "
+    stuck = sum(it.stuck for it in pages)
     more = f"; {stuck} terminals were left" if stuck else ""
-    more += f"; of {len(faults)} calls it is told that {faults[0]}" if faults else ""
-    print(f"{told}without a gateway {without} of {count}; {late} turns were late{more}", flush=True)
-    if differ or came < without:
-        return faults[0] if faults else "pages differ, or lack"
-    return faults[0] if faults and not lost_percent else ""
+    told = f"{kind}, {lost_percent} % lost: {told_of(pages)}, without a gateway {told_of(without)}; {late} turns were late{more}"
+    print(told, flush=True)
+    wrong = [call.fault or f"{call.number}: its page lacks or differs" for call, it in zip(calls, pages) if not it.is_right]
+    # a call whose page came may fail behind it
+    wrong += [call.fault for call, it in zip(calls, pages) if it.is_whole and call.fault and not it.lacking]
+    return f"{kind}, {lost_percent} % lost: of {len(wrong)} calls {wrong[0]}" if wrong else ""

@@ -54,6 +54,8 @@ MODEMS = (V27_2400, V29_9600, V17_14400)
 # row (21 to 23). Bit 16 is the two-dimensional coding.
 DIS_BITS = (10, 11, 12, 14, 15, 18, 20, 21, 22, 23)
 TWO_D = 16
+# The same of one that receives at 2,400 bit/s alone.
+SLOW_BITS = tuple(bit for bit in DIS_BITS if bit not in (11, 12, 14))
 # Bits of a DCS: the fine resolution, and rows of 2,432 elements (17 and 18: 01).
 FINE, W2432 = (15,), (18,)
 
