@@ -44,6 +44,11 @@ static int is_paged(void) {
     return kind == WORST_PAGE || kind == TEXT_PAGE;
 }
 
+/* Whether small datagrams are sent before the upload too. */
+static int has_small(void) {
+    return kind == FILL || kind == LINE || kind == GAPS;
+}
+
 /* ---- what is sent ---- */
 
 static void add_bits(size_t *at, unsigned bits, int count) {
@@ -268,8 +273,8 @@ static void measure(int which, Look *from, Look *to) {
 static void *conduct(void *nothing) {
     take_priority(1);
     if (!wait_for_all(&ready, 60)) fprintf(stderr, "load: %d of %d hostile callers came to their image\n", ready, attackers);
-    if (is_paged()) look_at_server(&after_small);
-    else measure(SMALL, &before_small, &after_small);
+    if (has_small()) measure(SMALL, &before_small, &after_small);
+    else look_at_server(&after_small);
     look_at_memory_anew(&servers[0]);
     servers[0].notes->longest = servers[0].notes->longest_reckoned = servers[0].notes->long_ones = 0;
     phase = UPLOAD;
@@ -293,12 +298,17 @@ static double shared(const Look *from, const Look *to) {
     return 100 * (double)(to->reckoned - from->reckoned) / (double)(to->at - from->at);
 }
 
+static void tell_repeated(void) {
+    printf("  hostile: a datagram of so many that came before took %.1f us, and all of them %.1f %% of a core\n",
+           microseconds_of(&before_end, &at_end), shared(&before_end, &at_end));
+}
+
 static void tell_small(void) {
     double seconds = (double)(at_end.at - before_end.at) / 1e9;
     printf("  hostile: small datagrams took %.1f %% of a core before the upload, %.1f us each, and %.1f %% after it, %.1f us"
-           " each, of which %.0f a second came; the longest turn %.1f ms\n", shared(&before_small, &after_small),
+           " each, of which %.0f a second came\n", shared(&before_small, &after_small),
            microseconds_of(&before_small, &after_small), shared(&before_end, &at_end), microseconds_of(&before_end, &at_end),
-           (double)(at_end.received - before_end.received) / seconds, (double)at_end.longest / 1e6);
+           (double)(at_end.received - before_end.received) / seconds);
 }
 
 static void tell_answers(void) {
@@ -332,13 +342,14 @@ static void tell_attack(void) {
     printf("  hostile: %d of %d lines send %s; memory grew by %ld KB from the upload on, and is %ld KB more in the end\n", ready,
            attackers, kind_names[kind], grown, at_end.memory - after_small.memory);
     if (is_paged()) tell_answers();
-    else tell_small();
+    else if (has_small()) tell_small();
+    else tell_repeated();
     printf("  hostile: the longest turn %.2f ms, %.2f of the processor; %lld of more than 5 ms\n", (double)at_end.longest / 1e6,
            (double)at_end.longest_reckoned / 1e6, (long long)servers[0].notes->long_ones);
     want("each hostile caller came to its end", ready == attackers && uploaded == attackers, "see above");
-    if (is_paged() || kind == TRAINING) want_at_most("the longest turn", (double)at_end.longest / 1e6, MOST_TURN_MS, "ms");
+    if (!has_small()) want_at_most("the longest turn", (double)at_end.longest / 1e6, MOST_TURN_MS, "ms");
     if (is_paged()) judge_memory(grown);
-    if (is_paged() || kind == TRAINING || attackers < options.lines) return;
+    if (!has_small() || attackers < options.lines) return;
     want_at_most("a small datagram after the upload, beside one before it",
                  microseconds_of(&before_end, &at_end) - microseconds_of(&before_small, &after_small), MOST_DATAGRAM_US, "us");
     want_at_most("what the legs keep of images without an EOL", (double)(at_end.memory - after_small.memory),

@@ -4,7 +4,7 @@
    that the caller sent. For `make load` only; nothing of the product is C.
 
    usage: load FAXGATE LINES [KEY=VALUE ..]    (the proved program; how many lines)
-          load FAXGATE rows [KEY=VALUE ..]     (each row of what is wanted of a service, one after the other: rows.h)
+          load FAXGATE table [KEY=VALUE ..]    (each row of what is wanted of a service, one after the other: table.h)
 
      pages=N       each line's machine calls so often and sends a page each time, 1; 0: nobody calls (idle lines)
      seconds=N     how long idle lines are looked at, 30
@@ -37,7 +37,7 @@
 #include "figures.h"
 #include "hostile.h"
 #include "keeper.h"
-#include "rows.h"
+#include "table.h"
 #include <pthread.h>
 #include <sys/resource.h>
 
@@ -210,7 +210,7 @@ static void *ring_lines(void *nothing) {
             if (!line->is_wanted || line->from > now()) continue;
             line->is_wanted = 0;
             line->calling.state = RUNG;
-            snprintf(word, sizeof word, "ring l%d\n", i - servers[process].first);
+            snprintf(word, sizeof word, "ring %c%d\n", letter, i - servers[process].first);
             if (!strncmp(say(&ringers[process], word), "ok", 2)) {
                 calls_begun++;
                 continue;
@@ -297,10 +297,9 @@ static void connect_all(void) {
     connect_when_open(&conductor, &servers[0]);
 }
 
-/* Starts the servers, whose lines are named by this letter. */
-static void open_all(char letter, int are_called) {
+static void open_all(int are_called) {
     for (Server *s = servers; s < servers + options.processes; s++) {
-        write_configuration(s, letter, are_called);
+        write_configuration(s, are_called);
         start(s);
     }
     connect_all();
@@ -377,6 +376,7 @@ static void forget_calls(void) {
     calls_begun = calls_over = failed = lines_in_call = lines_on_both_legs = 0;
     sends = sends_late = image_time = images = latest_send = confirming_time = longest_confirming = 0;
     sample_count = 0;
+    largest_spool = largest_excess = 0;
     for (int i = 0; i < options.processes; i++) servers[i].arrived = 0;
     for (int i = 0; i < options.processes; i++) ringers[i].count = askers[i].count = 0;
 }
@@ -435,7 +435,7 @@ static void end_in_time(void) {
 /* Lines that send pages, or that are idle. */
 static int load_lines(void) {
     make_lines(options.lines);
-    open_all('l', 1);
+    open_all(1);
     int64_t begun = now();
     Time before = time_of(getpid());
     run();
@@ -464,7 +464,7 @@ static void start_again(void) {
 
 /* Pages that wait, since nobody is asked where they are to go. */
 static int load_waiting(void) {
-    open_all('l', 0);
+    open_all(0);
     printf("%d lines, %d pages of %d octets that wait%s\n", options.lines, options.waiting, page_length,
            has_spool() ? ", a spool" : "");
     leave_pages(options.lines);
@@ -477,16 +477,18 @@ static int load_waiting(void) {
 /* Pages of lines that are in the configuration no more lie in the spool. */
 static void leave_behind(void) {
     int pages = options.pages;
+    letter = 'g';
     options.pages = 1;
-    open_all('g', 0);
+    open_all(0);
     leave_pages(1);
     kill_all();
     forget_calls();
     options.pages = pages;
+    letter = 'l';
 }
 
 int main(int count, char **words) {
-    if (count > 2 && !strcmp(words[2], "rows")) return run_rows(words[0], words[1], count - 3, words + 3);
+    if (count > 2 && !strcmp(words[2], "table")) return run_rows(words[0], words[1], count - 3, words + 3);
     read_words(count, words);
     end_in_time();
     write_scripts();

@@ -77,7 +77,7 @@ static void note_confirmed(const Line *line, int64_t moment) {
 
 static void hear_caller(Line *line, int what, int64_t moment) {
     if (line->is_hostile && (what == MCF || what == RTN || what == DCN)) {
-        line->told = what;
+        if (line->told == 0) line->told = what;
         return;
     }
     if (what == MCF && line->calling.awaits == MCF) note_confirmed(line, moment);

@@ -84,9 +84,11 @@ static uint32_t address_of(const Server *server, int host) {
     return 0x7f000000u | (uint32_t)(options.net + (server - servers)) << 8 | (uint32_t)host;
 }
 
-/* The lines are named by a letter and their number. Where pages are to wait the called legs have no peers: so no job is sent
-   as long as nobody is asked for one. */
-static void write_configuration(const Server *server, char letter, int are_called) {
+/* The lines are named by a letter and their number. */
+static char letter = 'l';
+
+/* Where pages are to wait the called legs have no peers: so no job is sent as long as nobody is asked for one. */
+static void write_configuration(const Server *server, int are_called) {
     FILE *file = fopen(server->configuration, "w");
     int net = options.net + (int)(server - servers);
     if (!file) fail(server->configuration);
@@ -159,6 +161,7 @@ static int open_socket(const Server *server, int port) {
 
 static void start(Server *server) {
     const char *output = *options.hostile ? server->events : "/dev/null";
+    fflush(stdout);
     server->process = fork();
     if (server->process < 0) fail("fork");
     if (server->process > 0) return;

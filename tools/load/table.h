@@ -3,25 +3,27 @@
 #include "bars.h"
 #include <sys/wait.h>
 
-enum { MOST_WORDS = 40 };
+enum { MOST_ROW_WORDS = 6, MOST_WORDS = 40 };
 
 typedef struct {
-    const char *what, *words[6];
+    const char *what, *words[MOST_ROW_WORDS];
 } Row;
 
 static const Row rows[] = {
     {"a datagram behind fill", {"4", "hostile=fill:4"}},
     {"a datagram behind a line without an end", {"1", "hostile=line:1"}},
-    {"a datagram after a slot that is lost", {"4", "hostile=gaps:4"}},
+    {"a datagram after one that is lost", {"4", "hostile=gaps:4"}},
     {"65,000 training indicators", {"1", "hostile=training:1"}},
     {"400 lines beside one that sends fill", {"401", "hostile=fill:1", "spread=5"}},
-    {"the worst page", {"1", "hostile=page:1", "spool=1"}},
-    {"20,000 rows of text", {"1", "hostile=text:1", "spool=1"}},
-    {"a start with 1,000 pages", {"100", "waiting=1000", "spool=1", "spread=5"}},
-    {"a start with 10,000 pages", {"1000", "waiting=10000", "spool=1", "spread=5"}},
+    {"the worst page", {"1", "hostile=page:1", "spool=/dev/shm"}},
+    {"20,000 rows of text", {"1", "hostile=text:1", "spool=/dev/shm"}},
+    {"a start with 1,000 pages", {"100", "waiting=1000", "spool=/dev/shm", "spread=5"}},
+    {"a start with 10,000 pages", {"1000", "waiting=10000", "spool=/dev/shm", "spread=5"}},
     {"1,000 pages in memory alone", {"100", "waiting=1000", "spread=5"}},
-    {"2,000 lines with syncs of 10 ms", {"2000", "spool=1", "sync_ms=10", "stays=1", "keeper=1"}},
+    {"a spool with a page that does not go", {"1500", "stays=1", "spool=/dev/shm", "spread=10"}},
+    {"2,000 lines with syncs of 10 ms", {"2000", "sync_ms=10", "spool=/dev/shm"}},
     {"2,000 lines with a page on each leg", {"2000", "both=1"}},
+    {"the disk beside the turn", {"100", "keeper=1", "sync_ms=10", "spool=/dev/shm", "spread=5"}},
 };
 
 enum { ROWS = sizeof rows / sizeof rows[0] };
@@ -30,7 +32,7 @@ enum { ROWS = sizeof rows / sizeof rows[0] };
 static int run_row(const Row *row, const char *program, const char *faxgate, int count, char **more) {
     const char *words[MOST_WORDS] = {program, faxgate};
     int at = 2, status = 0;
-    for (size_t i = 0; i < sizeof row->words / sizeof row->words[0] && row->words[i]; i++) words[at++] = row->words[i];
+    for (int i = 0; i < MOST_ROW_WORDS && row->words[i]; i++) words[at++] = row->words[i];
     for (int i = 0; i < count && at < MOST_WORDS - 1; i++) words[at++] = more[i];
     fflush(stdout);
     pid_t process = fork();
@@ -47,7 +49,9 @@ static int run_row(const Row *row, const char *program, const char *faxgate, int
 static int run_rows(const char *program, const char *faxgate, int count, char **more) {
     int statuses[ROWS], missed = 0;
     for (int i = 0; i < ROWS; i++) {
-        printf("== %d. %s\n", i + 1, rows[i].what);
+        printf("== %d. %s:", i + 1, rows[i].what);
+        for (int k = 0; k < MOST_ROW_WORDS && rows[i].words[k]; k++) printf(" %s", rows[i].words[k]);
+        printf("\n");
         statuses[i] = run_row(&rows[i], program, faxgate, count, more);
     }
     printf("== all rows\n");
