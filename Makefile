@@ -157,7 +157,7 @@ load: all tools/load/load tools/load/sockets
 
 # What is wanted of a service, run by run: with slow syncs, hostile callers, pages that wait, a page on each leg. Each run tells its
 # figures, and of each bar whether it is met; all are run, and the status is not 0 where one is missed. It wants /dev/shm, 1 GB of
-# memory and some eleven minutes. It uses the program that stands there, so that one which is not proved can be tried:
+# memory and some twelve minutes. It uses the program that stands there, so that one which is not proved can be tried:
 # `make load-table PROGRAM=PATH`.
 load-table: tools/load/load
 	tools/load/load $(PROGRAM) table $(LOAD)

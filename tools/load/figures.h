@@ -224,20 +224,22 @@ static void judge_both(void) {
     const Sample *from, *to;
     int is_seen = find_samples(1, callers_wanted * 9 / 10, &from, &to);
     want("nine of ten lines had a page on each leg", is_seen, "let calls begin over a shorter time: spread=");
-    if (!is_seen) return;
-    double most = MOST_BOTH_SHARE * options.lines / LINES_OF_SHARE;
-    want_at_most("processor while nine of ten lines had a page on each leg", share(from, to), most, "% of a core");
+    if (!is_seen || options.lines < LINES_OF_SHARE) return;
+    want_at_most("processor while nine of ten lines had a page on each leg", share(from, to), MOST_BOTH_SHARE, "% of a core");
 }
 
 /* What is wanted of honest lines, whatever else goes on. */
 static void judge_lines(void) {
     if ((!is_noted() && !options.both) || callers_wanted == 0 || options.pages == 0) return;
     double mean = images ? (double)image_time / (double)images / 1e6 : 0;
-    want("each page came whole, and no call failed", !failed && !differing && whole == callers_wanted * options.pages, "see above");
+    int are_whole = !failed && !differing && whole == callers_wanted * options.pages;
+    want("each page came whole, and no call failed", are_whole, "see above");
     want_at_least("turns at most 20 ms late", in_time, LEAST_IN_TIME, "%");
     want_at_most("an image, beside what its rate takes", mean - rated_image_ms(), MOST_IMAGE_DELAY_MS, "ms");
     if (options.both) judge_both();
-    if (options.stays) want_at_most("the spool's files, beside twice what waits", largest_excess, MOST_SPOOL_KB, "KB");
+    if (options.stays == 0) return;
+    want("the pages that do not go are there", count_of("faxgate_pages_set_aside_total") == options.stays, "see metrics");
+    want_at_most("the spool's files, beside twice what waits", largest_excess, MOST_SPOOL_KB, "KB");
 }
 
 /* What is wanted of a start where so many pages wait: seconds and kilobytes. */

@@ -3,11 +3,11 @@
 #include "bars.h"
 #include "machines.h"
 
-/* Zeros behind a whole line; a line in one dimension of runs without elements; zeros, a slot lost before each datagram; the page
-   that takes most memory; a page of many rows of text; signals that begin and have nothing. */
-enum { FILL, LINE, GAPS, WORST_PAGE, TEXT_PAGE, TRAINING, KINDS };
+/* Zeros behind a whole line; a line in one dimension of runs without elements; octets without an EOL; the same, a datagram lost
+   before each; the page that takes most memory; a page of many rows of text; signals that begin and have nothing. */
+enum { FILL, LINE, NO_EOL, GAPS, WORST_PAGE, TEXT_PAGE, TRAINING, KINDS };
 
-static const char *const kind_names[KINDS] = {"fill", "line", "gaps", "page", "text", "training"};
+static const char *const kind_names[KINDS] = {"fill", "line", "noeol", "gaps", "page", "text", "training"};
 
 /* What all hostile callers do: they begin their calls; send small datagrams; much at once; nothing; small ones again. */
 enum { GREETING, SMALL, UPLOAD, DRAIN, AFTER };
@@ -46,7 +46,7 @@ static int is_paged(void) {
 
 /* Whether small datagrams are sent before the upload too. */
 static int has_small(void) {
-    return kind == FILL || kind == LINE || kind == GAPS;
+    return kind == FILL || kind == LINE || kind == NO_EOL || kind == GAPS;
 }
 
 /* ---- what is sent ---- */
@@ -80,7 +80,8 @@ static void put_stream(uint8_t *out, size_t at, int count) {
         return;
     }
     for (size_t i = at; i < at + (size_t)count; i++) {
-        if (kind != LINE) *out++ = i < sizeof white_row ? white_row[i] : 0;
+        if (kind == FILL) *out++ = i < sizeof white_row ? white_row[i] : 0;
+        else if (kind != LINE) *out++ = 0x55;
         else *out++ = i < sizeof eol ? eol[i] : empty_runs[(i - sizeof eol) % sizeof empty_runs];
     }
 }
@@ -364,7 +365,7 @@ static void read_kind(void) {
     while (kind < KINDS && (strlen(kind_names[kind]) != length || strncmp(options.hostile, kind_names[kind], length))) kind++;
     attackers = options.hostile[length] ? atoi(options.hostile + length + 1) : 1;
     if (kind < KINDS && attackers > 0 && attackers <= options.lines / options.processes) return;
-    fprintf(stderr, "load: hostile=KIND:N, one of fill, line, gaps, page, text, training, of a process' lines\n");
+    fprintf(stderr, "load: hostile=KIND:N, one of fill, line, noeol, gaps, page, text, training, of a process' lines\n");
     exit(2);
 }
 

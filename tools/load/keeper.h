@@ -10,10 +10,11 @@ static int has_keeper(void) {
     return system(command) == 0;
 }
 
+/* What is wanted is told as missed where the program has none, and where it has one too, as long as none is played here. */
 static void tell_keeper(void) {
-    static const char why[] = "the program has no command `keep`";
-    if (!options.keeper || has_keeper()) return;
-    want("a process beside the servers has the spool", 0, why);
-    want("a keeper that is stopped for 60 s: no turn is late, and memory is bounded", 0, why);
-    want("a keeper that is killed: no page is lost that was confirmed", 0, why);
+    if (!options.keeper) return;
+    const char *why = has_keeper() ? "it is not played here" : "the program has no command `keep`";
+    want("a process beside the servers has the spool", has_keeper(), why);
+    want("it is stopped for 60 s: no turn is late, and memory is bounded", 0, why);
+    want("it, a server, and both are killed 100 times each: no page is lost that was confirmed", 0, why);
 }

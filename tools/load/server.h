@@ -28,7 +28,7 @@ typedef struct {
 } Arrival;
 
 typedef struct {
-    pid_t process, keeper;
+    pid_t process;
     int lines, first;         /* how many, and the number of the first among all */
     int callers, called;      /* sockets: of all callers, and of all called machines */
     char configuration[64], control[64], events[64], notes_file[64], spool[128];
@@ -52,10 +52,8 @@ static int is_noted(void) {
 
 /* Ends what was started, and clears up; a handler may do so. */
 static void end_servers(void) {
-    for (int i = 0; i < MOST_PROCESSES; i++) {
-        if (servers[i].process > 0) kill(servers[i].process, SIGKILL);
-        if (servers[i].keeper > 0) kill(servers[i].keeper, SIGKILL);
-    }
+    for (int i = 0; i < MOST_PROCESSES; i++)
+        if (servers[i].process > 0 && !kill(servers[i].process, SIGKILL)) waitpid(servers[i].process, NULL, 0);
 }
 
 static void clear_room(void) {
@@ -149,7 +147,7 @@ static void expect_library(const Server *server) {
 
 /* A socket of machines. The system notes when each datagram came. */
 static int open_socket(const Server *server, int port) {
-    int s = socket(AF_INET, SOCK_DGRAM | SOCK_NONBLOCK, 0), octets = 64 << 20, yes = 1;
+    int s = socket(AF_INET, SOCK_DGRAM | SOCK_NONBLOCK | SOCK_CLOEXEC, 0), octets = 64 << 20, yes = 1;
     struct sockaddr_in here = {.sin_family = AF_INET, .sin_port = htons((uint16_t)port)};
     here.sin_addr.s_addr = htonl(address_of(server, 2));
     if (s < 0 || bind(s, (struct sockaddr *)&here, sizeof here)) fail("socket");

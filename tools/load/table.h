@@ -12,9 +12,11 @@ typedef struct {
 static const Row rows[] = {
     {"a datagram behind fill", {"4", "hostile=fill:4"}},
     {"a datagram behind a line without an end", {"1", "hostile=line:1"}},
-    {"a datagram after one that is lost", {"4", "hostile=gaps:4"}},
+    {"an image without an EOL", {"4", "hostile=noeol:4"}},
+    {"the same, a datagram lost before each", {"4", "hostile=gaps:4"}},
     {"65,000 training indicators", {"1", "hostile=training:1"}},
-    {"400 lines beside one that sends fill", {"401", "hostile=fill:1", "spread=5"}},
+    {"400 lines beside one that sends fill", {"401", "hostile=fill:1", "rows=500", "spread=5"}},
+    {"400 lines beside one that sends a line without an end", {"401", "hostile=line:1", "rows=500", "spread=5"}},
     {"the worst page", {"1", "hostile=page:1", "spool=/dev/shm"}},
     {"20,000 rows of text", {"1", "hostile=text:1", "spool=/dev/shm"}},
     {"a start with 1,000 pages", {"100", "waiting=1000", "spool=/dev/shm", "spread=5"}},
@@ -23,7 +25,7 @@ static const Row rows[] = {
     {"a spool with a page that does not go", {"1500", "stays=1", "spool=/dev/shm", "spread=10"}},
     {"2,000 lines with syncs of 10 ms", {"2000", "sync_ms=10", "spool=/dev/shm"}},
     {"2,000 lines with a page on each leg", {"2000", "both=1"}},
-    {"the disk beside the turn", {"100", "keeper=1", "sync_ms=10", "spool=/dev/shm", "spread=5"}},
+    {"the disk beside the turn", {"1", "pages=0", "seconds=1", "keeper=1"}},
 };
 
 enum { ROWS = sizeof rows / sizeof rows[0] };
