@@ -80,6 +80,7 @@ memory: all bench/c_tests
 # times, and, as root, fills the disk under one: nothing wrong may be sent. Then kills it while jobs fail, are tried again and are
 # dropped by words, 300 times; fills its disk meanwhile, 60 times, half of them as root; turns an octet in either pair of files, 40
 # times in each; and opens a folder of 10,000 jobs that failed. It wants Python 3, a C compiler, and some hour after the proofs.
+# With slow syncs: CRASH_SYNC_MS=10 tools/crash-serve PROGRAM 100 20.
 crash: all
 	cd crates/spool_tests && $(RT) test > /dev/null
 	tools/crash crates/spool_tests/out/spool_tests_tests
