@@ -243,6 +243,7 @@ typedef struct {
 } Look;
 
 static Look before_small, after_small, before_end, at_end;
+static int calls_left;
 
 static void look_at_server(Look *look) {
     const Server *server = &servers[0];
@@ -254,6 +255,18 @@ static void look_at_server(Look *look) {
     look->memory = memory_of(server);
     look->longest = server->notes->longest;
     look->longest_reckoned = server->notes->longest_reckoned;
+}
+
+/* How many calls of hostile callers are on. One that the server ended costs nothing more. */
+static int count_calls(void) {
+    char wanted[64];
+    int count = 0;
+    const char *told = say(&conductor, "status\n");
+    for (int i = 0; i < attackers; i++) {
+        snprintf(wanted, sizeof wanted, "line %c%d calling call-", letter, i);
+        count += strstr(told, wanted) != NULL;
+    }
+    return count;
 }
 
 static int wait_for_all(atomic_int *count, int seconds) {
@@ -284,6 +297,7 @@ static void *conduct(void *nothing) {
     sleep_until(now() + SECOND);
     if (is_paged()) look_at_server(&at_end);
     else measure(AFTER, &before_end, &at_end);
+    calls_left = count_calls();
     attack_is_over = 1;
     return nothing;
 }
@@ -320,6 +334,14 @@ static void tell_answers(void) {
     }
 }
 
+/* Whether the server received all that hostile callers sent since the upload began: a page of which the system dropped a datagram
+   judges nothing. */
+static int has_all_come(void) {
+    long long sent = 0;
+    for (int i = 0; i < attackers; i++) sent += attacks[i].number - hostile_script.count;
+    return at_end.received - after_small.received >= sent;
+}
+
 /* How often the first server told this event. */
 static int count_events(const char *name) {
     char line[2048], event[64];
@@ -340,8 +362,9 @@ static void judge_memory(long grown) {
 /* Figures of the processor are those of one line alone: honest ones beside it cost more than is looked for. */
 static void tell_attack(void) {
     long grown = most_memory_of(&servers[0]) - after_small.memory;
-    printf("  hostile: %d of %d lines send %s; memory grew by %ld KB from the upload on, and is %ld KB more in the end\n", ready,
-           attackers, kind_names[kind], grown, at_end.memory - after_small.memory);
+    printf("  hostile: %d of %d callers sent %s, and %d of their calls are on in the end; memory grew by %ld KB from the upload on,"
+           " and is %ld KB more in the end\n", ready, attackers, kind_names[kind], calls_left, grown,
+           at_end.memory - after_small.memory);
     if (is_paged()) tell_answers();
     else if (has_small()) tell_small();
     else tell_repeated();
@@ -349,6 +372,7 @@ static void tell_attack(void) {
            (double)at_end.longest_reckoned / 1e6, (long long)servers[0].notes->long_ones);
     want("each hostile caller came to its end", ready == attackers && uploaded == attackers, "see above");
     if (!has_small()) want_at_most("the longest turn", (double)at_end.longest / 1e6, MOST_TURN_MS, "ms");
+    if (is_paged()) want("each datagram of the page was received", has_all_come(), "the system dropped some");
     if (is_paged()) judge_memory(grown);
     if (!has_small() || attackers < options.lines) return;
     want_at_most("a small datagram after the upload, beside one before it",

@@ -344,8 +344,8 @@ static void run(void) {
     pthread_t ringer, watcher, leader;
     int64_t begun = now();
     is_over = 0;
-    for (int i = 0; i < options.lines; i++)
-        lines[i].from = begun + SECOND + i * options.spread * SECOND / options.lines;
+    for (int i = 0; i < options.lines; i++) /* hostile ones at once: each waits for the others in its call */
+        lines[i].from = begun + SECOND + (i < attackers ? 0 : i * options.spread * SECOND / options.lines);
     if (pthread_create(&watcher, NULL, watch, NULL)) fail("thread");
     if (attackers > 0 && pthread_create(&leader, NULL, conduct, NULL)) fail("thread");
     if (options.pages > 0) {
