@@ -2,7 +2,7 @@
 RT ?= rt
 PROGRAM = crates/faxgate/out/faxgate
 
-.PHONY: all demo test play asked sip c-tests wrong-bodies format memory crash bench load interop serve-interop tables check-docs deb dist \
+.PHONY: all demo test play asked sip c-tests wrong-bodies format memory crash bench load load-table interop serve-interop tables check-docs deb dist \
 	check-package
 
 # Proves and builds the program, its crates side by side, and says where it lies. What was proved is kept in the user's cache.
@@ -80,6 +80,7 @@ memory: all bench/c_tests
 # times, and, as root, fills the disk under one: nothing wrong may be sent. Then kills it while jobs fail, are tried again and are
 # dropped by words, 300 times; fills its disk meanwhile, 60 times, half of them as root; turns an octet in either pair of files, 40
 # times in each; and opens a folder of 10,000 jobs that failed. It wants Python 3, a C compiler, and some hour after the proofs.
+# With slow syncs: CRASH_SYNC_MS=10 tools/crash-serve PROGRAM 100 20.
 crash: all
 	cd crates/spool_tests && $(RT) test > /dev/null
 	tools/crash crates/spool_tests/out/spool_tests_tests
@@ -138,9 +139,9 @@ serve-interop: all tools/serve_interop
 	tools/serve_interop $(PROGRAM)
 
 # Many lines of `faxgate serve` at once, in real time over UDP on this host: pages at 14,400 bit/s through 1, 100, 1,000 and
-# 2,000 lines, through two processes of 1,000, and idle lines. See docs/PERFORMANCE.md. It wants a C compiler, more than 8,200
-# open files (`ulimit -n`), and some eight minutes; figures of time want a machine that does nothing else, or
-# LOAD="cores=2,3 priority=50" as root: the core of the machines, that of the servers, and real-time scheduling.
+# 2,000 lines, through two processes of 1,000, and idle lines; and then `make load-table`. See docs/PERFORMANCE.md. It wants a C
+# compiler, more than 8,200 open files (`ulimit -n`), and some twenty minutes; figures of time want a machine that does nothing
+# else, or LOAD="cores=2,3 priority=50" as root: the core of the machines, that of the servers, and real-time scheduling.
 tools/load/load: tools/load/load.c tools/load/*.h
 	$(CC) -O2 -Wall -Wextra -o $@ tools/load/load.c -lpthread
 
@@ -153,6 +154,14 @@ load: all tools/load/load tools/load/sockets
 	tools/load/load $(PROGRAM) 2000 processes=2 $(LOAD)
 	tools/load/load $(PROGRAM) 4000 pages=0 $(LOAD)
 	tools/load/load $(PROGRAM) 10000 pages=0 processes=4 $(LOAD)
+	$(MAKE) load-table
+
+# What is wanted of a service, run by run: with slow syncs, hostile callers, pages that wait, a page on each leg. Each run tells its
+# figures, and of each bar whether it is met; all are run, and the status is not 0 where one is missed. It wants /dev/shm, 1 GB of
+# memory and some twelve minutes. It uses the program that stands there, so that one which is not proved can be tried:
+# `make load-table PROGRAM=PATH`.
+load-table: tools/load/load
+	tools/load/load $(PROGRAM) table $(LOAD)
 
 # A package of the proved program, in out/: for Debian, or a tarball of the same files. Of one commit it has the same octets each time.
 # It refuses a program that `make` did not prove, and changes that are not committed. It wants git, and dpkg-deb for the first.

@@ -1,8 +1,12 @@
 /* What came of a load, in figures. */
 #pragma once
+#include "bars.h"
 #include "machines.h"
 
-enum { MOST_SAMPLES = 3600 };
+enum {
+    MOST_SAMPLES = 3600,
+    LINES_OF_SHARE = 2000, /* those of which the share of a core is wanted */
+};
 
 /* What was seen at one moment. */
 typedef struct {
@@ -13,14 +17,29 @@ typedef struct {
 
 static Sample samples[MOST_SAMPLES];
 static int sample_count;
+static double in_time, largest_spool, largest_excess; /* turns of 100; kilobytes of files, and beside twice what waits */
+
+static void note_spool(void) {
+    double size = spool_size(), waiting = (double)(confirmed - whole - differing + options.stays) * page_length / 1024;
+    if (size > largest_spool) largest_spool = size;
+    if (size - 2 * waiting > largest_excess) largest_excess = size - 2 * waiting;
+}
 
 static void note_sample(void) {
+    if (has_spool()) note_spool();
     if (sample_count == MOST_SAMPLES) return;
     samples[sample_count++] = (Sample){now(), time_of_all(), lines_in_call, lines_on_both_legs};
     for (int i = 0; i < options.processes; i++) {
         long memory = memory_of(&servers[i]);
         if (memory > servers[i].memory_at_most) servers[i].memory_at_most = memory;
     }
+}
+
+/* Memory in the end, and at most at any moment. */
+static void note_end(Server *server) {
+    long most = most_memory_of(server);
+    server->memory_at_end = memory_of(server);
+    if (most > server->memory_at_most) server->memory_at_most = most;
 }
 
 static int by_size(const void *a, const void *b) {
@@ -110,6 +129,7 @@ static void tell_turns(void) {
         for (size_t b = 0; b < sizeof bounds / sizeof bounds[0]; b++) {
             size_t within = 0;
             while (within < count && late[within] <= bounds[b] * MS) within++;
+            if (bounds[b] == 20) in_time = 100.0 * (double)within / (double)count;
             printf(" %.3f %% at most %d ms late,", 100.0 * (double)within / (double)count, bounds[b]);
         }
         printf(" median %.2f ms, 99.9 %% %.2f ms, latest %.1f ms; %zu came a turn later than the pace\n",
@@ -125,12 +145,17 @@ static double share(const Sample *from, const Sample *to) {
     return 100 * used / ((double)(to->at - from->at) / 1e9);
 }
 
-/* The share from the first to the last sample at which so many lines had a call, or one on each leg. */
-static void tell_share_of(int is_both, int least, const char *which) {
-    const Sample *from = NULL, *to = NULL;
+/* The first and the last sample at which so many lines had a call, or one on each leg. */
+static int find_samples(int is_both, int least, const Sample **from, const Sample **to) {
+    *from = *to = NULL;
     for (const Sample *s = samples; s < samples + sample_count; s++)
-        if ((is_both ? s->on_both_legs : s->in_call) >= least) from = from ? from : s, to = s;
-    if (from == to) return;
+        if ((is_both ? s->on_both_legs : s->in_call) >= least) *from = *from ? *from : s, *to = s;
+    return *from != *to;
+}
+
+static void tell_share_of(int is_both, int least, const char *which) {
+    const Sample *from, *to;
+    if (!find_samples(is_both, least, &from, &to)) return;
     double seconds = (double)(to->at - from->at) / 1e9;
     printf("; %.1f %% (%.1f user, %.1f system) in the %.0f s in which %s", share(from, to),
            100 * (to->time.user - from->time.user) / seconds, 100 * (to->time.system - from->time.system) / seconds,
@@ -141,8 +166,9 @@ static void tell_time(void) {
     const Sample *first = &samples[0], *last = &samples[sample_count - 1];
     printf("  processor: %.2f s user, %.2f s system in %.1f s: %.1f %% of a core", last->time.user - first->time.user,
            last->time.system - first->time.system, (double)(last->at - first->at) / 1e9, share(first, last));
-    if (options.pages > 0) tell_share_of(0, options.lines, "each line had a call");
-    if (options.pages > 1) tell_share_of(1, options.lines * 9 / 10, "nine of ten lines had one on each leg");
+    if (callers_wanted == 0) return (void)printf("\n");
+    if (options.pages > 0) tell_share_of(0, callers_wanted, "each line had a call");
+    if (options.pages > 1) tell_share_of(1, callers_wanted * 9 / 10, "nine of ten lines had one on each leg");
     printf("\n");
 }
 
@@ -157,12 +183,18 @@ static void tell_memory(void) {
            (double)start / options.lines, most, (double)most / options.lines, end, (double)end / options.lines);
 }
 
+static double rated_image_ms(void) {
+    return page_length / PART * PACKET_MS;
+}
+
 static void tell_machines(Time own, double seconds) {
-    if (options.pages == 0) return;
+    if (options.pages == 0 || callers_wanted == 0) return;
     printf("  calls: %d begun, %d pages confirmed to callers, %d whole at called machines, %d that differ, %d calls failed\n",
            calls_begun, confirmed, whole, differing, failed);
     printf("  an image on a called leg took %.2f s in the mean, %.2f s by its rate; datagrams that could not be mended: %d\n",
-           images ? (double)image_time / (double)images / 1e9 : 0, (double)(page_length / PART * PACKET_MS) / 1e3, lost);
+           images ? (double)image_time / (double)images / 1e9 : 0, rated_image_ms() / 1e3, lost);
+    printf("  an MCF came %.1f ms after its command in the mean, the longest %.1f ms\n",
+           confirmed ? (double)confirming_time / confirmed / 1e6 : 0, (double)longest_confirming / 1e6);
     printf("  this program: %lld datagrams sent, %lld of them more than 5 ms late, the latest %.1f ms; %.1f %% of a core\n",
            (long long)sends, (long long)sends_late, (double)latest_send / 1e6, 100 * (own.user + own.system) / seconds);
 }
@@ -176,4 +208,56 @@ static void tell_counts(void) {
     for (size_t i = 0; i < sizeof names / sizeof names[0]; i++)
         printf(" %s %lld", names[i] + strlen("faxgate_"), count_of(names[i]));
     printf("\n");
+}
+
+static void tell_spool(void) {
+    long long syncs = 0, took = 0;
+    if (!has_spool()) return;
+    for (int i = 0; i < options.processes; i++) syncs += servers[i].notes->syncs, took += servers[i].notes->sync_time;
+    printf("  spool: %lld syncs, %.2f ms each in the mean; %.1f MB at most, %.1f MB in the end; %lld pages wait\n", syncs,
+           syncs ? (double)took / (double)syncs / 1e6 : 0, largest_spool / 1024, spool_size() / 1024,
+           count_of("faxgate_pages_kept"));
+}
+
+/* What is wanted of a page on each leg at once. */
+static void judge_both(void) {
+    const Sample *from, *to;
+    int is_seen = find_samples(1, callers_wanted * 9 / 10, &from, &to);
+    want("nine of ten lines had a page on each leg", is_seen, "let calls begin over a shorter time: spread=");
+    if (!is_seen || options.lines < LINES_OF_SHARE) return;
+    want_at_most("processor while nine of ten lines had a page on each leg", share(from, to), MOST_BOTH_SHARE, "% of a core");
+}
+
+/* What is wanted of honest lines, whatever else goes on. */
+static void judge_lines(void) {
+    if ((!is_noted() && !options.both) || callers_wanted == 0 || options.pages == 0) return;
+    double mean = images ? (double)image_time / (double)images / 1e6 : 0;
+    int are_whole = !failed && !differing && whole == callers_wanted * options.pages;
+    want("each page came whole, and no call failed", are_whole, "see above");
+    want_at_least("turns at most 20 ms late", in_time, LEAST_IN_TIME, "%");
+    want_at_most("an image, beside what its rate takes", mean - rated_image_ms(), MOST_IMAGE_DELAY_MS, "ms");
+    if (options.both) judge_both();
+    if (options.stays == 0) return;
+    want("the pages that do not go are there", count_of("faxgate_pages_set_aside_total") == options.stays, "see metrics");
+    want_at_most("the spool's files, beside twice what waits", largest_excess, MOST_SPOOL_KB, "KB");
+}
+
+/* What is wanted of a start where so many pages wait: seconds and kilobytes. */
+static void judge_start(double seconds, long memory) {
+    int is_small = options.waiting <= 1000;
+    printf("  started again where %d pages wait: the first answer after %.3f s, %ld KB at most\n", options.waiting, seconds, memory);
+    want_at_most("a start", seconds, is_small ? 0.3 : 2, "s");
+    want_at_most("memory at the start", (double)memory / 1024, is_small ? 30 : 100, "MB");
+}
+
+/* What is wanted of pages that wait. */
+static void judge_waiting(void) {
+    const Server *server = &servers[0];
+    double grown = (double)(server->memory_at_end - server->memory_at_start), texts = (double)options.waiting * page_length / 1024;
+    printf("  memory: %ld KB before the first call, %ld with %d pages that wait: %.2f times their texts\n", server->memory_at_start,
+           server->memory_at_end, confirmed, grown / texts);
+    want("each page was confirmed", confirmed == options.waiting && !failed, "see above");
+    if (options.waiting < 10 * options.lines) return;
+    want_at_most("memory of a page that waits, by its text", grown / texts, has_spool() ? MOST_TEXT_SHARE_SPOOL : MOST_TEXT_SHARE,
+                 "times");
 }

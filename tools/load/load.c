@@ -4,6 +4,7 @@
    that the caller sent. For `make load` only; nothing of the product is C.
 
    usage: load FAXGATE LINES [KEY=VALUE ..]    (the proved program; how many lines)
+          load FAXGATE table [KEY=VALUE ..]    (each row of what is wanted of a service, one after the other: table.h)
 
      pages=N       each line's machine calls so often and sends a page each time, 1; 0: nobody calls (idle lines)
      seconds=N     how long idle lines are looked at, 30
@@ -18,12 +19,27 @@
      priority=N    the servers and this program have real-time scheduling (SCHED_FIFO) of this priority; else none
      limit=N       everything ends at the latest after so many seconds, 600
 
+   What is judged, each with figures and with lines that say whether what is wanted was met:
+
+     spool=FOLDER  the servers have spools, in a folder of that folder; 1: in the temporary one
+     sync_ms=N     each sync of theirs takes N ms longer
+     hostile=KIND:N  the callers of the first N lines are hostile: what they send stands at the top of hostile.h
+     pending=N     so many million octets of each: of fill 4, of a line without an end 15, of a page 20 at most
+     both=1        a page on each leg at once: each machine calls twice, unless `pages` says more
+     waiting=N     N pages are put in a row of calls and wait; with a spool the server is killed then, and started again
+     stays=N       N pages of a line that left the configuration lie in the spool
+     keeper=1      the process beside the servers that has the spool, where the program has one
+
+   The status is 0 where all is met, 1 where a page differs or a call failed, 5 where a line says MISSED, and 2 to 4 where it
+   could not be looked at.
+
    It binds to addresses of 127.0.0.0/8 alone, and ends what it started. */
 #include "figures.h"
-#include "machines.h"
+#include "hostile.h"
+#include "keeper.h"
+#include "table.h"
 #include <pthread.h>
 #include <sys/resource.h>
-#include <sys/wait.h>
 
 enum {
     BATCH = 64,        /* datagrams in one call of the system */
@@ -76,6 +92,7 @@ static void take(Server *server, int is_called, int64_t moment) {
             int length = (int)batch.messages[i].msg_len;
             if (port < 0 || number >= server->lines || length < 4) continue;
             Line *line = &lines[server->first + number];
+            if (is_called && line->is_hostile) continue;
             int is_new = hear_datagram(line, is_called ? &line->called : &line->calling, batch.octets[i], length, moment);
             if (is_new && is_called) note_arrival(server, number, arrival_of(&batch.messages[i].msg_hdr));
             last_active = moment;
@@ -109,7 +126,7 @@ static void gather(Server *server, int number, int is_called, const Datagram *da
 static void send_next(Server *server, int number, int is_called, int socket, int64_t moment) {
     Line *line = &lines[server->first + number];
     Machine *machine = is_called ? &line->called : &line->calling;
-    const Script *script = is_called ? &called_script : &calling_script;
+    const Script *script = is_called ? &called_script : line->is_hostile ? &hostile_script : page_script;
     const Datagram *datagram = &script->datagrams[machine->place++];
     int64_t late = moment - machine->due;
     gather(server, number, is_called, datagram, socket);
@@ -118,12 +135,14 @@ static void send_next(Server *server, int number, int is_called, int socket, int
     sends_late += late > 5 * MS;
     latest_send = late > latest_send ? late : latest_send;
     machine->awaits = datagram->awaits;
+    if (machine->awaits == MCF) line->commanded = moment;
     if (machine->awaits == NOTHING) machine->due += PACKET_MS * MS;
     else if (machine->heard == machine->awaits) go_on(machine, moment + pause_of(line));
     else machine->due = NEVER;
     if (machine->place < script->count) return;
     machine->due = NEVER;
-    if (!is_called) end_call(line, 0, moment);
+    if (line->is_hostile) begin_attack(server->first + number, moment);
+    else if (!is_called) end_call(line, 0, moment);
 }
 
 static void send_due(Server *server, int is_called, int64_t moment) {
@@ -143,7 +162,7 @@ static int64_t call_time;
 /* Once a second: how many lines have a call, and calls that take far too long have failed. */
 static void look_after_calls(int64_t moment) {
     int on = 0, both = 0;
-    for (int i = 0; i < options.lines; i++) {
+    for (int i = attackers; i < options.lines; i++) {
         Line *line = &lines[i];
         if (line->calling.state == TALKS && moment - line->began > call_time + 30 * SECOND) end_call(line, 1, moment);
         on += line->calling.state == TALKS || line->called.state == TALKS;
@@ -155,7 +174,9 @@ static void look_after_calls(int64_t moment) {
 
 /* Whether calls are on or to come: until each was over, and what was confirmed came to its called machine. */
 static int goes_on(int64_t moment) {
-    int is_done = calls_over >= options.lines * options.pages && whole + differing >= confirmed;
+    int came = page_script == &waiting_script ? confirmed : whole + differing;
+    int is_done = calls_over >= callers_wanted * options.pages && came >= confirmed;
+    if (attackers > 0 && !attack_is_over) return 1;
     if (moment - last_active > (QUIET_SECONDS + options.spread) * SECOND) return 0;
     return !is_done || lines_in_call > 0;
 }
@@ -170,6 +191,7 @@ static void play(void) {
                 take(&servers[i], is_called, moment);
                 send_due(&servers[i], is_called, moment);
             }
+        attack_all(&servers[0], moment);
         if (moment - looked >= SECOND) look_after_calls(looked = moment);
         next += MS;
         if (next < now()) next = now();
@@ -188,7 +210,7 @@ static void *ring_lines(void *nothing) {
             if (!line->is_wanted || line->from > now()) continue;
             line->is_wanted = 0;
             line->calling.state = RUNG;
-            snprintf(word, sizeof word, "ring l%d\n", i - servers[process].first);
+            snprintf(word, sizeof word, "ring %c%d\n", letter, i - servers[process].first);
             if (!strncmp(say(&ringers[process], word), "ok", 2)) {
                 calls_begun++;
                 continue;
@@ -238,30 +260,66 @@ static void connect_when_open(Client *client, Server *server) {
             fprintf(stderr, "load: a server ended at once\n");
             exit(2);
         }
-        usleep(20000);
+        usleep(5000);
     }
 }
 
-static void open_all(void) {
-    int each = options.lines / options.processes;
-    allow_files();
-    if (!mkdtemp(room)) fail(room);
-    atexit(end_all);
+/* Lines of which so many callers are to be rung, the first ones. */
+static void make_lines(int wanted) {
     lines = calloc((size_t)options.lines, sizeof *lines);
     if (!lines) fail("memory");
     for (int i = 0; i < options.lines; i++) {
         lines[i].calling.due = lines[i].called.due = NEVER;
-        lines[i].is_wanted = options.pages > 0;
+        lines[i].is_wanted = options.pages > 0 && i < wanted;
+        lines[i].is_hostile = i < attackers;
     }
-    for (int i = 0; i < options.processes; i++) open_server(&servers[i], i * each, each);
+    callers_wanted = wanted - attackers;
+}
+
+static void prepare_all(void) {
+    int each = options.lines / options.processes;
+    allow_files();
+    if (!mkdtemp(room)) fail(room);
+    atexit(end_all);
+    make_spools();
+    if (is_noted()) make_library();
+    for (int i = 0; i < options.processes; i++) prepare_server(&servers[i], i * each, each);
+}
+
+static void connect_all(void) {
     for (int i = 0; i < options.processes; i++) {
         connect_when_open(&ringers[i], &servers[i]);
         connect_when_open(&askers[i], &servers[i]);
         say(&askers[i], "metrics\n");
         askers[i].count = 0;
+        expect_library(&servers[i]);
     }
+    connect_when_open(&conductor, &servers[0]);
+}
+
+static void open_all(int are_called) {
+    for (Server *s = servers; s < servers + options.processes; s++) {
+        write_configuration(s, are_called);
+        start(s);
+    }
+    connect_all();
     usleep(500000);
-    for (Server *s = servers; s < servers + options.processes; s++) s->memory_at_start = s->memory_at_most = memory_of(s);
+    for (Server *s = servers; s < servers + options.processes; s++) {
+        s->memory_at_start = s->memory_at_most = memory_of(s);
+        look_at_memory_anew(s);
+        if (is_noted()) s->notes->longest = s->notes->longest_reckoned = s->notes->long_ones = 0;
+    }
+}
+
+/* Ends the servers as a crash does. */
+static void kill_all(void) {
+    for (int i = 0; i < options.processes; i++) {
+        kill(servers[i].process, SIGKILL);
+        waitpid(servers[i].process, NULL, 0);
+        servers[i].process = 0;
+        close(ringers[i].socket), close(askers[i].socket);
+    }
+    close(conductor.socket);
 }
 
 /* A word for each process; its answers are kept, and not counted. */
@@ -283,11 +341,13 @@ static void stop_all(void) {
 }
 
 static void run(void) {
-    pthread_t ringer, watcher;
+    pthread_t ringer, watcher, leader;
     int64_t begun = now();
-    for (int i = 0; i < options.lines; i++)
-        lines[i].from = begun + SECOND + i * options.spread * SECOND / options.lines;
+    is_over = 0;
+    for (int i = 0; i < options.lines; i++) /* hostile ones at once: each waits for the others in its call */
+        lines[i].from = begun + SECOND + (i < attackers ? 0 : i * options.spread * SECOND / options.lines);
     if (pthread_create(&watcher, NULL, watch, NULL)) fail("thread");
+    if (attackers > 0 && pthread_create(&leader, NULL, conduct, NULL)) fail("thread");
     if (options.pages > 0) {
         if (pthread_create(&ringer, NULL, ring_lines, NULL)) fail("thread");
         play();
@@ -295,14 +355,36 @@ static void run(void) {
         sleep_until(begun + options.seconds * SECOND);
     is_over = 1;
     pthread_join(watcher, NULL);
+    if (attackers > 0) pthread_join(leader, NULL);
     if (options.pages > 0) pthread_join(ringer, NULL);
     else
         for (int i = 0; i < 20; i++) say(&askers[i % options.processes], i % 4 < 2 ? "status\n" : "metrics\n");
 }
 
+/* Pages that wait: those of one call of each of so many lines. */
+static void leave_pages(int callers) {
+    page_script = &waiting_script;
+    make_lines(callers);
+    run();
+    printf("  %d pages were confirmed to %d callers\n", confirmed, callers);
+}
+
+static void forget_calls(void) {
+    free(lines);
+    page_script = &calling_script;
+    confirmed = whole = differing = lost = 0;
+    calls_begun = calls_over = failed = lines_in_call = lines_on_both_legs = 0;
+    sends = sends_late = image_time = images = latest_send = confirming_time = longest_confirming = 0;
+    sample_count = 0;
+    largest_spool = largest_excess = 0;
+    for (int i = 0; i < options.processes; i++) servers[i].arrived = 0;
+    for (int i = 0; i < options.processes; i++) ringers[i].count = askers[i].count = 0;
+}
+
 static void tell_all(Time own, double seconds) {
-    printf("%d lines, %d process%s, %d page%s of %d octets each, repeat = %s\n", options.lines, options.processes,
-           options.processes > 1 ? "es" : "", options.pages, options.pages == 1 ? "" : "s", page_length, options.repeat);
+    printf("%d lines, %d process%s, %d page%s of %d octets each, repeat = %s%s%s\n", options.lines, options.processes,
+           options.processes > 1 ? "es" : "", options.pages, options.pages == 1 ? "" : "s", page_length, options.repeat,
+           has_spool() ? ", a spool" : "", *options.hostile ? ", hostile callers" : "");
     tell_machines(own, seconds);
     tell_time();
     tell_memory();
@@ -310,6 +392,9 @@ static void tell_all(Time own, double seconds) {
     tell_waits("rings", ringers);
     tell_waits("status, metrics", askers);
     tell_counts();
+    tell_spool();
+    if (attackers > 0) tell_attack();
+    judge_lines();
     fflush(stdout);
 }
 
@@ -317,35 +402,102 @@ static void read_words(int count, char **words) {
     options.faxgate = words[1];
     options.lines = count > 2 ? atoi(words[2]) : 0;
     for (int i = 3; i < count; i++) read_option(words[i]);
+    if (options.both && options.pages < 2) options.pages = 2;
+    if (options.waiting || options.hostile[0]) options.pages = options.pages > 0 ? options.pages : 1;
     if (options.processes < 1 || options.processes > MOST_PROCESSES || options.lines % options.processes != 0
         || options.lines / options.processes < 1 || options.lines / options.processes > MOST_LINES
-        || options.net < 1 || options.net + options.processes > 255) {
+        || options.net < 1 || options.net + options.processes > 255 || options.waiting % options.lines != 0
+        || (options.waiting && options.processes > 1) || (options.stays && !has_spool())) {
         fprintf(stderr, "usage: load FAXGATE LINES [KEY=VALUE ..]\n");
         exit(2);
     }
+    read_kind();
 }
 
-int main(int count, char **words) {
-    read_words(count, words);
+static void write_scripts(void) {
+    if (options.pages == 0) return;
+    page_length = read_pages(1, page, MOST_PAGE);
+    add_pages(&calling_script, 1);
+    add_pages(&waiting_script, options.waiting ? options.waiting / options.lines : options.stays ? options.stays : 1);
+    write_called_script();
+    if (attackers > 0) write_hostile_scripts();
+    call_time = (int64_t)(options.waiting ? waiting_script.count : calling_script.count) * PACKET_MS * MS;
+}
+
+static void end_in_time(void) {
     signal(SIGALRM, end_late);
     signal(SIGINT, end_late);
     signal(SIGTERM, end_late);
     signal(SIGPIPE, SIG_IGN);
     alarm((unsigned)options.limit);
-    if (options.pages > 0) read_page(), write_scripts();
-    call_time = (int64_t)calling_script.count * PACKET_MS * MS;
-    open_all();
-    stay_on_core(0);
-    take_priority(0);
+}
+
+/* Lines that send pages, or that are idle. */
+static int load_lines(void) {
+    make_lines(options.lines);
+    open_all(1);
     int64_t begun = now();
     Time before = time_of(getpid());
     run();
     Time own = time_of(getpid());
     own.user -= before.user, own.system -= before.system;
     double seconds = (double)(now() - begun) / 1e9;
-    for (int i = 0; i < options.processes; i++) servers[i].memory_at_end = memory_of(&servers[i]);
+    for (int i = 0; i < options.processes; i++) note_end(&servers[i]);
     say_to_all("metrics\n");
     tell_all(own, seconds);
     stop_all();
-    return options.pages > 0 && (failed || differing || whole != options.lines * options.pages);
+    return options.pages > 0 && (failed || differing || whole != callers_wanted * options.pages);
+}
+
+/* A server ends as by a crash while pages wait, and starts again. */
+static void start_again(void) {
+    kill_all();
+    int64_t begun = now();
+    start(&servers[0]);
+    connect_when_open(&askers[0], &servers[0]);
+    say(&askers[0], "status\n");
+    double seconds = (double)(now() - begun) / 1e9;
+    judge_start(seconds, most_memory_of(&servers[0]));
+    say(&askers[0], "metrics\n");
+    want("each page waits there", count_of("faxgate_pages_kept") == options.waiting, "see pages_kept of metrics");
+}
+
+/* Pages that wait, since nobody is asked where they are to go. */
+static int load_waiting(void) {
+    open_all(0);
+    printf("%d lines, %d pages of %d octets that wait%s\n", options.lines, options.waiting, page_length,
+           has_spool() ? ", a spool" : "");
+    leave_pages(options.lines);
+    note_end(&servers[0]);
+    judge_waiting();
+    if (has_spool()) start_again();
+    return failed > 0;
+}
+
+/* Pages of lines that are in the configuration no more lie in the spool. */
+static void leave_behind(void) {
+    int pages = options.pages;
+    letter = 'g';
+    options.pages = 1;
+    open_all(0);
+    leave_pages(1);
+    kill_all();
+    forget_calls();
+    options.pages = pages;
+    letter = 'l';
+}
+
+int main(int count, char **words) {
+    if (count > 2 && !strcmp(words[2], "table")) return run_rows(words[0], words[1], count - 3, words + 3);
+    read_words(count, words);
+    end_in_time();
+    write_scripts();
+    prepare_all();
+    stay_on_core(0);
+    take_priority(0);
+    if (options.stays) leave_behind();
+    int is_wrong = options.waiting ? load_waiting() : load_lines();
+    tell_keeper();
+    if (bars_met + bars_missed > 0) printf("  %d met, %d missed\n", bars_met, bars_missed);
+    return is_wrong ? 1 : bars_missed ? BAR_MISSED : 0;
 }

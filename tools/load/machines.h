@@ -4,7 +4,7 @@
 #include "server.h"
 #include <stdatomic.h>
 
-enum { QUIET, RUNG, TALKS, STOPPED };
+enum { QUIET, RUNG, TALKS, STOPPED, ATTACKS };
 
 /* A machine in a call: what it sends next and when, which datagram it wants next, and which frame it heard last. */
 typedef struct {
@@ -19,14 +19,17 @@ typedef struct {
     int calls, octets, is_same, is_zero, is_checked;
     _Atomic int is_wanted; /* it is to be rung, from this moment on */
     _Atomic int64_t from;
-    int64_t began, image_from, image_to;
+    int64_t began, image_from, image_to, commanded;
+    int is_hostile, told; /* its caller is hostile, and what that was told last: MCF, RTN or DCN */
 } Line;
 
 static Line *lines;
 static atomic_int lines_in_call, lines_on_both_legs, calls_begun, calls_over, failed;
 static int confirmed, whole, differing, lost;
 static int64_t latest_send, last_active;
-static int64_t sends, sends_late, image_time, images;
+static int64_t sends, sends_late, image_time, images, confirming_time, longest_confirming;
+static const Script *page_script = &calling_script; /* what honest callers send */
+static int callers_wanted;                          /* how many those are */
 
 /* The pause before an answer: 75 ms and more, and unlike from line to line, so that turns and machines do not keep step. */
 static int64_t pause_of(const Line *line) {
@@ -65,8 +68,19 @@ static void end_call(Line *line, int has_failed, int64_t moment) {
     } else if (has_failed) calls_over += options.pages - line->calls - 1;
 }
 
+static void note_confirmed(const Line *line, int64_t moment) {
+    int64_t took = moment - line->commanded;
+    confirmed++;
+    confirming_time += took;
+    longest_confirming = took > longest_confirming ? took : longest_confirming;
+}
+
 static void hear_caller(Line *line, int what, int64_t moment) {
-    confirmed += what == MCF && line->calling.awaits == MCF;
+    if (line->is_hostile && (what == MCF || what == RTN || what == DCN)) {
+        if (line->told == 0) line->told = what;
+        return;
+    }
+    if (what == MCF && line->calling.awaits == MCF) note_confirmed(line, moment);
     if (what == RTN || what == DCN) end_call(line, 1, moment);
     else hear(line, &line->calling, what, moment);
 }
@@ -118,7 +132,7 @@ static void hear_packet(Line *line, Machine *machine, const uint8_t *packet, int
 static int hear_datagram(Line *line, Machine *machine, const uint8_t *in, int count, int64_t moment) {
     const uint8_t *packets[REDUNDANCY + 1] = {in + 2};
     int number = in[0] << 8 | in[1], at = 3 + in[2], n = 1;
-    if (machine->state != TALKS) {
+    if (machine->state != TALKS && machine->state != ATTACKS) {
         if (number != 0 || (machine == &line->calling && machine->state != RUNG)) return 0;
         begin(line, machine, moment);
         machine->wanted = 0;

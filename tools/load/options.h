@@ -19,12 +19,14 @@ enum {
 static const int64_t MS = 1000000, SECOND = 1000000000, NEVER = INT64_MAX;
 
 typedef struct {
-    const char *faxgate, *page, *repeat, *cores;
-    int lines, pages, seconds, spread, processes, words, rows, net, priority, limit;
+    const char *faxgate, *page, *repeat, *cores, *spool, *hostile;
+    int lines, pages, seconds, spread, processes, words, rows, net, priority, limit, sync_ms, both, pending, waiting, stays,
+        keeper;
 } Options;
 
-static Options options = {.page = "bench/pages/text-1728.mr", .repeat = "full", .cores = "", .pages = 1, .seconds = 30,
-                          .spread = 20, .processes = 1, .words = 5, .rows = 1000, .net = 1, .limit = 600};
+static Options options = {.page = "bench/pages/text-1728.mr", .repeat = "full", .cores = "", .spool = "", .hostile = "",
+                          .pages = 1, .seconds = 30, .spread = 20, .processes = 1, .words = 5, .rows = 1000, .net = 1,
+                          .limit = 600};
 
 static void fail(const char *why) {
     perror(why);
@@ -35,7 +37,9 @@ static void read_option(const char *word) {
     const struct { const char *key; int *number; const char **text; } keys[] = {
         {"pages=", &options.pages, NULL}, {"seconds=", &options.seconds, NULL}, {"spread=", &options.spread, NULL},
         {"processes=", &options.processes, NULL}, {"words=", &options.words, NULL}, {"rows=", &options.rows, NULL},
-        {"net=", &options.net, NULL},
+        {"net=", &options.net, NULL}, {"sync_ms=", &options.sync_ms, NULL}, {"both=", &options.both, NULL},
+        {"pending=", &options.pending, NULL}, {"waiting=", &options.waiting, NULL}, {"stays=", &options.stays, NULL},
+        {"keeper=", &options.keeper, NULL}, {"spool=", NULL, &options.spool}, {"hostile=", NULL, &options.hostile},
         {"priority=", &options.priority, NULL}, {"limit=", &options.limit, NULL}, {"page=", NULL, &options.page},
         {"repeat=", NULL, &options.repeat}, {"cores=", NULL, &options.cores}};
     for (size_t i = 0; i < sizeof keys / sizeof keys[0]; i++) {

@@ -7,42 +7,66 @@ enum {
     PART = 72,          /* octets of an image in so long, at 14,400 bit/s */
     CHECK = 2700,       /* octets of the training check: 1.5 s */
     LEAST_CHECK = 1800, /* zeros that are taken for a training check: 1 s */
+    LARGE_PART = 1300,  /* octets of an image in a packet, where pages are to come fast */
     MOST_PAGE = 100000,
-    MOST_PACKET = 100,
-    MOST_DATAGRAM = 512,
+    MOST_PACKET = 1400,
+    MOST_DATAGRAM = 2048,
     REDUNDANCY = 3,
 };
 
 /* What a machine waits for: a frame, by its facsimile control field (ITU-T T.30, 5.3.6.1), or the end of a training check. */
-enum { NOTHING, DIS = 0x01, CFR = 0x21, MCF = 0x31, RTN = 0x32, DCS = 0x41, DCN = 0x5f, EOP = 0x74, CHECKED = 0x100 };
+enum {
+    NOTHING,
+    DIS = 0x01,
+    CFR = 0x21,
+    MCF = 0x31,
+    RTN = 0x32,
+    DCS = 0x41,
+    DCN = 0x5f,
+    EOP = 0x74,
+    CHECKED = 0x100,
+};
 
 enum { CNG = 0x02, CED = 0x04, PREAMBLE = 0x06, SHORT_TRAINING = 0x1c, LONG_TRAINING = 0x1e };
 
 typedef struct {
     uint8_t octets[MOST_DATAGRAM];
-    uint8_t counted[MOST_PACKET + 1]; /* its packet after its length */
-    int length, awaits;               /* what is waited for after it */
+    uint8_t counted[MOST_PACKET + 2]; /* its packet after its length */
+    int length, size, awaits;         /* of the octets, of its counted packet; what is waited for after it */
 } Datagram;
 
-/* All that a machine sends in a call: the same in each, since no datagram is lost on this host. */
+/* All that a machine sends in a call: the same in each, since no datagram is lost on this host. A datagram has so many packets
+   before its own, and a packet so many octets of an image. */
 typedef struct {
     Datagram *datagrams;
-    int count;
+    int count, redundancy, part;
 } Script;
 
-static Script calling_script, called_script;
+/* Those of callers with one page, of callers with many that come fast, of hostile callers up to their image, and of called
+   machines. */
+static Script calling_script = {.redundancy = REDUNDANCY, .part = PART}, waiting_script = {.redundancy = 0, .part = LARGE_PART},
+              hostile_script = {.redundancy = REDUNDANCY, .part = PART}, called_script = {.redundancy = REDUNDANCY};
 static uint8_t page[MOST_PAGE];
 static int page_length;
+
+/* Puts a length before octets: in one octet, or from 128 on in two (ITU-T X.691). It answers how many. */
+static int put_length(uint8_t *out, int length) {
+    if (length < 128) return out[0] = (uint8_t)length, 1;
+    out[0] = (uint8_t)(0x80 | length >> 8);
+    out[1] = (uint8_t)length;
+    return 2;
+}
 
 /* The next packet, with those before it (ITU-T T.38, UDPTL with redundancy). */
 static void add_packet(Script *s, const uint8_t *packet, int length) {
     s->datagrams = realloc(s->datagrams, sizeof(Datagram) * (size_t)(s->count + 1));
     if (!s->datagrams) fail("memory");
     Datagram *d = &s->datagrams[s->count];
-    int before = s->count < REDUNDANCY ? s->count : REDUNDANCY;
+    int before = s->count < s->redundancy ? s->count : s->redundancy;
     memset(d, 0, sizeof *d);
-    d->counted[0] = (uint8_t)length;
-    memcpy(d->counted + 1, packet, (size_t)length);
+    d->size = put_length(d->counted, length);
+    memcpy(d->counted + d->size, packet, (size_t)length);
+    d->size += length;
     d->octets[d->length++] = (uint8_t)(s->count >> 8);
     d->octets[d->length++] = (uint8_t)s->count;
     for (int k = 0; k <= before; k++) {
@@ -50,8 +74,8 @@ static void add_packet(Script *s, const uint8_t *packet, int length) {
             d->octets[d->length++] = 0;
             d->octets[d->length++] = (uint8_t)before;
         }
-        memcpy(d->octets + d->length, d[-k].counted, d[-k].counted[0] + 1u);
-        d->length += d[-k].counted[0] + 1;
+        memcpy(d->octets + d->length, d[-k].counted, (size_t)d[-k].size);
+        d->length += d[-k].size;
     }
     if (before == 0) d->length += 2;
     s->count++;
@@ -74,47 +98,70 @@ static void add_frame(Script *s, int awaits, int count, const uint8_t *field) {
 #define FRAME(script, awaits, ...) \
     add_frame(script, awaits, sizeof (uint8_t[]){__VA_ARGS__}, (const uint8_t[]){__VA_ARGS__})
 
-/* An image at 14,400 bit/s by V.17; the last packet ends the signal. */
+/* A packet of an image at 14,400 bit/s by V.17. It answers how many octets it has. */
+static int put_part(uint8_t *packet, const uint8_t *octets, int count, int is_last) {
+    const uint8_t head[] = {0xd0, 0x01, is_last ? 0xf0 : 0xe0, (uint8_t)((count - 1) >> 8), (uint8_t)(count - 1)};
+    memcpy(packet, head, sizeof head);
+    memcpy(packet + sizeof head, octets, (size_t)count);
+    return (int)sizeof head + count;
+}
+
+/* An image; the last packet ends the signal. */
 static void add_image(Script *s, const uint8_t *octets, int count) {
-    for (int at = 0; at < count; at += PART) {
-        int part = count - at < PART ? count - at : PART;
-        uint8_t packet[MOST_PACKET] = {0xd0, 0x01, at + part == count ? 0xf0 : 0xe0, 0, (uint8_t)(part - 1)};
-        memcpy(packet + 5, octets + at, (size_t)part);
-        add_packet(s, packet, 5 + part);
+    for (int at = 0; at < count; at += s->part) {
+        int part = count - at < s->part ? count - at : s->part;
+        uint8_t packet[MOST_PACKET];
+        add_packet(s, packet, put_part(packet, octets + at, part, at + part == count));
     }
 }
 
-static void write_scripts(void) {
+/* A caller up to its first image, by a DCS whose last two octets are these. */
+static void add_training(Script *s, uint8_t coding, uint8_t width) {
     static const uint8_t check[CHECK];
-    Script *s = &calling_script;
     add_indicator(s, CNG);
     s->datagrams[0].awaits = DIS;
-    FRAME(s, NOTHING, 0xc1, 0x00, 0x44, 0x1e);
+    FRAME(s, NOTHING, 0xc1, 0x00, coding, width);
     add_indicator(s, LONG_TRAINING);
     add_image(s, check, CHECK);
     s->datagrams[s->count - 1].awaits = CFR;
-    add_indicator(s, SHORT_TRAINING);
-    add_image(s, page, page_length);
-    FRAME(s, MCF, 0xf4);
+}
+
+/* A caller that sends the page so often. */
+static void add_pages(Script *s, int pages) {
+    add_training(s, 0x44, 0x1e);
+    for (int i = 1; i <= pages; i++) {
+        add_indicator(s, SHORT_TRAINING);
+        add_image(s, page, page_length);
+        if (i < pages) FRAME(s, MCF, 0xf2);
+        else FRAME(s, MCF, 0xf4);
+    }
     FRAME(s, NOTHING, 0xdf);
-    s = &called_script;
+}
+
+static void write_called_script(void) {
+    Script *s = &called_script;
     add_indicator(s, CED);
     FRAME(s, CHECKED, 0x01, 0x00, 0x76, 0x5e); /* V.17, one dimension, any length, no least time of a line */
     FRAME(s, EOP, 0x21);
     FRAME(s, NOTHING, 0x31);
 }
 
-/* The first rows of a page in two dimensions, as the text of a page in one: what the gateway writes of the same rows too. */
-static void read_page(void) {
-    char command[1024];
+/* The first rows of a page in two dimensions, so often, as the text of a page in one: what the gateway writes of the same rows
+   too. It answers how many octets that has. */
+static int read_pages(int times, uint8_t *out, int most) {
+    char command[1400];
     unsigned octet;
-    snprintf(command, sizeof command, "od -An -v -tx1 '%s' | '%s' page --coding mr | head -n %d | '%s' page --back",
-             options.page, options.faxgate, options.rows, options.faxgate);
+    int length = 0;
+    snprintf(command, sizeof command,
+             "od -An -v -tx1 '%s' | '%s' page --coding mr | awk 'NR <= %d { rows[NR] = $0 }"
+             " END { for (k = 0; k < %d; k++) for (i = 1; i in rows; i++) print rows[i] }' | '%s' page --back",
+             options.page, options.faxgate, options.rows, times, options.faxgate);
     FILE *hex = popen(command, "r");
     if (!hex) fail("popen");
-    while (page_length < MOST_PAGE && fscanf(hex, "%2x", &octet) == 1) page[page_length++] = (uint8_t)octet;
-    if (pclose(hex) || page_length == 0 || page_length == MOST_PAGE) {
+    while (length < most && fscanf(hex, "%2x", &octet) == 1) out[length++] = (uint8_t)octet;
+    if (pclose(hex) || length == 0 || length == most) {
         fprintf(stderr, "load: no page: %s\n", options.page);
         exit(2);
     }
+    return length;
 }
