@@ -1,13 +1,14 @@
 -- A gateway between two machines: its book, and its called leg, which goes as a machine that calls.
-use Rattle.std.proofs.Common.{◌≡◌, ℕ, ◌≤◌, Bool, true, false, not, ◌&&◌, List, [], ◌∷◌, drop, Option, Some, None, Result, Ok, Err, option_map, refl, sym, ◌∙◌, ap, subst, arith, if◌then◌else◌}
+use Rattle.std.proofs.Common.{◌≡◌, ℕ, ◌<◌, ◌≤◌, nat_lt, Bool, true, false, not, ◌&&◌, List, [], ◌∷◌, ◌++◌, length, drop, Option, Some, None, Result, Ok, Err, option_map, refl, sym, ◌∙◌, ap, subst, arith, if◌then◌else◌}
 use Rattle.fax_timers.specs.Moments.{is_due}
 use Rattle.fax_udptl.specs.declared.fault.UdptlFault.{UdptlFault}
 use Rattle.fax_udptl.specs.Datagrams.{DatagramValue, datagram_of}
 use Rattle.fax_ifp.specs.Pieces.{Piece}
+use Rattle.fax_runcodes.specs.declared.format.Format.{Format}
 use Rattle.fax_pagestore.specs.Pages.{PageValue}
 use Rattle.fax_jobs.specs.declared.outcome.Outcome.{Outcome}
-use Rattle.fax_jobs.specs.Books.{Book, new_book, job_of, report_of, confirmed, closed, after, ended, first_of}
-use Rattle.fax_jobs.specs.Jobs.{JobValue}
+use Rattle.fax_jobs.specs.Books.{Book, added, opened, report_of, confirmed, closed, after, ended, first_of, with_page}
+use Rattle.fax_jobs.specs.Jobs.{IsOfFirst, JobValue, most_pages}
 use Rattle.fax_jobs.specs.Pasts.{Step, Confirms, Sends, Ends, Past, new_past, after_steps, ended_if, sent_if}
 use Rattle.fax_answer.specs.Replies.{ConfirmedPage}
 use Rattle.fax_call.specs.declared.state.State.{State as Calling}
@@ -62,13 +63,58 @@ pub quiet_tick : (l : CallingLeg) (now : ℕ) (steps : List Step) (b : Book) →
 quiet_tick l now steps b none is closed_so =
     ap (λ (c : Option ConfirmedPage). book_in (ends_if (answers.answers l now).ended (confirms_if l.number c steps))) none ∙ ends_same (answers.answers l now).ended steps b is closed_so
 
--- and in the one in which the page is
-pub confirming_tick : (l : CallingLeg) (now : ℕ) (steps : List Step) (page : PageValue) → confirmed_by (answers.answers l now).given ≡ Some (record { page = page; closes = true }) → l.number ≡ 0 → book_in steps ≡ new_book
-    → book_in (heard_in_tick (Some l) now steps) ≡ waits_with (job_of 0 page)
-confirming_tick l now steps page some first is =
-    ap (λ (c : Option ConfirmedPage). book_in (ends_if (answers.answers l now).ended (confirms_if l.number c steps))) some
-    ∙ ap (λ (n : ℕ). book_in (ends_if (answers.answers l now).ended (Confirms n page true ∷ steps))) first
-    ∙ ends_same (answers.answers l now).ended (Confirms 0 page true ∷ steps) (waits_with (job_of 0 page)) (ap (λ (b : Book). confirmed b 0 page true) is) refl
+-- THE BOOK WHILE A CALL BRINGS PAGES: these were confirmed, of which the first has this format
+abbrev pub open_with : Format → List PageValue → Option JobValue
+open_with format [] = None
+open_with format (page ∷ pages) = Some (record { call = 0; format = format; pages = page ∷ pages })
+
+abbrev pub opened_book : Format → List PageValue → Book
+opened_book format pages = record { open_job = open_with format pages; waiting = []; sending = None; reports = [] }
+
+abbrev pub book_with : Option ConfirmedPage → Book → Book
+book_with None b = b
+book_with (Some c) b = confirmed b 0 c.page c.closes
+
+-- in a tick in which its call does not end
+pub going_tick : (l : CallingLeg) (now : ℕ) (steps : List Step) (b : Book) (o : Option ConfirmedPage) → confirmed_by (answers.answers l now).given ≡ o → (answers.answers l now).ended ≡ false → l.number ≡ 0 → book_in steps ≡ b
+    → book_in (heard_in_tick (Some l) now steps) ≡ book_with o b
+going_tick l now steps b o is goes first book =
+    ap (λ (x : Bool). book_in (ends_if x (confirms_if l.number (confirmed_by (answers.answers l now).given) steps))) goes
+    ∙ ap (λ (c : Option ConfirmedPage). book_in (confirms_if l.number c steps)) is
+    ∙ ap (λ (n : ℕ). book_in (confirms_if n o steps)) first
+    ∙ by o
+  where
+    by : (c : Option ConfirmedPage) → book_in (confirms_if 0 c steps) ≡ book_with c b
+    by None = book
+    by (Some c) = ap (λ (x : Book). confirmed x 0 c.page c.closes) book
+
+-- and in the one in which the last page is confirmed
+pub confirming_tick : (l : CallingLeg) (now : ℕ) (steps : List Step) (c : ConfirmedPage) (b : Book) (job : JobValue) → confirmed_by (answers.answers l now).given ≡ Some c → l.number ≡ 0 → book_in steps ≡ b
+    → confirmed b 0 c.page c.closes ≡ waits_with job → book_in (heard_in_tick (Some l) now steps) ≡ waits_with job
+confirming_tick l now steps c b job some first is closes =
+    ap (λ (o : Option ConfirmedPage). book_in (ends_if (answers.answers l now).ended (confirms_if l.number o steps))) some
+    ∙ ap (λ (n : ℕ). book_in (ends_if (answers.answers l now).ended (Confirms n c.page c.closes ∷ steps))) first
+    ∙ ends_same (answers.answers l now).ended (Confirms 0 c.page c.closes ∷ steps) (waits_with job) (ap (λ (x : Book). confirmed x 0 c.page c.closes) is ∙ closes) refl
+
+-- a page joins those before it, and the last one closes the job
+lt_so : (m n : ℕ) → m < n → nat_lt m n ≡ true
+lt_so m n h = grind (arith)
+
+joins_book : (format : Format) (pages : List PageValue) (page : PageValue) → IsOfFirst format (pages ++ page ∷ []) → length pages < most_pages → with_page (opened_book format pages) 0 page ≡ opened_book format (pages ++ page ∷ [])
+joins_book format [] page first few = ap (λ (f : Format). let b : Book = record { open_job = Some (record { call = 0; format = f; pages = page ∷ [] }); waiting = []; sending = None; reports = [] } in b) (sym first)
+joins_book format (p ∷ pages) page first few =
+    ap (λ (x : Bool). if◌then◌else◌ {A = Book} (true && x) (added (opened_book format (p ∷ pages)) page) (opened (closed (opened_book format (p ∷ pages))) 0 page)) (lt_so (length (p ∷ pages)) most_pages few)
+
+pub one_joins : (format : Format) (pages : List PageValue) (page : PageValue) → IsOfFirst format (pages ++ page ∷ []) → length pages < most_pages → confirmed (opened_book format pages) 0 page false ≡ opened_book format (pages ++ page ∷ [])
+one_joins format pages page first few = joins_book format pages page first few
+
+closes_book : (format : Format) (pages : List PageValue) (page : PageValue) → closed (opened_book format (pages ++ page ∷ [])) ≡ waits_with (record { call = 0; format = format; pages = pages ++ page ∷ [] })
+closes_book format [] page = refl
+closes_book format (p ∷ pages) page = refl
+
+pub last_closes : (format : Format) (pages : List PageValue) (page : PageValue) → IsOfFirst format (pages ++ page ∷ []) → length pages < most_pages
+    → confirmed (opened_book format pages) 0 page true ≡ waits_with (record { call = 0; format = format; pages = pages ++ page ∷ [] })
+last_closes format pages page first few = ap closed (joins_book format pages page first few) ∙ closes_book format pages page
 
 -- ---- WHAT COMES before the tick changes no book, and the called leg as it hears
 
@@ -77,6 +123,17 @@ pub comes_calling : (setup : Setup) (writes : Writing) (reads : Reader) (now : �
 comes_calling setup writes reads now None trace b is none = (is, refl)
 comes_calling setup writes reads now (Some octets) trace b is none =
     (ends_same (not (idle_after (calling_leg setup trace)) && idle_after (calling_leg setup (with_calling setup reads now (Some octets) trace))) (both_legs setup writes trace).steps b is none, refl)
+
+-- and so it is where its call does not end
+pub comes_going : (setup : Setup) (writes : Writing) (reads : Reader) (now : ℕ) (o : Option (List ℕ)) (trace : List Event) → idle_after (calling_leg setup (with_calling setup reads now o trace)) ≡ false
+    → (book_of (both_legs setup writes (with_calling setup reads now o trace)) ≡ book_of (both_legs setup writes trace)) × ((both_legs setup writes (with_calling setup reads now o trace)).leg ≡ (both_legs setup writes trace).leg)
+comes_going setup writes reads now None trace on = (refl, refl)
+comes_going setup writes reads now (Some octets) trace on =
+    (ap (λ (x : Bool). book_in (ends_if (not (idle_after (calling_leg setup trace)) && x) (both_legs setup writes trace).steps)) on ∙ none (not (idle_after (calling_leg setup trace))), refl)
+  where
+    none : (x : Bool) → book_in (ends_if (x && false) (both_legs setup writes trace).steps) ≡ book_of (both_legs setup writes trace)
+    none true = refl
+    none false = refl
 
 abbrev pub leg_with : Writing → ℕ → Option (List ℕ) → Option CalledLeg → Option CalledLeg
 leg_with writes now None leg = leg

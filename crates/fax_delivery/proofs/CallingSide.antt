@@ -86,14 +86,19 @@ came_in first gateway writes reads now r =
 abbrev pub leg_heard : (first : Setup) → Writing → Reader → ℕ → Legs → CallingLeg
 leg_heard first writes reads now x = answerer_with reads now (by_caller first writes now (caller_with writes now x.reply x.caller)) x.answerer
 
-pub heard_leg : (first gateway : Setup) (writes : Writing) (reads : Reader) (now : ℕ) (r : Relay) (x : Legs) → OnCalling gateway now r x → calling_leg gateway (came_in first gateway writes reads now r) ≡ Some (leg_heard first writes reads now x)
-heard_leg first gateway writes reads now r x o =
+pub only_heard : (first gateway : Setup) (writes : Writing) (reads : Reader) (now : ℕ) (r : Relay) (x : Legs) → OnCalling gateway now r x
+    → calling_leg gateway (with_calling gateway reads now (by_caller first writes now (caller_with writes now r.to_caller r.caller)) r.trace) ≡ Some (leg_heard first writes reads now x)
+only_heard first gateway writes reads now r x o =
     let c : CalledLeg = caller_with writes now r.to_caller r.caller in
     let same : caller_with writes now r.to_caller r.caller ≡ caller_with writes now x.reply x.caller =
     ap (λ (k : Option (List ℕ)). caller_with writes now k r.caller) o.reply ∙ ap (λ (l : CalledLeg). caller_with writes now x.reply l) o.caller in
-    called_heard gateway writes now r.to_gateway (with_calling gateway reads now (by_caller first writes now c) r.trace)
-    ∙ calling_heard gateway reads now (by_caller first writes now c) r.trace x.answerer o.soon o.leg
+    calling_heard gateway reads now (by_caller first writes now c) r.trace x.answerer o.soon o.leg
     ∙ ap (λ (l : CalledLeg). Some (answerer_with reads now (by_caller first writes now l) x.answerer)) same
+
+pub heard_leg : (first gateway : Setup) (writes : Writing) (reads : Reader) (now : ℕ) (r : Relay) (x : Legs) → OnCalling gateway now r x → calling_leg gateway (came_in first gateway writes reads now r) ≡ Some (leg_heard first writes reads now x)
+heard_leg first gateway writes reads now r x o =
+    let c : CalledLeg = caller_with writes now r.to_caller r.caller in
+    called_heard gateway writes now r.to_gateway (with_calling gateway reads now (by_caller first writes now c) r.trace) ∙ only_heard first gateway writes reads now r x o
 
 pub came_clock : (first gateway : Setup) (writes : Writing) (reads : Reader) (now : ℕ) (r : Relay) → clock r.trace ≤ now → clock (came_in first gateway writes reads now r) ≤ now
 came_clock first gateway writes reads now r h =

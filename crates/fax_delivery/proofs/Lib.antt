@@ -1,5 +1,7 @@
 mod BadGateways
+mod BadJobs
 mod Begins
+mod Between
 mod CalledSide
 mod CallingSide
 mod Confirms
@@ -8,6 +10,7 @@ mod Images
 mod InOrder
 mod Legs
 mod Pieces
+mod Places
 mod Relaying
 mod Short
 mod Talk

@@ -1,5 +1,5 @@
 -- Both machines of a call, as they stand between its parts, and while nothing moves them.
-use Rattle.std.proofs.Common.{◌≡◌, ℕ, ◌+◌, ◌<◌, min, Bool, true, false, List, [], ◌∷◌, Option, Some, None, Ok, refl, ◌∙◌, ap, if◌then◌else◌}
+use Rattle.std.proofs.Common.{◌≡◌, ℕ, ◌+◌, ◌<◌, min, Bool, true, false, List, [], length, Option, Some, None, Ok, refl, ◌∙◌, ap, if◌then◌else◌}
 use Rattle.fax_runcodes.specs.declared.Width.{Width}
 use Rattle.fax_runcodes.specs.declared.Width.TheVariants.{W1728, W2048, W2432}
 use Rattle.fax_runcodes.specs.declared.format.Format.{Format}
@@ -22,7 +22,7 @@ use Rattle.fax_answer.specs.History.{Entry}
 use Rattle.fax_answer.specs.Replies.{WaitingPacket}
 use Rattle.fax_call.specs.declared.state.State.{State as Calling}
 use Rattle.fax_call.specs.declared.state.State.TheVariants as calling
-use Rattle.fax_call.specs.Calls.{CallerCore}
+use Rattle.fax_call.specs.Calls.{CallerCore, formats_of}
 use Rattle.fax_call.specs.Replies.{Due}
 use Rattle.fax_call.specs.Table.{Counts, Stays, Move, tries_again, asks_again, gives_up_dis}
 use Rattle.fax_jobs.specs.declared.outcome.Outcome.{Outcome}
@@ -54,40 +54,43 @@ abbrev pub paused : (pause at : ℕ) → PaceValue
 paused pause at = record { pause = pause; last = Some (record { at = at; span = min pause 2000 }) }
 
 -- THE CALLER
-abbrev pub calling_core : Env → Calling → Counts → List Due → (t1 t4 : Option ℕ) → PaceValue → Option Outcome → CallerCore
-calling_core e s c due t1 t4 pace outcome =
-    record { state = s; format = e.page.format; formats = e.page.format ∷ []; pages = 1; counts = c; waiting = due; t1 = t1; t4 = t4; pace = pace; outcome = outcome }
+abbrev pub calling_core : Env → Format → Calling → Counts → List Due → (t1 t4 : Option ℕ) → PaceValue → Option Outcome → CallerCore
+calling_core e format s c due t1 t4 pace outcome =
+    record { state = s; format = format; formats = formats_of e.job; pages = length e.job.pages; counts = c; waiting = due; t1 = t1; t4 = t4; pace = pace; outcome = outcome }
 
--- after a DIS was taken, and when its page is delivered
-abbrev pub one_try : Counts
-one_try = record { page = 0; step = 0; tries = 1; refused = 0; delivered = 0 }
+-- where this page is due: while a DIS is awaited, after it was taken; and when it is delivered
+abbrev pub before_try : (at tries : ℕ) → Counts
+before_try at tries = record { page = at; step = 0; tries = tries; refused = 0; delivered = at }
 
-abbrev pub one_page : Counts
-one_page = record { page = 0; step = 0; tries = 1; refused = 0; delivered = 1 }
+abbrev pub one_try : ℕ → Counts
+one_try at = before_try at 1
+
+abbrev pub one_more : ℕ → Counts
+one_more at = record { page = at; step = 0; tries = 1; refused = 0; delivered = at + 1 }
 
 abbrev pub timer : (at ms : ℕ) → Option ℕ
 timer at ms = Some (moment_after at ms)
 
-pub awaits_dis : (e : Env) (at now : ℕ) (c : Counts) (t4 : Option ℕ) (pace : PaceValue) → now < at + 35000 → now < 18446744073709551615
-    → CallerRests e.writes (job_in e) (calling_core e calling.AwaitDis c [] (timer at spans.t1) t4 pace None) now
-awaits_dis e at now c t4 pace h fits =
-    caller_rests e.writes (job_in e) (calling_core e calling.AwaitDis c [] (timer at spans.t1) t4 pace None) now refl
+pub awaits_dis : (e : Env) (f : Format) (at now : ℕ) (c : Counts) (t4 : Option ℕ) (pace : PaceValue) → now < at + 35000 → now < 18446744073709551615
+    → CallerRests e.writes (job_in e) (calling_core e f calling.AwaitDis c [] (timer at spans.t1) t4 pace None) now
+awaits_dis e f at now c t4 pace h fits =
+    caller_rests e.writes (job_in e) (calling_core e f calling.AwaitDis c [] (timer at spans.t1) t4 pace None) now refl
     (ap (λ (b : Bool). if◌then◌else◌ {A = Move} b (gives_up_dis c) Stays) (not_due at 35000 now h fits))
 
-pub awaits_cfr : (e : Env) (at now : ℕ) (d : Dcs) (c : Counts) (pace : PaceValue) → now < at + 3000 → now < 18446744073709551615
-    → CallerRests e.writes (job_in e) (calling_core e (calling.AwaitCfr our_dis d) c [] None (timer at spans.t4) pace None) now
-awaits_cfr e at now d c pace h fits =
-    caller_rests e.writes (job_in e) (calling_core e (calling.AwaitCfr our_dis d) c [] None (timer at spans.t4) pace None) now refl
+pub awaits_cfr : (e : Env) (f : Format) (at now : ℕ) (d : Dcs) (c : Counts) (pace : PaceValue) → now < at + 3000 → now < 18446744073709551615
+    → CallerRests e.writes (job_in e) (calling_core e f (calling.AwaitCfr our_dis d) c [] None (timer at spans.t4) pace None) now
+awaits_cfr e f at now d c pace h fits =
+    caller_rests e.writes (job_in e) (calling_core e f (calling.AwaitCfr our_dis d) c [] None (timer at spans.t4) pace None) now refl
     (ap (λ (b : Bool). if◌then◌else◌ {A = Move} b (tries_again our_dis d c) Stays) (not_due at 3000 now h fits))
 
-pub awaits_mcf : (e : Env) (at now : ℕ) (d : Dcs) (c : Counts) (pace : PaceValue) → now < at + 3000 → now < 18446744073709551615
-    → CallerRests e.writes (job_in e) (calling_core e (calling.AwaitMcf our_dis d) c [] None (timer at spans.t4) pace None) now
-awaits_mcf e at now d c pace h fits =
-    caller_rests e.writes (job_in e) (calling_core e (calling.AwaitMcf our_dis d) c [] None (timer at spans.t4) pace None) now refl
+pub awaits_mcf : (e : Env) (f : Format) (at now : ℕ) (d : Dcs) (c : Counts) (pace : PaceValue) → now < at + 3000 → now < 18446744073709551615
+    → CallerRests e.writes (job_in e) (calling_core e f (calling.AwaitMcf our_dis d) c [] None (timer at spans.t4) pace None) now
+awaits_mcf e f at now d c pace h fits =
+    caller_rests e.writes (job_in e) (calling_core e f (calling.AwaitMcf our_dis d) c [] None (timer at spans.t4) pace None) now refl
     (ap (λ (b : Bool). if◌then◌else◌ {A = Move} b (asks_again c) Stays) (not_due at 3000 now h fits))
 
-pub calls_no_more : (e : Env) (now : ℕ) (c : Counts) (t1 t4 : Option ℕ) (pace : PaceValue) (o : Option Outcome) → CallerRests e.writes (job_in e) (calling_core e calling.Idle c [] t1 t4 pace o) now
-calls_no_more e now c t1 t4 pace o = caller_rests e.writes (job_in e) (calling_core e calling.Idle c [] t1 t4 pace o) now refl refl
+pub calls_no_more : (e : Env) (f : Format) (now : ℕ) (c : Counts) (t1 t4 : Option ℕ) (pace : PaceValue) (o : Option Outcome) → CallerRests e.writes (job_in e) (calling_core e f calling.Idle c [] t1 t4 pace o) now
+calls_no_more e f now c t1 t4 pace o = caller_rests e.writes (job_in e) (calling_core e f calling.Idle c [] t1 t4 pace o) now refl refl
 
 -- THE ANSWERER
 abbrev pub answering_core : Answering → List Entry → List WaitingPacket → Timers → PaceValue → AnswererCore
@@ -107,6 +110,12 @@ page_rests d h at now pace soon fits =
     let b : AnswererCore = answering_core (answering.Page d) h [] (only_t2 at) pace in
     answerer_rests (answering_core (answering.Page d) h [] (only_t2 at) pace) now refl
     (ap (λ (x : Bool). if◌then◌else◌ {A = AnswererCore} x (answer.says_goodbye b) b) (not_due at 6000 now soon fits))
+
+pub again_rests : (h : List Entry) (at now : ℕ) (pace : PaceValue) → now < at + 6000 → now < 18446744073709551615 → AnswererRests (answering_core answering.Again h [] (only_t2 at) pace) now
+again_rests h at now pace soon fits =
+    let b : AnswererCore = answering_core answering.Again h [] (only_t2 at) pace in
+    answerer_rests (answering_core answering.Again h [] (only_t2 at) pace) now refl
+    (ap (λ (x : Bool). if◌then◌else◌ {A = AnswererCore} x (answer.identifies_anew b now) b) (not_due at 6000 now soon fits))
 
 -- T1, and T4 after a DIS was given
 abbrev pub identified : (start at : ℕ) → Timers
@@ -129,9 +138,6 @@ cfr = written_plain plain.Cfr false
 
 abbrev pub mcf : List ℕ
 mcf = written_plain plain.Mcf false
-
-abbrev pub eop : List ℕ
-eop = written_plain plain.Eop true
 
 abbrev pub dcn : List ℕ
 dcn = written_plain plain.Dcn true

@@ -3,10 +3,8 @@ use Rattle.std.proofs.Common.{◌≡◌, ℕ, zero, suc, ◌+◌, ◌-◌, ◌*�
 use Rattle.fax_timers.specs.Moments.{moment_after, is_due}
 use Rattle.fax_timers.specs.Paces.{pace_allows}
 use Rattle.fax_timers.specs.declared.pace.LastPacket.{LastPacket}
-use Rattle.fax_pagestore.specs.Pages.{PageValue, IsPage}
 use Rattle.fax_ifp.specs.Elements.{Slot}
 use Rattle.fax_ifp.specs.Pieces.{Piece}
-use Rattle.fax_jobs.specs.Books.{job_of}
 use Rattle.fax_jobs.specs.Jobs.{JobValue}
 use Rattle.fax_answer.specs.Calls as answer
 use Rattle.fax_answer.specs.Calls.{AnswererCore}
@@ -24,14 +22,12 @@ use Rattle.fax_delivery.specs.Links.{Reader, IsReader, read_by, Link, slots_with
 pub record Env : Type 0 where
   pub writes : Writing
   pub reads : Reader
-  pub page : PageValue
-  pub number : ℕ
+  pub job : JobValue
   pub is_writing : IsWriting writes
   pub is_reader : IsReader reads
-  pub is_page : IsPage page
 
 abbrev pub job_in : Env → JobValue
-job_in e = job_of e.number e.page
+job_in e = e.job
 
 abbrev pub link : CallerCore → List Slot → AnswererCore → List Slot → Option (List ℕ) → List ConfirmedPage → Link
 link a ts b us reply kept = record { caller = a; to_caller = ts; answerer = b; to_answerer = us; reply = reply; kept = kept }

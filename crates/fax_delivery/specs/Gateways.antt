@@ -1,11 +1,11 @@
 -- A GOOD PAGE GETS THROUGH A GATEWAY: a machine calls it and sends a page, and it calls another machine with that page. Each datagram
 -- that one of the three gives comes to the next one, once and in order. (ITU-T T.30 and T.38, UDPTL. That rounds are 40 ms apart, and
 -- their order, is this project's profile.) Lists have the newest first.
-use Rattle.std.specs.Prelude.{◌≡◌, ◌⊎◌, ℕ, zero, suc, ◌+◌, ◌*◌, ◌<◌, ◌≤◌, ◌^◌, false, List, [], ◌∷◌, Option, Some, None, option_map}
+use Rattle.std.specs.Prelude.{◌≡◌, ◌⊎◌, ℕ, zero, suc, ◌+◌, ◌*◌, ◌<◌, ◌≤◌, ◌^◌, false, List, [], ◌∷◌, length, reverse, Option, Some, None, option_map}
 use Rattle.fax_pagestore.specs.Pages.{PageValue, IsPage}
 use Rattle.fax_jobs.specs.declared.outcome.Outcome.TheVariants as outcomes
 use Rattle.fax_jobs.specs.Books.{job_of, report_of}
-use Rattle.fax_jobs.specs.Jobs.{JobValue}
+use Rattle.fax_jobs.specs.Jobs.{JobValue, IsJob}
 use Rattle.fax_answer.specs.Calls.{new_answering, rung}
 use Rattle.fax_answer.specs.Sent.{pages_confirmed}
 use Rattle.fax_call.specs.Writings.{Writing, IsWriting}
@@ -19,6 +19,7 @@ use Rattle.fax_gateway.specs.BothLegs.{book_of, both_legs, in_tick}
 use Rattle.fax_gateway.specs.Traces.{IsTrace}
 use Rattle.fax_delivery.specs.Links.{Reader, IsReader, read_by}
 use Rattle.fax_delivery.specs.Delivered.{most_rounds}
+use Rattle.fax_delivery.specs.Jobs.{rounds_of_pages}
 use Rattle.fax_delivery.specs.Datagrams.{caller_with, answerer_with, by_caller, by_answerer}
 
 -- The machine that calls, the gateway's trace, the machine that is called, once it was rung, and the datagrams that were given in the
@@ -110,3 +111,30 @@ ReportsAreDeliveries =
     → IsPage page → start + 40 * (2 * most_rounds writes page + many) + 1 < 2 ^ 64 →
     let r : Relay = relay_rounds first gateway last writes reads many start (relay_begun first writes (job_of number page) start) in
     ((book_of (both_legs gateway writes r.trace)).reports ≡ []) ⊎ IsRelayed gateway writes page r
+
+-- ---- A JOB OF ANY PAGES through a gateway
+
+-- the job as the gateway has it: of its first call
+abbrev pub first_job : JobValue → JobValue
+first_job job = record { call = 0; format = job.format; pages = job.pages }
+
+-- The gateway's trace is one of a gateway, its book tells that the one job was delivered, with all its pages, and the machine that is
+-- called confirmed just these, in their order.
+pub record AreRelayed (gateway : Setup) (writes : Writing) (job : JobValue) (r : Relay) : Type 0 where
+  pub is_trace : IsTrace gateway writes r.trace
+  pub reports : (book_of (both_legs gateway writes r.trace)).reports ≡ report_of (first_job job) outcomes.Delivered (length job.pages) ∷ []
+  pub pages : pages_on r.answerer ≡ reverse job.pages
+
+abbrev pub GatewaysPassJobs : Type 0
+GatewaysPassJobs =
+    (first gateway last : Setup) (writes : Writing) (reads : Reader) (job : JobValue) (start many : ℕ) → gateway.asks ≡ false → gateway.restored ≡ [] → IsWriting writes → IsReader reads
+    → IsJob job → 2 * rounds_of_pages writes job.pages ≤ many → start + 40 * many + 1 < 2 ^ 64
+    → AreRelayed gateway writes job (relay_rounds first gateway last writes reads many start (relay_begun first writes job start))
+
+-- And at every moment either nothing is reported, or just that.
+abbrev pub ReportsAreOfJobs : Type 0
+ReportsAreOfJobs =
+    (first gateway last : Setup) (writes : Writing) (reads : Reader) (job : JobValue) (start many : ℕ) → gateway.asks ≡ false → gateway.restored ≡ [] → IsWriting writes → IsReader reads
+    → IsJob job → start + 40 * (2 * rounds_of_pages writes job.pages + many) + 1 < 2 ^ 64 →
+    let r : Relay = relay_rounds first gateway last writes reads many start (relay_begun first writes job start) in
+    ((book_of (both_legs gateway writes r.trace)).reports ≡ []) ⊎ AreRelayed gateway writes job r

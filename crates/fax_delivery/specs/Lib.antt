@@ -1,4 +1,5 @@
 pub mod Datagrams
 pub mod Delivered
 pub mod Gateways
+pub mod Jobs
 pub mod Links

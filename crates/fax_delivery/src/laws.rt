@@ -1,6 +1,7 @@
 //! Laws of the definitions: functions that do nothing, each of whose contracts is a theorem.
 ghost use Rattle.fax_delivery.specs.Datagrams.{DatagramsGetThrough};
-ghost use Rattle.fax_delivery.specs.Gateways.{GatewaysPassPages, ReportsAreDeliveries};
+ghost use Rattle.fax_delivery.specs.Gateways.{GatewaysPassJobs, GatewaysPassPages, ReportsAreDeliveries, ReportsAreOfJobs};
+ghost use Rattle.fax_delivery.specs.Jobs.{JobsGetThrough, JobsPass};
 ghost use Rattle.fax_delivery.specs.Delivered.{NewMachinesMayBegin, OverIsDelivered, PagesGetThrough, ReadersAre};
 
 /// Over a link that hands on each packet once and in order every page is delivered: the caller tells so, with one page, and the
@@ -13,6 +14,15 @@ pub fn pages_get_through()
 /// So it is by datagrams, whatever the redundancy of each machine.
 pub fn datagrams_get_through()
     ensures { DatagramsGetThrough }
+{}
+
+/// A job of any pages, each of its format, gets through in one call, over a link that hands on each packet once and in order, and by
+/// datagrams: the caller tells that it was delivered, with all its pages, and the answerer confirmed these and no other, each once, in
+/// their order. After a page comes MPS, or EOM where the next one is of another format, and EOP after the last. The call takes a round of
+/// 40 ms for each 72 octets of the pages' texts, 350 more, and 450 for each page after the first.
+pub fn jobs_get_through()
+    ensures packets { JobsGetThrough }
+    ensures datagrams { JobsPass }
 {}
 
 /// There are such calls: images can be read rightly, and a new machine may begin at any moment.
@@ -36,4 +46,12 @@ pub fn over_is_delivered()
 /// called has confirmed the page.
 pub fn reports_are_deliveries()
     ensures { ReportsAreDeliveries }
+{}
+
+/// A job of any pages, each of its format, gets through a gateway between two machines: its book tells that the one job was delivered,
+/// with all its pages, and the machine that is called confirmed these and no other, each once, in their order; and at every moment the
+/// book has no report, or just that one. It takes the rounds of two calls at most.
+pub fn gateways_pass_jobs()
+    ensures pass { GatewaysPassJobs }
+    ensures reports { ReportsAreOfJobs }
 {}
