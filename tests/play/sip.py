@@ -11,12 +11,14 @@ from server import LONGEST, SLOW, Play, Server, address, until
 from sip_peer import (
     Message, Packet, SipPeer, audio_offer, credentials, digest, fax_offer, linear, media_of, port_of, power_at, token, user_of,
 )
-from t38 import Called, Calling, Leg
+from t38 import SLOW_BITS, Called, Calling, Leg
 
 TOP = pathlib.Path(__file__).resolve().parent.parent.parent
 # How long nothing is to come, in seconds.
 QUIET = 1
 RINGS = float(os.environ.get("FAXGATE_RINGS", "1"))
+# A page that takes 6 s at 2,400 bit/s, in rows: longer than we wait before we change audio, and than after 491.
+LONG = 500
 # A bound of datagrams that a page at 14,400 bit/s wants more than, in octets.
 BOUND = 238
 EOL, WHITE_ROW = "000000000001", "01001101100110101"
@@ -345,11 +347,14 @@ class FaxesOverAudio(AtATrunk):
         self.trunk.answer(change, 491)
 
     def changes(self, dialog):
-        """They change our call to T.38, and a machine takes its page, of 6 rows."""
-        machine = self.machine()
+        """They change our call to T.38, and a machine takes its page, slowly; we, who were to change it too, do not any more."""
+        machine = Called(self.leg(), bits=SLOW_BITS)
+        machine.start()
         answer = self.trunk.again(dialog, "INVITE", fax_offer(machine.leg.port))
         self.assertTrue(port_of(answer.body, "image"))
-        self.taken(machine, 6)
+        before = len(self.trunk.came)
+        self.taken(machine, LONG)
+        self.assertEqual([it.first.split()[0] for it in self.trunk.came[before:]], ["BYE"])
 
     def test_a_change_that_meets_theirs_is_made_again(self):
         """Ours first, since the Call-ID is theirs."""
@@ -364,7 +369,7 @@ class FaxesOverAudio(AtATrunk):
 
     def test_our_call_is_changed_to_audio_and_back(self):
         self.begin()
-        self.comes("+4930123", 6)
+        self.comes("+4930123", LONG)
         invite = self.goes_out("004930123")
         self.trunk.answer(invite, 488)
         audio = self.goes_out("004930123")
@@ -372,9 +377,9 @@ class FaxesOverAudio(AtATrunk):
         self.changes(self.trunk.take(audio, audio_offer(self.ports.take(), 8)))
 
     def test_a_change_of_our_call_that_meets_theirs(self):
-        """Theirs is made again first, since the Call-ID is ours."""
+        """Theirs is made again first, since the Call-ID is ours; and then ours is not."""
         self.begin(trunk="call_with = 'audio'")
-        self.comes("+4930123", 6)
+        self.comes("+4930123", LONG)
         dialog = self.trunk.take(self.goes_out("004930123"), audio_offer(self.ports.take()))
         self.meet(dialog)
         self.changes(dialog)

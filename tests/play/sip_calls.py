@@ -148,13 +148,15 @@ def to_audio(call):
 
 
 def change(call, dialog):
-    """The called machine changes audio, and takes the page."""
+    """The called machine changes audio, and takes the page; the server, which was to change it too, does not any more."""
 
     def begin(machine):
         status = call.trunk.again(dialog, "INVITE", fax_offer(machine.leg.port)).status
         assert status == 200, f"a change was answered {status}"
 
     call.delivered(begin)
+    came = [it.first.split()[0] for it in call.trunk.came]
+    assert "INVITE" not in came[-came[::-1].index("SIP/2.0"):], f"the server changes what was changed: {came}"
 
 
 def to_audio_since_488(call):

@@ -51,6 +51,7 @@ early_steps told now early = record {
   moves = λ state event before. row_before told state now event early before;
   again = λ state event before. row_before told state now event early before;
   hung_up = λ state before is. omega arith;
+  drops = λ reinvite has. has;
 }
 
 abbrev IsEarly : ℕ → Entry → Type 0
@@ -84,6 +85,7 @@ leaving_steps bound now = record {
   moves = λ state event leaving. row_leaving bound state now event leaving;
   again = λ state event leaving. row_leaving bound state now event leaving;
   hung_up = λ state leaving is. absurd (not_confirmed bound state leaving is);
+  drops = λ reinvite has. has;
 }
 
 abbrev Leaves : ℕ → Entry → Type 0
@@ -192,6 +194,7 @@ first_steps bound now late = record {
   moves = λ state event leaving. closes bound state now event late leaving;
   again = λ state event closing. ended_closes bound (session_row state now event).0 (closing_ends bound state now event late closing);
   hung_up = λ state closing is. absurd (closing_not_confirmed bound state closing is);
+  drops = λ reinvite has. has;
 }
 
 second_steps : (bound now : ℕ) → bound ≤ now → Steps now ⊥ None_at (Closing bound) ⊥ None_at IsEnded
@@ -206,6 +209,7 @@ second_steps bound now late = record {
   moves = λ state event closing. closing_ends bound state now event late closing;
   again = λ state event ended. closing_ends bound state now event late (ended_closes bound state ended);
   hung_up = λ state ended is. absurd (closing_not_confirmed bound state (ended_closes bound state ended) is);
+  drops = λ reinvite has. has;
 }
 
 dead : (state : Session) → Lives IsEnded state → ⊥

@@ -28,7 +28,7 @@ use Rattle.fax_switch.specs.declared.media.Media.TheVariants.{AudioOnly, FaxAgre
 use Rattle.fax_switch.specs.declared.media.Offer.{Offer}
 use Rattle.fax_switch.specs.declared.media.Offer.TheVariants.{Fax, Audio}
 use Rattle.fax_switch.specs.declared.place.Place.{Place}
-use Rattle.fax_switch.specs.Calls.{acknowledged_by, agreed_by, answer_in_ack, answer_to, answered_by, call_row, cancelled, connected, entry_of, freed, is_confirmed, is_of_media, media_by, not_rung, other_offer, passed, placed, plain, refuse, refused_by, reinvited_by, released, rung, stage_of, taken, talked, within}
+use Rattle.fax_switch.specs.Calls.{acknowledged_by, agreed_by, answer_in_ack, answer_to, answered_by, call_row, cancelled, connected, entry_of, freed, is_confirmed, is_of_media, media_by, not_rung, other_offer, ours_by, passed, placed, plain, refuse, refused_by, reinvited_by, released, rung, stage_of, taken, talked, within, without_ours}
 use Rattle.fax_switch.specs.Places.{called_place, calling_place, holds, holds_leg}
 
 -- of a session that is not over
@@ -61,6 +61,7 @@ pub record Steps (now : ℕ) (A : Type 0) (C : ℕ → Type 0) (S : Session → 
   pub moves : (state : Session) (event : SessionEvent) → S state → T (row state now event).0
   pub again : (state : Session) (event : SessionEvent) → T state → T (row state now event).0
   pub hung_up : (state : Session) → T state → is_confirmed state ≡ true → T (ending now)
+  pub drops : (reinvite : Option ℕ) → T (Invited reinvite) → T (Invited None)
 
 pub alive : (S : Session → Type 0) (state : Session) → Lives S state → S state
 alive S (Confirmed reinvite) lives = lives
@@ -134,10 +135,26 @@ acknowledged_leads B D T call media now said state Nothing t e =
     (λ is. ack_leads B D T call media now state said t (e is)) (λ _. plain_by B D T call media state Nothing t)
 acknowledged_leads B D T call media now said state other t e = plain_by B D T call media state other t
 
+dropped : (T : Session → Type 0) → ((reinvite : Option ℕ) → T (Invited reinvite) → T (Invited None)) → (state : Session) → T state → T (without_ours state)
+dropped T drops (Confirmed reinvite) t = t
+dropped T drops (Accepted again pause until next) t = t
+dropped T drops Inviting t = t
+dropped T drops (Invited reinvite) t = drops reinvite t
+dropped T drops (Ending until) t = t
+dropped T drops Ended t = t
+
+ours_lead : (T : Session → Type 0) → ((reinvite : Option ℕ) → T (Invited reinvite) → T (Invited None)) → (said : Description) (state : Session) → T state → T (ours_by said state)
+ours_lead T drops (FaxAt end) state t = dropped T drops state t
+ours_lead T drops NothingSaid state t = dropped T drops state t
+ours_lead T drops (AudioAt address) state t = t
+ours_lead T drops Unusable state t = t
+
 reinvited_leads : (B : Type 0) (D : ℕ → Type 0) (T : Session → Type 0) (call : Call) (media : Media) (now : ℕ) (said : Description) (state : Session) (action : SessionAction)
-    → T state → ((event : SessionEvent) → T (row state now event).0) → EntryIs B D T (reinvited_by call media now said state action)
-reinvited_leads B D T call media now said state TellInvite t next = stage_has B D T (row state now (Answer (answer_to media said))).0 (media_by media said) (next (Answer (answer_to media said)))
-reinvited_leads B D T call media now said state other t next = plain_by B D T call media state other t
+    → T state → T (ours_by said state) → ((before : Session) (event : SessionEvent) → T before → T (row before now event).0)
+    → EntryIs B D T (reinvited_by call media now said state action)
+reinvited_leads B D T call media now said state TellInvite t ours next =
+    stage_has B D T (row (ours_by said state) now (Answer (answer_to media said))).0 (media_by media said) (next (ours_by said state) (Answer (answer_to media said)) ours)
+reinvited_leads B D T call media now said state other t ours next = plain_by B D T call media state other t
 
 pub talked_by :
     (now : ℕ) (A : Type 0) (C : ℕ → Type 0) (S : Session → Type 0) (B : Type 0) (D : ℕ → Type 0) (T : Session → Type 0) → Steps now A C S B D T
@@ -150,7 +167,8 @@ talked_by now A C S B D T steps call state media AnswerRepeated s =
     plain_by B D T call media (row state now AnsweredAgain).0 (row state now AnsweredAgain).1 (steps.moves state AnsweredAgain s)
 talked_by now A C S B D T steps call state media (Reinvited said) s =
     let t : T (row state now InviteCame).0 = steps.moves state InviteCame s in
-    reinvited_leads B D T call media now said (row state now InviteCame).0 (row state now InviteCame).1 t (λ event. steps.again (row state now InviteCame).0 event t)
+    reinvited_leads B D T call media now said (row state now InviteCame).0 (row state now InviteCame).1 t (ours_lead T steps.drops said (row state now InviteCame).0 t)
+    (λ before event has. steps.again before event has)
 talked_by now A C S B D T steps call state media (Acknowledged said) s =
     let t : T (row state now AckCame).0 = steps.moves state AckCame s in
     acknowledged_leads B D T call media now said (row state now AckCame).0 (row state now AckCame).1 t (λ is. steps.hung_up (row state now AckCame).0 t is)

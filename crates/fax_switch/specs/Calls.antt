@@ -150,9 +150,20 @@ word_by place media (FaxAt end) = peer place media end
 word_by place AudioOnly (AudioAt address) = audio place address
 word_by place media other = NoWord
 
+-- With T.38 in our 2xx to theirs, a re-INVITE of ours that waited brings nothing any more, and is not sent (14.1: "if it still desires for that session modification").
+abbrev pub without_ours : Session → Session
+without_ours (Invited reinvite) = Invited None
+without_ours other = other
+
+abbrev pub ours_by : Description → Session → Session
+ours_by (FaxAt end) state = without_ours state
+ours_by NothingSaid state = without_ours state
+ours_by other state = state
+
 abbrev pub reinvited_by : Call → Media → ℕ → Description → Session → SessionAction → Entry
 reinvited_by call media now said state TellInvite =
-    entry_of call call.place (stage_of (row state now (Answer (answer_to media said))).0 (media_by media said)) (answered_with media said) (word_by call.place media said)
+    entry_of call call.place (stage_of (row (ours_by said state) now (Answer (answer_to media said))).0 (media_by media said)) (answered_with media said)
+    (word_by call.place media said)
 reinvited_by call media now said state other = plain call media state other
 
 -- The ACK of our 2xx has their answer where we offered; where it has none the call ends.

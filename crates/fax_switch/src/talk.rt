@@ -1,7 +1,7 @@
 //! A call that has a dialog.
 ghost use Rattle.std.specs.Prelude.{◌≡◌, None};
 ghost use Rattle.fax_dialogs.specs.Sessions.{accepted, ending as ending_from, row};
-ghost use Rattle.fax_switch.specs.Calls.{acknowledged_by, agreed_by, answer_in_ack as answered_in_ack, answer_to as answer_status, answered_by, answered_with as answer_for, entry_of, hang_up as hang_up_word, is_confirmed as has_no_invite, media_by as media_after, plain as plain_entry, plainly, refused_by, reinvited_by, stage_of, talked};
+ghost use Rattle.fax_switch.specs.Calls.{acknowledged_by, agreed_by, answer_in_ack as answered_in_ack, answer_to as answer_status, answered_by, answered_with as answer_for, entry_of, hang_up as hang_up_word, is_confirmed as has_no_invite, media_by as media_after, ours_by as ours_after, plain as plain_entry, plainly, refused_by, reinvited_by, stage_of, talked, without_ours as waiting_dropped};
 
 use crate::action::{LineAction, SipAction};
 use crate::call::{Call, Entry, Stage, entry_with};
@@ -229,7 +229,7 @@ fn after_invite(
 {
     match action {
         SessionAction::TellInvite => {
-            let mut session = session;
+            let mut session = ours_by(said, session);
             session.step(now, SessionEvent::Answer(answer_to(media, said)));
             entry_with(
                 call,
@@ -240,6 +240,30 @@ fn after_invite(
             )
         }
         _ => plain_with(call, media, session, action),
+    }
+}
+
+/// Whether a re-INVITE of ours still waits where theirs describes this: not where our answer has T.38, which ours was to bring.
+fn ours_by(said: Description, session: Session) -> Session
+    ensures { result ≡ ours_after said session }
+{
+    match said {
+        Description::FaxAt(_) | Description::NothingSaid => without_ours(session),
+        Description::AudioAt(_) | Description::Unusable => session,
+    }
+}
+
+/// Theirs is under way, and none of ours waits.
+fn without_ours(session: Session) -> Session
+    ensures { result ≡ waiting_dropped session }
+{
+    match session {
+        Session::Invited { .. } => Session::Invited { reinvite: None },
+        Session::Confirmed { .. }
+        | Session::Accepted { .. }
+        | Session::Inviting
+        | Session::Ending { .. }
+        | Session::Ended => session,
     }
 }
 

@@ -94,6 +94,50 @@ const WENT_OUT: &[Step] = &[
     (50_001, Happening::JobOver, "none", ""),
 ];
 
+/// A call goes out with audio, which they change before our re-INVITE is due: that one is not sent (RFC 3261, 14.1).
+const CHANGED_BY_THEM: &[Step] = &[
+    (0, Happening::Dialled, "INVITE T.38", ""),
+    (
+        60,
+        Happening::Answered(488, Body::Empty),
+        "INVITE audio",
+        "",
+    ),
+    (9_000, Happening::Answered(200, Body::Audio), "ACK", "audio"),
+    (12_000, Happening::Reinvited(Body::Fax), "200 T.38", "peer"),
+    (12_010, Happening::Acknowledged, "", ""),
+    (13_000, Happening::Time, "", ""),
+    (50_000, Happening::Time, "", ""),
+    (50_010, Happening::JobOver, "BYE", ""),
+];
+
+/// The same, where their re-INVITE with audio changes nothing, and ours meets one of theirs: they are to send theirs again, and ours,
+/// which waits longer, is not sent any more.
+const CHANGED_AFTER_GLARE: &[Step] = &[
+    (0, Happening::Dialled, "INVITE T.38", ""),
+    (
+        60,
+        Happening::Answered(488, Body::Empty),
+        "INVITE audio",
+        "",
+    ),
+    (9_000, Happening::Answered(200, Body::Audio), "ACK", "audio"),
+    (
+        11_000,
+        Happening::Reinvited(Body::Audio),
+        "200 audio",
+        "audio",
+    ),
+    (11_010, Happening::Acknowledged, "", ""),
+    (13_000, Happening::Time, "re-INVITE", ""),
+    (13_010, Happening::Reinvited(Body::Fax), "refusal", ""),
+    (13_050, Happening::Answered(491, Body::Empty), "", ""),
+    (14_000, Happening::Reinvited(Body::Fax), "200 T.38", "peer"),
+    (14_010, Happening::Acknowledged, "", ""),
+    (15_150, Happening::Time, "", ""),
+    (50_010, Happening::JobOver, "BYE", ""),
+];
+
 /// A late answer gives no peer.
 const ANSWERED_LATE: &[Step] = &[
     (0, Happening::Dialled, "INVITE T.38", ""),
@@ -210,7 +254,14 @@ fn played(alloc: Global, steps: &[Step]) -> Result<usize, AllocError> {
 
 #[test]
 fn calls_go_by_the_standards(rt: HostRuntime) -> Result<(), Fail> {
-    for steps in [CAME_OVER_T38, CAME_OVER_AUDIO, WENT_OUT, ANSWERED_LATE] {
+    for steps in [
+        CAME_OVER_T38,
+        CAME_OVER_AUDIO,
+        WENT_OUT,
+        CHANGED_BY_THEM,
+        CHANGED_AFTER_GLARE,
+        ANSWERED_LATE,
+    ] {
         assert!(rt; played(rt.alloc(), steps)? == steps.len());
     }
     Ok(())
