@@ -1,12 +1,21 @@
 -- A line that is restored with what is left of a job.
-use Rattle.std.proofs.Common.{◌≡◌, ℕ, ◌-◌, min, [], List, length, drop, take, map, refl, ◌∙◌, ap, subst, arith, length-drop}
+use Rattle.std.proofs.Common.{◌≡◌, ℕ, ◌-◌, min, Bool, true, false, ◌&&◌, [], Option, Result, Ok, Err, List, length, drop, take, map, refl, sym, ◌∙◌, ap, subst, arith, length-drop}
+use Rattle.std.specs.List.{list_all}
+use Rattle.std.specs.Str.{IsUtf8, is_utf8}
 use Rattle.std.proofs.lemmas.List.{drop_min, take_all}
+use Rattle.std.proofs.lemmas.Str.{IsUtf8-from_is_utf8, is_utf8-from_IsUtf8}
+use Rattle.fax_desk.specs.declared.tag.Tag.{Tag}
 use Rattle.fax_gateway.specs.Restored.{call_shown}
 use Rattle.fax_line.specs.Actions.{BeginsWith, LineValue}
 use Rattle.fax_queue.specs.Restorations.{NoneIsTorn, Restores, WholeLinesAreRestored, whole_pages}
 use Rattle.fax_queue.specs.declared.restored.RestoredLine.{RestoredLine}
-use Rattle.fax_redial.specs.Begun.{BeginsWithLeft}
+use Rattle.fax_redial.specs.Begun.{BeginsWithLeft, HasPages, IsJobOf, RestoresUnless, may_restore}
+use Rattle.fax_redial.specs.declared.fault.BeginFault.{BeginFault}
+use Rattle.fax_redial.specs.declared.fault.BeginFault.TheVariants as faults
+use Rattle.fax_redial.specs.declared.job.RetryJob.{RetryJob}
 use Rattle.fax_spool.specs.RecordOctets.{PageValue}
+use Rattle.fax_spool.specs.Torn.{CallName, is_of}
+use Rattle.fax_undelivered.specs.Calls.{CallValue, name_of}
 
 -- no call is among none
 pub none_torn : (line : List ℕ) (pages : List PageValue) → NoneIsTorn line [] pages
@@ -25,3 +34,44 @@ begins_left name pages first delivered restored line whole is restores begins =
       restores = subst (λ (l : List PageValue). Restores name l restored) (left_is pages first delivered is) (whole name [] left restored (none_torn name left) restores);
       begins = begins;
     }
+
+-- ---- a job that has the numbers of these pages
+
+second_of : (a b : Bool) → (a && b) ≡ true → b ≡ true
+second_of true b is = is
+second_of false b is = absurd (cc)
+
+pub has_pages : (call : CallValue) (tag : Option Tag) (pages : List PageValue) (job : RetryJob) (line : LineValue) (name : List ℕ) (delivered : ℕ) → may_restore call pages ≡ true → name ≡ call.line
+    → BeginsWithLeft name pages delivered line → IsJobOf call tag pages job → HasPages job line
+has_pages call tag pages job line name delivered may same begins is = record {
+  pages = pages;
+  own = subst (λ (n : CallName). list_all (λ page. is_of page n) pages ≡ true) (sym is.name) (second_of (is_utf8 call.line) (list_all (λ page. is_of page (name_of call)) pages) may);
+  delivered = delivered;
+  begins = subst (λ (l : List ℕ). BeginsWithLeft l pages delivered line) (same ∙ ap (λ (n : CallName). n.line) (sym is.name)) begins;
+  numbers = is.numbers;
+}
+
+-- ---- the name of its line
+
+none_so : (line : List ℕ) (b : Bool) → is_utf8 line ≡ b → (IsUtf8 line → ⊥) → b ≡ false
+none_so line true is none = absurd (none (IsUtf8-from_is_utf8 line is))
+none_so line false is none = refl
+
+both_off : (a : Bool) → (a && false) ≡ false
+both_off true = refl
+both_off false = refl
+
+pub name_so : (call : CallValue) (pages : List PageValue) (own : Bool) → own ≡ list_all (λ page. is_of page (name_of call)) pages → own ≡ true → IsUtf8 call.line → may_restore call pages ≡ true
+name_so call pages own are so text = ap (λ (b : Bool). b && list_all (λ page. is_of page (name_of call)) pages) (is_utf8-from_IsUtf8 call.line text) ∙ sym are ∙ so
+
+pub no_name : (call : CallValue) (pages : List PageValue) → (IsUtf8 call.line → ⊥) → may_restore call pages ≡ false
+no_name call pages none = ap (λ (b : Bool). b && list_all (λ page. is_of page (name_of call)) pages) (none_so call.line (is_utf8 call.line) refl none)
+
+pub not_own : (call : CallValue) (pages : List PageValue) (own : Bool) → own ≡ list_all (λ page. is_of page (name_of call)) pages → own ≡ false → may_restore call pages ≡ false
+not_own call pages own are un = ap (λ (b : Bool). is_utf8 call.line && b) (sym are ∙ un) ∙ both_off (is_utf8 call.line)
+
+-- ---- no try, for want of memory
+
+pub no_memory : {T : Type 0} (may : Bool) (answer : Result T BeginFault) (fault : BeginFault) → may ≡ true → answer ≡ Err fault → fault ≡ faults.NoMemory → RestoresUnless may answer
+no_memory {T} true answer fault so is none = subst (λ (r : Result T BeginFault). RestoresUnless true r) (sym is) none
+no_memory false answer fault so is none = absurd (cc)
