@@ -1,11 +1,11 @@
 -- What a try begins with. (This project's profile.)
-use Rattle.std.specs.Prelude.{◌≡◌, ℕ, ◌&&◌, Bool, true, false, List, Option, Result, Ok, Err, drop, map}
+use Rattle.std.specs.Prelude.{◌≡◌, ◌⊎◌, ℕ, ◌&&◌, Bool, true, false, List, [], Option, Result, Ok, Err, drop, map}
 use Rattle.std.specs.List.{list_all}
 use Rattle.std.specs.Str.{is_utf8}
 use Rattle.fax_desk.specs.declared.tag.Tag.{Tag}
 use Rattle.fax_gateway.specs.Restored.{call_shown}
 use Rattle.fax_line.specs.Actions.{BeginsWith, LineValue}
-use Rattle.fax_queue.specs.Restorations.{Restores}
+use Rattle.fax_queue.specs.Restorations.{MeansNone, Restores}
 use Rattle.fax_queue.specs.declared.restored.RestoredLine.{RestoredLine}
 use Rattle.fax_redial.specs.declared.fault.BeginFault.{BeginFault}
 use Rattle.fax_redial.specs.declared.fault.BeginFault.TheVariants as faults
@@ -13,12 +13,14 @@ use Rattle.fax_redial.specs.declared.job.RetryJob.{RetryJob}
 use Rattle.fax_spool.specs.RecordOctets.{PageValue}
 use Rattle.fax_spool.specs.Torn.{is_of}
 use Rattle.fax_undelivered.specs.Calls.{CallValue, name_of, number_of}
+use Rattle.fax_undelivered.specs.Dropped.{IsIn}
 
--- A TRY SENDS WHAT WAITS OF ITS JOB, from the first page on that was not delivered: its line is restored with these pages alone, of which so
--- many were delivered by tries before.
+-- A TRY SENDS WHAT WAITS OF ITS JOB, from the first page on that was not delivered: its line is restored with all of these pages, and with
+-- nothing else, but for so many that were delivered by tries before; none is set aside.
 pub record BeginsWithLeft (name : List ℕ) (pages : List PageValue) (delivered : ℕ) (line : LineValue) : Type 0 where
   pub restored : RestoredLine
   pub restores : Restores name (drop delivered pages) restored
+  pub none_aside : restored.queue.aside ≡ []
   pub begins : BeginsWith (map call_shown restored.calls.items) line
 
 -- THE NUMBERS OF A TRY are those of the pages of its call that waited as it began: of those that its line was restored with, and before them
@@ -51,8 +53,16 @@ pub record IsTryOf (call : CallValue) (tag : Option Tag) (pages : List PageValue
 abbrev pub may_restore : CallValue → List PageValue → Bool
 may_restore call pages = is_utf8 call.line && list_all (λ page. is_of page (name_of call)) pages
 
--- else it is none, and so for want of memory
-abbrev pub RestoresUnless : {T : Type 0} → (may : Bool) → Result T BeginFault → Type 0
-RestoresUnless may (Ok restored) = may ≡ true
-RestoresUnless true (Err fault) = fault ≡ faults.NoMemory
-RestoresUnless false (Err fault) = fault ≡ faults.NoPage
+-- the text of one of these pages means none
+abbrev pub LacksOne : List PageValue → Type 0
+LacksOne pages = (page : PageValue) × IsIn page pages × MeansNone page
+
+-- why no line is restored with these pages
+abbrev pub IsFaultOf : (left : List PageValue) → BeginFault → Type 0
+IsFaultOf left fault = (fault ≡ faults.NoMemory) ⊎ ((fault ≡ faults.NoPage) × LacksOne left)
+
+-- Else there is no try; nor where it would lack one of the pages that are left, or for want of memory.
+abbrev pub RestoresUnless : {T : Type 0} → (may : Bool) → (left : List PageValue) → Result T BeginFault → Type 0
+RestoresUnless may left (Ok restored) = may ≡ true
+RestoresUnless true left (Err fault) = IsFaultOf left fault
+RestoresUnless false left (Err fault) = fault ≡ faults.NoPage

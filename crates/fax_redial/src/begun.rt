@@ -1,8 +1,8 @@
 //! What a try begins with.
-ghost use Rattle.std.specs.Prelude.{◌≡◌, false, true, IfOk, MatchOption, length, map};
+ghost use Rattle.std.specs.Prelude.{◌≡◌, false, true, IfErr, IfOk, MatchOption, drop, length, map, nat_eq, not};
 ghost use Rattle.std.specs.List.{list_all};
 ghost use Rattle.fax_gateway.specs.Setups.{AreAllowed};
-ghost use Rattle.fax_redial.specs.Begun.{BeginsWithLeft, IsJobOf, IsTryOf, RestoresUnless, may_restore};
+ghost use Rattle.fax_redial.specs.Begun.{BeginsWithLeft, IsFaultOf, IsJobOf, IsTryOf, RestoresUnless, may_restore};
 ghost use Rattle.fax_spool.specs.Torn.{is_of};
 ghost use Rattle.fax_undelivered.specs.Calls.{name_of, number_of};
 
@@ -14,7 +14,7 @@ use fax_gateway::Settings;
 use fax_holding_wire::HoldingWire;
 use fax_line::Line;
 use fax_queue::laws::whole_lines_are_restored;
-use fax_queue::{RestoredLine, restore_line};
+use fax_queue::{Queue, RestoredLine, restore_line};
 use fax_repeat::TimedWire;
 use fax_spool::{CallName, WaitingPage};
 use fax_undelivered::UndeliveredCall;
@@ -55,8 +55,8 @@ impl<W: TimedWire + Drop> RestoredTry<W> {
     }
 }
 
-/// A try of the job of this call, which had this tag, and of which these pages wait. A page whose text means none is left out. `NoPage`: a
-/// page is of another call, or the name of the line is no text.
+/// A try of the job of this call, which had this tag, and of which these pages wait. `NoPage`: a page is of another call, the text of one that
+/// it would send means none, or the name of the line is no text.
 pub fn restore_try<W: TimedWire + Drop>(
     alloc: Global,
     settings: Settings,
@@ -66,7 +66,7 @@ pub fn restore_try<W: TimedWire + Drop>(
     wire: HoldingWire<W>,
 ) -> Result<RestoredTry<W>, BeginFault>
     requires { AreAllowed settings }
-    ensures answer { RestoresUnless (may_restore call.now pages.now) result }
+    ensures answer { RestoresUnless (may_restore call.now pages.now) (drop call.now.card.delivered pages.now) result }
     ensures restored { IfOk result (λ restored. IsTryOf call.now tag pages.now restored) }
     ensures settings { IfOk result (λ restored. restored.line.gateway.settings ≡ settings) }
 {
@@ -108,7 +108,7 @@ fn is_of(call: &UndeliveredCall, page: &WaitingPage) -> bool
 }
 
 /// The line of a try of a job: restored with these pages of the line of this name, but for so many from the first on that were delivered, and
-/// with nothing else. A page whose text means none is left out.
+/// with nothing else. `NoPage`: the text of one means none.
 fn line_of_job<W: TimedWire + Drop>(
     alloc: Global,
     settings: Settings,
@@ -116,15 +116,26 @@ fn line_of_job<W: TimedWire + Drop>(
     pages: &[WaitingPage],
     delivered: u32,
     wire: HoldingWire<W>,
-) -> Result<Line<HoldingWire<W>>, NoMemory>
+) -> Result<Line<HoldingWire<W>>, BeginFault>
     requires { AreAllowed settings }
     ensures begins { IfOk result (λ line. BeginsWithLeft name.now pages.now delivered line) }
+    ensures fault { IfErr result (λ fault. IsFaultOf (drop delivered pages.now) fault) }
     ensures settings { IfOk result (λ line. line.gateway.settings ≡ settings) }
 {
     let first = (delivered as usize).min(pages.len());
     whole_lines_are_restored();
-    let RestoredLine { calls, queue: _ } = restore_line(alloc, name, &pages[first..], &[])?;
-    Line::restore(alloc, settings, calls, wire)
+    let RestoredLine { calls, queue } = restore_line(alloc, name, &pages[first..], &[])?;
+    if lacks_page(&queue) {
+        return Err(BeginFault::NoPage);
+    }
+    Ok(Line::restore(alloc, settings, calls, wire)?)
+}
+
+/// Whether a page was set aside, since its text means none.
+fn lacks_page(queue: &Queue) -> bool
+    ensures { result ≡ not (nat_eq (length queue.now.aside) 0) }
+{
+    !queue.aside().is_empty()
 }
 
 /// The job of a call, which had this tag, and of which these pages wait.
