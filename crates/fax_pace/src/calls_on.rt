@@ -35,7 +35,7 @@ pub(crate) fn calls_if<L: SeenLines>(
 }
 
 /// Whether a call of this number is on on the line of this name, one of those with these queues, where these calls are on, or may be on,
-/// where they are not known. Then more of its pages may come, which a try of those before would not send, and the end of that would drop.
+/// where they are not known. Then more of its pages may come, which a try of those before would not send: the fax would go out in two calls.
 pub(crate) fn is_on(on: Option<&Vec<CallOn>>, queues: &[Queue], line: &[u8], call: u32) -> bool {
     match on {
         Some(on) => on

@@ -308,6 +308,7 @@ impl<R: RedialSide + Drop> Retries<R> {
         if let Ok(name) = name_at(self.alloc, kept.calls(), k) {
             self.redials.keep_end(RetryEnd {
                 name,
+                numbers: Vec::new(self.alloc),
                 delivered: 0,
                 outcome: Outcome::NotPlaced,
                 cause: None,

@@ -7,6 +7,7 @@ use Rattle.fax_gateway.specs.Restored.{RestoredCall}
 use Rattle.fax_line.specs.Actions.{BeginsWith}
 use Rattle.fax_line.specs.Runs.{DoneOrder}
 use Rattle.fax_redial.specs.Befalls.{AreApart, Asked, Befall, Befell, Begun, Ended, IsBefallen, Tries, Turned, fault_at, is_under_way}
+use Rattle.fax_redial.specs.Begun.{HasPages}
 use Rattle.fax_redial.specs.Laws.{AreIdle, AreNotOwed, Beginning, HasBegun, begun_on, one_if, times_begun, times_ended, times_on}
 use Rattle.fax_redial.specs.Totals.{end_if}
 use Rattle.fax_redial.specs.Tries.{GoesOn, IsTried, TryValue, is_of, same_name}
@@ -127,8 +128,8 @@ HaveBegun befell tries = (i : ℕ) (held : TryValue) → slice_get tries i ≡ S
 
 begun_goes : (begun : Option Beginning) (more : List DoneOrder) (old new : TryValue) → new.job ≡ old.job → GoesOn more old new → HasBegun begun old → HasBegun begun new
 begun_goes None more old new job goes has = has
-begun_goes (Some begun) more old new job goes (is, tried) =
-    (job ∙ is, λ (calls : List RestoredCall) (begins : BeginsWith calls begun.line). let t = tried calls begins in (more ++ t.0, goes.goes calls t.0 t.1))
+begun_goes (Some begun) more old new job goes (is, pages, tried) =
+    (job ∙ is, pages, λ (calls : List RestoredCall) (begins : BeginsWith calls begun.line). let t = tried calls begins in (more ++ t.0, goes.goes calls t.0 t.1))
 
 -- of the line that went on, and of another one
 goes_at : (tries : Tries) (k : ℕ) (held next : TryValue) (befell : List Befall) (more : List DoneOrder) → slice_get tries k ≡ Some (Some held) → next.job ≡ held.job → GoesOn more held next → HaveBegun befell tries
@@ -140,14 +141,14 @@ goes_at tries k held next befell more there job goes have i now true same at =
     (begun_goes (begun_on i befell) more held next job goes (have i held (subst (λ (m : ℕ). slice_get tries m ≡ Some (Some held)) (eqb-true k i same) there)))
 goes_at tries k held next befell more there job goes have i now false other at = have i now (set_was tries k i (Some next) (Some now) other at)
 
-begins_at : (tries : Tries) (k : ℕ) (held : TryValue) (begun : Beginning) (befell : List Befall) → slice_get tries k ≡ Some None → held.job ≡ begun.job
+begins_at : (tries : Tries) (k : ℕ) (held : TryValue) (begun : Beginning) (befell : List Befall) → slice_get tries k ≡ Some None → held.job ≡ begun.job → HasPages begun.job begun.line
     → ((calls : List RestoredCall) → BeginsWith calls begun.line → IsTried calls [] held) → HaveBegun befell tries
     → (i : ℕ) (now : TryValue) (b : Bool) → nat_eq k i ≡ b → slice_get (slice_set tries k (Some held)) i ≡ Some (Some now) → HasBegun (if b then Some begun else begun_on i befell) now
-begins_at tries k held begun befell free job tried have i now true same at =
+begins_at tries k held begun befell free job pages tried have i now true same at =
     let is : Some held ≡ Some now = set_is tries k i (Some held) None (Some now) free same at in
     let n : held ≡ now = (cc) in
-    subst (λ (t : TryValue). HasBegun (Some begun) t) n (job, λ (calls : List RestoredCall) (begins : BeginsWith calls begun.line). ([], tried calls begins))
-begins_at tries k held begun befell free job tried have i now false other at = have i now (set_was tries k i (Some held) (Some now) other at)
+    subst (λ (t : TryValue). HasBegun (Some begun) t) n (job, pages, λ (calls : List RestoredCall) (begins : BeginsWith calls begun.line). ([], tried calls begins))
+begins_at tries k held begun befell free job pages tried have i now false other at = have i now (set_was tries k i (Some held) (Some now) other at)
 
 ends_at : (tries : Tries) (k : ℕ) (held : TryValue) (befell : List Befall) → slice_get tries k ≡ Some (Some held) → HaveBegun befell tries
     → (i : ℕ) (now : TryValue) (b : Bool) → nat_eq k i ≡ b → slice_get (slice_set tries k None) i ≡ Some (Some now) → HasBegun (begun_on i befell) now
@@ -161,7 +162,7 @@ begun_by : (befall : Befall) (earlier : List Befall) (old new : Tries) → HaveB
 begun_by (Begun k queues job line) earlier old new have is =
     let begun : Beginning = record { job = job; line = line } in
     have_same (Begun k queues job line ∷ earlier) (slice_set old k (Some is.held)) new is.tries
-    (λ i now at. begins_at old k is.held begun earlier is.free is.begins.job is.begins.tried have i now (nat_eq k i) refl at)
+    (λ i now at. begins_at old k is.held begun earlier is.free is.begins.job is.begins.pages is.begins.tried have i now (nat_eq k i) refl at)
 begun_by (Turned k moment cause) earlier old new have is =
     have_same (Turned k moment cause ∷ earlier) (slice_set old k (Some is.next)) new is.tries
     (λ i now at. goes_at old k is.held is.next earlier _ is.there is.turns.job is.turns.goes have i now (nat_eq k i) refl at)
@@ -210,9 +211,9 @@ idle_on name (x ∷ xs) idle =
     let is : x ≡ None = All-head (λ (h : Option TryValue). h ≡ None) x xs idle in
     subst (λ (h : Option TryValue). one_if (is_of name h) (times_on name xs) ≡ 0) (sym is) (idle_on name xs (All-tail (λ (h : Option TryValue). h ≡ None) x xs idle))
 
-end_name : (name : CallName) (delivered : ℕ) (failed : Option FailedTry) → (end_if name delivered failed).name ≡ name
-end_name name delivered None = refl
-end_name name delivered (Some failed) = refl
+pub end_name : (job : RetryJob) (delivered : ℕ) (failed : Option FailedTry) → (end_if job delivered failed).name ≡ job.name
+end_name job delivered None = refl
+end_name job delivered (Some failed) = refl
 
 abbrev IsCounted : CallName → List Befall → Tries → Type 0
 IsCounted name befell tries = times_begun name befell ≡ times_ended name befell + times_on name tries
@@ -231,7 +232,7 @@ counted_by name (Turned k moment cause) earlier old new counted is =
 counted_by name (Asked k moment what answer) earlier old new counted is =
     counted ∙ ap (λ (n : ℕ). times_ended name earlier + n) (sym (ap (times_on name) is.tries ∙ goes_on name old k is.held is.next is.there is.asked.job))
 counted_by name (Ended k end) earlier old new counted is =
-    let named : end.name ≡ is.held.job.name = ap (λ (e : RetryEnd). e.name) is.end_is ∙ end_name is.held.job.name is.held.total.delivered is.held.total.failed in
+    let named : end.name ≡ is.held.job.name = ap (λ (e : RetryEnd). e.name) is.end_is ∙ end_name is.held.job is.held.total.delivered is.held.total.failed in
     less_on (same_name end.name name) (times_ended name earlier) (times_on name old) (times_on name new) (times_begun name earlier)
     (ap (λ (m : CallName). one_if (same_name m name) (times_on name new)) named ∙ ap (λ (t : Tries). one_if (is_of name (Some is.held)) (times_on name t)) is.tries ∙ on_set name old k None (Some is.held) is.there) counted
 

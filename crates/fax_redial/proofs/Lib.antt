@@ -1,3 +1,4 @@
+pub mod Arriving
 pub mod Befalling
 pub mod Counting
 pub mod Noted

@@ -1,8 +1,8 @@
 -- What is noted of a try that ended.
-use Rattle.std.proofs.Common.{◌≡◌, ℕ, Bool, true, false, [], ◌∷◌, ◌++◌, List, Some, Result, Ok, Err, OnErr, sym, ◌∙◌, ap, subst}
+use Rattle.std.proofs.Common.{◌≡◌, ℕ, Bool, true, false, [], ◌∷◌, ◌++◌, List, Option, Some, None, MatchOption, Result, Ok, Err, OnErr, refl, sym, ◌∙◌, ap, subst}
 use Rattle.std.specs.Bool.{MatchBool}
 use Rattle.std.specs.List.{list_any}
-use Rattle.fax_redial.specs.Noting.{IsOneTryMore, MayPutCard, NotesDelivered, NotesFailed, card_named}
+use Rattle.fax_redial.specs.Noting.{EndsCall, MayEndCall, MayPutCard, NotesDelivered, PutsCardIf, card_named, counted, missed_by}
 use Rattle.fax_redial.specs.declared.job.RetryEnd.{RetryEnd}
 use Rattle.fax_spool.specs.Calls.{Does, Ends, Puts}
 use Rattle.fax_spool.specs.RecordOctets.{PageValue}
@@ -15,37 +15,45 @@ use Rattle.fax_undelivered.specs.Cards.{CardValue, card_page, unknown}
 use Rattle.fax_undelivered.specs.Keeps.{Keeps, KeepsStill}
 use Rattle.fax_undelivered.specs.declared.undelivered.Undelivered.{Undelivered}
 
--- one card more of a call of this name
-abbrev pub PutsCard : {D : Type 0} → (D → List ℕ) → (D → List ℕ → Type 0) → (D → Bool) → CallName → CardValue → (was : Bool) → (old new : Undelivered D) → Type 0
-PutsCard seen may_leave is_usable name card was old new =
+-- this card was put of a call of this name
+abbrev pub IsPut : {D : Type 0} → (D → List ℕ) → (D → List ℕ → Type 0) → (D → Bool) → CallName → CardValue → (was : Bool) → (old new : Undelivered D) → Type 0
+IsPut seen may_leave is_usable name card was old new =
     (list_any (is_named name) old.calls.items ≡ was)
     × MatchBool was
     ((tag : List ℕ) × ((waits : List PageValue) → Keeps seen may_leave is_usable old waits → Keeps seen may_leave is_usable new (waits ++ card_page name tag card ∷ [])))
     (new ≡ old)
 
-failed_so : {D : Type 0} (seen : D → List ℕ) (may_leave : D → List ℕ → Type 0) (is_usable : D → Bool) (end : RetryEnd) (at : ℕ) (card : CardValue) (was : Bool) (old new : Undelivered D)
-    → (before : CardValue) → card_named end.name old.calls.items ≡ Some before → IsOneTryMore before end at card
-    → PutsCard seen may_leave is_usable end.name card was old new → NotesFailed seen may_leave is_usable end at was old new
-failed_so seen may_leave is_usable end at card true old new before found next (was, put) =
+put_so : {D : Type 0} (seen : D → List ℕ) (may_leave : D → List ℕ → Type 0) (is_usable : D → Bool) (name : CallName) (comes_next : CardValue → CardValue → Type 0) (before card : CardValue) (was : Bool) (old new : Undelivered D)
+    → card_named name old.calls.items ≡ Some before → comes_next before card → IsPut seen may_leave is_usable name card was old new → PutsCardIf seen may_leave is_usable name comes_next was old new
+put_so seen may_leave is_usable name comes_next before card true old new found next (was, put) =
     (was, record { before = before; was = found; card = card; is_next = next; tag = put.0; keeps = put.1 })
-failed_so seen may_leave is_usable end at card false old new before found next (was, same) = (was, same)
+put_so seen may_leave is_usable name comes_next before card false old new found next (was, same) = (was, same)
 
-pub notes_failed : {D : Type 0} (seen : D → List ℕ) (may_leave : D → List ℕ → Type 0) (is_usable : D → Bool) (end : RetryEnd) (at : ℕ) (card : CardValue) (name : CallName) (calls : List CallValue) (was : Bool)
-    (old new : Undelivered D) → name ≡ end.name → calls ≡ old.calls.items → ((before : CardValue) × (card_named end.name calls ≡ Some before) × IsOneTryMore before end at card)
-    → PutsCard seen may_leave is_usable name card was old new → NotesFailed seen may_leave is_usable end at was old new
-notes_failed {D} seen may_leave is_usable end at card name calls was old new same listed (before, found, next) puts =
-    failed_so seen may_leave is_usable end at card was old new before (sym (ap (λ (l : List CallValue). card_named end.name l) listed) ∙ found) next
-    (subst (λ (n : CallName). PutsCard {D = D} seen may_leave is_usable n card was old new) same puts)
+pub puts_card : {D : Type 0} (seen : D → List ℕ) (may_leave : D → List ℕ → Type 0) (is_usable : D → Bool) (comes_next : CardValue → CardValue → Type 0) (before card : CardValue) (name called : CallName) (calls : List CallValue) (was : Bool)
+    (old new : Undelivered D) → name ≡ called → calls ≡ old.calls.items → card_named called calls ≡ Some before → comes_next before card
+    → IsPut seen may_leave is_usable name card was old new → PutsCardIf seen may_leave is_usable called comes_next was old new
+puts_card {D} seen may_leave is_usable comes_next before card name called calls was old new same listed found next puts =
+    put_so seen may_leave is_usable called comes_next before card was old new (sym (ap (λ (l : List CallValue). card_named called l) listed) ∙ found) next
+    (subst (λ (n : CallName). IsPut {D = D} seen may_leave is_usable n card was old new) same puts)
 
--- the pages of a call of this name wait no more
-abbrev pub EndsCall : {D : Type 0} → (D → List ℕ) → (D → List ℕ → Type 0) → (D → Bool) → CallName → (was : Bool) → (old new : Undelivered D) → Type 0
-EndsCall seen may_leave is_usable name was old new =
-    (list_any (is_named name) old.calls.items ≡ was)
-    × MatchBool was ((waits : List PageValue) → Keeps seen may_leave is_usable old waits → KeepsStill seen may_leave is_usable new (without (end_of name) waits)) (new ≡ old)
+-- ---- a job that was delivered
 
-pub notes_delivered : {D : Type 0} (seen : D → List ℕ) (may_leave : D → List ℕ → Type 0) (is_usable : D → Bool) (name called : CallName) (was : Bool) (old new : Undelivered D)
-    → name ≡ called → EndsCall seen may_leave is_usable name was old new → NotesDelivered seen may_leave is_usable called was old new
-notes_delivered {D} seen may_leave is_usable name called was old new same ends = subst (λ (n : CallName). EndsCall {D = D} seen may_leave is_usable n was old new) same ends
+-- the try had all pages of its call
+pub ends_delivered : {D : Type 0} (seen : D → List ℕ) (may_leave : D → List ℕ → Type 0) (is_usable : D → Bool) (end : RetryEnd) (name : CallName) (calls : List CallValue) (missed : Option ℕ) (was : Bool) (old new : Undelivered D)
+    → name ≡ end.name → calls ≡ old.calls.items → missed ≡ missed_by end calls → missed ≡ None → EndsCall seen may_leave is_usable name was old new → NotesDelivered seen may_leave is_usable end was old new
+ends_delivered {D} seen may_leave is_usable end name calls missed was old new same listed is none ends =
+    let all : None ≡ missed_by end old.calls.items = sym none ∙ is ∙ ap (λ (l : List CallValue). missed_by end l) listed in
+    subst (λ (o : Option ℕ). MatchOption o (EndsCall {D = D} seen may_leave is_usable end.name was old new) (λ place. PutsCardIf seen may_leave is_usable end.name (λ before card. card ≡ counted place before) was old new)) all
+    (subst (λ (n : CallName). EndsCall {D = D} seen may_leave is_usable n was old new) same ends)
+
+-- or this is the first that it had not
+pub counts_delivered : {D : Type 0} (seen : D → List ℕ) (may_leave : D → List ℕ → Type 0) (is_usable : D → Bool) (end : RetryEnd) (name : CallName) (calls : List CallValue) (missed : Option ℕ) (place : ℕ) (was : Bool) (old new : Undelivered D)
+    → name ≡ end.name → calls ≡ old.calls.items → missed ≡ missed_by end calls → missed ≡ Some place
+    → PutsCardIf seen may_leave is_usable name (λ before card. card ≡ counted place before) was old new → NotesDelivered seen may_leave is_usable end was old new
+counts_delivered {D} seen may_leave is_usable end name calls missed place was old new same listed is some puts =
+    let one : Some place ≡ missed_by end old.calls.items = sym some ∙ is ∙ ap (λ (l : List CallValue). missed_by end l) listed in
+    subst (λ (o : Option ℕ). MatchOption o (EndsCall {D = D} seen may_leave is_usable end.name was old new) (λ place. PutsCardIf seen may_leave is_usable end.name (λ before card. card ≡ counted place before) was old new)) one
+    (subst (λ (n : CallName). PutsCardIf {D = D} seen may_leave is_usable n (λ before card. card ≡ counted place before) was old new) same puts)
 
 -- ---- where that is no `Ok`
 
@@ -59,7 +67,20 @@ pub puts_none : {D T E : Type 0} (seen : D → List ℕ) (may_leave : D → List
 puts_none seen may_leave is_usable name (Ok it) old = tt
 puts_none seen may_leave is_usable name (Err e) old = (unknown, [], does_nothing seen may_leave is_usable old old (Puts (card_page name [] unknown ∷ [])))
 
-pub may_end : {D T E : Type 0} (seen : D → List ℕ) (may_leave : D → List ℕ → Type 0) (is_usable : D → Bool) (name called : CallName) (P : Type 0) (answer : Result T E) (old new : Spool D) → name ≡ called
-    → OnErr answer (Does seen may_leave is_usable (Ends (end_of name)) false old new) → OnErr answer (P → Does seen may_leave is_usable (Ends (end_of called)) false old new)
-may_end seen may_leave is_usable name called P (Ok it) old new same ends = tt
-may_end seen may_leave is_usable name called P (Err e) old new same ends = λ p. subst (λ (n : CallName). Does seen may_leave is_usable (Ends (end_of n)) false old new) same ends
+pub may_end : {D T E : Type 0} (seen : D → List ℕ) (may_leave : D → List ℕ → Type 0) (is_usable : D → Bool) (end : RetryEnd) (name : CallName) (listed calls : List CallValue) (missed : Option ℕ) (answer : Result T E) (old new : Spool D)
+    → name ≡ end.name → listed ≡ calls → missed ≡ missed_by end listed → missed ≡ None
+    → OnErr answer (Does seen may_leave is_usable (Ends (end_of name)) false old new) → OnErr answer (MayEndCall seen may_leave is_usable end calls old new)
+may_end seen may_leave is_usable end name listed calls missed (Ok it) old new same are is none ends = tt
+may_end seen may_leave is_usable end name listed calls missed (Err e) old new same are is none ends =
+    let all : None ≡ missed_by end calls = sym none ∙ is ∙ ap (λ (l : List CallValue). missed_by end l) are in
+    subst (λ (o : Option ℕ). MatchOption o (Does seen may_leave is_usable (Ends (end_of end.name)) false old new) (λ place. MayPutCard seen may_leave is_usable end.name old new)) all
+    (subst (λ (n : CallName). Does seen may_leave is_usable (Ends (end_of n)) false old new) same ends)
+
+pub may_count : {D T E : Type 0} (seen : D → List ℕ) (may_leave : D → List ℕ → Type 0) (is_usable : D → Bool) (end : RetryEnd) (name : CallName) (listed calls : List CallValue) (missed : Option ℕ) (place : ℕ) (answer : Result T E) (old new : Spool D)
+    → name ≡ end.name → listed ≡ calls → missed ≡ missed_by end listed → missed ≡ Some place
+    → OnErr answer (MayPutCard seen may_leave is_usable name old new) → OnErr answer (MayEndCall seen may_leave is_usable end calls old new)
+may_count seen may_leave is_usable end name listed calls missed place (Ok it) old new same are is some put = tt
+may_count seen may_leave is_usable end name listed calls missed place (Err e) old new same are is some put =
+    let one : Some place ≡ missed_by end calls = sym some ∙ is ∙ ap (λ (l : List CallValue). missed_by end l) are in
+    subst (λ (o : Option ℕ). MatchOption o (Does seen may_leave is_usable (Ends (end_of end.name)) false old new) (λ place. MayPutCard seen may_leave is_usable end.name old new)) one
+    (subst (λ (n : CallName). MayPutCard seen may_leave is_usable n old new) same put)

@@ -4,11 +4,12 @@ use Rattle.std.proofs.lemmas.List.{drop_all, take_all}
 use Rattle.std.proofs.lemmas.List.Quantifiers.{position-Some}
 use Rattle.std.proofs.lemmas.Option.{slice_get-get_or}
 use Rattle.fax_desk.specs.declared.questions.Cause.{Cause}
+use Rattle.fax_desk.specs.declared.told.Turn.{Turn}
 use Rattle.fax_line.specs.declared.asked.LineAnswer.{LineAnswer}
 use Rattle.fax_line.specs.declared.asked.LineRequest.{LineRequest}
 use Rattle.fax_redial.specs.Befalls.{EndsAt, Tries, is_over_if}
-use Rattle.fax_redial.specs.Telling.{TurnsIf, TurnsOne, told_if_held, told_on}
-use Rattle.fax_redial.specs.Tries.{TryValue, end_of}
+use Rattle.fax_redial.specs.Telling.{TurnsIf, TurnsOne, told_if_held, told_of_try, told_on}
+use Rattle.fax_redial.specs.Tries.{IsAsked, TryValue, Turns, end_of}
 use Rattle.fax_redial.specs.Words.{AsksAt, AsksOne}
 use Rattle.fax_redial.specs.declared.job.RetryEnd.{RetryEnd}
 
@@ -22,6 +23,16 @@ get_set : {X : Type 0} (xs : List X) (i : ℕ) (v x : X) → slice_get xs i ≡ 
 get_set [] i v x is = (cc)
 get_set (y ∷ ys) zero v x is = refl
 get_set (y ∷ ys) (suc i) v x is = get_set ys i v x is
+
+-- where there is a try
+pub asks_some : (now : ℕ) (what : LineRequest) (answer : Option LineAnswer) (old : Option TryValue) (held next : TryValue) → old ≡ Some held → IsAsked now what answer held next → AsksOne now what old answer (Some next)
+asks_some now what answer old held next is asked = subst (λ (o : Option TryValue). AsksOne now what o answer (Some next)) (sym is) (next, refl, asked)
+
+pub turns_some : (now : ℕ) (cause : Option Cause) (old : Option TryValue) (held next : TryValue) → old ≡ Some held → Turns now cause held next → TurnsOne now cause old (Some next)
+turns_some now cause old held next is turns = subst (λ (o : Option TryValue). TurnsOne now cause o (Some next)) (sym is) (next, refl, turns)
+
+pub told_some : (old : Option TryValue) (held next : TryValue) (told : Option Turn) → old ≡ Some held → told ≡ told_of_try held (Some next) → told ≡ told_if_held old (Some next)
+told_some old held next told is so = subst (λ (o : Option TryValue). told ≡ told_if_held o (Some next)) (sym is) so
 
 -- something is asked of the try on a line
 asks_there : (now : ℕ) (what : LineRequest) (answer : Option LineAnswer) (tries : Tries) (i : ℕ) (old new : Option TryValue) → slice_get tries i ≡ Some old → AsksOne now what old answer new

@@ -6,6 +6,7 @@ use Rattle.fax_gateway.specs.Restored.{RestoredCall}
 use Rattle.fax_line.specs.Actions.{BeginsWith, LineValue}
 use Rattle.fax_line.specs.Runs.{DoneOrder}
 use Rattle.fax_redial.specs.Befalls.{AreApart, Asked, Befall, Befell, Begun, Ended, Tries, Turned}
+use Rattle.fax_redial.specs.Begun.{HasPages}
 use Rattle.fax_redial.specs.Owing.{is_owed}
 use Rattle.fax_redial.specs.Tries.{IsTried, TryValue, is_of, same_name}
 use Rattle.fax_redial.specs.declared.job.RetryJob.{RetryJob}
@@ -44,10 +45,11 @@ begun_on i (Turned k now cause ∷ earlier) = begun_on i earlier
 begun_on i (Asked k now what answer ∷ earlier) = begun_on i earlier
 begun_on i (Ended k end ∷ earlier) = begun_on i earlier
 
--- a try that began so is of that job, and went on from that line by itself, whatever that was restored with
+-- a try that began so is of that job, whose numbers are those of the pages that line was restored with, and went on from that by itself,
+-- whatever the calls of these pages are
 abbrev pub HasBegun : Option Beginning → TryValue → Type 0
 HasBegun None held = ⊥
-HasBegun (Some begun) held = (held.job ≡ begun.job) × ((calls : List RestoredCall) → BeginsWith calls begun.line → (done : List DoneOrder) × IsTried calls done held)
+HasBegun (Some begun) held = (held.job ≡ begun.job) × HasPages begun.job begun.line × ((calls : List RestoredCall) → BeginsWith calls begun.line → (done : List DoneOrder) × IsTried calls done held)
 
 -- EACH TRY SENDS WHAT ITS LINE WAS RESTORED WITH, as it began: it is of the job that began last on its redial line, and no other one's
 -- line is.

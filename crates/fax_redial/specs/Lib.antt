@@ -1,3 +1,4 @@
+pub mod Arriving
 pub mod Befalls
 pub mod Begun
 pub mod Laws

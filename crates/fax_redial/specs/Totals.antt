@@ -5,9 +5,9 @@ use Rattle.fax_jobs.specs.declared.outcome.Outcome.{Outcome}
 use Rattle.fax_jobs.specs.declared.outcome.Outcome.TheVariants.{Delivered, FineLacking, HungUp, NoAnswer, NoReply, NotPlaced, NotReceiver, PageRefused, RatesSpent, WidthLacking}
 use Rattle.fax_jobs.specs.declared.report.Report.{Report}
 use Rattle.fax_redial.specs.declared.job.RetryEnd.{RetryEnd}
+use Rattle.fax_redial.specs.declared.job.RetryJob.{RetryJob}
 use Rattle.fax_redial.specs.declared.total.FailedTry.{FailedTry}
 use Rattle.fax_redial.specs.declared.total.TryTotal.{TryTotal}
-use Rattle.fax_spool.specs.Torn.{CallName}
 
 abbrev pub no_total : TryTotal
 no_total = record { delivered = 0; failed = None }
@@ -36,7 +36,7 @@ abbrev pub total_if : Option Report → Option Cause → TryTotal → TryTotal
 total_if None cause before = before
 total_if (Some report) cause before = total_after report cause before
 
--- HOW A TRY ENDED, by what its reports came to
-abbrev pub end_if : CallName → ℕ → Option FailedTry → RetryEnd
-end_if name delivered None = record { name = name; delivered = delivered; outcome = Delivered; cause = None }
-end_if name delivered (Some failed) = record { name = name; delivered = delivered; outcome = failed.outcome; cause = failed.cause }
+-- HOW A TRY OF A JOB ENDED, by what its reports came to
+abbrev pub end_if : RetryJob → ℕ → Option FailedTry → RetryEnd
+end_if job delivered None = record { name = job.name; numbers = job.numbers; delivered = delivered; outcome = Delivered; cause = None }
+end_if job delivered (Some failed) = record { name = job.name; numbers = job.numbers; delivered = delivered; outcome = failed.outcome; cause = failed.cause }

@@ -12,6 +12,7 @@ use Rattle.fax_line.specs.Runs.{AskedOf, DoneOrder, Turned, Woken, latest, next_
 use Rattle.fax_line.specs.StoredRuns.{RanWithout}
 use Rattle.fax_line.specs.declared.asked.LineAnswer.{LineAnswer}
 use Rattle.fax_line.specs.declared.asked.LineRequest.{LineRequest}
+use Rattle.fax_redial.specs.Begun.{HasPages}
 use Rattle.fax_redial.specs.Totals.{end_if, no_total, total_if}
 use Rattle.fax_redial.specs.declared.job.RetryEnd.{RetryEnd}
 use Rattle.fax_redial.specs.declared.job.RetryJob.{RetryJob}
@@ -44,6 +45,7 @@ pub record GoesOn (more : List DoneOrder) (old new : TryValue) : Type 0 where
 pub record Begins (begun : RetryJob) (line : LineValue) (new : TryValue) : Type 0 where
   pub job : new.job ≡ begun
   pub total : new.total ≡ no_total
+  pub pages : HasPages begun line
   pub tried : (calls : List RestoredCall) → BeginsWith calls line → IsTried calls [] new
 
 -- ---- it has a turn: in that of slot 0 its line tells something
@@ -90,7 +92,7 @@ abbrev pub is_over : TryValue → Bool
 is_over held = over_if (slice_get held.lines.lines 0)
 
 abbrev pub end_of : TryValue → RetryEnd
-end_of held = end_if held.job.name held.total.delivered held.total.failed
+end_of held = end_if held.job held.total.delivered held.total.failed
 
 -- ---- which job it is of
 

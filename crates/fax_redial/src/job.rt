@@ -12,6 +12,9 @@ pub struct RetryJob {
     pub tag: Option<Tag>,
     /// How often it was tried before.
     pub tries: u32,
+    /// The numbers of the pages of that call that waited as the try began: of those that it sends, and before them of those that other tries
+    /// delivered.
+    pub numbers: Vec<u32>,
 }
 
 /// How a try ended.
@@ -19,6 +22,8 @@ pub struct RetryJob {
 pub struct RetryEnd {
     /// The call that the pages of its job came in.
     pub name: CallName,
+    /// The numbers of the pages of that call that waited as the try began.
+    pub numbers: Vec<u32>,
     /// How many of its pages, from the first on, the called machine confirmed.
     pub delivered: u32,
     /// `Delivered`: all of them.

@@ -5,6 +5,7 @@ ghost use Rattle.fax_line.specs.Runs.{Turned, Woken};
 ghost use Rattle.fax_redial.specs.Tries.{Begins, GoesOn, IsAsked, end_of, is_over, same_name, told_by, turned_of};
 ghost use Rattle.fax_redial.specs.Totals.{end_if, total_if};
 
+use crate::begun::RestoredTry;
 use crate::job::{RetryEnd, RetryJob};
 use crate::total::TryTotal;
 use fax_bits::NoMemory;
@@ -37,11 +38,12 @@ impl<W: TimedWire + Drop> Model for JobTry<W> {
 }
 
 impl<W: TimedWire + Drop> JobTry<W> {
-    /// A try of this job, by a line that was restored with its pages. It takes memory for a buffer.
-    pub fn new(alloc: Global, line: Line<HoldingWire<W>>, job: RetryJob) -> Result<Self, NoMemory>
-        ensures { IfOk result (λ held. Begins job line held) }
+    /// A try begins, of a job whose line was restored with its pages. It takes memory for a buffer.
+    pub fn new(alloc: Global, restored: RestoredTry<W>) -> Result<Self, NoMemory>
+        ensures { IfOk result (λ held. Begins restored.job restored.line held) }
     {
         let mut lines = Lines::new(alloc)?;
+        let RestoredTry { line, job } = restored;
         lines.add(line)?;
         Ok(JobTry {
             job,
@@ -136,20 +138,27 @@ impl<W: TimedWire + Drop> JobTry<W> {
         ensures { result ≡ end_of self }
     {
         let JobTry { job, total, .. } = self;
-        end_of(job.name, total)
+        end_of(job, total)
     }
 }
 
-/// How a try ended of the job of this name, whose reports came to this.
-fn end_of(name: CallName, total: TryTotal) -> RetryEnd
-    ensures { result ≡ end_if name total.delivered total.failed }
+/// How a try of this job ended, whose reports came to this.
+fn end_of(job: RetryJob, total: TryTotal) -> RetryEnd
+    ensures { result ≡ end_if job total.delivered total.failed }
 {
+    let RetryJob {
+        name,
+        tag: _,
+        tries: _,
+        numbers,
+    } = job;
     let (outcome, cause) = match total.failed {
         None => (Outcome::Delivered, None),
         Some(failed) => (failed.outcome, failed.cause),
     };
     RetryEnd {
         name,
+        numbers,
         delivered: total.delivered,
         outcome,
         cause,

@@ -2,9 +2,10 @@
 //! a line of its own, which is restored with the pages of one job alone, made anew and let go when that job has ended.
 //!
 //! When a job is tried again is told in `specs/Retrying`, which one is next in `specs/Picking`, and which one its own line owes in
-//! `specs/Owing`; what its line is restored with in `specs/Begun`; what a try is, and what becomes of it, in `specs/Tries` and
+//! `specs/Owing`; what a try begins with in `specs/Begun`; what a try is, and what becomes of it, in `specs/Tries` and
 //! `specs/Totals`; what is told of it, and what words come to, in `specs/Seeing`, `specs/Telling` and `specs/Words`; how its end is noted
-//! in `specs/Noting`; what befalls the tries of all redial lines, in `specs/Befalls`; and laws over all that befalls, in `specs/Laws`.
+//! in `specs/Noting`; what befalls the tries of all redial lines, in `specs/Befalls`; and laws over all that befalls, in `specs/Laws` and
+//! `specs/Arriving`.
 #![tactic(auto)]
 
 mod begun;
@@ -20,7 +21,7 @@ mod seeing;
 mod total;
 mod words;
 
-pub use begun::line_of_job;
+pub use begun::{RestoredTry, restore_try};
 pub use fault::BeginFault;
 pub use job::{RetryEnd, RetryJob};
 pub use job_try::JobTry;

@@ -6,6 +6,7 @@ ghost use Rattle.fax_redial.specs.Befalls.{BeginsAt, BeginsUnless, EndsAt, Turns
 ghost use Rattle.fax_redial.specs.Telling.{NotesIf, TurnsIf, TurnsOne, cause_on, told_if_held, told_of_try, told_on, turn_of};
 ghost use Rattle.fax_redial.specs.Tries.{Turns, is_of, report_of};
 
+use crate::begun::RestoredTry;
 use crate::fault::BeginFault;
 use crate::job::{RetryEnd, RetryJob};
 use crate::job_try::JobTry;
@@ -14,9 +15,7 @@ use crate::seeing::first_of;
 use fax_bits::NoMemory;
 use fax_desk::{Card, Cause, Desk, Listener, Turn, tell_turn};
 use fax_gateway::TurnReport;
-use fax_holding_wire::HoldingWire;
 use fax_jobs::Report;
-use fax_line::Line;
 use fax_queue::Queue;
 use fax_repeat::TimedWire;
 use std::alloc::Global;
@@ -107,41 +106,35 @@ impl<W: TimedWire + Drop> Redials<W> {
     pub fn begin(
         &mut self,
         i: usize,
-        line: Line<HoldingWire<W>>,
-        job: RetryJob,
+        restored: RestoredTry<W>,
         queues: &[Queue],
     ) -> Result<(), BeginFault>
-        ensures answer { BeginsUnless (fault_of self.old.tries i queues.now job line) result }
-        ensures begun { OnOk result (BeginsAt i queues.now job line self.old.tries self.new.tries) }
+        ensures answer { BeginsUnless (fault_of self.old.tries i queues.now restored.job restored.line) result }
+        ensures begun { OnOk result (BeginsAt i queues.now restored.job restored.line self.old.tries self.new.tries) }
         ensures desk { self.new.desk ≡ self.old.desk }
         ensures err { OnErr result (self.new ≡ self.old) }
     {
-        if let Some(fault) = self.fault(i, &line, &job, queues) {
+        if let Some(fault) = self.fault(i, &restored, queues) {
             return Err(fault);
         }
-        let held = JobTry::new(self.alloc, line, job)?;
+        let held = JobTry::new(self.alloc, restored)?;
         self.tries[i] = Some(held);
         Ok(())
     }
 
     /// Why none begins, but for want of memory.
-    fn fault(
-        &self,
-        i: usize,
-        line: &Line<HoldingWire<W>>,
-        job: &RetryJob,
-        queues: &[Queue],
-    ) -> Option<BeginFault>
-        ensures { result ≡ fault_of self.now.tries i queues.now job.now line.now }
+    fn fault(&self, i: usize, restored: &RestoredTry<W>, queues: &[Queue]) -> Option<BeginFault>
+        ensures { result ≡ fault_of self.now.tries i queues.now restored.now.job restored.now.line }
     {
         match self.tries.get(i) {
             None => Some(BeginFault::NoLine),
             Some(Some(_)) => Some(BeginFault::Busy),
             Some(None) => {
+                let job = restored.job();
                 let name = &job.name;
                 let is_tried = self.is_under_way(name.line.as_slice(), name.life, name.call);
                 let owes = is_owed(queues, name.line.as_slice(), name.life, name.call);
-                fault_of_job(is_tried, owes, line.waiting())
+                fault_of_job(is_tried, owes, restored.waiting())
             }
         }
     }

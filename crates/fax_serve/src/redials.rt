@@ -10,11 +10,10 @@ use fax_desk::{LineState, LineView, Listener, Reply, Tag, View};
 use fax_gateway::{Leg, Settings};
 use fax_holding_wire::HoldingWire;
 use fax_legs::{LegSocket, LentSocket, UdpWire};
-use fax_line::Line;
 use fax_opening::ServeFault;
 use fax_pace::RedialSide;
 use fax_queue::Queue;
-use fax_redial::{BeginFault, Redials, RetryEnd, RetryJob, first_due, line_of_job};
+use fax_redial::{BeginFault, Redials, RestoredTry, RetryEnd, RetryJob, first_due, restore_try};
 use fax_repeat::{RepeatPolicy, RepeatingWire, TimedWire};
 use fax_spool::{CallName, WaitingPage};
 use fax_undelivered::UndeliveredCall;
@@ -163,25 +162,22 @@ impl<'a, W: TryWire<'a>> RedialLines<'a, W> {
         }
     }
 
-    /// The line of a try of a call on redial line i.
-    fn line_of(
+    /// A try of a call, of which these pages wait, for redial line i.
+    fn restored(
         &self,
         i: usize,
         call: &UndeliveredCall,
         pages: &[WaitingPage],
-    ) -> Result<Line<HoldingWire<W>>, BeginFault> {
+    ) -> Result<RestoredTry<W>, BeginFault> {
         let (Some(config), Some(socket)) = (self.configs.get(i), self.sockets.get(i)) else {
             return Err(BeginFault::NoLine);
-        };
-        let Ok(name) = std::str::from_utf8(call.line.as_slice()) else {
-            return Err(BeginFault::NoPage);
         };
         let Ok(wire) = W::over(config, socket) else {
             return Err(BeginFault::NoLine);
         };
         let wire = HoldingWire::new(self.alloc, wire);
-        let settings = settings_of(config);
-        Ok(line_of_job(self.alloc, settings, name, pages, call.card.delivered, wire)?)
+        let tag = tag_of(call.tag.as_slice());
+        restore_try(self.alloc, settings_of(config), call, tag, pages, wire)
     }
 }
 
@@ -267,9 +263,8 @@ impl<'a, W: TryWire<'a>> RedialSide for RedialLines<'a, W> {
         pages: &[WaitingPage],
         queues: &[Queue],
     ) -> Result<(), BeginFault> {
-        let job = job_of(self.alloc, call)?;
-        let line = self.line_of(i, call, pages)?;
-        self.redials.begin(i, line, job, queues)?;
+        let restored = self.restored(i, call, pages)?;
+        self.redials.begin(i, restored, queues)?;
         let _ = self.on.push(i);
         Ok(())
     }
@@ -346,19 +341,6 @@ fn copy_of(alloc: Global, name: &CallName) -> Result<CallName, AllocError> {
         life: name.life,
         call: name.call,
         line: name.line.as_slice().to_vec(alloc)?,
-    })
-}
-
-/// The job of a call.
-fn job_of(alloc: Global, call: &UndeliveredCall) -> Result<RetryJob, NoMemory> {
-    Ok(RetryJob {
-        name: CallName {
-            life: call.life,
-            call: call.call,
-            line: call.line.as_slice().to_vec(alloc)?,
-        },
-        tag: tag_of(call.tag.as_slice()),
-        tries: call.card.tries,
     })
 }
 

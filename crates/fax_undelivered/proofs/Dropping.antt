@@ -106,7 +106,7 @@ module _ (page : PageValue) (high : 2 ^ 32 - 1 ≤ page.number) where
 -- ---- all records
 
 -- the end of all of a call is that of its own records, but of those of no number
-ended_own : (name : CallName) (page : PageValue) → ends (end_of name) (name_of page) ≡ true → is_named name (begun_by page) ≡ true
+pub ended_own : (name : CallName) (page : PageValue) → ends (end_of name) (name_of page) ≡ true → is_named name (begun_by page) ≡ true
 ended_own name page is =
     let line : bytes_eq name.line page.line ≡ true → bytes_eq page.line name.line ≡ true = λ so. (bytes_eq-Decides page.line name.line).1 (sym ((bytes_eq-Decides name.line page.line).0 so)) in
     grind (arith, nat_tests, line)

@@ -1,5 +1,5 @@
 -- No page is dropped.
-use Rattle.std.proofs.Common.{◌≡◌, ◌⊎◌, ℕ, ◌≤◌, inl, inr, Bool, true, false, not, cond, List, [], ◌∷◌, ◌++◌, Option, Some, refl, sym, ◌∙◌, ap, subst, arith, append_assoc}
+use Rattle.std.proofs.Common.{◌≡◌, ◌⊎◌, ℕ, ◌<◌, ◌≤◌, inl, inr, Bool, true, false, not, cond, List, [], ◌∷◌, ◌++◌, Option, Some, refl, sym, ◌∙◌, ap, subst, arith, append_assoc}
 use Rattle.std.specs.List.{filter}
 use Rattle.std.proofs.lemmas.List.{append-nil}
 use Rattle.std.proofs.lemmas.Bool.Decides.{nat_tests}
@@ -19,6 +19,7 @@ use Rattle.fax_undelivered.specs.KeptEnds.{EndsKept, KeepsLeft, MayEnd, MayEndWi
 use Rattle.fax_undelivered.specs.Dropped.{AreKept, AreNotDelivered, Arrives, Befell, Comes, Discards, Ends, EndsAs, Event, FailedPutsLeaveJobs, Goes, IsIn, IsNotDropped, KeptEndsAreEvents, MayPut, NothingIsDropped, Pairs, Puts, Rests, put_in, with_if}
 use Rattle.fax_undelivered.specs.declared.undelivered.Undelivered.{Undelivered}
 use Rattle.fax_undelivered.proofs.Ending.{wait_still}
+use Rattle.fax_undelivered.proofs.Numbered.{ended_is_of, in_filter}
 
 -- ---- pages of a list
 
@@ -35,20 +36,6 @@ in_either : (page : PageValue) (a b : List PageValue) → IsIn page (a ++ b) →
 in_either page [] b is = inr is
 in_either page (p ∷ a) b (inl same) = inl (inl same)
 in_either page (p ∷ a) b (inr is) = elim (in_either page a b is) [ inl here ↦ inl (inr here) | inr there ↦ inr there ]
-
--- one that passes a test is left by it
-kept_here : (test : PageValue → Bool) (p page : PageValue) (pages : List PageValue) (b : Bool) → test p ≡ b → test page ≡ true → p ≡ page → IsIn page (cond b (p ∷ filter test pages) (filter test pages))
-kept_here test p page pages true is so same = inl same
-kept_here test p page pages false is so same = let wrong : true ≡ false = sym so ∙ sym (ap test same) ∙ is in absurd (cc)
-
-kept_there : (test : PageValue → Bool) (p page : PageValue) (pages : List PageValue) (b : Bool) → IsIn page (filter test pages) → IsIn page (cond b (p ∷ filter test pages) (filter test pages))
-kept_there test p page pages true is = inr is
-kept_there test p page pages false is = is
-
-in_filter : (test : PageValue → Bool) (page : PageValue) (pages : List PageValue) → test page ≡ true → IsIn page pages → IsIn page (filter test pages)
-in_filter test page [] so is = absurd is
-in_filter test page (p ∷ pages) so (inl same) = kept_here test p page pages (test p) refl so same
-in_filter test page (p ∷ pages) so (inr is) = kept_there test p page pages (test p) (in_filter test page pages so is)
 
 in_ended : (e : EndedValue) (page : PageValue) (pages : List PageValue) → ends e (name_of page) ≡ true → IsIn page pages → IsIn page (ended_by e pages)
 in_ended e page pages so is = in_filter (λ p. ends e (name_of p)) page pages so is
@@ -77,58 +64,59 @@ module _ (page : PageValue) (events : List Event) (old new : Pairs) where
   after_discard name goes is false un = inr (inl (moved page _ new.second goes.1 (in_without (end_of name) page old.second un is)))
   after_discard name goes is true so = inr (inr (inr (inl so)))
 
-  after_try : (name : CallName) → Goes (Arrives name) old new → IsIn page old.second → (b : Bool) → ends (end_of name) (name_of page) ≡ b → IsNotDropped page (Arrives name ∷ events) new
-  after_try name goes is false un = inr (inl (moved page _ new.second goes.1 (in_without (end_of name) page old.second un is)))
-  after_try name goes is true so = inr (inr (inl (inl so)))
+  after_try : (name : CallName) (numbers : List ℕ) → Goes (Arrives name numbers) old new → 0 < page.number → IsIn page old.second → (b : Bool) → ends (end_of name) (name_of page) ≡ b
+      → IsNotDropped page (Arrives name numbers ∷ events) new
+  after_try name numbers goes some is false un = inr (inl (moved page _ new.second goes.1 (in_without (end_of name) page old.second un is)))
+  after_try name numbers goes some is true so = inr (inr (inl (inl (ended_is_of name page so, goes.2 page is so some))))
 
   -- a page that was not dropped before is not by it
-  still : (event : Event) → Goes event old new → IsNotDropped page events old → IsNotDropped page (event ∷ events) new
-  still (Puts pages) goes (inl is) = inl (moved page _ new.first goes.0 (in_front page old.first pages is))
-  still (Puts pages) goes (inr (inl is)) = inr (inl (moved page _ new.second goes.1 is))
-  still (Puts pages) goes (inr (inr (inl is))) = inr (inr (inl is))
-  still (Puts pages) goes (inr (inr (inr is))) = inr (inr (inr is))
-  still (MayPut pages b) goes (inl is) = inl (moved page _ new.first goes.0 (with_more page b old.first pages is))
-  still (MayPut pages b) goes (inr (inl is)) = inr (inl (moved page _ new.second goes.1 is))
-  still (MayPut pages b) goes (inr (inr (inl is))) = inr (inr (inl is))
-  still (MayPut pages b) goes (inr (inr (inr is))) = inr (inr (inr is))
-  still (Comes pages b) goes (inl is) = inl (moved page _ new.first goes.0 is)
-  still (Comes pages b) goes (inr (inl is)) = inr (inl (moved page _ new.second goes.1 (with_more page b old.second pages is)))
-  still (Comes pages b) goes (inr (inr (inl is))) = inr (inr (inl is))
-  still (Comes pages b) goes (inr (inr (inr is))) = inr (inr (inr is))
-  still (Ends e left) goes (inl is) = after_end e left goes is (ends e (name_of page)) refl
-  still (Ends e left) goes (inr (inl is)) = inr (inl (moved page _ new.second goes.1 is))
-  still (Ends e left) goes (inr (inr (inl is))) = inr (inr (inl (inr is)))
-  still (Ends e left) goes (inr (inr (inr is))) = inr (inr (inr is))
-  still (Discards name) goes (inl is) = inl (moved page _ new.first goes.0 is)
-  still (Discards name) goes (inr (inl is)) = after_discard name goes is (ends (end_of name) (name_of page)) refl
-  still (Discards name) goes (inr (inr (inl is))) = inr (inr (inl is))
-  still (Discards name) goes (inr (inr (inr is))) = inr (inr (inr (inr is)))
-  still (Arrives name) goes (inl is) = inl (moved page _ new.first goes.0 is)
-  still (Arrives name) goes (inr (inl is)) = after_try name goes is (ends (end_of name) (name_of page)) refl
-  still (Arrives name) goes (inr (inr (inl is))) = inr (inr (inl (inr is)))
-  still (Arrives name) goes (inr (inr (inr is))) = inr (inr (inr is))
-  still Rests goes (inl is) = inl (moved page _ new.first goes.0 is)
-  still Rests goes (inr (inl is)) = inr (inl (moved page _ new.second goes.1 is))
-  still Rests goes (inr (inr (inl is))) = inr (inr (inl is))
-  still Rests goes (inr (inr (inr is))) = inr (inr (inr is))
+  still : (event : Event) → 0 < page.number → Goes event old new → IsNotDropped page events old → IsNotDropped page (event ∷ events) new
+  still (Puts pages) some goes (inl is) = inl (moved page _ new.first goes.0 (in_front page old.first pages is))
+  still (Puts pages) some goes (inr (inl is)) = inr (inl (moved page _ new.second goes.1 is))
+  still (Puts pages) some goes (inr (inr (inl is))) = inr (inr (inl is))
+  still (Puts pages) some goes (inr (inr (inr is))) = inr (inr (inr is))
+  still (MayPut pages b) some goes (inl is) = inl (moved page _ new.first goes.0 (with_more page b old.first pages is))
+  still (MayPut pages b) some goes (inr (inl is)) = inr (inl (moved page _ new.second goes.1 is))
+  still (MayPut pages b) some goes (inr (inr (inl is))) = inr (inr (inl is))
+  still (MayPut pages b) some goes (inr (inr (inr is))) = inr (inr (inr is))
+  still (Comes pages b) some goes (inl is) = inl (moved page _ new.first goes.0 is)
+  still (Comes pages b) some goes (inr (inl is)) = inr (inl (moved page _ new.second goes.1 (with_more page b old.second pages is)))
+  still (Comes pages b) some goes (inr (inr (inl is))) = inr (inr (inl is))
+  still (Comes pages b) some goes (inr (inr (inr is))) = inr (inr (inr is))
+  still (Ends e left) some goes (inl is) = after_end e left goes is (ends e (name_of page)) refl
+  still (Ends e left) some goes (inr (inl is)) = inr (inl (moved page _ new.second goes.1 is))
+  still (Ends e left) some goes (inr (inr (inl is))) = inr (inr (inl (inr is)))
+  still (Ends e left) some goes (inr (inr (inr is))) = inr (inr (inr is))
+  still (Discards name) some goes (inl is) = inl (moved page _ new.first goes.0 is)
+  still (Discards name) some goes (inr (inl is)) = after_discard name goes is (ends (end_of name) (name_of page)) refl
+  still (Discards name) some goes (inr (inr (inl is))) = inr (inr (inl is))
+  still (Discards name) some goes (inr (inr (inr is))) = inr (inr (inr (inr is)))
+  still (Arrives name numbers) some goes (inl is) = inl (moved page _ new.first goes.0 is)
+  still (Arrives name numbers) some goes (inr (inl is)) = after_try name numbers goes some is (ends (end_of name) (name_of page)) refl
+  still (Arrives name numbers) some goes (inr (inr (inl is))) = inr (inr (inl (inr is)))
+  still (Arrives name numbers) some goes (inr (inr (inr is))) = inr (inr (inr is))
+  still Rests some goes (inl is) = inl (moved page _ new.first goes.0 is)
+  still Rests some goes (inr (inl is)) = inr (inl (moved page _ new.second goes.1 is))
+  still Rests some goes (inr (inr (inl is))) = inr (inr (inl is))
+  still Rests some goes (inr (inr (inr is))) = inr (inr (inr is))
 
 -- ---- all of them
 
 pub nothing_is_dropped : NothingIsDropped
-nothing_is_dropped begun now [] page befell is = elim (in_either page begun.first begun.second is) [
+nothing_is_dropped begun now [] page some befell is = elim (in_either page begun.first begun.second is) [
   | inl first ↦ inl (moved page _ now.first (ap (λ (p : Pairs). p.first) befell) first)
   | inr second ↦ inr (inl (moved page _ now.second (ap (λ (p : Pairs). p.second) befell) second))
 ]
-nothing_is_dropped begun now (Puts pages ∷ events) page befell is = elim (in_either page (put_in begun events) pages is) [
-  | inl before ↦ still page events befell.0 now (Puts pages) befell.2 (nothing_is_dropped begun befell.0 events page befell.1 before)
+nothing_is_dropped begun now (Puts pages ∷ events) page some befell is = elim (in_either page (put_in begun events) pages is) [
+  | inl before ↦ still page events befell.0 now (Puts pages) some befell.2 (nothing_is_dropped begun befell.0 events page some befell.1 before)
   | inr put ↦ inl (moved page _ now.first befell.2.0 (in_back page befell.0.first pages put))
 ]
-nothing_is_dropped begun now (MayPut pages b ∷ events) page befell is = still page events befell.0 now (MayPut pages b) befell.2 (nothing_is_dropped begun befell.0 events page befell.1 is)
-nothing_is_dropped begun now (Comes pages b ∷ events) page befell is = still page events befell.0 now (Comes pages b) befell.2 (nothing_is_dropped begun befell.0 events page befell.1 is)
-nothing_is_dropped begun now (Ends e left ∷ events) page befell is = still page events befell.0 now (Ends e left) befell.2 (nothing_is_dropped begun befell.0 events page befell.1 is)
-nothing_is_dropped begun now (Discards name ∷ events) page befell is = still page events befell.0 now (Discards name) befell.2 (nothing_is_dropped begun befell.0 events page befell.1 is)
-nothing_is_dropped begun now (Arrives name ∷ events) page befell is = still page events befell.0 now (Arrives name) befell.2 (nothing_is_dropped begun befell.0 events page befell.1 is)
-nothing_is_dropped begun now (Rests ∷ events) page befell is = still page events befell.0 now Rests befell.2 (nothing_is_dropped begun befell.0 events page befell.1 is)
+nothing_is_dropped begun now (MayPut pages b ∷ events) page some befell is = still page events befell.0 now (MayPut pages b) some befell.2 (nothing_is_dropped begun befell.0 events page some befell.1 is)
+nothing_is_dropped begun now (Comes pages b ∷ events) page some befell is = still page events befell.0 now (Comes pages b) some befell.2 (nothing_is_dropped begun befell.0 events page some befell.1 is)
+nothing_is_dropped begun now (Ends e left ∷ events) page some befell is = still page events befell.0 now (Ends e left) some befell.2 (nothing_is_dropped begun befell.0 events page some befell.1 is)
+nothing_is_dropped begun now (Discards name ∷ events) page some befell is = still page events befell.0 now (Discards name) some befell.2 (nothing_is_dropped begun befell.0 events page some befell.1 is)
+nothing_is_dropped begun now (Arrives name numbers ∷ events) page some befell is = still page events befell.0 now (Arrives name numbers) some befell.2 (nothing_is_dropped begun befell.0 events page some befell.1 is)
+nothing_is_dropped begun now (Rests ∷ events) page some befell is = still page events befell.0 now Rests some befell.2 (nothing_is_dropped begun befell.0 events page some befell.1 is)
 
 -- ---- the end of a job
 

@@ -1,10 +1,11 @@
 -- The calls of which pages wait that could not be delivered, by the records of pages and cards. Lists have the oldest first. (This project's
 -- profile.)
-use Rattle.std.specs.Prelude.{◌≡◌, ℕ, ◌+◌, ◌-◌, ◌^◌, min, Bool, true, false, not, ◌&&◌, nat_eq, nat_lt, bytes_eq, List, [], ◌∷◌, ◌++◌, Option, Some, None, MatchOption, slice_get, take, if◌then◌else◌}
+use Rattle.std.specs.Prelude.{◌≡◌, ℕ, ◌+◌, ◌-◌, ◌^◌, min, Bool, true, false, not, ◌&&◌, nat_eq, nat_lt, bytes_eq, List, [], ◌∷◌, ◌++◌, Option, Some, None, MatchOption, slice_get, map, take, if◌then◌else◌}
 use Rattle.std.specs.List.{filter, list_any}
 use Rattle.fax_jobs.specs.declared.outcome.Outcome.TheVariants.{NotPlaced}
 use Rattle.fax_spool.specs.RecordOctets.{EndedValue, PageValue}
 use Rattle.fax_spool.specs.Torn.{CallName, call_of}
+use Rattle.fax_spool.specs.Waits.{ended_by}
 use Rattle.fax_undelivered.specs.Cards.{CardValue, card_format, card_in, card_octets, card_record, unknown}
 
 -- which call, the tag that it had, how many of its pages wait, under which numbers, and its card
@@ -32,10 +33,14 @@ is_page page = nat_lt 0 page.number && nat_lt page.number (2 ^ 32 - 1)
 abbrev pub one_more : (number : ℕ) → CallValue → CallValue
 one_more number call = record { line = call.line; life = call.life; call = call.call; tag = call.tag; pages = min (call.pages + 1) (2 ^ 32 - 1); numbers = call.numbers ++ number ∷ []; card = call.card }
 
+-- it is one of these numbers
+abbrev pub is_among : (number : ℕ) → (numbers : List ℕ) → Bool
+is_among number numbers = list_any (λ n. nat_eq n number) numbers
+
 -- A PAGE THAT IS PUT AGAIN COUNTS ONCE: a job whose end was not noted before a crash is sent again, and where it fails again its pages are put
 -- under their numbers once more.
 abbrev pub with_number : (number : ℕ) → CallValue → CallValue
-with_number number call = if list_any (λ n. nat_eq n number) call.numbers then call else one_more number call
+with_number number call = if is_among number call.numbers then call else one_more number call
 
 -- another card, where it can be read
 abbrev pub with_card : Option CardValue → CallValue → CallValue
@@ -101,7 +106,30 @@ with_its_card pages card = pages ++ card_records pages (card_octets card)
 abbrev pub has_number : (number : ℕ) → PageValue → Bool
 has_number number page = nat_eq page.number number
 
--- THE PAGES OF A CALL: of those that were put under one number the last one.
-abbrev pub latest : List PageValue → List PageValue
-latest [] = []
-latest (page ∷ pages) = if list_any (has_number page.number) pages then latest pages else page ∷ latest pages
+-- of these pages, after those that were before, each that is the first of its number
+abbrev pub firsts_after : (before pages : List PageValue) → List PageValue
+firsts_after before [] = []
+firsts_after before (page ∷ pages) = if list_any (has_number page.number) before then firsts_after before pages else page ∷ firsts_after (before ++ page ∷ []) pages
+
+-- THE PAGES OF A CALL, in the order in which they came first: of those that were put under one number the first one. So what comes later
+-- stands after all that was there, also where one of those is put again.
+abbrev pub firsts : List PageValue → List PageValue
+firsts pages = firsts_after [] pages
+
+-- those of these records
+abbrev pub pages_named : CallName → List PageValue → List PageValue
+pages_named name waits = firsts (ended_by (pages_end name) waits)
+
+-- ---- and their numbers
+
+abbrev pub number_of : PageValue → ℕ
+number_of page = page.number
+
+-- those that are listed of a call, of these: none where it is none of them
+abbrev pub numbers_named : CallName → List CallValue → List ℕ
+numbers_named name [] = []
+numbers_named name (call ∷ calls) = if is_named name call then call.numbers else numbers_named name calls
+
+-- THE NUMBERS THAT ARE LISTED OF A CALL are those of its pages, in their order.
+abbrev pub PagesAreListed : Type 0
+PagesAreListed = (name : CallName) (waits : List PageValue) → numbers_named name (calls_of waits) ≡ map number_of (pages_named name waits)

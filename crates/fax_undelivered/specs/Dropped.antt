@@ -1,18 +1,18 @@
 -- NOTHING IS DROPPED: what becomes of each page that was put, over any number of lives. Lists have the oldest first, but those of events, which
 -- have the newest first. (This project's profile.)
-use Rattle.std.specs.Prelude.{◌≡◌, ◌⊎◌, ◌≤◌, ℕ, Bool, true, false, List, [], ◌∷◌, ◌++◌, Option, Some, slice_get, if◌then◌else◌}
+use Rattle.std.specs.Prelude.{◌≡◌, ◌⊎◌, ◌<◌, ◌≤◌, ℕ, Bool, true, false, List, [], ◌∷◌, ◌++◌, Option, Some, slice_get, if◌then◌else◌}
 use Rattle.fax_jobs.specs.declared.outcome.Outcome.TheVariants.{Delivered}
 use Rattle.fax_jobs.specs.declared.report.Report.{Report}
 use Rattle.fax_spool.specs.RecordOctets.{EndedValue, PageValue}
 use Rattle.fax_spool.specs.Spools.{AreClean, files_of}
-use Rattle.fax_spool.specs.Torn.{CallName}
+use Rattle.fax_spool.specs.Torn.{CallName, call_of}
 use Rattle.fax_spool.specs.Waits.{ends, name_of, without}
 use Rattle.fax_spool.specs.declared.spool.Spool.{Spool}
 use Rattle.fax_queue.specs.Jobs.{PagesWait, WaitSo}
 use Rattle.fax_queue.specs.Queues.{IsEndOf, NamesLeft, QueueValue}
 use Rattle.fax_queue.specs.declared.queue.EndedJob.{EndedJob}
 use Rattle.fax_undelivered.specs.Cards.{CardValue}
-use Rattle.fax_undelivered.specs.Calls.{end_of}
+use Rattle.fax_undelivered.specs.Calls.{end_of, is_among}
 use Rattle.fax_undelivered.specs.Keeps.{Keeps}
 use Rattle.fax_undelivered.specs.KeptEnds.{EndsKept}
 use Rattle.fax_undelivered.specs.declared.undelivered.Undelivered.{Undelivered}
@@ -39,14 +39,18 @@ pub data Event : Type 0 where
   Ends : (ended left : EndedValue) → Event
   -- a word drops the pages of a call from the second pair
   Discards : (name : CallName) → Event
-  -- a try delivered those that were left of a call, and that is noted in the second pair
-  Arrives : (name : CallName) → Event
+  -- a try delivered all that it had of a call, the pages of these numbers, and that is noted in the second pair
+  Arrives : (name : CallName) → (numbers : List ℕ) → Event
   -- nothing is written; or the machine stops, and another life begins
   Rests : Event
 
 -- none of the pages of a job is let go that was not delivered, but into the second pair
 abbrev pub AreKept : EndedValue → EndedValue → Pairs → Type 0
 AreKept ended left pairs = (page : PageValue) → IsIn page pairs.first → ends ended (name_of page) ≡ true → (ends left (name_of page) ≡ false) ⊎ IsIn page pairs.second
+
+-- nor does a try that was delivered let a page go that it had not: of the records of a call, that of number 0 is a card, and no page
+abbrev pub HadAll : CallName → List ℕ → List PageValue → Type 0
+HadAll name numbers second = (page : PageValue) → IsIn page second → ends (end_of name) (name_of page) ≡ true → 0 < page.number → is_among page.number numbers ≡ true
 
 abbrev pub with_if : Bool → List PageValue → List PageValue → List PageValue
 with_if are_there waits pages = if are_there then waits ++ pages else waits
@@ -57,7 +61,7 @@ Goes (MayPut pages are_there) old new = (new.first ≡ with_if are_there old.fir
 Goes (Comes pages are_there) old new = (new.first ≡ old.first) × (new.second ≡ with_if are_there old.second pages)
 Goes (Ends ended left) old new = (new.first ≡ without ended old.first) × (new.second ≡ old.second) × AreKept ended left old
 Goes (Discards name) old new = (new.first ≡ old.first) × (new.second ≡ without (end_of name) old.second)
-Goes (Arrives name) old new = (new.first ≡ old.first) × (new.second ≡ without (end_of name) old.second)
+Goes (Arrives name numbers) old new = (new.first ≡ old.first) × (new.second ≡ without (end_of name) old.second) × HadAll name numbers old.second
 Goes Rests old new = (new.first ≡ old.first) × (new.second ≡ old.second)
 
 -- these befell, from where the files held anything
@@ -73,10 +77,14 @@ put_in begun (MayPut pages are_there ∷ events) = put_in begun events
 put_in begun (Comes pages are_there ∷ events) = put_in begun events
 put_in begun (Ends ended left ∷ events) = put_in begun events
 put_in begun (Discards name ∷ events) = put_in begun events
-put_in begun (Arrives name ∷ events) = put_in begun events
+put_in begun (Arrives name numbers ∷ events) = put_in begun events
 put_in begun (Rests ∷ events) = put_in begun events
 
--- a page was in a job whose end was noted as delivered up to and with it, or a try delivered what was left of its call
+-- the page is one of those that a try had: it came in that call, and has one of these numbers
+abbrev pub IsOfTry : CallName → List ℕ → PageValue → Type 0
+IsOfTry name numbers page = (call_of page ≡ name) × (is_among page.number numbers ≡ true)
+
+-- a page was in a job whose end was noted as delivered up to and with it, or a try that had it was delivered
 abbrev pub WasDelivered : PageValue → List Event → Type 0
 WasDelivered page [] = ⊥
 WasDelivered page (Puts pages ∷ events) = WasDelivered page events
@@ -84,7 +92,7 @@ WasDelivered page (MayPut pages are_there ∷ events) = WasDelivered page events
 WasDelivered page (Comes pages are_there ∷ events) = WasDelivered page events
 WasDelivered page (Ends ended left ∷ events) = ((ends ended (name_of page) ≡ true) × (ends left (name_of page) ≡ false)) ⊎ WasDelivered page events
 WasDelivered page (Discards name ∷ events) = WasDelivered page events
-WasDelivered page (Arrives name ∷ events) = (ends (end_of name) (name_of page) ≡ true) ⊎ WasDelivered page events
+WasDelivered page (Arrives name numbers ∷ events) = IsOfTry name numbers page ⊎ WasDelivered page events
 WasDelivered page (Rests ∷ events) = WasDelivered page events
 
 -- or a word dropped it
@@ -95,16 +103,16 @@ WasDiscarded page (MayPut pages are_there ∷ events) = WasDiscarded page events
 WasDiscarded page (Comes pages are_there ∷ events) = WasDiscarded page events
 WasDiscarded page (Ends ended left ∷ events) = WasDiscarded page events
 WasDiscarded page (Discards name ∷ events) = (ends (end_of name) (name_of page) ≡ true) ⊎ WasDiscarded page events
-WasDiscarded page (Arrives name ∷ events) = WasDiscarded page events
+WasDiscarded page (Arrives name numbers ∷ events) = WasDiscarded page events
 WasDiscarded page (Rests ∷ events) = WasDiscarded page events
 
 -- where a page is: it waits in the first pair or in the second, or was delivered, or was dropped by a word
 abbrev pub IsNotDropped : PageValue → List Event → Pairs → Type 0
 IsNotDropped page events now = IsIn page now.first ⊎ IsIn page now.second ⊎ WasDelivered page events ⊎ WasDiscarded page events
 
--- NOTHING IS DROPPED, whatever befalls, of each page that was put with an Ok.
+-- NOTHING IS DROPPED, whatever befalls, of each page that was put with an Ok. (Pages have the numbers from 1 on.)
 abbrev pub NothingIsDropped : Type 0
-NothingIsDropped = (begun now : Pairs) (events : List Event) (page : PageValue) → Befell begun events now → IsIn page (put_in begun events) → IsNotDropped page events now
+NothingIsDropped = (begun now : Pairs) (events : List Event) (page : PageValue) → 0 < page.number → Befell begun events now → IsIn page (put_in begun events) → IsNotDropped page events now
 
 -- ---- the end of a job is such an event
 

@@ -1,4 +1,5 @@
 //! Laws of what could not be delivered: functions that do nothing, each of whose contracts is a theorem.
+ghost use Rattle.fax_undelivered.specs.Calls.{PagesAreListed};
 ghost use Rattle.fax_undelivered.specs.Cards.{CardsAreReadBack};
 ghost use Rattle.fax_undelivered.specs.Dropped.{FailedPutsLeaveJobs, KeptEndsAreEvents, NothingIsDropped};
 
@@ -9,8 +10,13 @@ pub fn cards_are_read_back()
     ensures { CardsAreReadBack }
 {}
 
+/// The numbers that are listed of a call are those of its pages, in their order.
+pub fn pages_are_listed()
+    ensures { PagesAreListed }
+{}
+
 /// Whatever befalls both pairs of files over any number of lives, each page that was put with an `Ok`, or lay there at first, was delivered in
-/// a job whose end was noted or by a try of it, or waits in the first pair, or waits in the second, or was dropped by a word.
+/// a job whose end was noted or by a try that had it, or waits in the first pair, or waits in the second, or was dropped by a word.
 pub fn nothing_is_dropped()
     ensures { NothingIsDropped }
 {}

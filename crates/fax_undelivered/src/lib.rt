@@ -4,8 +4,8 @@
 
 mod call;
 mod card;
+mod firsts;
 mod keeping;
-mod latest;
 pub mod laws;
 mod undelivered;
 

@@ -7,15 +7,15 @@ ghost use Rattle.fax_spool.specs.Torn.{CallName as CallNameValue, call_of};
 ghost use Rattle.fax_spool.specs.Opened.{closed};
 ghost use Rattle.fax_spool.specs.Calls.{Does, Ends, IsRead, Puts, Refuses, refuses_now};
 ghost use Rattle.fax_spool.specs.Spools.{AreClean, files_of};
-ghost use Rattle.fax_spool.specs.Waits.{ended_by, without};
+ghost use Rattle.fax_spool.specs.Waits.{without};
 ghost use Rattle.fax_queue.specs.Jobs.{PagesWait};
 ghost use Rattle.fax_undelivered.specs.Cards.{card_page, card_record};
-ghost use Rattle.fax_undelivered.specs.Calls.{but, calls_of, card_records, end_from, end_of, is_named, is_page, latest, pages_end, with_its_card};
+ghost use Rattle.fax_undelivered.specs.Calls.{but, calls_of, card_records, end_from, end_of, is_named, is_page, pages_named, with_its_card};
 ghost use Rattle.fax_undelivered.specs.Keeps.{Keeps, KeepsStill, TellsCall};
 
 use crate::call::{UndeliveredCall, add_pages, copies_of, has_call, tag_of};
 use crate::card::{Card, write_card};
-use crate::latest::keep_latest;
+use crate::firsts::keep_first;
 use fax_bits::NoMemory;
 use fax_jobs::Outcome;
 use fax_queue::change_files;
@@ -224,8 +224,8 @@ impl<D: Disk> Undelivered<D> {
         Ok(true)
     }
 
-    /// The pages of a call that wait, without its cards, in the order in which they were put; one that was put again is the one that was put
-    /// last. An `Err` (the disk's failure, no memory, or it refuses) changes nothing.
+    /// The pages of a call that wait, without its cards, in the order of its `numbers`; one that was put again is the one that was put first.
+    /// An `Err` (the disk's failure, no memory, or it refuses) changes nothing.
     pub fn pages_of(
         &mut self,
         alloc: Global,
@@ -234,13 +234,13 @@ impl<D: Disk> Undelivered<D> {
         call: u32,
     ) -> io::Result<Vec<WaitingPage>>
         ensures found { IfOk result (λ pages. AreClean D.is_clean (files_of self.new.spool) → (waits : List PageValue) → PagesWait D.seen D.may_leave D.is_usable self.old.spool waits
-            → pages.items ≡ latest (ended_by (pages_end (record { life = life; call = call; line = line.now })) waits)) }
+            → pages.items ≡ pages_named (record { life = life; call = call; line = line.now }) waits) }
         ensures read { IsRead D.seen D.may_leave D.is_usable self.old.spool self.new.spool }
         ensures same { self.new.calls.items ≡ self.old.calls.items }
     {
         let ended = end_from(1, PAGE_NUMBERS, line, life, call);
         let mut pages = self.spool.pages_ended_by(alloc, &ended)?;
-        keep_latest(&mut pages);
+        keep_first(&mut pages);
         Ok(pages)
     }
 

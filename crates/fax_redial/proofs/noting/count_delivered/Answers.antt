@@ -1,0 +1,26 @@
+use Rattle.std.proofs.Common.{◌≡◌, List, ℕ, ap, ◌∙◌}
+use Rattle.std.proofs.lemmas.Option.{MatchOption-at_some}
+use Rattle.std.proofs.lemmas.Result.{IfOk-weaker}
+use Rattle.fax_spool.specs.Torn.{CallName}
+use Rattle.fax_redial.specs.Noting.{counted}
+use Rattle.fax_redial.proofs.Noted.{may_put, puts_card, puts_none}
+use Rattle.fax_redial.proofs.noting.count_delivered.Goals as goal
+
+pub returns-clause-noted : goal.returns-clause-noted
+returns-clause-noted g c =
+    let name : CallName = record { life = c.name.inside.life; call = c.name.inside.call; line = c.as_slice.result.now } in
+    IfOk-weaker c.note_try.result _ _
+    (λ was noted.
+    puts_card g.D.Disk.seen g.D.Disk.may_leave g.D.Disk.is_usable (λ before card. card ≡ counted c.args.pages before) c.in-Some.before c.counted-card.result name c.args.name.now c.calls.result.now was c.args.kept.now c.note_try.new.self
+    (ap (λ (l : List ℕ). record name { line = l }) c.as_slice.ensures.value ∙ c.name.view_is) c.calls.ensures (MatchOption-at_some _ _ c.in-Some.before c.in-Some.is c.in_ok-before.ensures) c.counted-card.ensures noted)
+    c.note_try.ensures.noted
+
+pub returns-clause-not_told : goal.returns-clause-not_told
+returns-clause-not_told g c =
+    let name : CallName = record { life = c.name.inside.life; call = c.name.inside.call; line = c.as_slice.result.now } in
+    may_put g.D.Disk.seen g.D.Disk.may_leave g.D.Disk.is_usable name c.args.name.now c.counted-card.result c.note_try.result c.args.kept.now.spool c.note_try.new.self.spool
+    (ap (λ (l : List ℕ). record name { line = l }) c.as_slice.ensures.value ∙ c.name.view_is)
+    c.note_try.ensures.does
+
+pub returns-in_err-before-clause-not_told : goal.returns-in_err-before-clause-not_told
+returns-in_err-before-clause-not_told g c = puts_none g.D.Disk.seen g.D.Disk.may_leave g.D.Disk.is_usable c.args.name.now c.from_residual.result c.args.kept.now.spool
