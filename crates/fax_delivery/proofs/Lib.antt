@@ -2,8 +2,8 @@ mod BadGateways
 mod BadJobs
 mod Begins
 mod Between
-mod CalledSide
-mod CallingSide
+mod CalledLeg
+mod CallingLeg
 mod Confirms
 mod Goodbye
 mod Images

@@ -32,8 +32,8 @@ use Rattle.fax_delivery.specs.Datagrams.{Legs, caller_with, answerer_with, by_ca
 use Rattle.fax_delivery.specs.Gateways.{Relay, with_calling, given_at, machine_with, by_machine, relay_round}
 use Rattle.fax_delivery.proofs.Turns.{CallerRests}
 use Rattle.fax_delivery.proofs.Short.{stays_idle}
-use Rattle.fax_delivery.proofs.CallingSide.{OnCalling, max_is, calling_clock, came_in, came_clock, heard_leg, leg_heard, only_heard}
-use Rattle.fax_delivery.proofs.CalledSide.{book_in, book_with, busy, comes_called, comes_calling, comes_going, confirming_tick, going_tick, opened_book, ended_with, enters_none, leg_with, middle, none_begins, one_begins, over_rests, quiet_tick, same_over, sends_with, waits_with, with_job, with_timely, z_of}
+use Rattle.fax_delivery.proofs.CallingLeg.{OnCalling, max_is, calling_clock, came_in, came_clock, heard_leg, leg_heard, only_heard}
+use Rattle.fax_delivery.proofs.CalledLeg.{book_in, book_with, busy, comes_called, comes_calling, comes_going, confirming_tick, going_tick, opened_book, ended_with, enters_none, leg_with, middle, none_begins, one_begins, over_rests, quiet_tick, same_over, sends_with, waits_with, with_job, with_timely, z_of}
 
 -- ---- THE TICK of a gateway, by the leg that heard
 

@@ -31,8 +31,8 @@ use Rattle.fax_delivery.specs.Links.{Reader, IsReader, read_by, Link, caller_tur
 use Rattle.fax_delivery.specs.Datagrams.{Legs, caller_with, answerer_with, by_caller, legs_round, legs_rounds, legs_begun}
 use Rattle.fax_delivery.specs.Gateways.{Relay, AreRelayed, GatewaysPassJobs, GatewaysPassPages, ReportsAreDeliveries, ReportsAreOfJobs, IsRelayed, first_job, pages_on, relay_round, relay_rounds, relay_begun}
 use Rattle.fax_delivery.proofs.Legs.{GoAlike, alike_after, begin_alike, confirms_alike}
-use Rattle.fax_delivery.proofs.CallingSide.{OnCalling, calling_on, leg_heard, max_is, trace_on}
-use Rattle.fax_delivery.proofs.CalledSide.{book_in, book_with, last_closes, one_joins, opened_book, waits_with}
+use Rattle.fax_delivery.proofs.CallingLeg.{OnCalling, calling_on, leg_heard, max_is, trace_on}
+use Rattle.fax_delivery.proofs.CalledLeg.{book_in, book_with, last_closes, one_joins, opened_book, waits_with}
 use Rattle.fax_delivery.proofs.Relaying.{Before, before_on, confirms, Sending, IsOn, IsReported, sending_begins, sending_on}
 use Rattle.fax_delivery.proofs.Whole.{job_awake, jobs_get_through, one_job}
 use Rattle.fax_delivery.proofs.WholeLegs.{jobs_pass, over_are_all_passed}

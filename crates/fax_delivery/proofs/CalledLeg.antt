@@ -33,7 +33,7 @@ use Rattle.fax_delivery.specs.Links.{Reader}
 use Rattle.fax_delivery.specs.Datagrams.{caller_with}
 use Rattle.fax_delivery.specs.Gateways.{with_calling, with_called}
 use Rattle.fax_delivery.proofs.Turns.{CallerRests, caller_rests}
-use Rattle.fax_delivery.proofs.CallingSide.{max_is}
+use Rattle.fax_delivery.proofs.CallingLeg.{max_is}
 
 -- ---- THE BOOK as the steps of a round change it
 
