@@ -63,6 +63,34 @@ fn fill_is_not_kept(rt: HostRuntime) -> Result<(), Fail> {
     Ok(())
 }
 
+/// The first EOL of a page, with fill before it.
+const FIRST_EOL: [u8; 2] = [0x00, 0x01];
+
+/// White runs without elements and black ones in turn, four of each.
+const EMPTY_RUNS: [u8; 9] = [0x35, 0x0d, 0xcd, 0x43, 0x73, 0x50, 0xdc, 0xd4, 0x37];
+
+/// A white line, and the end of its page.
+const WHITE_LINE_AND_END: [u8; 13] = [
+    0x4d, 0x9a, 0x80, 0x00, 0x01, 0x00, 0x10, 0x01, 0x00, 0x10, 0x01, 0x00, 0x10,
+];
+
+/// The most octets that are kept beside the rows.
+const MOST_KEPT: usize = 8192;
+
+#[test]
+fn of_a_line_of_many_empty_runs_few_octets_are_kept(rt: HostRuntime) -> Result<(), Fail> {
+    let mut reader: PageReader<PackedRows> = PageReader::new(rt.alloc(), STANDARD, Coding::Mh);
+    reader.feed(&FIRST_EOL)?;
+    for _ in 0..5_000 {
+        let (kept, is_settled) = kept_of(&mut reader, &EMPTY_RUNS)?;
+        assert!(rt; kept <= MOST_KEPT && !is_settled);
+    }
+    reader.feed(&WHITE_LINE_AND_END)?;
+    let page = reader.finish()?;
+    assert!(rt; page.rows().len() == 1 && has_row(page.rows(), 0, &[])?);
+    Ok(())
+}
+
 /// Adds a marked row that is lent, and a black one.
 fn add_rows<S: RowStore>(alloc: Global, rows: &mut S) -> Result<bool, RowFault> {
     rows.push_lent(&row_of(alloc, &[4, 1, 1723])?.lend())?;

@@ -128,7 +128,7 @@ pass_rows coding width tag before (row ∷ rows) text last a bits (line, separat
 -- ---- the front
 
 -- no shorter front of these bits ends with an EOL
-abbrev IsShortest : List Bool → Type 0
+abbrev pub IsShortest : List Bool → Type 0
 IsShortest front = (k : ℕ) → k < length front → EndsWithEol (take k front) → ⊥
 
 -- so none ends in what stands before its last bits
@@ -145,7 +145,7 @@ ends_holds : (bits front rest : List Bool) → bits ≡ front ++ rest → EndsWi
 ends_holds bits front rest e (before, ends) = (before, rest, e ∙ ap (λ t. t ++ rest) ends ∙ append_assoc before end_of_line rest)
 
 -- zeros and a 1 are the shortest front that ends with an EOL, where none stands before them
-zeros_shortest : (before : List Bool) (zeros : ℕ) → (HoldsEol before → ⊥) → IsShortest (before ++ (replicate zeros false ++ true ∷ []))
+pub zeros_shortest : (before : List Bool) (zeros : ℕ) → (HoldsEol before → ⊥) → IsShortest (before ++ (replicate zeros false ++ true ∷ []))
 zeros_shortest before zeros none = λ k lt ends.
     let bits : List Bool = before ++ replicate zeros false in
     let whole : before ++ (replicate zeros false ++ true ∷ []) ≡ bits ++ true ∷ [] = sym (append_assoc before (replicate zeros false) (true ∷ [])) in

@@ -6,6 +6,8 @@ pub mod FillLaw
 pub mod FillLemmas
 pub mod FirstEolLemmas
 pub mod FrontLemmas
+pub mod LineLemmas
+pub mod LinePages
 pub mod PackedLemmas
 pub mod PageLaws
 pub mod PageReading

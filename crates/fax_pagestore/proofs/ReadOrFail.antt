@@ -93,61 +93,70 @@ separator_some coding tag text is =
 
 -- ---- where reading stops
 
-module _ (width : ℕ) (coding : Coding) (octets : List ℕ) where
-  abbrev MeansOrFails : Type 0
-  MeansOrFails = ((rows : List Elements) × MeansRows width coding octets rows) ⊎ ((fault : PageFault) × FailsPage width coding octets fault)
+-- Octets of which the same is read: any for which this holds.
+module _ (width : ℕ) (coding : Coding) (Is : List ℕ → Type 0) where
+  -- what is read of each of them
+  abbrev pub Read : List Elements → ℕ → Bool → List Bool → Type 0
+  Read rows further tag rest = (octets : List ℕ) → Is octets → ReadSoFar coding width octets rows further tag rest
+
+  -- all of them mean one page, or meet one fault
+  abbrev pub MeanOrFail : Type 0
+  MeanOrFail = ((rows : List Elements) × ((octets : List ℕ) → Is octets → MeansRows width coding octets rows))
+      ⊎ ((fault : PageFault) × ((octets : List ℕ) → Is octets → FailsPage width coding octets fault))
 
   stops_here : (rows : List Elements) (further : ℕ) (tag : Bool) (rest : List Bool) (fault : PageFault) → length rows ≤ most_rows → further ≤ 5
-      → ReadSoFar coding width octets rows further tag rest → Stops coding width rows further tag rest fault → MeansOrFails
+      → Read rows further tag rest → Stops coding width rows further tag rest fault → MeanOrFail
   stops_here rows further tag rest fault few six r stops =
-      inr (fault, inr (record { rows = rows; further = further; tag = tag; rest = rest; few = few; at_most_six = six; read = r; stops = stops }))
+      inr (fault, λ octets is. inr (record { rows = rows; further = further; tag = tag; rest = rest; few = few; at_most_six = six; read = r octets is; stops = stops }))
 
   -- one separator more
-  separator_more : (rows : List Elements) (further : ℕ) (next : Bool) (rest separator more : List Bool) → ReadSoFar coding width octets rows further true rest
-      → IsSeparator coding next separator → rest ≡ separator ++ more → ReadSoFar coding width octets rows (suc further) next more
-  separator_more rows further next rest separator more r is e = record {
-    front = r.front;
-    lines = r.lines;
-    separators = r.separators ++ separator;
-    front_tag = r.front_tag;
-    row_tag = r.row_tag;
-    is_front = r.is_front;
-    spelt = r.spelt;
-    in_a_row = InARow-push coding further r.row_tag true next r.separators separator r.in_a_row refl is;
-    bits_are = r.bits_are ∙ ap (λ b. r.front ++ (r.lines ++ (r.separators ++ b))) e ∙ ap (λ b. r.front ++ (r.lines ++ b)) (sym (append_assoc r.separators separator more));
-  }
+  separator_more : (rows : List Elements) (further : ℕ) (next : Bool) (rest separator more : List Bool) → Read rows further true rest
+      → IsSeparator coding next separator → rest ≡ separator ++ more → Read rows (suc further) next more
+  separator_more rows further next rest separator more read is e = λ octets here.
+      let r : ReadSoFar coding width octets rows further true rest = read octets here in
+      record {
+        front = r.front;
+        lines = r.lines;
+        separators = r.separators ++ separator;
+        front_tag = r.front_tag;
+        row_tag = r.row_tag;
+        is_front = r.is_front;
+        spelt = r.spelt;
+        in_a_row = InARow-push coding further r.row_tag true next r.separators separator r.in_a_row refl is;
+        bits_are = r.bits_are ∙ ap (λ b. r.front ++ (r.lines ++ (r.separators ++ b))) e ∙ ap (λ b. r.front ++ (r.lines ++ b)) (sym (append_assoc r.separators separator more));
+      }
 
   -- all six separators were read
-  six_read : (rows : List Elements) (tag : Bool) (rest : List Bool) → length rows ≤ most_rows → ReadSoFar coding width octets rows 5 tag rest → MeansOrFails
+  six_read : (rows : List Elements) (tag : Bool) (rest : List Bool) → length rows ≤ most_rows → Read rows 5 tag rest → MeanOrFail
   six_read rows false rest few r = stops_here rows 5 false rest NoRtc few (omega arith) r (inr (inr (inl (refl, inr refl))))
   six_read [] true rest few r = stops_here [] 5 true rest Empty few (omega arith) r (refl, refl, refl)
   six_read (row ∷ rows) true rest few r =
       inl (
         row ∷ rows,
-        record {
-          are_rows = record { some = omega arith; few = few; each = ReadSoFar-lengths coding width octets (row ∷ rows) 5 true rest r };
+        λ octets here. record {
+          are_rows = record { some = omega arith; few = few; each = ReadSoFar-lengths coding width octets (row ∷ rows) 5 true rest (r octets here) };
           more = rest;
-          read = r;
+          read = r octets here;
         },
       )
 
   -- no separator begins after two to five
   breaks_return : (rows : List Elements) (further : ℕ) (tag : Bool) (rest : List Bool) → length rows ≤ most_rows → 0 < further → further < 5
-      → ReadSoFar coding width octets rows further tag rest → LineBegins rest ⊎ RunsOut coding rest → MeansOrFails
+      → Read rows further tag rest → LineBegins rest ⊎ RunsOut coding rest → MeanOrFail
   breaks_return rows further tag rest few some less r (inl line) = stops_here rows further tag rest NoRtc few (omega arith) r (inr (inl (some, less, line)))
   breaks_return rows further tag rest few some less r (inr out) = stops_here rows further tag rest NoRtc few (omega arith) r (inl (less, out))
 
   -- a separator follows one of tag 0
   tag_breaks : (rows : List Elements) (further : ℕ) (rest : List Bool) → length rows ≤ most_rows → further < 5
-      → ReadSoFar coding width octets rows further false rest → SeparatorBegins coding rest → MeansOrFails
+      → Read rows further false rest → SeparatorBegins coding rest → MeanOrFail
   tag_breaks rows further rest few less r begins = stops_here rows further false rest NoRtc few (omega arith) r (inr (inr (inl (refl, inl (less, begins)))))
 
   -- further separators were read, of which so many are missing yet
   return_from : (rows : List Elements) (n further : ℕ) (tag : Bool) (rest : List Bool) → length rows ≤ most_rows → further + n ≡ 5 → 0 < further
-      → ReadSoFar coding width octets rows further tag rest → MeansOrFails
+      → Read rows further tag rest → MeanOrFail
   return_from rows zero further tag rest few sum some r =
       let five : further ≡ 5 = omega arith in
-      six_read rows tag rest few (subst (λ n. ReadSoFar coding width octets rows n tag rest) five r)
+      six_read rows tag rest few (subst (λ n. Read rows n tag rest) five r)
   return_from rows (suc n) further false rest few sum some r = elim (what_begins coding rest) [
     | inl begins ↦ tag_breaks rows further rest few (omega arith) r begins
     | inr other ↦ breaks_return rows further false rest few some (omega arith) r other
@@ -158,7 +167,7 @@ module _ (width : ℕ) (coding : Coding) (octets : List ℕ) where
   ]
 
   -- a separator follows the one after the rows
-  in_return : (rows : List Elements) (tag : Bool) (rest : List Bool) → length rows ≤ most_rows → ReadSoFar coding width octets rows 0 tag rest → SeparatorBegins coding rest → MeansOrFails
+  in_return : (rows : List Elements) (tag : Bool) (rest : List Bool) → length rows ≤ most_rows → Read rows 0 tag rest → SeparatorBegins coding rest → MeanOrFail
   in_return rows false rest few r begins = tag_breaks rows 0 rest few (omega arith) r begins
   in_return rows true rest few r next =
       return_from rows 4 1 next.0 next.2 few (omega arith) (omega arith) (separator_more rows 0 next.0 rest next.1 next.2 r next.3 next.4)
@@ -166,8 +175,8 @@ module _ (width : ℕ) (coding : Coding) (octets : List ℕ) where
   -- ---- the rows
 
   -- the row after these can't be read, or no separator is after it
-  row_stops : (rows : List Elements) (tag : Bool) (rest : List Bool) → length rows ≤ most_rows → ReadSoFar coding width octets rows 0 tag rest → WantsLine rows 0 rest
-      → FailsRow width tag (last_of rows) rest ⊎ ((after : List Bool) × ReadsRow width tag (last_of rows) rest after × (LineBegins after ⊎ RunsOut coding after)) → MeansOrFails
+  row_stops : (rows : List Elements) (tag : Bool) (rest : List Bool) → length rows ≤ most_rows → Read rows 0 tag rest → WantsLine rows 0 rest
+      → FailsRow width tag (last_of rows) rest ⊎ ((after : List Bool) × ReadsRow width tag (last_of rows) rest after × (LineBegins after ⊎ RunsOut coding after)) → MeanOrFail
   row_stops rows tag rest few r wants (inl fails) = stops_here rows 0 tag rest (BadLine (length rows)) few (omega arith) r (refl, wants, inl fails)
   row_stops rows tag rest few r wants (inr (after, reads, inl line)) = stops_here rows 0 tag rest (BadLine (length rows)) few (omega arith) r (refl, wants, inr (after, reads, line))
   row_stops rows tag rest few r wants (inr (after, reads, inr out)) = stops_here rows 0 tag rest NoRtc few (omega arith) r (inr (inr (inr (wants, after, reads, out))))
@@ -179,9 +188,9 @@ module _ (width : ℕ) (coding : Coding) (octets : List ℕ) where
     pub left : List Bool
     pub less : length left < length rest
     pub few : length rows ≤ most_rows
-    pub read : ReadSoFar coding width octets rows 0 tag left
+    pub read : Read rows 0 tag left
 
-  row_more : (rows : List Elements) (tag : Bool) (rest after : List Bool) → ReadSoFar coding width octets rows 0 tag rest → WantsLine rows 0 rest
+  row_more : (rows : List Elements) (tag : Bool) (rest after : List Bool) → Read rows 0 tag rest → WantsLine rows 0 rest
       → ReadsRow width tag (last_of rows) rest after → SeparatorBegins coding after → RowMore rest
   row_more rows tag rest after r wants (line, row, spelt, e) (next, separator, left, is, e2) =
       let some : 0 < length separator = separator_some coding next separator is in
@@ -194,11 +203,11 @@ module _ (width : ℕ) (coding : Coding) (octets : List ℕ) where
         left = left;
         less = omega arith;
         few = omega (arith, length_push rows row, wants.room);
-        read = ReadSoFar-row coding width octets rows row tag next rest line separator left r spelt is whole;
+        read = λ octets here. ReadSoFar-row coding width octets rows row tag next rest line separator left (r octets here) spelt is whole;
       }
 
   -- where a line is wanted
-  line_from : (rows : List Elements) (tag : Bool) (rest : List Bool) → length rows ≤ most_rows → ReadSoFar coding width octets rows 0 tag rest → WantsLine rows 0 rest → RowMore rest ⊎ MeansOrFails
+  line_from : (rows : List Elements) (tag : Bool) (rest : List Bool) → length rows ≤ most_rows → Read rows 0 tag rest → WantsLine rows 0 rest → RowMore rest ⊎ MeanOrFail
   line_from rows tag rest few r wants = elim (row_or_fails width tag (last_of rows) rest) [
     | inr fails ↦ inr (row_stops rows tag rest few r wants (inl fails))
     | inl reads ↦ elim (what_begins coding reads.0) [
@@ -208,7 +217,7 @@ module _ (width : ℕ) (coding : Coding) (octets : List ℕ) where
   ]
 
   -- where a line or a separator begins, or the bits run out
-  one_row : (rows : List Elements) (tag : Bool) (rest : List Bool) → length rows ≤ most_rows → ReadSoFar coding width octets rows 0 tag rest → RowMore rest ⊎ MeansOrFails
+  one_row : (rows : List Elements) (tag : Bool) (rest : List Bool) → length rows ≤ most_rows → Read rows 0 tag rest → RowMore rest ⊎ MeanOrFail
   one_row rows tag rest few r = elim (what_begins coding rest) [
     | inl begins ↦ inr (in_return rows tag rest few r begins)
     | inr other ↦ elim other [
@@ -220,26 +229,33 @@ module _ (width : ℕ) (coding : Coding) (octets : List ℕ) where
     ]
   ]
 
-  rows_from : (n : ℕ) (rows : List Elements) (tag : Bool) (rest : List Bool) → length rest < n → length rows ≤ most_rows → ReadSoFar coding width octets rows 0 tag rest → MeansOrFails
+  pub rows_from : (n : ℕ) (rows : List Elements) (tag : Bool) (rest : List Bool) → length rest < n → length rows ≤ most_rows → Read rows 0 tag rest → MeanOrFail
   rows_from zero rows tag rest less few r = absurd (omega arith)
   rows_from (suc n) rows tag rest less few r = elim (one_row rows tag rest few r) [
     | inr ended ↦ ended
     | inl more ↦ rows_from n more.rows more.tag more.left (omega (arith, more.less)) more.few more.read
   ]
 
-  -- after the front nothing more is read yet
-  front_read : (tag : Bool) (front rest : List Bool) → IsFront coding tag front → bits_of octets ≡ front ++ rest → ReadSoFar coding width octets [] 0 tag rest
-  front_read tag front rest is e = record {
-    front = front;
-    lines = [];
-    separators = [];
-    front_tag = tag;
-    row_tag = tag;
-    is_front = is;
-    spelt = (refl, refl);
-    in_a_row = (refl, refl);
-    bits_are = e;
-  }
+-- after the front nothing more is read yet
+front_read : (width : ℕ) (coding : Coding) (octets : List ℕ) (tag : Bool) (front rest : List Bool) → IsFront coding tag front → bits_of octets ≡ front ++ rest
+    → ReadSoFar coding width octets [] 0 tag rest
+front_read width coding octets tag front rest is e = record {
+  front = front;
+  lines = [];
+  separators = [];
+  front_tag = tag;
+  row_tag = tag;
+  is_front = is;
+  spelt = (refl, refl);
+  in_a_row = (refl, refl);
+  bits_are = e;
+}
+
+-- what octets alone are
+alone : (width : ℕ) (coding : Coding) (octets : List ℕ) → MeanOrFail width coding (λ os. os ≡ octets)
+    → ((rows : List Elements) × MeansRows width coding octets rows) ⊎ ((fault : PageFault) × FailsPage width coding octets fault)
+alone width coding octets (inl (rows, means)) = inl (rows, means octets refl)
+alone width coding octets (inr (fault, fails)) = inr (fault, fails octets refl)
 
 -- Octets mean a page, or meet a fault.
 pub pages_are_read_or_fail : PagesAreReadOrFail
@@ -248,6 +264,7 @@ pages_are_read_or_fail width coding octets =
     elim (front_or_none coding (suc (length (bits_of octets))) start start (omega arith) (FrontSoFar-none start)) [
       | inr none ↦ inr (NoEol, inl (refl, no_eol coding octets none))
       | inl found ↦
-          rows_from width coding octets (suc (length found.2.left)) [] found.0 found.2.left (omega arith) (omega arith)
-          (front_read width coding octets found.0 found.1 found.2.left found.3 found.4.bits)
+          alone width coding octets
+          (rows_from width coding (λ os. os ≡ octets) (suc (length found.2.left)) [] found.0 found.2.left (omega arith) (omega arith)
+          (λ os here. subst (λ (o : List ℕ). ReadSoFar coding width o [] 0 found.0 found.2.left) (sym here) (front_read width coding octets found.0 found.1 found.2.left found.3 found.4.bits)))
     ]

@@ -1,6 +1,7 @@
 pub mod Ends
 pub mod FaultNumbers
 pub mod Fill
+pub mod LinesUnderWay
 pub mod PageFaults
 pub mod PageLaws
 pub mod PageRows

@@ -76,10 +76,22 @@ pub record IsAfter (octets : List ℕ) (reader : ReaderValue) : Type 0 where
   pub settled : (what : Settled) → reader.settled ≡ Some what
       → (reader.left ≡ []) × ((more : List ℕ) → AreJudged reader.coding (elements_of reader.format.width) (octets ++ more) reader.rows (fault_of what))
 
--- These octets came to a reader, whatever the pieces in which they came: it is at the end of them, less long fill.
+-- Octets are read as others are: whatever follows both, what these mean the octets mean, and the fault that these meet they meet.
+abbrev pub AreReadAs : Coding → ℕ → (octets others : List ℕ) → Type 0
+AreReadAs coding width octets others = (more : List ℕ) (rows : List Elements) (fault : Option PageFault)
+    → AreJudged coding width (others ++ more) rows fault → AreJudged coding width (octets ++ more) rows fault
+
+-- These octets came to a reader, whatever the pieces in which they came: it is at the end of others, as which they are read
+-- less long fill.
 pub record HasRead (octets : List ℕ) (reader : ReaderValue) : Type 0 where
-  pub after : IsAfter (less_fill 0 octets) reader
+  pub others : List ℕ
+  pub read_as : AreReadAs reader.coding (elements_of reader.format.width) (less_fill 0 octets) others
+  pub after : IsAfter others reader
   pub zeros : reader.settled ≡ None → reader.zeros ≡ zeros_after 0 octets
+
+-- the most octets that a reader keeps beside its rows
+abbrev pub most_octets : ℕ
+most_octets = 8192
 
 -- how many bits a reader keeps beside its rows, with those that it would keep of fill after them
 abbrev pub most_kept : ReaderValue → ℕ

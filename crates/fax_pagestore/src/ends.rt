@@ -12,7 +12,7 @@ const HALF: u8 = 16;
 pub(crate) const BLOCK: usize = 16;
 
 /// How many octets stand after a separator before they are looked at though no EOL stands in them.
-const LONG: usize = 4096;
+pub(crate) const LONG: usize = 4096;
 
 /// From which octet on, at this one or after it, no EOL stands in octets: after all of them where these are many, and as
 /// many again as when they were last looked at, so that a line is refused that can be none any more.

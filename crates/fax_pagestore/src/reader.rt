@@ -1,5 +1,5 @@
 //! Pages read as their octets come.
-ghost use Rattle.std.specs.Prelude.{ℕ, List, [], ◌≡◌, ◌<◌, ◌≤◌, ◌+◌, ◌/◌, ◌++◌, drop, length, replicate, is_some, IfOk, IfErr, OnOk, OnErr, IsSome, IsNone, IsOk, Ok, Err};
+ghost use Rattle.std.specs.Prelude.{ℕ, List, [], ◌≡◌, ◌<◌, ◌≤◌, ◌+◌, ◌*◌, ◌/◌, ◌++◌, drop, take, length, replicate, is_some, IfOk, IfErr, OnOk, OnErr, IsSome, IsNone, IsOk, Ok, Err};
 ghost use Rattle.fax_runcodes.specs.Rows.{Elements};
 ghost use Rattle.fax_runcodes.specs.Widths.{elements_of};
 ghost use Rattle.fax_pagestore.specs.Pages.{PageValue};
@@ -9,16 +9,17 @@ ghost use Rattle.fax_pagestore.specs.Readers.{AreJudged};
 
 mod fill;
 mod judging;
+mod line;
 mod mark;
 mod rows;
 mod settled;
 
 use crate::ends::after_eols;
-use crate::front::drop_front;
 use crate::{Coding, Format, Page, PageFault, RowStore};
 use fax_bits::NoMemory;
 use fill::append;
 use judging::judge;
+use line::{MOST_KEPT, keep_unread};
 pub use mark::Mark;
 use rows::{read_up_to, unread_from};
 use settled::Settled;
@@ -30,7 +31,8 @@ use std::mem;
 /// that are read, and the octets after the last separator, until it is settled what they all are; before the
 /// first EOL two octets at most, and no octet of zeros after four others, since the zeros of fill mean nothing by
 /// their number (ITU-T T.4, 4.1.3). A line is read once the EOL after it is there, and room for lines is taken only while some
-/// are read.
+/// are read. Of a long line in one dimension, which may have any number of empty runs, the runs so far are written anew, so
+/// that at most 8,192 octets are kept.
 #[derive(Drop)]
 pub struct PageReader<S: RowStore> {
     format: Format,
@@ -54,18 +56,18 @@ impl<S: RowStore> Model for PageReader<S> {
     ghost use Rattle.fax_runcodes.specs.Widths.{elements_of};
     ghost use Rattle.fax_pagestore.specs.declared.reader.settled.Settled.TheVariants.{Page};
     ghost use Rattle.fax_pagestore.specs.PageRows.{most_rows};
-    ghost use Rattle.fax_pagestore.specs.Readers.{ReaderValue};
+    ghost use Rattle.fax_pagestore.specs.Readers.{ReaderValue, most_octets};
 
     ghost Value = { ReaderValue };
 
     ghost view = { λ r. record { format = r.format; coding = r.coding; rows = S.rows r.rows; tag = r.tag; left = drop r.used (bits_of r.octets.items); zeros = r.zeros; settled = r.settled } };
 
     ghost invariant = { λ r. (r.used ≤ 8 * length r.octets.items) × (length (S.rows r.rows) ≤ most_rows)
-        × All (λ row. length row ≡ elements_of r.format.width) (S.rows r.rows) × (r.settled ≡ Some Page → 0 < length (S.rows r.rows)) × (r.used < 8) };
+        × All (λ row. length row ≡ elements_of r.format.width) (S.rows r.rows) × (r.settled ≡ Some Page → 0 < length (S.rows r.rows)) × (r.used < 8) × (length r.octets.items ≤ most_octets) };
 }
 
 impl<S: RowStore> PageReader<S> {
-    ghost use Rattle.fax_pagestore.specs.Readers.{HasRead, AreJudged, new_reader, mark_of, reader_at, most_kept};
+    ghost use Rattle.fax_pagestore.specs.Readers.{HasRead, AreJudged, new_reader, mark_of, reader_at, most_kept, most_octets};
 
     /// A reader to which nothing came. It takes no memory.
     pub fn new(alloc: Global, format: Format, coding: Coding) -> Self
@@ -95,7 +97,8 @@ impl<S: RowStore> PageReader<S> {
         ensures fault { IfErr result (λ fault. fault ≡ PageFault.NoMemory) }
         ensures err { OnErr result (self.new ≡ self.old) }
 
-        // So while only fill comes what is kept is bounded.
+        // What is kept beside the rows is bounded, and while only fill comes it does not grow.
+        ensures kept { OnOk result (length self.new.left ≤ 8 * most_octets) }
         ensures fill { OnOk result ((n : ℕ) → piece.now ≡ replicate n 0 → most_kept self.new ≤ most_kept self.old) }
     {
         if self.settled.is_some() {
@@ -106,7 +109,7 @@ impl<S: RowStore> PageReader<S> {
         // an EOL that ends in the piece begins at most two octets before it
         let from = len.saturating_sub(2);
         let end = after_eols(self.octets.as_slice(), from);
-        if self.tag.is_some() && end == from {
+        if self.octets.len() <= MOST_KEPT && self.tag.is_some() && end == from {
             self.zeros = zeros;
             return Ok(());
         }
@@ -124,8 +127,11 @@ impl<S: RowStore> PageReader<S> {
             self.rows.cut(count);
             return Err(PageFault::NoMemory);
         };
-        drop_front(&mut self.octets, (reached.place / 8) as usize);
-        self.used = (reached.place % 8) as u32;
+        let Ok(passed) = keep_unread(alloc, &mut self.octets, reached, self.format.width) else {
+            take_back(&mut self.rows, count, &mut self.octets, len);
+            return Err(PageFault::NoMemory);
+        };
+        self.used = passed;
         self.tag = reached.tag;
         self.zeros = zeros;
         self.settled = reached.settled;
@@ -141,7 +147,8 @@ impl<S: RowStore> PageReader<S> {
 
     /// How many octets are kept beside the rows: those in which the bits stand that are not read.
     pub fn pending(&self) -> usize
-        ensures { result ≡ (length self.now.left + 7) / 8 }
+        ensures octets { result ≡ (length self.now.left + 7) / 8 }
+        ensures few { result ≤ most_octets }
     {
         self.octets.len()
     }
@@ -238,4 +245,14 @@ impl<S: RowStore> PageReader<S> {
         self.zeros = zeros;
         self.settled = settled;
     }
+}
+
+/// Takes back what a piece added: the rows after so many, and the octets after so many.
+fn take_back<S: RowStore>(rows: &mut S, count: u32, octets: &mut Vec<u8>, len: usize)
+    requires { count ≤ length (S.rows rows.old) }
+    ensures rows { S.rows rows.new ≡ take count (S.rows rows.old) }
+    ensures octets { octets.new.items ≡ take len octets.old.items }
+{
+    rows.cut(count);
+    octets.truncate(len);
 }

@@ -21,11 +21,11 @@ impl Model for Mark {
     ghost use Rattle.std.specs.Prelude.{◌≡◌, ◌<◌, ◌≤◌, ◌*◌, Some, drop, length};
     ghost use Rattle.fax_bits.specs.Bits.{bits_of};
     ghost use Rattle.fax_pagestore.specs.declared.reader.settled.Settled.TheVariants.{Page};
-    ghost use Rattle.fax_pagestore.specs.Readers.{MarkValue};
+    ghost use Rattle.fax_pagestore.specs.Readers.{MarkValue, most_octets};
 
     ghost Value = { MarkValue };
 
     ghost view = { λ m. record { format = m.format; coding = m.coding; count = m.count; tag = m.tag; left = drop m.used (bits_of m.octets.items); zeros = m.zeros; settled = m.settled } };
 
-    ghost invariant = { λ m. (m.used ≤ 8 * length m.octets.items) × (m.settled ≡ Some Page → 0 < m.count) × (m.used < 8) };
+    ghost invariant = { λ m. (m.used ≤ 8 * length m.octets.items) × (m.settled ≡ Some Page → 0 < m.count) × (m.used < 8) × (length m.octets.items ≤ most_octets) };
 }
