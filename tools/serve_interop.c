@@ -41,7 +41,7 @@ typedef struct {
     char sent[96], got[96];
     Peer *calling, *called;
     int calling_socket, called_socket;
-    int pages_kept, has_hung_up, is_ended, jobs, delivered, is_done, is_stuck, steps, steps_behind;
+    int pages_stored, has_hung_up, is_ended, jobs, delivered, is_done, is_stuck, steps, steps_behind;
 } Line;
 
 static const char *faxgate;
@@ -169,7 +169,7 @@ static void obey(const Kind *kind, const char *event) {
     if (strstr(event, "\"event\":\"dial\"") && !l->called)
         l->called = kind->has_modem ? new_modem_peer(&l->setting, l->got, send_over_socket, &l->called_socket)
                                     : new_peer(&l->setting, NULL, l->got, send_over_socket, &l->called_socket);
-    l->pages_kept += strstr(event, "\"event\":\"page\"") != NULL;
+    l->pages_stored += strstr(event, "\"event\":\"page\"") != NULL;
     l->is_ended |= strstr(event, "\"event\":\"ended\"") != NULL;
     if (strstr(event, "\"event\":\"job\"")) {
         l->jobs++;
@@ -208,7 +208,7 @@ static void prepare(Line *l, int i, const Kind *kind) {
 
 /* The caller of a line hangs up a second after its first page, in the middle of the second. */
 static void may_hang_up(Line *l, int i, Server *server) {
-    if (l->has_hung_up || l->pages_kept == 0 || ++l->steps < STEPS_TO_A_HANGUP) return;
+    if (l->has_hung_up || l->pages_stored == 0 || ++l->steps < STEPS_TO_A_HANGUP) return;
     l->has_hung_up = 1;
     dprintf(server->words, "hangup l%d calling\n", i);
 }

@@ -307,7 +307,7 @@ class Restored(Asked):
         self.client = self.server.events()
         for number in range(1, JOBS + 1):
             self.deliver(f"tag-{number}", self.machine(), number)
-        until(lambda: self.server.metrics()["faxgate_pages_kept"] == 0, what="the last job's end")
+        until(lambda: self.server.metrics()["faxgate_pages_stored"] == 0, what="the last job's end")
 
     def test_one_that_is_refused_is_gone(self):
         """It is not sent after the next start either."""
@@ -322,7 +322,7 @@ class Restored(Asked):
         self.server.start()
         self.client = self.server.events()
         self.deliver("tag-2", self.machine(), 2)
-        until(lambda: self.server.metrics()["faxgate_pages_kept"] == 0, what="the job's end")
+        until(lambda: self.server.metrics()["faxgate_pages_stored"] == 0, what="the job's end")
 
     def test_the_next_call_has_its_own_tag(self):
         """After the last restored job that of this life is asked for, with its own tag."""

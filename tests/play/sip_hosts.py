@@ -183,7 +183,7 @@ def play(hosts):
         hosts.take(invite, rows)
     time.sleep(2)
     assert hosts.say("c", "undelivered") == ["ok"], "a page could not be delivered"
-    assert "faxgate_pages_kept 0" in hosts.say("c", "metrics"), "a page waits"
+    assert "faxgate_pages_stored 0" in hosts.say("c", "metrics"), "a page waits"
     return len(waiting["a"])
 
 

@@ -71,16 +71,16 @@ class Lives(Spooled):
         caller.forget()
         self.assertEqual(self.server.say("ring a1 third"), ["ok 0"])
         counts = self.server.metrics()
-        self.assertEqual((counts["faxgate_jobs_waiting"], counts["faxgate_pages_kept"]), (2, 2))
+        self.assertEqual((counts["faxgate_jobs_waiting"], counts["faxgate_pages_stored"]), (2, 2))
         self.assertEqual(caller.call(), MCF)
         for call, tag in ((0, "first"), (1, None), (0, "third")):
             self.assertEqual(called.take_page(), PAGE_SENT)
             events.event("job", call=call, tag=tag, pages=1, delivered=1, outcome="Delivered")
             called.begin_anew()
-        self.assertEqual(self.server.metrics()["faxgate_pages_kept"], 0)
+        self.assertEqual(self.server.metrics()["faxgate_pages_stored"], 0)
         self.begin_anew()
         counts = self.server.metrics()
-        self.assertEqual((counts["faxgate_jobs_waiting"], counts["faxgate_pages_kept"]), (0, 0))
+        self.assertEqual((counts["faxgate_jobs_waiting"], counts["faxgate_pages_stored"]), (0, 0))
 
     def test_pages_that_are_set_aside(self):
         """Those of a line that the configuration has no more, and one whose text means none, are told, and stay where they are."""
@@ -103,10 +103,10 @@ class Lives(Spooled):
         counts = self.server.metrics()
         self.assertEqual(counts["faxgate_pages_set_aside_total"], 2)
         self.assertEqual(counts["faxgate_records_damaged_total"], 0)
-        self.assertEqual((counts["faxgate_jobs_waiting"], counts["faxgate_pages_kept"]), (1, 1))
+        self.assertEqual((counts["faxgate_jobs_waiting"], counts["faxgate_pages_stored"]), (1, 1))
         self.begin_anew(first, second)
         counts = self.server.metrics()
-        self.assertEqual((counts["faxgate_pages_set_aside_total"], counts["faxgate_pages_kept"]), (1, 2))
+        self.assertEqual((counts["faxgate_pages_set_aside_total"], counts["faxgate_pages_stored"]), (1, 2))
 
     def spoil_last_page_of_first(self, octets):
         """Of the page of call 1 of a1 the text gives way to zeros, which mean no page, under a digest that is right."""
@@ -127,17 +127,17 @@ class Disks(Spooled):
         caller.train()
         heard = len(caller.came)
         caller.send(TRAINING, image(PAGE), PREAMBLE, CALLER_EOP)
-        event = events.event("not_kept")
-        self.assertEqual(event_line(event), '{"event":"not_kept","line":"a1","at":N,"call":0,"tag":"tag"}')
+        event = events.event("not_stored")
+        self.assertEqual(event_line(event), '{"event":"not_stored","line":"a1","at":N,"call":0,"tag":"tag"}')
         caller.send(PREAMBLE, CALLER_DCN)
         event = events.event("ended")
-        self.assertEqual(event_line(event), '{"event":"ended","line":"a1","at":N,"call":0,"tag":"tag","how":"NotKept"}')
+        self.assertEqual(event_line(event), '{"event":"ended","line":"a1","at":N,"call":0,"tag":"tag","how":"NotStored"}')
         while caller.next_within(0.3) is not None:
             pass
         # The preamble before the MCF goes out, since nothing is confirmed by it.
         self.assertIn(caller.packets()[heard:], ([], [PREAMBLE]))
         counts = self.server.metrics()
-        self.assertEqual((counts["faxgate_put_failures_total"], counts["faxgate_pages_kept"]), (1, 0))
+        self.assertEqual((counts["faxgate_put_failures_total"], counts["faxgate_pages_stored"]), (1, 0))
 
 
 class Whole(Spooled):
@@ -171,7 +171,7 @@ class Whole(Spooled):
             "jobs_waiting": 1,
             "puts_total": 2,
             "put_failures_total": 0,
-            "pages_kept": 2,
+            "pages_stored": 2,
         }.items():
             self.assertEqual(counts["faxgate_" + name], count, name)
         self.assertGreater(counts["faxgate_datagrams_received_total"], 50)
@@ -189,4 +189,4 @@ class Whole(Spooled):
                 self.assertEqual(file.read(), self.picture(number))
         counts = self.server.metrics()
         self.assertEqual((counts["faxgate_jobs_delivered_total"], counts["faxgate_pages_delivered_total"]), (1, 2))
-        self.assertEqual(counts["faxgate_pages_kept"], 0)
+        self.assertEqual(counts["faxgate_pages_stored"], 0)

@@ -167,7 +167,7 @@ class PagesSurviveACrash(Spooling):
         self.confirm(server, other, 0, [OTHER_ROW], "tag-2")
         # a call that is on when the process ends
         self.confirm(server, other, 1, [ROW], "tag-3", commands=[t38.MPS], hangs_up=False)
-        self.assertEqual(server.metrics()["faxgate_pages_kept"], 4)
+        self.assertEqual(server.metrics()["faxgate_pages_stored"], 4)
         server.kill()
         before = [
             *epochs(1),
@@ -191,7 +191,7 @@ class PagesSurviveACrash(Spooling):
         self.assertEqual([it.pages for it in called], [[t4.text(ROW), t4.text(OTHER_ROW)], [t4.text(OTHER_ROW), t4.text(ROW)]])
         self.assertEqual(called[1].commands, [t38.EOP, t38.EOP])
         self.assertIn('"tag":null', server.say("report a1")[0])
-        until(lambda: server.metrics()["faxgate_pages_kept"] == 0, what="the end of the jobs")
+        until(lambda: server.metrics()["faxgate_pages_stored"] == 0, what="the end of the jobs")
         server.kill()
         # no page stands there any more, and of the ends of the jobs those that are not dropped with them
         ends = [ended(b"a1", 1, 0, 1, 2, 2), ended(b"a2", 1, 0, 1, 1, 1), ended(b"a2", 1, 1, 1, 1, 1)]
@@ -217,7 +217,7 @@ class AJobEnds(Spooling):
         job = events.event("job", PATIENCE)
         called.end()
         self.assertEqual((job["pages"], job["delivered"], job["outcome"]), (2, 1, "PageRefused"))
-        until(lambda: server.metrics()["faxgate_pages_kept"] == 0, what="that it is noted")
+        until(lambda: server.metrics()["faxgate_pages_stored"] == 0, what="that it is noted")
         kept_text = t4.text([[2432]], two_d=True)
         pages = [page(b"a1", 2, 0, number, kept_text, number == 2, b"tag", 2, True) for number in (1, 2)]
         found = [it for name in FILES for it in records_in(self.file(server, name)) if not it.startswith(EPOCH)]
@@ -237,7 +237,7 @@ class FilesTakeTurns(Spooling):
         waits = page(b"a1", 3, 0, 1, kept(OTHER_ROW))
         called = self.called(line, calls=2)
         server = self.serve(line, files={"pages": file_of(*epochs(3), waits), "pages-wal": older})
-        self.assertEqual(server.metrics()["faxgate_pages_kept"], 2)
+        self.assertEqual(server.metrics()["faxgate_pages_stored"], 2)
         until(lambda: called.pages, what="a page")
         until(lambda: not self.pages_in(server, "pages-wal"), what="that the older file is cleared")
         self.assertEqual(self.pages_in(server, "pages"), [waits])
@@ -255,7 +255,7 @@ class FilesTakeTurns(Spooling):
         called = self.called(line, calls=2)
         server = self.serve(line, files={"pages": bytes(newer), "pages-wal": older})
         counts = server.metrics()
-        self.assertEqual((counts["faxgate_records_damaged_total"], counts["faxgate_pages_kept"]), (1, 2))
+        self.assertEqual((counts["faxgate_records_damaged_total"], counts["faxgate_pages_stored"]), (1, 2))
         called.end()
         self.assertEqual(called.pages, [t4.text(ROW), t4.text(OTHER_ROW)])
 
@@ -307,7 +307,7 @@ class SomethingElse(Spooling):
         self.silent(line)
         server = self.serve(line, files={"pages": self.OTHERS["noise"], "pages-wal": file_of(*epochs(1), page(b"a1", 1, 0, 1, kept(ROW)))})
         counts = server.metrics()
-        self.assertEqual((counts["faxgate_pages_kept"], counts["faxgate_octets_passed_over_total"]), (1, 5000))
+        self.assertEqual((counts["faxgate_pages_stored"], counts["faxgate_octets_passed_over_total"]), (1, 5000))
 
 
 class DamagedRecords(Spooling):
@@ -327,7 +327,7 @@ class DamagedRecords(Spooling):
         self.write(server, "pages-wal", self.damaged(at))
         server.start()
         counts = server.metrics()
-        return counts["faxgate_records_damaged_total"], counts["faxgate_pages_kept"], counts["faxgate_pages_set_aside_total"]
+        return counts["faxgate_records_damaged_total"], counts["faxgate_pages_stored"], counts["faxgate_pages_set_aside_total"]
 
     def test_their_calls_are_set_aside(self):
         """Wherever the octet is, in the digest or after it: the other pages of the call wait, and are not sent."""
@@ -394,7 +394,7 @@ class AFullDisk(Spooling):
         events = server.events()
         machine = self.calling(line, pages, t4=SHORT_T4)
         self.assertEqual(server.say("ring a1"), [f"ok {call}"])
-        events.event("not_kept", PATIENCE, call=call)
+        events.event("not_stored", PATIENCE, call=call)
         events.event("spool_failed", PATIENCE)
         silenced = time.time() + 0.1
         machine.join(PATIENCE)
@@ -405,7 +405,7 @@ class AFullDisk(Spooling):
         self.assertEqual([numbers([it]) for it in leg.came if it[0] > silenced], [])
         machine.end()
         self.assertEqual(server.say("hangup a1 calling"), ["ok"])
-        events.event("ended", PATIENCE, call=call, how="NotKept")
+        events.event("ended", PATIENCE, call=call, how="NotStored")
         # what was not kept is told as that alone
         self.assertEqual(len([it for it in events.events if it["event"] == "page"]), confirmed)
         self.assertEqual([server.say("ring a1"), server.say("ring any")], 2 * [["refused 13 NoSpool"]])
@@ -552,14 +552,14 @@ class PagesOfASlot(Spooling):
         again."""
         for _ in range(4):
             counts, heard = self.play(fails=False)
-            self.assertEqual((counts["faxgate_pages_kept"], heard), (2, [True, True]))
+            self.assertEqual((counts["faxgate_pages_stored"], heard), (2, [True, True]))
             if counts["faxgate_puts_total"] == 1:
                 return
         self.fail(f"{counts['faxgate_puts_total']} puts")
 
     def test_or_none_is(self):
         counts, heard = self.play(fails=True)
-        self.assertEqual((counts["faxgate_pages_kept"], counts["faxgate_put_failures_total"], heard), (0, 2, [False, False]))
+        self.assertEqual((counts["faxgate_pages_stored"], counts["faxgate_put_failures_total"], heard), (0, 2, [False, False]))
 
 
 class Folders(Spooling):

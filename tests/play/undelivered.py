@@ -104,7 +104,7 @@ class Undelivered(Failing):
         until(lambda: self.server.metrics()["faxgate_pages_undelivered"] == pages, what="pages that are undelivered")
         counts = self.server.metrics()
         self.assertEqual(counts["faxgate_jobs_undelivered_total"], jobs)
-        self.assertEqual((counts["faxgate_jobs_waiting"], counts["faxgate_pages_kept"]), (0, 0))
+        self.assertEqual((counts["faxgate_jobs_waiting"], counts["faxgate_pages_stored"]), (0, 0))
 
     def test_a_page_that_came_is_not_kept(self):
         """A job that was delivered leaves nothing, before one that was not and after it."""
@@ -216,7 +216,7 @@ class InMemory(Failing):
         self.assertEqual(self.told("undelivered a2"), [])
         counts = self.server.metrics()
         self.assertEqual((counts["faxgate_pages_undelivered"], counts["faxgate_jobs_undelivered_total"]), (1, 1))
-        self.assertEqual((counts["faxgate_puts_total"], counts["faxgate_pages_kept"]), (0, 0))
+        self.assertEqual((counts["faxgate_puts_total"], counts["faxgate_pages_stored"]), (0, 0))
         self.assertFalse([line for line in self.server.say("status") if line.startswith("spool")])
         for word in ("discard a1 1 1", "discard a1 2 0", "discard a2 1 0"):
             self.assertEqual(self.server.say(word), NO_CALL)

@@ -216,7 +216,7 @@ static void tell_spool(void) {
     for (int i = 0; i < options.processes; i++) syncs += servers[i].notes->syncs, took += servers[i].notes->sync_time;
     printf("  spool: %lld syncs, %.2f ms each in the mean; %.1f MB at most, %.1f MB in the end; %lld pages wait\n", syncs,
            syncs ? (double)took / (double)syncs / 1e6 : 0, largest_spool / 1024, spool_size() / 1024,
-           count_of("faxgate_pages_kept"));
+           count_of("faxgate_pages_stored"));
 }
 
 /* What is wanted of a page on each leg at once. */

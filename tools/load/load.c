@@ -459,7 +459,7 @@ static void start_again(void) {
     double seconds = (double)(now() - begun) / 1e9;
     judge_start(seconds, most_memory_of(&servers[0]));
     say(&askers[0], "metrics\n");
-    want("each page waits there", count_of("faxgate_pages_kept") == options.waiting, "see pages_kept of metrics");
+    want("each page waits there", count_of("faxgate_pages_stored") == options.waiting, "see pages_stored of metrics");
 }
 
 /* Pages that wait, since nobody is asked where they are to go. */

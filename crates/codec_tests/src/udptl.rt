@@ -288,7 +288,7 @@ fn decides_slots(rt: HostRuntime) {
 }
 
 #[test]
-fn decides_slots_behind_a_loss(rt: HostRuntime) {
+fn decides_slots_after_a_loss(rt: HostRuntime) {
     assert!(rt; are_decided(AHEAD));
     assert!(rt; are_decided(BROUGHT_BACK));
 }

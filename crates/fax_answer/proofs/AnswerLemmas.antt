@@ -29,7 +29,7 @@ use Rattle.fax_answer.specs.Images.{ImageValue, Confirms, MeansAt}
 use Rattle.fax_answer.specs.Following.{Follows, CanDecide, confirmed_after}
 use Rattle.fax_answer.specs.declared.answer.Answer.{Answer}
 use Rattle.fax_answer.specs.declared.refusal.Refusal.{Refusal}
-use Rattle.fax_answer.specs.declared.refusal.Refusal.TheVariants.{Fault, NotWhole, GapBehind, SeveralImages, NoImage, Untrained}
+use Rattle.fax_answer.specs.declared.refusal.Refusal.TheVariants.{Fault, NotWhole, GapAfter, SeveralImages, NoImage, Untrained}
 use Rattle.fax_answer.specs.Refusals.{HasReason, IsReasonInPage, IsWhy}
 use Rattle.fax_answer.specs.Reached.{AtRtn, IsFaultOf, Rep, Holds, Stands, Takes, Answers, AnswersAgain, AnswersCommand, AnswersImage}
 use Rattle.fax_answer.proofs.Held.{IsNoCfr, holds_frame, frame_no_cfr, confirms_none}
@@ -44,7 +44,7 @@ fault_why : (dcs : Dcs) (history : List Entry) (told : Option Refusal) → is_on
 fault_why dcs history None one h = h
 fault_why dcs history (Some (Fault fault)) one h = (one, h)
 fault_why dcs history (Some NotWhole) one h = absurd h
-fault_why dcs history (Some GapBehind) one h = absurd h
+fault_why dcs history (Some GapAfter) one h = absurd h
 fault_why dcs history (Some SeveralImages) one h = absurd h
 fault_why dcs history (Some NoImage) one h = absurd h
 fault_why dcs history (Some Untrained) one h = absurd h

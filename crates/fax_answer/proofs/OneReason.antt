@@ -7,7 +7,7 @@ use Rattle.fax_pagestore.specs.declared.fault.PageFault.{PageFault}
 use Rattle.fax_pagestore.specs.PageFaults.{FailsPage}
 use Rattle.fax_pagestore.proofs.ReaderLemmas.{same_fault}
 use Rattle.fax_answer.specs.declared.refusal.Refusal.{Refusal}
-use Rattle.fax_answer.specs.declared.refusal.Refusal.TheVariants.{Fault, NotWhole, GapBehind, SeveralImages, NoImage, Untrained}
+use Rattle.fax_answer.specs.declared.refusal.Refusal.TheVariants.{Fault, NotWhole, GapAfter, SeveralImages, NoImage, Untrained}
 use Rattle.fax_answer.specs.declared.state.State.TheVariants.{Idle, Identify, Listen, Train, Page, Again, Closing}
 use Rattle.fax_answer.specs.History.{Entry, since_answer, images, gap, last_image, last_whole}
 use Rattle.fax_answer.specs.Table.{is_one_image}
@@ -15,7 +15,7 @@ use Rattle.fax_answer.specs.Refusals.{IsReasonInAgain, IsReasonInPage, ReasonsAr
 
 -- the reason where not one image stands, whole and with nothing after it, by how many there are and whether the last is whole
 abbrev lacking : ℕ → Bool → Refusal
-lacking n whole = if nat_eq n 0 then NoImage else if nat_eq n 1 then (if whole then GapBehind else NotWhole) else SeveralImages
+lacking n whole = if nat_eq n 0 then NoImage else if nat_eq n 1 then (if whole then GapAfter else NotWhole) else SeveralImages
 
 abbrev one_of : ℕ → Bool → Bool → Bool
 one_of n whole gap = nat_eq n 1 && (whole && not gap)
@@ -38,7 +38,7 @@ settled dcs before NotWhole a =
     let w : Bool = last_whole (since_answer before) in
     let g : Bool = gap (since_answer before) in
     inr (sym (ap (λ (n : ℕ). lacking n w) a.0 ∙ ap (λ (x : Bool). lacking 1 x) a.1), ap (λ (n : ℕ). one_of n w g) a.0 ∙ ap (λ (x : Bool). one_of 1 x g) a.1)
-settled dcs before GapBehind a =
+settled dcs before GapAfter a =
     let w : Bool = last_whole (since_answer before) in
     let g : Bool = gap (since_answer before) in
     inr (
@@ -50,8 +50,8 @@ settled dcs before SeveralImages a =
     let w : Bool = last_whole (since_answer before) in
     let g : Bool = gap (since_answer before) in
     inr (
-      sym (ap (λ (x : Bool). if x then NoImage else if nat_eq n 1 then (if w then GapBehind else NotWhole) else SeveralImages) (not_none n a)
-          ∙ ap (λ (x : Bool). if x then (if w then GapBehind else NotWhole) else SeveralImages) (not_one n a)),
+      sym (ap (λ (x : Bool). if x then NoImage else if nat_eq n 1 then (if w then GapAfter else NotWhole) else SeveralImages) (not_none n a)
+          ∙ ap (λ (x : Bool). if x then (if w then GapAfter else NotWhole) else SeveralImages) (not_one n a)),
       ap (λ (x : Bool). x && (w && not g)) (not_one n a),
     )
 settled dcs before NoImage a =
@@ -79,7 +79,7 @@ settled_again before NoImage a = sym (ap lacking_again a)
 settled_again before Untrained a = sym (ap (λ (x : Bool). if x then NoImage else Untrained) (not_zero (images (since_answer before)) a))
 settled_again before (Fault fault) a = absurd a
 settled_again before NotWhole a = absurd a
-settled_again before GapBehind a = absurd a
+settled_again before GapAfter a = absurd a
 settled_again before SeveralImages a = absurd a
 
 pub one_reason : ReasonsAreUnique

@@ -6,7 +6,7 @@ use Rattle.fax_frames.specs.declared.dcs.Dcs.{Dcs}
 use Rattle.fax_frames.specs.Capabilities.{format_of, coding_of}
 use Rattle.fax_pagestore.specs.PageFaults.{FailsPage}
 use Rattle.fax_answer.specs.declared.refusal.Refusal.{Refusal}
-use Rattle.fax_answer.specs.declared.refusal.Refusal.TheVariants.{Fault, NotWhole, GapBehind, SeveralImages, NoImage, Untrained}
+use Rattle.fax_answer.specs.declared.refusal.Refusal.TheVariants.{Fault, NotWhole, GapAfter, SeveralImages, NoImage, Untrained}
 use Rattle.fax_answer.specs.declared.state.State.{State}
 use Rattle.fax_answer.specs.declared.state.State.TheVariants.{Page, Again}
 use Rattle.fax_answer.specs.History.{Entry, Decision, GivesRtn, since_answer, images, gap, last_image, last_whole}
@@ -21,7 +21,7 @@ abbrev pub IsReasonInPage : Dcs → List Entry → Refusal → Type 0
 IsReasonInPage dcs before (Fault fault) =
     (is_one_image (since_answer before) ≡ true) × FailsPage (elements_of (format_of dcs).width) (coding_of dcs) (last_image before) fault
 IsReasonInPage dcs before NotWhole = (images (since_answer before) ≡ 1) × (last_whole (since_answer before) ≡ false)
-IsReasonInPage dcs before GapBehind =
+IsReasonInPage dcs before GapAfter =
     (images (since_answer before) ≡ 1) × (last_whole (since_answer before) ≡ true) × (gap (since_answer before) ≡ true)
 IsReasonInPage dcs before SeveralImages = 1 < images (since_answer before)
 IsReasonInPage dcs before NoImage = images (since_answer before) ≡ 0

@@ -133,7 +133,7 @@ impl Counts {
     {
         match self.images {
             Images::Zero => Refusal::NoImage,
-            Images::One if self.whole => Refusal::GapBehind,
+            Images::One if self.whole => Refusal::GapAfter,
             Images::One => Refusal::NotWhole,
             Images::More => Refusal::SeveralImages,
         }

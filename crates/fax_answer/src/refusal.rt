@@ -10,7 +10,7 @@ pub enum Refusal {
     /// One image came, which is not whole: a slot of it was missing.
     NotWhole,
     /// One image came, which is whole, and after it a slot was missing or a signal began.
-    GapBehind,
+    GapAfter,
     /// More than one image came.
     SeveralImages,
     /// No image came.

@@ -47,7 +47,7 @@ Prints:
 and, where there is no control socket, what clients of one are told:
   ok .., refused NUMBER NAME      the answer to a word; after the lines that it asked for
   {\"event\":\"job\",\"line\":\"a1\",..}   what happened: rung, page, refused_page, ended, dial,
-                                  job, wire, late, not_kept, set_aside, lost
+                                  job, wire, late, not_stored, set_aside, lost
 
 Statuses:
   0  it was told to stop, and has

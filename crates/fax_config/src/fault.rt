@@ -152,7 +152,7 @@ impl fmt::Display for LineName {
         match self {
             LineName::Named(name) => write!(f, "line {name:?}"),
             LineName::After(0) => write!(f, "the first line"),
-            LineName::After(count) => write!(f, "the line behind {count} others"),
+            LineName::After(count) => write!(f, "the line after {count} others"),
         }
     }
 }

@@ -5,7 +5,7 @@ use Rattle.fax_frames.specs.declared.frame.Frame.TheVariants as frames
 use Rattle.fax_jobs.specs.declared.outcome.Outcome.{Outcome}
 use Rattle.fax_jobs.specs.declared.outcome.Outcome.TheVariants.{Delivered, NotReceiver, WidthLacking, FineLacking, RatesSpent, NoAnswer, NoReply, PageRefused, HungUp, NotPlaced}
 use Rattle.fax_answer.specs.declared.refusal.Refusal.{Refusal}
-use Rattle.fax_answer.specs.declared.refusal.Refusal.TheVariants.{Fault, NotWhole, GapBehind, SeveralImages, NoImage, Untrained}
+use Rattle.fax_answer.specs.declared.refusal.Refusal.TheVariants.{Fault, NotWhole, GapAfter, SeveralImages, NoImage, Untrained}
 use Rattle.fax_descriptions.specs.declared.exchange.Exchange.{Exchange}
 use Rattle.fax_descriptions.specs.declared.exchange.Exchange.TheVariants.{Before, Awaited, Answered}
 use Rattle.fax_descriptions.specs.declared.command.Command.{Command}
@@ -15,7 +15,7 @@ use Rattle.fax_descriptions.specs.declared.command.Command.TheVariants.{Training
 abbrev pub refusal_text : Refusal → List ℕ
 refusal_text (Fault fault) = codes "the image means no page"
 refusal_text NotWhole = codes "the image is not whole"
-refusal_text GapBehind = codes "something is missing or began between the image and the command"
+refusal_text GapAfter = codes "something is missing or began between the image and the command"
 refusal_text SeveralImages = codes "more than one image came since the last CFR or MCF"
 refusal_text NoImage = codes "no image came before the command"
 refusal_text Untrained = codes "an image came after EOM, and no DCS before it"

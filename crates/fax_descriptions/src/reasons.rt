@@ -15,7 +15,7 @@ pub fn why_refused(refusal: Refusal) -> &'static str
     match refusal {
         Refusal::Fault(_) => "the image means no page",
         Refusal::NotWhole => "the image is not whole",
-        Refusal::GapBehind => "something is missing or began between the image and the command",
+        Refusal::GapAfter => "something is missing or began between the image and the command",
         Refusal::SeveralImages => "more than one image came since the last CFR or MCF",
         Refusal::NoImage => "no image came before the command",
         Refusal::Untrained => "an image came after EOM, and no DCS before it",

@@ -22,8 +22,8 @@ CauseShows (Some why) shown = IsUtf8 (cause_text why) → shown ≡ Some (cause_
 abbrev pub Shows : LineEvent → What → Type 0
 Shows (happened.Rung tagged) (what.Rung call tag) = (call ≡ tagged.call) × TagShows tagged.tag (option_map (λ text. text.now) tag)
 Shows (happened.Rung tagged) other = ⊥
-Shows (happened.NotKept tagged) (what.NotKept call tag) = (call ≡ tagged.call) × TagShows tagged.tag (option_map (λ text. text.now) tag)
-Shows (happened.NotKept tagged) other = ⊥
+Shows (happened.NotStored tagged) (what.NotStored call tag) = (call ≡ tagged.call) × TagShows tagged.tag (option_map (λ text. text.now) tag)
+Shows (happened.NotStored tagged) other = ⊥
 Shows (happened.Page page said) (what.Page kept tag) = (kept ≡ page) × TagShows said (option_map (λ text. text.now) tag)
 Shows (happened.Page page said) other = ⊥
 Shows (happened.RefusedPage refused said) (what.RefusedPage call tag why) = (call ≡ refused.call) × (why ≡ refused.why) × TagShows said (option_map (λ text. text.now) tag)

@@ -4,7 +4,7 @@ use Rattle.fax_desk.specs.declared.told.LineEvent.{LineEvent}
 use Rattle.fax_desk.specs.declared.told.TurnEvents.{TurnEvents}
 
 abbrev pub told_list : TurnEvents → List (Option LineEvent)
-told_list told = told.not_kept ∷ told.page ∷ told.refused ∷ told.ended ∷ told.job ∷ told.dialled ∷ []
+told_list told = told.not_stored ∷ told.page ∷ told.refused ∷ told.ended ∷ told.job ∷ told.dialled ∷ []
 
 abbrev pub TellsIf : {L : Type 0} → (List ℕ → ℕ → LineEvent → L → L → Type 0) → List ℕ → ℕ → Option LineEvent → L → L → Type 0
 TellsIf tells line at None old new = new ≡ old

@@ -2,7 +2,7 @@
 use Rattle.std.specs.Prelude.{ℕ, ◌+◌, ◌-◌, ◌^◌, min, Bool, true, false, Option, Some, None, is_some, option_map}
 use Rattle.fax_events.specs.declared.event.AskedJob.{AskedJob}
 use Rattle.fax_events.specs.declared.event.Ending.{Ending}
-use Rattle.fax_events.specs.declared.event.Ending.TheVariants.{Done, HungUp, GivenUp, NotKept}
+use Rattle.fax_events.specs.declared.event.Ending.TheVariants.{Done, HungUp, GivenUp, NotStored}
 use Rattle.fax_gateway.specs.declared.given.Kept.{Kept}
 use Rattle.fax_gateway.specs.declared.given.RefusedPage.{RefusedPage}
 use Rattle.fax_jobs.specs.declared.report.Report.{Report}
@@ -24,7 +24,7 @@ use Rattle.fax_desk.specs.Questions.{open_until, seconds_left}
 -- Where a page of it could not be kept, nothing was said after it. Else, where its last page was said to be the last, it has done
 -- what it called for; or a word said that its peer's call was gone, or we gave it up, or its peer ended it.
 abbrev pub ending_of : (is_silenced is_hung_up is_given_up is_closed : Bool) → Ending
-ending_of true is_hung_up is_given_up is_closed = NotKept
+ending_of true is_hung_up is_given_up is_closed = NotStored
 ending_of false is_hung_up is_given_up true = Done
 ending_of false true is_given_up false = HungUp
 ending_of false false true false = GivenUp
@@ -32,10 +32,10 @@ ending_of false false false false = Done
 
 -- ---- what is told of a turn
 
-abbrev pub not_kept_told : Card → Bool → Option Kept → Option LineEvent
-not_kept_told card is_stored None = None
-not_kept_told card true (Some kept) = None
-not_kept_told card false (Some kept) = Some (happened.NotKept (tagged_of card kept.call))
+abbrev pub not_stored_told : Card → Bool → Option Kept → Option LineEvent
+not_stored_told card is_stored None = None
+not_stored_told card true (Some kept) = None
+not_stored_told card false (Some kept) = Some (happened.NotStored (tagged_of card kept.call))
 
 -- one that could not be kept is told by that alone
 abbrev pub page_told : Card → Bool → Option Kept → Option LineEvent
@@ -68,7 +68,7 @@ card_after card turn = after_job turn.first.is_restored turn.turned.report (afte
 abbrev pub told_of : Card → Turn → TurnEvents
 told_of card turn =
     record {
-      not_kept = not_kept_told card turn.is_stored turn.turned.kept;
+      not_stored = not_stored_told card turn.is_stored turn.turned.kept;
       page = page_told card turn.is_stored turn.turned.kept;
       refused = refused_told card turn.turned.refused;
       ended = ended_told (after_page turn.is_stored turn.turned.kept card) turn turn.turned.ended;

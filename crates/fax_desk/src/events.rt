@@ -14,7 +14,7 @@ impl LineEvent {
     {
         match self {
             LineEvent::Rung(tagged) => What::Rung(tagged.call, tagged.text()),
-            LineEvent::NotKept(tagged) => What::NotKept(tagged.call, tagged.text()),
+            LineEvent::NotStored(tagged) => What::NotStored(tagged.call, tagged.text()),
             LineEvent::Page(page, tag) => What::Page(*page, text_of(tag)),
             LineEvent::RefusedPage(refused, tag) => {
                 What::RefusedPage(refused.call, text_of(tag), refused.why)

@@ -33,7 +33,7 @@ fn tell_if<L: Listener>(listener: &mut L, line: &str, at: u64, what: Option<Line
 fn tell_told<L: Listener>(listener: &mut L, line: &str, at: u64, told: TurnEvents)
     ensures { Tells L.tells line.now at (told_list told) listener.old listener.new }
 {
-    tell_if(listener, line, at, told.not_kept);
+    tell_if(listener, line, at, told.not_stored);
     tell_if(listener, line, at, told.page);
     tell_if(listener, line, at, told.refused);
     tell_if(listener, line, at, told.ended);

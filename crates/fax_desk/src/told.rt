@@ -15,7 +15,7 @@ pub enum LineEvent {
     /// The calling leg was rung.
     Rung(TaggedCall),
     /// A page was confirmed that could not be kept.
-    NotKept(TaggedCall),
+    NotStored(TaggedCall),
     /// A page was confirmed.
     Page(PageConfirmed, Option<Tag>),
     /// A page was refused (RTN).
@@ -48,7 +48,7 @@ pub struct Turn {
 /// What is told of it, in this order.
 #[derive(Clone, Copy)]
 pub struct TurnEvents {
-    pub not_kept: Option<LineEvent>,
+    pub not_stored: Option<LineEvent>,
     pub page: Option<LineEvent>,
     pub refused: Option<LineEvent>,
     pub ended: Option<LineEvent>,
@@ -69,7 +69,7 @@ pub fn ending(is_silenced: bool, is_hung_up: bool, is_given_up: bool, is_closed:
     ensures { result ≡ ending_of is_silenced is_hung_up is_given_up is_closed }
 {
     if is_silenced {
-        Ending::NotKept
+        Ending::NotStored
     } else if is_closed {
         Ending::Done
     } else if is_hung_up {

@@ -1,6 +1,6 @@
 //! What is told of a turn.
 ghost use Rattle.std.specs.Prelude.{◌≡◌};
-ghost use Rattle.fax_desk.specs.Turns.{card_after, dial_told, ended_told, job_told, not_kept_told, page_told, refused_told, told_of};
+ghost use Rattle.fax_desk.specs.Turns.{card_after, dial_told, ended_told, job_told, not_stored_told, page_told, refused_told, told_of};
 
 use crate::card::Card;
 use crate::told::{LineEvent, Turn, TurnEvents, ending};
@@ -16,7 +16,7 @@ impl Card {
         ensures card { self.new ≡ card_after self.old turn }
     {
         let turned = turn.turned;
-        let not_kept = self.not_kept_told(turn.is_stored, turned.kept);
+        let not_stored = self.not_stored_told(turn.is_stored, turned.kept);
         let page = self.page_told(turn.is_stored, turned.kept);
         let refused = self.refused_told(turned.refused);
         let job = self.job_told(turn.first, turned.report);
@@ -25,7 +25,7 @@ impl Card {
         self.end_job(turn.first, turned.report);
         let dialled = self.dial_told(turn.first, turned.dialled);
         TurnEvents {
-            not_kept,
+            not_stored,
             page,
             refused,
             ended,
@@ -34,11 +34,11 @@ impl Card {
         }
     }
 
-    fn not_kept_told(&self, is_stored: bool, kept: Option<Kept>) -> Option<LineEvent>
-        ensures { result ≡ not_kept_told self.now is_stored kept }
+    fn not_stored_told(&self, is_stored: bool, kept: Option<Kept>) -> Option<LineEvent>
+        ensures { result ≡ not_stored_told self.now is_stored kept }
     {
         match kept {
-            Some(kept) if !is_stored => Some(LineEvent::NotKept(self.tagged(kept.call))),
+            Some(kept) if !is_stored => Some(LineEvent::NotStored(self.tagged(kept.call))),
             _ => None,
         }
     }

@@ -42,7 +42,7 @@ spool_counts counters =
     count_text (codes "faxgate_puts_total") Counter counters.puts
     ++ count_text (codes "faxgate_put_failures_total") Counter counters.put_failures
     ++ count_text (codes "faxgate_put_microseconds_total") Counter counters.put_micros
-    ++ count_text (codes "faxgate_pages_kept") Gauge counters.pages_kept
+    ++ count_text (codes "faxgate_pages_stored") Gauge counters.pages_stored
 
 unfoldable pub damage_counts : Counters → List ℕ
 damage_counts counters =

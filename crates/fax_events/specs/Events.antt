@@ -11,12 +11,12 @@ use Rattle.fax_pagestore.specs.declared.fault.PageFault.{PageFault}
 use Rattle.fax_pagestore.specs.declared.fault.PageFault.TheVariants as page
 use Rattle.fax_pagestore.specs.FaultNumbers.{page_fault_number}
 use Rattle.fax_answer.specs.declared.refusal.Refusal.{Refusal}
-use Rattle.fax_answer.specs.declared.refusal.Refusal.TheVariants.{Fault, NotWhole, GapBehind, SeveralImages, NoImage, Untrained}
+use Rattle.fax_answer.specs.declared.refusal.Refusal.TheVariants.{Fault, NotWhole, GapAfter, SeveralImages, NoImage, Untrained}
 use Rattle.fax_gateway.specs.LegNames.{leg_text}
 use Rattle.fax_events.specs.declared.event.Direction.{Direction}
 use Rattle.fax_events.specs.declared.event.Direction.TheVariants.{Receives, Sends}
 use Rattle.fax_events.specs.declared.event.Ending.{Ending}
-use Rattle.fax_events.specs.declared.event.Ending.TheVariants.{Done, HungUp, GivenUp, NotKept}
+use Rattle.fax_events.specs.declared.event.Ending.TheVariants.{Done, HungUp, GivenUp, NotStored}
 use Rattle.fax_events.specs.declared.event.WhyAside.{WhyAside}
 use Rattle.fax_events.specs.declared.event.WhyAside.TheVariants.{NoPage, TornCall, NoLine}
 use Rattle.fax_events.specs.declared.event.What.{What}
@@ -32,7 +32,7 @@ abbrev pub ending_name : Ending → List ℕ
 ending_name Done = codes "Done"
 ending_name HungUp = codes "HungUp"
 ending_name GivenUp = codes "GivenUp"
-ending_name NotKept = codes "NotKept"
+ending_name NotStored = codes "NotStored"
 
 abbrev pub aside_name : WhyAside → List ℕ
 aside_name NoPage = codes "NoPage"
@@ -50,7 +50,7 @@ fault_name page.NoMemory = codes "NoMemory"
 abbrev pub refusal_name : Refusal → List ℕ
 refusal_name (Fault fault) = fault_name fault
 refusal_name NotWhole = codes "NotWhole"
-refusal_name GapBehind = codes "GapBehind"
+refusal_name GapAfter = codes "GapAfter"
 refusal_name SeveralImages = codes "SeveralImages"
 refusal_name NoImage = codes "NoImage"
 refusal_name Untrained = codes "Untrained"
@@ -68,7 +68,7 @@ event_name (Undelivered job tag cause) = codes "undelivered"
 event_name (Discarded life call tag) = codes "discarded"
 event_name (Wire leg direction count) = codes "wire"
 event_name (Late span) = codes "late"
-event_name (what.NotKept call tag) = codes "not_kept"
+event_name (what.NotStored call tag) = codes "not_stored"
 event_name (SetAside aside tag) = codes "set_aside"
 event_name (Damaged records octets) = codes "damaged"
 event_name SpoolFailed = codes "spool_failed"
@@ -144,7 +144,7 @@ what_members (Discarded life call tag) =
 what_members (Wire leg direction count) =
     text_member (codes "leg") (leg_text leg) ++ (text_member (codes "direction") (direction_name direction) ++ number_member (codes "failures") count)
 what_members (Late span) = number_member (codes "ms") span
-what_members (what.NotKept call tag) = number_member (codes "call") call ++ tag_member (option_map (λ text. text.now) tag)
+what_members (what.NotStored call tag) = number_member (codes "call") call ++ tag_member (option_map (λ text. text.now) tag)
 what_members (SetAside aside tag) =
     number_member (codes "life") aside.life ++ (number_member (codes "call") aside.call ++ (tag_member (option_map (λ text. text.now) tag)
     ++ (number_member (codes "number") aside.number ++ text_member (codes "why") (aside_name aside.why))))

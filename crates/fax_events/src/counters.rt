@@ -38,7 +38,7 @@ pub struct Counters {
     /// How long all puts took, in microseconds.
     pub put_micros: u64,
     /// Pages that wait on the disk now.
-    pub pages_kept: u64,
+    pub pages_stored: u64,
     /// Pages of earlier lives that mean none, records that are damaged, and octets that were passed over since nothing could be read
     /// there, as the start found them.
     pub pages_set_aside: u64,

@@ -36,7 +36,7 @@ pub enum Ending {
     /// The gateway gave the call up: the peer said nothing for too long, or nothing that it could take.
     GivenUp,
     /// A page of the call could not be kept, so that nothing was said after it.
-    NotKept,
+    NotStored,
 }
 
 impl Ending {
@@ -48,7 +48,7 @@ impl Ending {
             Ending::Done => "Done",
             Ending::HungUp => "HungUp",
             Ending::GivenUp => "GivenUp",
-            Ending::NotKept => "NotKept",
+            Ending::NotStored => "NotStored",
         }
     }
 }
@@ -163,7 +163,7 @@ pub enum What<'a> {
     Late(u64),
     /// A page was confirmed and could not be kept on the disk: the number of its call, and the tag of that. Nothing is said on
     /// the call's leg any more.
-    NotKept(u32, Option<&'a str>),
+    NotStored(u32, Option<&'a str>),
     /// A page that was stored in an earlier life is not sent; the tag is that of its call.
     SetAside(PageAside, Option<&'a str>),
     /// The start found so many damaged records in the spool, and passed so many octets over in which nothing could be read. It is told
@@ -190,7 +190,7 @@ impl<'a> What<'a> {
             What::Discarded(_, _, _) => "discarded",
             What::Wire(_, _, _) => "wire",
             What::Late(_) => "late",
-            What::NotKept(_, _) => "not_kept",
+            What::NotStored(_, _) => "not_stored",
             What::SetAside(_, _) => "set_aside",
             What::Damaged(_, _) => "damaged",
             What::SpoolFailed => "spool_failed",

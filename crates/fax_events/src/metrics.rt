@@ -163,7 +163,12 @@ fn put_spool_counts(text: &mut String, counters: &Counters) -> Result<(), AllocE
         Kind::Counter,
         counters.put_micros,
     )?;
-    put(text, "faxgate_pages_kept", Kind::Gauge, counters.pages_kept)
+    put(
+        text,
+        "faxgate_pages_stored",
+        Kind::Gauge,
+        counters.pages_stored,
+    )
 }
 
 /// Writes the counts of what a disk did to them.

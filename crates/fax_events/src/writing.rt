@@ -103,7 +103,7 @@ fn name_of_refusal(why: Refusal) -> &'static str
     match why {
         Refusal::Fault(fault) => name_of(fault),
         Refusal::NotWhole => "NotWhole",
-        Refusal::GapBehind => "GapBehind",
+        Refusal::GapAfter => "GapAfter",
         Refusal::SeveralImages => "SeveralImages",
         Refusal::NoImage => "NoImage",
         Refusal::Untrained => "Untrained",
@@ -302,7 +302,7 @@ fn put_what(writer: &mut Writer, what: &What<'_>) -> Result<(), AllocError>
         What::Rung(call, tag)
         | What::Dial(call, tag)
         | What::Connected(call, tag)
-        | What::NotKept(call, tag) => {
+        | What::NotStored(call, tag) => {
             put_number(writer, "call", u64::from(call))?;
             put_tag(writer, tag)
         }

@@ -5,11 +5,11 @@ use Rattle.fax_jobs.specs.declared.outcome.Outcome.TheVariants.{Delivered}
 use Rattle.fax_jobs.specs.declared.report.Report.{Report}
 use Rattle.fax_line.specs.declared.settling.PageToStore.{PageToStore}
 use Rattle.fax_spool.specs.RecordOctets.{PageValue}
-use Rattle.fax_queue.specs.Queues.{IsQueued, NamesLeft, QueueValue, kept_of, next_number}
+use Rattle.fax_queue.specs.Queues.{IsQueued, NamesLeft, QueueValue, stored_count, next_number}
 use Rattle.fax_queue.specs.declared.queue.EndedJob.{EndedJob}
 use Rattle.fax_queue.specs.declared.queue.QueuedPage.{QueuedPage}
 use Rattle.fax_undelivered.specs.Cards.{CardValue}
-use Rattle.fax_undelivered.specs.KeptEnds.{PutsPages}
+use Rattle.fax_undelivered.specs.StoredEnds.{PutsPages}
 use Rattle.fax_undelivered.specs.declared.undelivered.Undelivered.{Undelivered}
 
 -- A page of a line as it waits: in life 1, since no other one is known.
@@ -28,11 +28,11 @@ HoldsPage page tag old new olds news =
 
 -- of the texts of a line's pages, those of the job of so many pages that is first in turn
 abbrev pub job_texts : (pages : ℕ) → QueueValue → List PageValue → List PageValue
-job_texts pages queue texts = take (kept_of (take pages queue.waits)) texts
+job_texts pages queue texts = take (stored_count (take pages queue.waits)) texts
 
 -- and the others, where it is known which these are
 abbrev pub texts_after : (pages : ℕ) → (is_known : Bool) → QueueValue → List PageValue → List PageValue
-texts_after pages true queue texts = drop (kept_of (take pages queue.waits)) texts
+texts_after pages true queue texts = drop (stored_count (take pages queue.waits)) texts
 texts_after pages false queue texts = []
 
 -- the last so many
@@ -40,24 +40,24 @@ abbrev pub last_of : ℕ → List PageValue → List PageValue
 last_of count pages = drop (length pages - count) pages
 
 -- THE PAGES OF A JOB THAT FAILED ARE KEPT: just those that were not delivered, each with its text, and with the card that tells how it ended.
-pub record IsKept {U : Type 0} (seen : U → List ℕ) (may_leave : U → List ℕ → Type 0) (is_usable : U → Bool) (report : Report) (card : CardValue) (queue : QueueValue) (texts : List PageValue) (old new : Undelivered U) : Type 0 where
+pub record IsPut {U : Type 0} (seen : U → List ℕ) (may_leave : U → List ℕ → Type 0) (is_usable : U → Bool) (report : Report) (card : CardValue) (queue : QueueValue) (texts : List PageValue) (old new : Undelivered U) : Type 0 where
   pub failed : ¬ (report.outcome ≡ Delivered)
   pub left : EndedJob
   pub names : NamesLeft report.pages report.delivered left queue.waits
-  pub has_all : left.kept ≡ report.pages - report.delivered
+  pub has_all : left.stored ≡ report.pages - report.delivered
   pub put : PutsPages seen may_leave is_usable (last_of (report.pages - report.delivered) (job_texts report.pages queue texts)) card true old new
 
 -- of pages of a job of which these are left, the last ones
-pub record KeepsLast {U : Type 0} (seen : U → List ℕ) (may_leave : U → List ℕ → Type 0) (is_usable : U → Bool) (report : Report) (card : CardValue) (left : Option EndedJob) (pages : List PageValue) (old new : Undelivered U) : Type 0 where
+pub record PutsLast {U : Type 0} (seen : U → List ℕ) (may_leave : U → List ℕ → Type 0) (is_usable : U → Bool) (report : Report) (card : CardValue) (left : Option EndedJob) (pages : List PageValue) (old new : Undelivered U) : Type 0 where
   pub failed : ¬ (report.outcome ≡ Delivered)
   pub job : EndedJob
   pub is : left ≡ Some job
-  pub has_all : job.kept ≡ report.pages - report.delivered
+  pub has_all : job.stored ≡ report.pages - report.delivered
   pub put : PutsPages seen may_leave is_usable (last_of (report.pages - report.delivered) pages) card true old new
 
 -- nothing is kept, as memory may have been refused
-abbrev pub IsNotKept : {U : Type 0} → (U → List ℕ) → (U → List ℕ → Type 0) → (U → Bool) → (old new : Undelivered U) → Type 0
-IsNotKept seen may_leave is_usable old new =
+abbrev pub IsNotPut : {U : Type 0} → (U → List ℕ) → (U → List ℕ → Type 0) → (U → Bool) → (old new : Undelivered U) → Type 0
+IsNotPut seen may_leave is_usable old new =
     (new ≡ old) ⊎ ((pages : List PageValue) × (card : CardValue) × PutsPages seen may_leave is_usable pages card false old new)
 
 -- a page was confirmed for whose text memory was refused
@@ -66,9 +66,9 @@ NotesPage call old new olds news = IsQueued (queued_as call false old) old new �
 
 -- THE JOB OF A LINE THAT WAS FIRST IN TURN ENDED: its pages wait no more, where it is known which they are, nor do their texts; and where it
 -- failed, those that were not delivered are kept or not.
-pub record EndsJob {U : Type 0} (seen : U → List ℕ) (may_leave : U → List ℕ → Type 0) (is_usable : U → Bool) (report : Report) (card : CardValue) (is_kept : Bool) (before after : Undelivered U)
+pub record EndsJob {U : Type 0} (seen : U → List ℕ) (may_leave : U → List ℕ → Type 0) (is_usable : U → Bool) (report : Report) (card : CardValue) (is_put : Bool) (before after : Undelivered U)
     (old new : QueueValue) (olds news : List PageValue) : Type 0 where
   pub waits : MatchBool new.is_whole (new.waits ≡ drop report.pages old.waits) (new.waits ≡ old.waits)
   pub texts : news ≡ texts_after report.pages new.is_whole old olds
-  pub kept : is_kept ≡ true → IsKept seen may_leave is_usable report card old olds before after
-  pub not_kept : is_kept ≡ false → IsNotKept seen may_leave is_usable before after
+  pub kept : is_put ≡ true → IsPut seen may_leave is_usable report card old olds before after
+  pub not_put : is_put ≡ false → IsNotPut seen may_leave is_usable before after

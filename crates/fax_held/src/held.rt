@@ -1,8 +1,8 @@
 //! The pages of all lines that wait in memory, and those of jobs that failed.
 ghost use Rattle.std.specs.Prelude.{◌≡◌, ◌++◌, ◌∷◌, [], false, IfOk, OnOk, OnErr};
-ghost use Rattle.fax_undelivered.specs.KeptEnds.{card_for};
+ghost use Rattle.fax_undelivered.specs.StoredEnds.{card_for};
 ghost use Rattle.fax_held.specs.Files.{IsMended, IsOver, can_be_used, leaves, octets_of};
-ghost use Rattle.fax_held.specs.Held.{EndsJob, HoldsPage, IsNotKept, NotesPage};
+ghost use Rattle.fax_held.specs.Held.{EndsJob, HoldsPage, IsNotPut, NotesPage};
 ghost use Rattle.fax_held.specs.Lines.{ChangesIf, fresh};
 
 use crate::memory_file::MemoryFile;
@@ -93,7 +93,7 @@ impl HeldPages {
     pub fn end_job(&mut self, i: usize, end: &JobEnd<'_>) -> bool
         ensures ends { ChangesIf i (EndsJob octets_of leaves can_be_used end.now.report (card_for end.now.report end.now.cause.now end.now.day) result self.old.undelivered self.new.undelivered)
             self.old.queues.items self.new.queues.items self.old.texts.items self.new.texts.items }
-        ensures not_kept { result ≡ false → IsNotKept octets_of leaves can_be_used self.old.undelivered self.new.undelivered }
+        ensures not_put { result ≡ false → IsNotPut octets_of leaves can_be_used self.old.undelivered self.new.undelivered }
     {
         if i >= self.queues.len() {
             return false;

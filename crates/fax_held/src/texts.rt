@@ -1,8 +1,8 @@
 //! The pages of a line that wait, with their texts.
 ghost use Rattle.std.specs.Prelude.{◌≡◌, ◌-◌, ◌++◌, ◌∷◌, [], true, false, drop, IfOk};
 ghost use Rattle.std.specs.Bool.{MatchBool};
-ghost use Rattle.fax_held.specs.Held.{HoldsPage, IsKept, IsNotKept, KeepsLast, NotesPage, held_as, last_of, texts_after};
-ghost use Rattle.fax_undelivered.specs.KeptEnds.{PutsPages, card_for};
+ghost use Rattle.fax_held.specs.Held.{HoldsPage, IsPut, IsNotPut, PutsLast, NotesPage, held_as, last_of, texts_after};
+ghost use Rattle.fax_undelivered.specs.StoredEnds.{PutsPages, card_for};
 
 use fax_jobs::{Outcome, Report};
 use fax_line::PageToStore;
@@ -110,8 +110,8 @@ impl HeldTexts {
         undelivered: &mut Undelivered<U>,
         end: &JobEnd<'_>,
     ) -> bool
-        ensures kept { result ≡ true → IsKept U.seen U.may_leave U.is_usable end.now.report (card_for end.now.report end.now.cause.now end.now.day) queue.old self.old undelivered.old undelivered.new }
-        ensures not_kept { result ≡ false → IsNotKept U.seen U.may_leave U.is_usable undelivered.old undelivered.new }
+        ensures kept { result ≡ true → IsPut U.seen U.may_leave U.is_usable end.now.report (card_for end.now.report end.now.cause.now end.now.day) queue.old self.old undelivered.old undelivered.new }
+        ensures not_put { result ≡ false → IsNotPut U.seen U.may_leave U.is_usable undelivered.old undelivered.new }
         ensures texts { self.new ≡ texts_after end.now.report.pages queue.new.is_whole queue.old self.old }
         ensures waits { MatchBool queue.new.is_whole (queue.new.waits ≡ drop end.now.report.pages queue.old.waits) (queue.new.waits ≡ queue.old.waits) }
     {
@@ -121,10 +121,10 @@ impl HeldTexts {
             self.pages.clear();
             return false;
         };
-        let count = (ended.kept as usize).min(self.pages.len());
-        let is_kept = keep_left(alloc, undelivered, &self.pages[..count], left, end);
+        let count = (ended.stored as usize).min(self.pages.len());
+        let is_put = keep_left(alloc, undelivered, &self.pages[..count], left, end);
         let _ = self.pages.drain(..count);
-        is_kept
+        is_put
     }
 }
 
@@ -163,8 +163,8 @@ fn keep_left<U: Disk>(
     left: Option<EndedJob>,
     end: &JobEnd<'_>,
 ) -> bool
-    ensures kept { result ≡ true → KeepsLast U.seen U.may_leave U.is_usable end.now.report (card_for end.now.report end.now.cause.now end.now.day) left pages.now undelivered.old undelivered.new }
-    ensures not_kept { result ≡ false → IsNotKept U.seen U.may_leave U.is_usable undelivered.old undelivered.new }
+    ensures kept { result ≡ true → PutsLast U.seen U.may_leave U.is_usable end.now.report (card_for end.now.report end.now.cause.now end.now.day) left pages.now undelivered.old undelivered.new }
+    ensures not_put { result ≡ false → IsNotPut U.seen U.may_leave U.is_usable undelivered.old undelivered.new }
 {
     let Some(left) = left else {
         return false;
@@ -183,12 +183,12 @@ fn keep_last<U: Disk>(
     left: EndedJob,
     end: &JobEnd<'_>,
 ) -> bool
-    ensures all { result ≡ true → left.kept ≡ end.now.report.pages - end.now.report.delivered }
+    ensures all { result ≡ true → left.stored ≡ end.now.report.pages - end.now.report.delivered }
     ensures kept { result ≡ true → PutsPages U.seen U.may_leave U.is_usable (last_of (end.now.report.pages - end.now.report.delivered) pages.now) (card_for end.now.report end.now.cause.now end.now.day) true undelivered.old undelivered.new }
-    ensures not_kept { result ≡ false → IsNotKept U.seen U.may_leave U.is_usable undelivered.old undelivered.new }
+    ensures not_put { result ≡ false → IsNotPut U.seen U.may_leave U.is_usable undelivered.old undelivered.new }
 {
     let wanted = end.report.pages.saturating_sub(end.report.delivered);
-    if left.kept != u64::from(wanted) || wanted as usize > pages.len() {
+    if left.stored != u64::from(wanted) || wanted as usize > pages.len() {
         return false;
     }
     let from = pages.len() - wanted as usize;
@@ -203,7 +203,7 @@ fn put_pages<U: Disk>(
     end: &JobEnd<'_>,
 ) -> bool
     ensures kept { result ≡ true → PutsPages U.seen U.may_leave U.is_usable pages.now (card_for end.now.report end.now.cause.now end.now.day) true undelivered.old undelivered.new }
-    ensures not_kept { result ≡ false → IsNotKept U.seen U.may_leave U.is_usable undelivered.old undelivered.new }
+    ensures not_put { result ≡ false → IsNotPut U.seen U.may_leave U.is_usable undelivered.old undelivered.new }
 {
     let Ok(card) = card_of(alloc, end) else {
         return false;

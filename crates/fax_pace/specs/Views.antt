@@ -16,7 +16,7 @@ use Rattle.fax_repeat.specs.Peers.{peer_on, state_of}
 use Rattle.fax_repeat.specs.declared.peers.LegState.{LegState}
 use Rattle.fax_spool.specs.Calls.{refuses_now}
 use Rattle.fax_queue.specs.Queues.{QueueValue, first_tag, is_of_earlier_life}
-use Rattle.fax_undelivered.specs.declared.keeping.KeepingStore.{KeepingStore}
+use Rattle.fax_undelivered.specs.declared.paired_store.PairedStore.{PairedStore}
 use Rattle.fax_undelivered.specs.declared.undelivered.Undelivered.{Undelivered}
 
 abbrev pub leg_seen : LegState → LegView
@@ -70,7 +70,7 @@ undelivered_fails None = false
 undelivered_fails (Some kept) = refuses_now kept.spool
 
 -- whether a disk of a store has failed, the spool's or that one
-abbrev pub store_fails : {D U : Type 0} → KeepingStore D U → Bool
+abbrev pub store_fails : {D U : Type 0} → PairedStore D U → Bool
 store_fails store = refuses_now store.storage.spool || undelivered_fails store.undelivered
 
 -- line i, counted from 0

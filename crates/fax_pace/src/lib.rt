@@ -2,7 +2,7 @@
 //! (`RealPace`).
 //!
 //! What stands beside the desk is a part for itself each (`rounds`, `waking`, `telling`, `visiting`, `retries`), and the lines, SIP, redial
-//! lines and what keeps calls are seen by what they offer alone (`SeenLines`, `SipSide`, `RedialSide`, `KeptCalls`): so a proof of one part
+//! lines and what keeps calls are seen by what they offer alone (`SeenLines`, `SipSide`, `RedialSide`, `UndeliveredCalls`): so a proof of one part
 //! reads nothing of another.
 #![tactic(auto)]
 
@@ -10,7 +10,6 @@ mod answers;
 mod aside;
 mod calls_on;
 mod failures;
-mod kept_calls;
 mod pace;
 mod redial_side;
 mod retries;
@@ -21,6 +20,7 @@ mod sip_side;
 mod storing;
 mod telling;
 mod undelivered;
+mod undelivered_calls;
 mod view;
 mod visiting;
 mod visits;

@@ -31,7 +31,7 @@ use fax_line::{LineAnswer, Lines, Order, Pace, SlotEnd};
 use fax_opening::{SocketLegs, Stopwatch};
 use fax_queue::Queue;
 use fax_spool::{CallName, WaitingPage};
-use fax_undelivered::KeepingStore;
+use fax_undelivered::PairedStore;
 use fax_visitors::Visitors;
 use sqlite_disk::Disk;
 use std::alloc::{AllocError, Global};
@@ -142,7 +142,7 @@ impl<
     }
 
     /// Tells the pages of these that could not be delivered whose calls lack a page: such a job is tried again by a word alone.
-    pub fn tell_kept_aside(
+    pub fn tell_undelivered_aside(
         &mut self,
         pages: &[WaitingPage],
         torn: &[CallName],
@@ -353,7 +353,7 @@ impl<
     fn see_stored<L: SeenLines, D: Disk, U: Disk>(
         &mut self,
         day: Option<u64>,
-        store: &mut KeepingStore<D, U>,
+        store: &mut PairedStore<D, U>,
         seen: &L,
     )
         ensures same { self.new ≡ self.old }
@@ -389,7 +389,7 @@ impl<
     W: SocketLegs + Drop,
     D: Disk,
     U: Disk,
-> Pace<W, KeepingStore<D, U>> for RealPace<'a, C, I, O, R, S> {
+> Pace<W, PairedStore<D, U>> for RealPace<'a, C, I, O, R, S> {
     ghost use Rattle.std.specs.Prelude.{None};
     ghost use Rattle.fax_runs.specs.Desking.{GivesOrder, Hears, SeesNothing};
 
@@ -401,7 +401,7 @@ impl<
 
     ghost sees = { λ old new. SeesNothing old new };
 
-    fn next(&mut self, lines: &Lines<W>, store: Option<&KeepingStore<D, U>>) -> Option<Order> {
+    fn next(&mut self, lines: &Lines<W>, store: Option<&PairedStore<D, U>>) -> Option<Order> {
         if !self.desk.is_free() {
             self.tell_done(None);
         }
@@ -410,7 +410,7 @@ impl<
         self.next_order(&seen)
     }
 
-    fn before_put(&mut self, lines: &Lines<W>, store: &mut KeepingStore<D, U>) {
+    fn before_put(&mut self, lines: &Lines<W>, store: &mut PairedStore<D, U>) {
         self.waking.begin_slot();
         let Some(slot) = self.rounds.turned else {
             return;
@@ -436,7 +436,7 @@ impl<
         }
     }
 
-    fn turned(&mut self, lines: &Lines<W>, store: Option<&KeepingStore<D, U>>) {
+    fn turned(&mut self, lines: &Lines<W>, store: Option<&PairedStore<D, U>>) {
         let seen = Seen { lines, store };
         self.read_clock();
         self.hold_turned(&seen);

@@ -1,9 +1,9 @@
 //! Calls of which pages could not be delivered: the words that drop them or try their jobs again, and the redial lines.
 use crate::calls_on::{CallOn, is_on};
-use crate::kept_calls::KeptCalls;
 use crate::redial_side::RedialSide;
 use crate::telling::Teller;
 use crate::undelivered::place_of;
+use crate::undelivered_calls::UndeliveredCalls;
 use fax_clients::Asker;
 use fax_control::{Answer, CallWord, Refusal};
 use fax_jobs::Outcome;
@@ -124,7 +124,7 @@ impl<R: RedialSide + Drop> Retries<R> {
     }
 
     /// Tells what could not be delivered since that was told last, does what words named, and notes tries and begins others.
-    pub(crate) fn see_kept<K: KeptCalls, I: Read + Drop, O: Write + Drop>(
+    pub(crate) fn see_kept<K: UndeliveredCalls, I: Read + Drop, O: Write + Drop>(
         &mut self,
         kept: &mut K,
         beside: Beside<'_, '_>,
@@ -150,7 +150,7 @@ impl<R: RedialSide + Drop> Retries<R> {
     }
 
     /// Drops the pages of a call, and says how the word is answered.
-    fn do_discard<K: KeptCalls, I: Read + Drop, O: Write + Drop>(
+    fn do_discard<K: UndeliveredCalls, I: Read + Drop, O: Write + Drop>(
         &mut self,
         said: &SaidCall,
         kept: &mut K,
@@ -180,7 +180,7 @@ impl<R: RedialSide + Drop> Retries<R> {
     }
 
     /// Notes how a try ended, and tells what waits still. What could not be noted is noted later.
-    fn note_end<K: KeptCalls, I: Read + Drop, O: Write + Drop>(
+    fn note_end<K: UndeliveredCalls, I: Read + Drop, O: Write + Drop>(
         &mut self,
         kept: &mut K,
         beside: Beside<'_, '_>,
@@ -197,7 +197,7 @@ impl<R: RedialSide + Drop> Retries<R> {
     }
 
     /// Tries the job that a word named, and says how the word is answered.
-    fn do_retry<K: KeptCalls>(
+    fn do_retry<K: UndeliveredCalls>(
         &mut self,
         said: &SaidCall,
         kept: &mut K,
@@ -248,7 +248,7 @@ impl<R: RedialSide + Drop> Retries<R> {
     }
 
     /// Tries those whose time has come by this second since 1970, while a redial line is idle.
-    fn try_due<K: KeptCalls, I: Read + Drop, O: Write + Drop>(
+    fn try_due<K: UndeliveredCalls, I: Read + Drop, O: Write + Drop>(
         &mut self,
         day: u64,
         kept: &mut K,
@@ -278,7 +278,7 @@ impl<R: RedialSide + Drop> Retries<R> {
     }
 
     /// A try of call k begins on redial line i.
-    fn try_call<K: KeptCalls>(
+    fn try_call<K: UndeliveredCalls>(
         &mut self,
         i: usize,
         k: usize,
@@ -298,7 +298,7 @@ impl<R: RedialSide + Drop> Retries<R> {
     }
 
     /// No try of call k can begin: that counts as one, so that it waits for its next time.
-    fn give_up<K: KeptCalls, I: Read + Drop, O: Write + Drop>(
+    fn give_up<K: UndeliveredCalls, I: Read + Drop, O: Write + Drop>(
         &mut self,
         k: usize,
         kept: &mut K,

@@ -74,7 +74,7 @@ pub trait SeenLines: View {
     fn has_store(&self) -> bool;
 
     /// How many are there.
-    fn pages_kept(&self) -> u64;
+    fn pages_stored(&self) -> u64;
 
     /// The calls of which pages could not be delivered. `None`: pages are kept on no disk.
     fn calls(&self) -> Option<&[UndeliveredCall]>;

@@ -6,12 +6,12 @@ use crate::seen::SeenLines;
 use fax_desk::{Desk, Tag};
 use fax_jobs::Outcome;
 use fax_line::SLOTS;
-use fax_undelivered::KeepingStore;
+use fax_undelivered::PairedStore;
 use sqlite_disk::Disk;
 
 /// The tags of the calls in which lines of a slot confirmed pages in its last turn are noted. It answers whether one did.
 pub(crate) fn set_tags<L: SeenLines, D: Disk, U: Disk>(
-    store: &mut KeepingStore<D, U>,
+    store: &mut PairedStore<D, U>,
     desk: &Desk,
     slot: usize,
     seen: &L,
@@ -37,7 +37,7 @@ fn confirmed_in<L: SeenLines>(seen: &L, i: usize) -> Option<u32> {
 }
 
 /// The tag of the call of line i is noted, where it has one.
-fn set_tag<D: Disk, U: Disk>(store: &mut KeepingStore<D, U>, i: usize, tag: Option<Tag>)
+fn set_tag<D: Disk, U: Disk>(store: &mut PairedStore<D, U>, i: usize, tag: Option<Tag>)
     ensures { IsUnchanged store.old.storage.queues.items store.new.storage.queues.items store.old.storage.spool store.new.storage.spool }
 {
     if let Some(tag) = tag {
@@ -48,7 +48,7 @@ fn set_tag<D: Disk, U: Disk>(store: &mut KeepingStore<D, U>, i: usize, tag: Opti
 /// What is told of the jobs that ended in the last turn of a slot is noted: the second since 1970, where the clock tells it, and of each job
 /// whose call was not placed for what cause.
 pub(crate) fn set_causes<L: SeenLines, D: Disk, U: Disk>(
-    store: &mut KeepingStore<D, U>,
+    store: &mut PairedStore<D, U>,
     day: Option<u64>,
     desk: &Desk,
     slot: usize,
@@ -67,7 +67,7 @@ pub(crate) fn set_causes<L: SeenLines, D: Disk, U: Disk>(
 }
 
 /// For what cause the call of the job of line i that ends now was not placed, where that was told.
-fn set_cause<D: Disk, U: Disk>(store: &mut KeepingStore<D, U>, desk: &Desk, i: usize)
+fn set_cause<D: Disk, U: Disk>(store: &mut PairedStore<D, U>, desk: &Desk, i: usize)
     ensures { store.new.storage ≡ store.old.storage }
 {
     if let Some(card) = desk.cards.get(i)

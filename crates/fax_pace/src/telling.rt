@@ -235,7 +235,7 @@ impl<I: Read + Drop, O: Write + Drop> Teller<I, O> {
             LineEvent::Page(_, _) => {
                 counters.pages_confirmed = counters.pages_confirmed.saturating_add(1);
             }
-            LineEvent::NotKept(_) => {
+            LineEvent::NotStored(_) => {
                 counters.put_failures = counters.put_failures.saturating_add(1);
             }
             LineEvent::RefusedPage(_, _) => {

@@ -13,7 +13,7 @@ use fax_jobs::Report;
 use fax_legs::LegCounts;
 use fax_line::{Line, Lines, PageToStore};
 use fax_opening::SocketLegs;
-use fax_undelivered::{KeepingStore, Undelivered, UndeliveredCall};
+use fax_undelivered::{PairedStore, Undelivered, UndeliveredCall};
 use sqlite_disk::Disk;
 use std::alloc::Global;
 
@@ -21,7 +21,7 @@ use std::alloc::Global;
 #[derive(Drop)]
 pub struct Seen<'a, W: LineWire + Drop, D: Disk, U: Disk> {
     pub lines: &'a Lines<W>,
-    pub store: Option<&'a KeepingStore<D, U>>,
+    pub store: Option<&'a PairedStore<D, U>>,
 }
 
 impl<'a, W: LineWire + Drop, D: Disk, U: Disk> View for Seen<'a, W, D, U> {
@@ -173,9 +173,9 @@ impl<'a, W: SocketLegs + Drop, D: Disk, U: Disk> SeenLines for Seen<'a, W, D, U>
         self.store.is_some()
     }
 
-    fn pages_kept(&self) -> u64 {
+    fn pages_stored(&self) -> u64 {
         match self.store {
-            Some(store) => store.storage.kept(),
+            Some(store) => store.storage.stored(),
             None => 0,
         }
     }
@@ -225,7 +225,7 @@ fn calls_of<U: Disk>(kept: Option<&Undelivered<U>>) -> &[UndeliveredCall] {
 }
 
 /// Whether a disk of the spool has failed; none has where pages are stored in memory alone.
-pub(crate) fn has_failed<D: Disk, U: Disk>(store: Option<&KeepingStore<D, U>>) -> bool
+pub(crate) fn has_failed<D: Disk, U: Disk>(store: Option<&PairedStore<D, U>>) -> bool
     ensures { result ≡ failed_if store.entry (λ store. store_fails store.now) }
 {
     match store {
@@ -297,7 +297,7 @@ fn leg_view<W: LineWire + Drop>(line: &Line<W>, leg: Leg) -> LegView
 }
 
 /// The job of line i that is first in turn: whether it was confirmed in an earlier life, and the tag that it has then.
-fn first_job<D: Disk, U: Disk>(store: Option<&KeepingStore<D, U>>, i: usize) -> FirstJob
+fn first_job<D: Disk, U: Disk>(store: Option<&PairedStore<D, U>>, i: usize) -> FirstJob
     ensures { result ≡ first_if store.entry (λ store. first_on store.now.storage.life (slice_get store.now.storage.queues.items i)) }
 {
     match store {

@@ -1,6 +1,6 @@
 //! Who looks over HTTP, and pictures of pages that could not be delivered.
-use crate::kept_calls::KeptCalls;
 use crate::undelivered::pages_undelivered;
+use crate::undelivered_calls::UndeliveredCalls;
 use fax_bits::NoMemory;
 use fax_http::{Answer, Content, Question, Refusal, Status, picture_path, refusal};
 use fax_pagestore::{PackedRows, Page, PageFault};
@@ -91,7 +91,7 @@ impl Visiting {
 
     /// One of those who ask for a picture of pages that are kept so is answered, where it is time for one. Where their disk has failed, or
     /// the server stops, none is made.
-    pub(crate) fn show_picture<K: KeptCalls>(
+    pub(crate) fn show_picture<K: UndeliveredCalls>(
         &mut self,
         alloc: Global,
         now: u64,
@@ -129,7 +129,7 @@ impl Visiting {
     }
 
     /// The picture that the visitor at a place asks for.
-    fn picture_for<K: KeptCalls>(
+    fn picture_for<K: UndeliveredCalls>(
         &self,
         alloc: Global,
         place: usize,
@@ -168,7 +168,11 @@ fn call_at(
 }
 
 /// The picture of the first page of call k.
-fn picture_of<K: KeptCalls>(alloc: Global, kept: &mut K, k: usize) -> Result<Pictured, NoMemory> {
+fn picture_of<K: UndeliveredCalls>(
+    alloc: Global,
+    kept: &mut K,
+    k: usize,
+) -> Result<Pictured, NoMemory> {
     let Some(call) = kept.calls().get(k) else {
         return Ok(Pictured::Nothing);
     };

@@ -39,7 +39,7 @@ struct LineOn {
 
 /// A call of which pages could not be delivered, and how its job ended, in words.
 #[derive(Drop)]
-struct KeptCall {
+struct FailedCall {
     line: String,
     life: u32,
     call: u32,
@@ -70,7 +70,7 @@ pub(crate) fn page_text<S: SeenLines>(
     for job in ended {
         jobs.push(job_view(job))?;
     }
-    let kept = kept_calls(alloc, calls)?;
+    let kept = undelivered_calls(alloc, calls)?;
     let mut undelivered = Vec::new(alloc);
     for call in kept.as_slice() {
         undelivered.push(undelivered_view(call))?;
@@ -155,23 +155,26 @@ fn called_view(line: &LineOn) -> CalledView<'_> {
 }
 
 /// The first calls of which pages could not be delivered.
-fn kept_calls(alloc: Global, calls: &[UndeliveredCall]) -> Result<Vec<KeptCall>, AllocError> {
+fn undelivered_calls(
+    alloc: Global,
+    calls: &[UndeliveredCall],
+) -> Result<Vec<FailedCall>, AllocError> {
     let mut kept = Vec::new(alloc);
     for call in calls.iter().take(MOST_UNDELIVERED) {
-        kept.push(kept_call(alloc, call)?)?;
+        kept.push(failed_call(alloc, call)?)?;
     }
     Ok(kept)
 }
 
 /// A call of which pages could not be delivered.
-fn kept_call(alloc: Global, call: &UndeliveredCall) -> Result<KeptCall, AllocError> {
+fn failed_call(alloc: Global, call: &UndeliveredCall) -> Result<FailedCall, AllocError> {
     let card = &call.card;
     let tag = match shown_text(call.tag.as_slice()) {
         Some(tag) => Some(String::from_str(alloc, tag)?),
         None => None,
     };
     let line = shown_text(call.line.as_slice()).unwrap_or("");
-    Ok(KeptCall {
+    Ok(FailedCall {
         line: String::from_str(alloc, line)?,
         life: call.life,
         call: call.call,
@@ -192,7 +195,7 @@ fn day_text(alloc: Global, second: u64) -> Result<String, AllocError> {
 }
 
 /// The same as it is shown.
-fn undelivered_view(kept: &KeptCall) -> UndeliveredView<'_> {
+fn undelivered_view(kept: &FailedCall) -> UndeliveredView<'_> {
     let tag = match &kept.tag {
         Some(tag) => Some(tag.as_str()),
         None => None,
@@ -272,7 +275,7 @@ fn counts_of(counters: &Counters) -> [CountView<'static>; 10] {
         count("Jobs that were delivered", counters.jobs_delivered),
         count("Jobs that ended otherwise", counters.jobs_failed),
         count("Jobs that wait or are sent", counters.jobs_waiting),
-        count("Pages on the disk", counters.pages_kept),
+        count("Pages on the disk", counters.pages_stored),
         count(
             "Pages that could not be delivered",
             counters.pages_undelivered,

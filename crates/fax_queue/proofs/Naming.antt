@@ -98,7 +98,7 @@ all_leave e line (page ∷ pages) first last (suc n) order begins at life call a
 
 pub names_first : (waits : List QueuedPage) (first last : QueuedPage) (n : ℕ) (ended : EndedJob) → AreInOrder waits → slice_get waits 0 ≡ Some first → slice_get waits n ≡ Some last
     → first.life ≡ last.life → first.call ≡ last.call → ended.life ≡ first.life → ended.call ≡ first.call → ended.first ≡ first.number → first.number ≤ last.number → ended.first + ended.pages ≡ last.number + 1
-    → ended.kept ≡ count_by (λ page. page.is_stored) (take (suc n) waits) → NamesFirst (suc n) ended waits
+    → ended.stored ≡ count_by (λ page. page.is_stored) (take (suc n) waits) → NamesFirst (suc n) ended waits
 names_first waits first last n ended order begins at life call a b d low end count = record {
   kept = count;
   as_many = there waits n last at;

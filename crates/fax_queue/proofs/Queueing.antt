@@ -11,7 +11,7 @@ use Rattle.fax_line.specs.declared.settling.PageToStore.{PageToStore}
 use Rattle.fax_spool.specs.RecordOctets.{EndedValue, PageValue}
 use Rattle.fax_spool.specs.Calls.{Accepts}
 use Rattle.fax_spool.specs.Spools.{Stores}
-use Rattle.fax_spool.specs.SpoolRecords.{kept_of}
+use Rattle.fax_spool.specs.SpoolRecords.{page_record}
 use Rattle.fax_spool.specs.Waits.{PageName, ends, name_of, waiting, without}
 use Rattle.fax_spool.specs.declared.spool_record.SpoolRecord.{SpoolRecord}
 use Rattle.fax_spool.specs.declared.spool.Spool.{Spool}
@@ -26,14 +26,14 @@ use Rattle.fax_queue.proofs.Waits.{ends_none_of, none_is_forgotten, put_after}
 
 pub wait_put :
     {D : Type 0} {seen : D → List ℕ} {may_leave : D → List ℕ → Type 0} {is_usable : D → Bool} (old new : Spool D) (values : List PageValue)
-    → ((olds news : List SpoolRecord) → Stores seen may_leave is_usable old olds news → Stores seen may_leave is_usable new olds (news ++ map kept_of values))
+    → ((olds news : List SpoolRecord) → Stores seen may_leave is_usable old olds news → Stores seen may_leave is_usable new olds (news ++ map page_record values))
     → (waits : List PageValue) → PagesWait seen may_leave is_usable old waits → PagesWait seen may_leave is_usable new (waits ++ values)
 wait_put old new values put waits was = record {
   olds = was.olds;
-  news = was.news ++ map kept_of values;
+  news = was.news ++ map page_record values;
   kept = put was.olds was.news was.kept;
   in_order = order_pages was.olds was.news values was.in_order;
-  wait = ap waiting (sym (append_assoc was.olds was.news (map kept_of values))) ∙ put_after [] (was.olds ++ was.news) values ∙ ap (λ (l : List PageValue). l ++ values) was.wait;
+  wait = ap waiting (sym (append_assoc was.olds was.news (map page_record values))) ∙ put_after [] (was.olds ++ was.news) values ∙ ap (λ (l : List PageValue). l ++ values) was.wait;
 }
 
 -- ---- the names of the lines stay

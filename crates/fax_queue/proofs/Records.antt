@@ -3,7 +3,7 @@ use Rattle.std.proofs.Common.{◌≡◌, ◌∙◌, ◌+◌, ◌<◌, Bool, List
 use Rattle.std.proofs.lemmas.List.{length-take-le, take_more}
 use Rattle.fax_holding_wire.specs.declared.storing.StoreFault.{StoreFault}
 use Rattle.fax_line.specs.declared.settling.PageToStore.{PageToStore}
-use Rattle.fax_spool.specs.SpoolRecords.{kept_of}
+use Rattle.fax_spool.specs.SpoolRecords.{page_record}
 use Rattle.fax_spool.specs.RecordOctets.{PageValue}
 use Rattle.fax_spool.specs.Spools.{Stores}
 use Rattle.fax_spool.specs.declared.spool_record.SpoolRecord.{SpoolRecord}
@@ -57,7 +57,7 @@ next_under life lines pages numbers values k page number value low got at line i
     (subst (λ (p : PageToStore). AreRecordsUnder life lines (take k pages ++ p ∷ []) numbers (values ++ value ∷ [])) got
     (under_more life lines (take k pages) numbers values page number value (ap (λ (j : ℕ). slice_get numbers j) (length-take-le k pages (omega (arith, low))) ∙ at) line is are))
 
-pub are_records : (life : ℕ) (lines : List (List ℕ)) (pages : List PageToStore) (numbers : List ℕ) (values : List PageValue) → AreRecordsUnder life lines pages numbers values → AreRecordsOf pages (map kept_of values)
+pub are_records : (life : ℕ) (lines : List (List ℕ)) (pages : List PageToStore) (numbers : List ℕ) (values : List PageValue) → AreRecordsUnder life lines pages numbers values → AreRecordsOf pages (map page_record values)
 are_records life lines [] [] [] are = tt
 are_records life lines [] (n ∷ numbers) [] are = tt
 are_records life lines [] [] (v ∷ values) are = absurd are
@@ -85,7 +85,7 @@ pub keeps_put :
     {D : Type 0} (seen : D → List ℕ) (may_leave : D → List ℕ → Type 0) (is_usable : D → Bool) (answer : Result (Unit {0}) StoreFault) (life : ℕ) (lines : List (List ℕ)) (pages : List PageToStore) (numbers : List ℕ) (before after : Spool D)
     → OnOk answer (PutsRecords seen may_leave is_usable life lines pages numbers before after)
     → OnOk answer ((olds : List PageToStore) → StoresPages seen may_leave is_usable before olds → StoresPages seen may_leave is_usable after (olds ++ pages))
-keeps_put seen may_leave is_usable (Ok u) life lines pages numbers before after puts = keeps_more before after pages (map kept_of puts.values) puts.put (are_records life lines pages numbers puts.values puts.are)
+keeps_put seen may_leave is_usable (Ok u) life lines pages numbers before after puts = keeps_more before after pages (map page_record puts.values) puts.put (are_records life lines pages numbers puts.values puts.are)
 keeps_put seen may_leave is_usable (Err e) life lines pages numbers before after puts = tt
 
 -- what else changes of a server's keeping leaves its spool as it is

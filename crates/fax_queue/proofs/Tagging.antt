@@ -3,7 +3,7 @@ use Rattle.std.proofs.Common.{◌≡◌, ℕ, Bool, List, ◌++◌, map, Result,
 use Rattle.fax_holding_wire.specs.declared.storing.StoreFault.{StoreFault}
 use Rattle.fax_line.specs.declared.settling.PageToStore.{PageToStore}
 use Rattle.fax_spool.specs.RecordOctets.{PageValue}
-use Rattle.fax_spool.specs.SpoolRecords.{kept_of}
+use Rattle.fax_spool.specs.SpoolRecords.{page_record}
 use Rattle.fax_spool.specs.Spools.{Stores}
 use Rattle.fax_spool.specs.declared.spool_record.SpoolRecord.{SpoolRecord}
 use Rattle.fax_spool.specs.declared.spool.Spool.{Spool}
@@ -17,7 +17,7 @@ module _ {D : Type 0} (seen : D → List ℕ) (may_leave : D → List ℕ → Ty
   pub puts_tagged :
       (life : ℕ) (lines : List (List ℕ)) (pages : List PageToStore) (numbers : List ℕ) (tags : List CallTagValue) (values : List PageValue) (before after : Spool D) → AreRecordsUnder life lines pages numbers values
       → AreTagged tags pages values
-      → ((olds news : List SpoolRecord) → Stores seen may_leave is_usable before olds news → Stores seen may_leave is_usable after olds (news ++ map kept_of values))
+      → ((olds news : List SpoolRecord) → Stores seen may_leave is_usable before olds news → Stores seen may_leave is_usable after olds (news ++ map page_record values))
       → PutsTagged seen may_leave is_usable tags pages before after
   puts_tagged life lines pages numbers tags values before after are tagged put = record {
     values = values;

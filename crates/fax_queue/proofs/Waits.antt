@@ -3,7 +3,7 @@ use Rattle.std.proofs.Common.{◌≡◌, ◌∙◌, ℕ, ◌+◌, ◌<◌, ◌&&
 use Rattle.std.specs.Bool.{MatchBool}
 use Rattle.fax_spool.specs.RecordOctets.{EndedValue, PageValue}
 use Rattle.fax_spool.specs.Calls.{Refuses}
-use Rattle.fax_spool.specs.SpoolRecords.{kept_of}
+use Rattle.fax_spool.specs.SpoolRecords.{page_record}
 use Rattle.fax_spool.specs.Spools.{NoneIsLeft, Stores, epoch_records, greatest_epoch}
 use Rattle.fax_spool.specs.Waits.{PageName, SharesWhatWaits, after, ends, name_of, waiting, waiting_after, without}
 use Rattle.fax_spool.specs.declared.spool_record.SpoolRecord.{SpoolRecord}
@@ -23,13 +23,13 @@ after_both : (pages : List PageValue) (records more : List SpoolRecord) → wait
 after_both pages [] more = refl
 after_both pages (r ∷ records) more = after_both (after pages r) records more
 
-all_wait : (pages values : List PageValue) → waiting_after pages (map kept_of values) ≡ pages ++ values
+all_wait : (pages values : List PageValue) → waiting_after pages (map page_record values) ≡ pages ++ values
 all_wait pages [] = sym (append-nil pages)
 all_wait pages (v ∷ values) = all_wait (pages ++ v ∷ []) values ∙ append_assoc pages (v ∷ []) values
 
 -- pages that are put wait after the others
-pub put_after : (pages : List PageValue) (records : List SpoolRecord) (values : List PageValue) → waiting_after pages (records ++ map kept_of values) ≡ waiting_after pages records ++ values
-put_after pages records values = after_both pages records (map kept_of values) ∙ all_wait (waiting_after pages records) values
+pub put_after : (pages : List PageValue) (records : List SpoolRecord) (values : List PageValue) → waiting_after pages (records ++ map page_record values) ≡ waiting_after pages records ++ values
+put_after pages records values = after_both pages records (map page_record values) ∙ all_wait (waiting_after pages records) values
 
 pub wait_cleared :
     {D : Type 0} {seen : D → List ℕ} {may_leave : D → List ℕ → Type 0} {is_usable : D → Bool} (old new : Spool D) (cleared : Bool) → SharesWhatWaits

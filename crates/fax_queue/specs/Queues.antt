@@ -48,8 +48,8 @@ abbrev pub lines_of : List QueueValue → List (List ℕ)
 lines_of queues = map (λ queue. queue.line) queues
 
 -- so many of these are on the disk
-abbrev pub kept_of : List QueuedPage → ℕ
-kept_of pages = count_by (λ page. page.is_stored) pages
+abbrev pub stored_count : List QueuedPage → ℕ
+stored_count pages = count_by (λ page. page.is_stored) pages
 
 -- whether the first of these was confirmed in another life than this one
 abbrev pub is_of_earlier_life : ℕ → List QueuedPage → Bool
@@ -112,7 +112,7 @@ left_by ended line pages = filter (λ page. not (ends ended (name_in line page))
 -- THE RECORD OF A JOB'S END NAMES ITS OWN PAGES: of those that waited, it leaves just those after the job's, which are the first.
 pub record NamesFirst (pages : ℕ) (ended : EndedJob) (waits : List QueuedPage) : Type 0 where
   pub as_many : pages ≤ length waits
-  pub kept : ended.kept ≡ count_by (λ page. page.is_stored) (take pages waits)
+  pub kept : ended.stored ≡ count_by (λ page. page.is_stored) (take pages waits)
   pub leaves : (line : List ℕ) (kept : EndedValue) → IsEndOf ended line kept → left_by kept line waits ≡ drop pages waits
 
 -- the record of pages names the first of these

@@ -6,7 +6,7 @@ use Rattle.fax_spool.specs.Spools.{Stores}
 use Rattle.fax_spool.specs.declared.spool_record.SpoolRecord.{SpoolRecord}
 use Rattle.fax_spool.specs.declared.spool_record.SpoolRecord.TheVariants.{Page}
 use Rattle.fax_spool.specs.declared.spool.Spool.{Spool}
-use Rattle.fax_spool.specs.SpoolRecords.{kept_of}
+use Rattle.fax_spool.specs.SpoolRecords.{page_record}
 use Rattle.fax_spool.specs.Waits.{PageName, name_of}
 use Rattle.fax_queue.specs.Jobs.{PagesWait}
 use Rattle.fax_queue.specs.Queues.{AreAmong, IsQueued, QueueValue, next_number}
@@ -53,7 +53,7 @@ AreRecordsUnder life lines pages numbers values = ⊥
 pub record PutsRecords {D : Type 0} (seen : D → List ℕ) (may_leave : D → List ℕ → Type 0) (is_usable : D → Bool) (life : ℕ) (lines : List (List ℕ)) (pages : List PageToStore) (numbers : List ℕ) (before after : Spool D) : Type 0 where
   pub values : List PageValue
   pub are : AreRecordsUnder life lines pages numbers values
-  pub put : (olds news : List SpoolRecord) → Stores seen may_leave is_usable before olds news → Stores seen may_leave is_usable after olds (news ++ map kept_of values)
+  pub put : (olds news : List SpoolRecord) → Stores seen may_leave is_usable before olds news → Stores seen may_leave is_usable after olds (news ++ map page_record values)
 
 -- ---- which page of its call it is
 
@@ -80,7 +80,7 @@ AreNumbered queues life pages values = ⊥
 -- PAGES ARE PUT UNDER THE NEXT NUMBERS OF THEIR CALLS, in this life: their records wait on the disk after the others.
 pub record PutsNumbered {D : Type 0} (seen : D → List ℕ) (may_leave : D → List ℕ → Type 0) (is_usable : D → Bool) (queues : List QueueValue) (life : ℕ) (pages : List PageToStore) (before after : Spool D) : Type 0 where
   pub values : List PageValue
-  pub are : AreRecordsOf pages (map kept_of values)
+  pub are : AreRecordsOf pages (map page_record values)
   pub numbered : AreNumbered queues life pages values
   pub wait : (waits : List PageValue) → PagesWait seen may_leave is_usable before waits → PagesWait seen may_leave is_usable after (waits ++ values)
 

@@ -2,7 +2,7 @@
 use Rattle.std.specs.Prelude.{◌≡◌, ◌⊎◌, ℕ, Bool, nat_eq, List, [], ◌∷◌, ◌++◌, map, if◌then◌else◌}
 use Rattle.fax_line.specs.declared.settling.PageToStore.{PageToStore}
 use Rattle.fax_spool.specs.RecordOctets.{PageValue}
-use Rattle.fax_spool.specs.SpoolRecords.{kept_of}
+use Rattle.fax_spool.specs.SpoolRecords.{page_record}
 use Rattle.fax_spool.specs.declared.spool.Spool.{Spool}
 use Rattle.fax_queue.specs.CallTags.{CallTagValue}
 use Rattle.fax_queue.specs.Jobs.{PagesWait}
@@ -26,6 +26,6 @@ AreTagged tags pages values = ⊥
 -- PAGES ARE PUT UNDER THE TAGS OF THEIR LINES' CALLS: their records, which have these, wait on the disk after the others.
 pub record PutsTagged {D : Type 0} (seen : D → List ℕ) (may_leave : D → List ℕ → Type 0) (is_usable : D → Bool) (tags : List CallTagValue) (pages : List PageToStore) (before after : Spool D) : Type 0 where
   pub values : List PageValue
-  pub are : AreRecordsOf pages (map kept_of values)
+  pub are : AreRecordsOf pages (map page_record values)
   pub tagged : AreTagged tags pages values
   pub wait : (waits : List PageValue) → PagesWait seen may_leave is_usable before waits → PagesWait seen may_leave is_usable after (waits ++ values)

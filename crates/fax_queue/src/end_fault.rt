@@ -24,5 +24,5 @@ pub enum EndFault {
     DiskFailed,
     /// Its pages that were not delivered could not be kept elsewhere before: they were not read from the disk, or not put.
     #[error("the pages could not be kept")]
-    NotKept,
+    NotStored,
 }

@@ -1,6 +1,6 @@
 //! The pages of a line that wait, as a spool knows them.
 ghost use Rattle.std.specs.Prelude.{◌≡◌, ◌⊎◌, ◌↔◌, [], ◌∷◌, ◌++◌, ◌-◌, take, drop, count_by, true, false, not, nat_eq, None, Some, IsTrue, IfOk, IfNone, IfSome, MatchOption, OnOk, OnErr};
-ghost use Rattle.fax_queue.specs.Queues.{AreInOrder, BeginsAt, IsAfter, IsFirstJob, IsQueued, NamesFirst, NamesLeft, first_tag, is_of_earlier_life, kept_of, next_number, tag_in};
+ghost use Rattle.fax_queue.specs.Queues.{AreInOrder, BeginsAt, IsAfter, IsFirstJob, IsQueued, NamesFirst, NamesLeft, first_tag, is_of_earlier_life, stored_count, next_number, tag_in};
 
 use fax_bits::NoMemory;
 use std::alloc::{AllocError, Global};
@@ -37,7 +37,7 @@ pub struct EndedJob {
     /// How many numbers there are from that one on to the number of its last page, with both.
     pub pages: u32,
     /// How many of its pages are on the disk.
-    pub kept: u64,
+    pub stored: u64,
 }
 
 /// The tag of a restored call.
@@ -120,8 +120,8 @@ impl Queue {
     }
 
     /// How many pages that are on the disk wait.
-    pub fn kept(&self) -> u64
-        ensures { result ≡ kept_of self.now.waits }
+    pub fn stored(&self) -> u64
+        ensures { result ≡ stored_count self.now.waits }
     {
         self.waits.iter().filter(|page| page.is_stored).count() as u64
     }
@@ -320,12 +320,12 @@ fn first_job(waits: &[QueuedPage], pages: u32) -> Option<EndedJob>
         call: first.call,
         first: first.number,
         pages: last.number.checked_sub(first.number)?.checked_add(1)?,
-        kept: count_kept(waits, pages),
+        stored: count_stored(waits, pages),
     })
 }
 
 /// How many of the first pages are on the disk, of so many.
-fn count_kept(waits: &[QueuedPage], pages: u32) -> u64
+fn count_stored(waits: &[QueuedPage], pages: u32) -> u64
     ensures { result ≡ count_by (λ page. page.is_stored) (take pages waits.now) }
 {
     waits

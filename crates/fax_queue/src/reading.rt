@@ -21,7 +21,7 @@ pub(crate) fn read_job<D: Disk>(
     report: Report,
 ) -> Result<Vec<WaitingPage>, EndFault>
     ensures ok { IfOk result (λ pages. ReadsLeft D.seen D.may_leave D.is_usable D.is_clean report.pages report.delivered queue.now spool.old spool.new pages.items) }
-    ensures fault { IfErr result (λ fault. fault ≡ EndFault.NotKept) }
+    ensures fault { IfErr result (λ fault. fault ≡ EndFault.NotStored) }
     ensures read { IsRead D.seen D.may_leave D.is_usable spool.old spool.new }
     ensures refuses { Refuses spool.old → spool.new ≡ spool.old }
 {
@@ -29,18 +29,18 @@ pub(crate) fn read_job<D: Disk>(
         return Ok(Vec::new(alloc));
     }
     let Some(left) = queue.job_left(report.pages, report.delivered) else {
-        return Err(EndFault::NotKept);
+        return Err(EndFault::NotStored);
     };
     let rest = &queue.waits()[report.delivered as usize..];
     let wanted = &rest[..(report.pages - report.delivered) as usize];
     match read_pages(alloc, spool, queue.line(), &left, report) {
         Ok(pages) => {
             if !are_found(queue.line().as_bytes(), wanted, pages.as_slice()) {
-                return Err(EndFault::NotKept);
+                return Err(EndFault::NotStored);
             }
             Ok(pages)
         }
-        Err(_) => Err(EndFault::NotKept),
+        Err(_) => Err(EndFault::NotStored),
     }
 }
 

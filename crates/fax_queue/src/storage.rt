@@ -48,7 +48,7 @@ pub struct Storage<D: Disk> {
     /// How many octets were put since a file was taken into use, at least.
     octets: usize,
     /// How many pages wait on the disk.
-    kept: u64,
+    stored: u64,
 }
 
 impl<D: Disk> Storage<D> {
@@ -59,9 +59,9 @@ impl<D: Disk> Storage<D> {
         ensures queues { result.queues.items ≡ queues.items }
     {
         let life = spool.epoch();
-        let mut kept: u64 = 0;
+        let mut stored: u64 = 0;
         for queue in queues.iter() {
-            kept = kept.saturating_add(queue.kept());
+            stored = stored.saturating_add(queue.stored());
         }
         Storage {
             alloc,
@@ -70,7 +70,7 @@ impl<D: Disk> Storage<D> {
             queues,
             tags: Vec::new(alloc),
             octets: MOST_OCTETS,
-            kept,
+            stored,
         }
     }
 
@@ -85,7 +85,7 @@ impl<D: Disk> Storage<D> {
             queues: _,
             tags: _,
             octets: _,
-            kept: _,
+            stored: _,
         } = self;
         spool
     }
@@ -105,10 +105,10 @@ impl<D: Disk> Storage<D> {
     }
 
     /// How many pages wait on the disk.
-    pub fn kept(&self) -> u64
-        ensures { result ≡ self.now.kept }
+    pub fn stored(&self) -> u64
+        ensures { result ≡ self.now.stored }
     {
-        self.kept
+        self.stored
     }
 
     /// Whether the job of line i that is first in turn was confirmed in an earlier life.
@@ -213,7 +213,7 @@ impl<D: Disk> Storage<D> {
     {
         self.wait(page.line, page.kept.call, number, is_stored);
         if is_stored {
-            self.kept = self.kept.saturating_add(1);
+            self.stored = self.stored.saturating_add(1);
             let octets = page.text.as_slice().len().saturating_add(RECORD_OCTETS);
             self.octets = self.octets.saturating_add(octets);
         }
@@ -252,7 +252,7 @@ impl<D: Disk> Storage<D> {
             return Err(EndFault::NoLine);
         }
         let kept = put_end(self.alloc, &mut self.spool, &mut self.queues[i], report)?;
-        self.kept = self.kept.saturating_sub(kept);
+        self.stored = self.stored.saturating_sub(kept);
         self.octets = change_files(self.alloc, &mut self.spool, self.octets);
         Ok(())
     }
@@ -263,13 +263,13 @@ impl<D: Disk> Storage<D> {
     pub fn job_pages(&mut self, i: usize, report: Report) -> Result<Vec<WaitingPage>, EndFault>
         ensures ok { IfOk result (λ pages. MatchOption (slice_get self.old.queues.items i) ⊥
             (λ queue. ReadsLeft D.seen D.may_leave D.is_usable D.is_clean report.pages report.delivered queue self.old.spool self.new.spool pages.items)) }
-        ensures fault { IfErr result (λ fault. MatchOption (slice_get self.old.queues.items i) (fault ≡ EndFault.NoLine) (λ queue. fault ≡ EndFault.NotKept)) }
+        ensures fault { IfErr result (λ fault. MatchOption (slice_get self.old.queues.items i) (fault ≡ EndFault.NoLine) (λ queue. fault ≡ EndFault.NotStored)) }
         ensures read { IsRead D.seen D.may_leave D.is_usable self.old.spool self.new.spool }
         ensures refuses { Refuses self.old.spool → self.new.spool ≡ self.old.spool }
         ensures queues { self.new.queues.items ≡ self.old.queues.items }
         ensures life { self.new.life ≡ self.old.life }
         ensures tags { self.new.tags.items ≡ self.old.tags.items }
-        ensures kept { self.new.kept ≡ self.old.kept }
+        ensures kept { self.new.stored ≡ self.old.stored }
     {
         if i >= self.queues.len() {
             return Err(EndFault::NoLine);
@@ -310,7 +310,7 @@ fn put_end<D: Disk>(
     let Some(ended) = queue.end(report.pages) else {
         return Err(EndFault::Unsure);
     };
-    if ended.kept == 0 {
+    if ended.stored == 0 {
         return Err(EndFault::NoneThere);
     }
     if queue.line().len() > MOST_NAME {
@@ -318,7 +318,7 @@ fn put_end<D: Disk>(
         return Err(EndFault::LongName);
     }
     match put_ended(alloc, spool, queue.line(), &ended, report) {
-        Ok(()) => Ok(ended.kept),
+        Ok(()) => Ok(ended.stored),
         Err(_) => {
             queue.mark_unsure();
             Err(not_put(spool))

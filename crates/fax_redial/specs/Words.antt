@@ -152,7 +152,7 @@ StepsUnless tells asker now said true None reply old new before after = Steps te
 abbrev pub with_try : ℕ → LineEvent → LineEvent
 with_try tries (happened.Asked job tag) = happened.Asked (record job { tries = min (tries + 1) (2 ^ 32 - 1) }) tag
 with_try tries (happened.Rung tagged) = happened.Rung tagged
-with_try tries (happened.NotKept tagged) = happened.NotKept tagged
+with_try tries (happened.NotStored tagged) = happened.NotStored tagged
 with_try tries (happened.Page page tag) = happened.Page page tag
 with_try tries (happened.RefusedPage page tag) = happened.RefusedPage page tag
 with_try tries (happened.Ended tagged how) = happened.Ended tagged how

@@ -321,7 +321,7 @@ fn with_try(tries: u32, event: LineEvent) -> LineEvent
             tag,
         ),
         LineEvent::Rung(tagged) => LineEvent::Rung(tagged),
-        LineEvent::NotKept(tagged) => LineEvent::NotKept(tagged),
+        LineEvent::NotStored(tagged) => LineEvent::NotStored(tagged),
         LineEvent::Page(page, tag) => LineEvent::Page(page, tag),
         LineEvent::RefusedPage(refused, tag) => LineEvent::RefusedPage(refused, tag),
         LineEvent::Ended(tagged, how) => LineEvent::Ended(tagged, how),

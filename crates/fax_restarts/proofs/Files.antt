@@ -12,7 +12,7 @@ use Rattle.sha2.specs.Sha256.{sha256}
 use Rattle.sha2.proofs.Facts256.{length-sha256}
 use Rattle.fax_spool.specs.RecordOctets as spool
 use Rattle.fax_spool.specs.RecordOctets.{epoch_octets}
-use Rattle.fax_spool.specs.SpoolRecords.{AreReadAs, kept_epoch, stored_page}
+use Rattle.fax_spool.specs.SpoolRecords.{AreReadAs, stored_epoch, stored_page}
 use Rattle.fax_spool.specs.Records.{Ends, IsShort}
 use Rattle.fax_spool.specs.Waits.{waiting_after}
 use Rattle.fax_spool.specs.declared.spool_record.SpoolRecord.{SpoolRecord}
@@ -39,15 +39,15 @@ wait before (page ∷ pages) = wait (before ++ page ∷ []) pages ∙ append_ass
 none : Ends []
 none = ends_short [] (omega arith)
 
-epoch_short : IsShort (kept_epoch 1)
+epoch_short : IsShort (stored_epoch 1)
 epoch_short =
     let number : length (epoch_octets 1) ≡ 5 = refl in
-    let seal : length (kept_epoch 1) ≡ 37 = length-append (sha256 (epoch_octets 1)) (epoch_octets 1) ∙ omega (arith, length-sha256 (epoch_octets 1), number) in
+    let seal : length (stored_epoch 1) ≡ 37 = length-append (sha256 (epoch_octets 1)) (epoch_octets 1) ∙ omega (arith, length-sha256 (epoch_octets 1), number) in
     omega (arith, seal)
 
-all_short : (pages : List spool.PageValue) → All CanBeTold pages → All IsShort (kept_epoch 1 ∷ kept_epoch 1 ∷ map stored_page pages)
+all_short : (pages : List spool.PageValue) → All CanBeTold pages → All IsShort (stored_epoch 1 ∷ stored_epoch 1 ∷ map stored_page pages)
 all_short pages all =
-    All-cons IsShort (kept_epoch 1) (kept_epoch 1 ∷ map stored_page pages) epoch_short (All-cons IsShort (kept_epoch 1) (map stored_page pages) epoch_short (short pages all))
+    All-cons IsShort (stored_epoch 1) (stored_epoch 1 ∷ map stored_page pages) epoch_short (All-cons IsShort (stored_epoch 1) (map stored_page pages) epoch_short (short pages all))
 
 told : (pages : List spool.PageValue) → All CanBeTold pages → TellWaits [] (file_of pages) pages
 told pages all = record {
@@ -55,7 +55,7 @@ told pages all = record {
   news = Epoch 1 ∷ Epoch 1 ∷ records pages;
   tell = (
     record { items = []; stands = record { front = []; end = []; split = refl; read = refl; no_more = none }; read = tt },
-    record { items = kept_epoch 1 ∷ kept_epoch 1 ∷ map stored_page pages; stands = record { front = file_of pages; end = []; split = sym (append-nil (file_of pages)); read = read_written (kept_epoch 1 ∷ kept_epoch 1 ∷ map stored_page pages) (all_short pages all); no_more = none }; read = ((refl, omega arith), ((refl, omega arith), read pages all)) },
+    record { items = stored_epoch 1 ∷ stored_epoch 1 ∷ map stored_page pages; stands = record { front = file_of pages; end = []; split = sym (append-nil (file_of pages)); read = read_written (stored_epoch 1 ∷ stored_epoch 1 ∷ map stored_page pages) (all_short pages all); no_more = none }; read = ((refl, omega arith), ((refl, omega arith), read pages all)) },
   );
   in_order = inr (inl refl);
   wait = wait [] pages;

@@ -10,7 +10,7 @@ use Rattle.fax_send_receive.specs.declared.run_fault.RunFault.{RunFault}
 use Rattle.fax_send_receive.specs.Faults.{IsStoreFault}
 use Rattle.fax_send_receive.specs.Folders.{FileValue, IsAdded}
 use Rattle.fax_send_receive.specs.Naming.{Naming}
-use Rattle.fax_send_receive.specs.Storing.{AddsFiles, AreFilesOf, BeginsCall, BreaksOff, FilingValue, HasBroken, HasCall, HasCalls, HasWholeCall, IsFileOfPage, IsPageAdded, StoresPage, pages_kept}
+use Rattle.fax_send_receive.specs.Storing.{AddsFiles, AreFilesOf, BeginsCall, BreaksOff, FilingValue, HasBroken, HasCall, HasCalls, HasWholeCall, IsFileOfPage, IsPageAdded, StoresPage, pages_stored}
 
 -- files after others
 pub AddsFiles-join : {P Q : List FileValue → Type 0} (R : List FileValue → Type 0) → ((newer older : List FileValue) → Q newer → P older → R (newer ++ older))
@@ -48,7 +48,7 @@ pub record FilesGiven (all_stored : Bool) (pages : List PageValue) (old new : Fi
   pub same_naming : new.naming ≡ old.naming
   pub same_call : new.call ≡ old.call
   pub counted : all_stored ≡ true → new.pages ≡ length pages
-  pub adds : AddsFiles (AreFilesOf old.naming old.call (pages_kept all_stored pages)) old.made new.made
+  pub adds : AddsFiles (AreFilesOf old.naming old.call (pages_stored all_stored pages)) old.made new.made
 
 pub FilesGiven-all : (all_stored : Bool) (pages : List PageValue) (old new : FilingValue) → old.pages ≡ 0 → AreGiven StoresPage all_stored pages old new
     → FilesGiven all_stored pages old new
@@ -90,7 +90,7 @@ HasCall-kept naming pause all_stored before begun after begins k =
       start = k.start;
       events = k.events;
       right = k.right;
-      files_are = subst (λ (p : Naming). AreFilesOf p begun.call (pages_kept all_stored pages) files) begins.same_naming are;
+      files_are = subst (λ (p : Naming). AreFilesOf p begun.call (pages_stored all_stored pages) files) begins.same_naming are;
     }) begun.made after.made given.adds)
 
 HasWholeCall-kept : (naming : Naming) (pause : ℕ) (before begun after : FilingValue) → BeginsCall naming before begun
@@ -147,8 +147,8 @@ ends_in naming pause calls all_stored fault first before begun after so_far begi
     }) first before.made after.made so_far (HasCall-kept naming pause all_stored before begun after begins kept)
 
 -- a call that goes no further since a page was not stored
-pub store_fault : (fault : TerminalFault) (told : RunFault) (naming : Naming) → (fault ≡ terminal_faults.Keeping → IsStoreFault naming told)
+pub store_fault : (fault : TerminalFault) (told : RunFault) (naming : Naming) → (fault ≡ terminal_faults.Storing → IsStoreFault naming told)
     → stored_all {A = Unit {0}} (Err fault) ≡ false → IsStoreFault naming told
 store_fault terminal_faults.NoMemory told naming storage unkept = let q : true ≡ false = unkept in cc
 store_fault terminal_faults.Clock told naming storage unkept = let q : true ≡ false = unkept in cc
-store_fault terminal_faults.Keeping told naming storage unkept = storage refl
+store_fault terminal_faults.Storing told naming storage unkept = storage refl

@@ -62,10 +62,10 @@ AreFilesOf naming call (page ∷ pages) [] = ⊥
 AreFilesOf naming call (page ∷ pages) (file ∷ files) = IsFileOfPage naming call (length pages + 1) page file × AreFilesOf naming call pages files
 
 -- of the pages that were given one by one, those that were kept: all, or all but the last
-abbrev pub pages_kept : (all_stored : Bool) → List PageValue → List PageValue
-pages_kept true pages = pages
-pages_kept false [] = []
-pages_kept false (page ∷ pages) = pages
+abbrev pub pages_stored : (all_stored : Bool) → List PageValue → List PageValue
+pages_stored true pages = pages
+pages_stored false [] = []
+pages_stored false (page ∷ pages) = pages
 
 -- The files of a call: its pages are those that the ticks of an answerer confirmed in it, in their order, after some events
 -- of the call, each image of it rightly read.
@@ -74,7 +74,7 @@ pub record HasCall (naming : Naming) (pause : ℕ) (all_stored : Bool) (files : 
   pub start : ℕ
   pub events : List answering.CallEvent
   pub right : AreRead (rung_at pause start) events
-  pub files_are : AreFilesOf naming call (pages_kept all_stored (pages_confirmed (rung_at pause start) events)) files
+  pub files_are : AreFilesOf naming call (pages_stored all_stored (pages_confirmed (rung_at pause start) events)) files
 
 -- the same, of a call that is over
 pub record HasWholeCall (naming : Naming) (pause : ℕ) (files : List FileValue) : Type 0 where

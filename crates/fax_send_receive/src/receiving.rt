@@ -113,13 +113,13 @@ fn fault_of<'a, F: NamedFiles + Drop, E: Eprint>(
     pages: &mut PageFiles<'_, F, E>,
 ) -> RunFault<'a>
     ensures fault { IsClockFault result ⊎ IsStoreFault (naming_of naming.entry) result }
-    ensures storage { fault ≡ TerminalFault.Keeping → IsStoreFault (naming_of naming.entry) result }
+    ensures storage { fault ≡ TerminalFault.Storing → IsStoreFault (naming_of naming.entry) result }
     ensures same { pages.new ≡ pages.old }
 {
     match fault {
         TerminalFault::NoMemory => RunFault::NoMemory,
         TerminalFault::Clock => RunFault::Time,
-        TerminalFault::Keeping => match pages.take_fault() {
+        TerminalFault::Storing => match pages.take_fault() {
             Some(error) => RunFault::Page(naming, pages.call(), pages.last(), error),
             None => RunFault::NoMemory,
         },

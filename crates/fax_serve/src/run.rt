@@ -24,7 +24,7 @@ use fax_pace::{RealPace, RedialSide, Seen, SeenLines, SipSide, Watch};
 use fax_queue::Storage;
 use fax_spool::OpenedSpool;
 use fax_spool_folder::{Folders, SpoolFolderFile};
-use fax_undelivered::{KeepingStore, Undelivered};
+use fax_undelivered::{PairedStore, Undelivered};
 use fax_visitors::Visitors;
 use sqlite_disk::{Disk, Start};
 use std::alloc::Global;
@@ -59,7 +59,7 @@ pub fn run_serve<
     undelivered: T,
 ) -> Result<RunEnd, ServeFault>
     ensures alone { OnOk result (ServedAlone (length config.now.lines.items) (is_some config.now.spool)) }
-    ensures kept { OnOk result (is_some config.now.spool ≡ true → ServedOver ⟦<SpoolFolderFile<S> as Disk>⟧.seen ⟦<SpoolFolderFile<S> as Disk>⟧.may_leave ⟦<SpoolFolderFile<S> as Disk>⟧.is_usable ⟦<SpoolFolderFile<S> as Disk>⟧.is_clean ⟦<KeepingStore<SpoolFolderFile<S>, SpoolFolderFile<T>> as RunStore>⟧.is_same ⟦<KeepingStore<SpoolFolderFile<S>, SpoolFolderFile<T>> as PageStore<PageToStore>>⟧.puts ⟦<KeepingStore<SpoolFolderFile<S>, SpoolFolderFile<T>> as RunStore>⟧.notes ⟦<KeepingStore<SpoolFolderFile<S>, SpoolFolderFile<T>> as RunStore>⟧.ends (λ store. store.storage.spool) (λ store. store.storage.queues.items) S.db S.log config.now.lines.items) }
+    ensures kept { OnOk result (is_some config.now.spool ≡ true → ServedOver ⟦<SpoolFolderFile<S> as Disk>⟧.seen ⟦<SpoolFolderFile<S> as Disk>⟧.may_leave ⟦<SpoolFolderFile<S> as Disk>⟧.is_usable ⟦<SpoolFolderFile<S> as Disk>⟧.is_clean ⟦<PairedStore<SpoolFolderFile<S>, SpoolFolderFile<T>> as RunStore>⟧.is_same ⟦<PairedStore<SpoolFolderFile<S>, SpoolFolderFile<T>> as PageStore<PageToStore>>⟧.puts ⟦<PairedStore<SpoolFolderFile<S>, SpoolFolderFile<T>> as RunStore>⟧.notes ⟦<PairedStore<SpoolFolderFile<S>, SpoolFolderFile<T>> as RunStore>⟧.ends (λ store. store.storage.spool) (λ store. store.storage.queues.items) S.db S.log config.now.lines.items) }
     ensures ready { OnOk result (M.told manager.new ≡ ready_after (length config.now.lines.items) (M.told manager.old)) }
     ensures untold { OnErr result (M.told manager.new ≡ M.told manager.old) }
 {
@@ -116,7 +116,7 @@ fn serve_with_sip<
     undelivered: T,
 ) -> Result<RunEnd, ServeFault>
     ensures alone { OnOk result (ServedAlone (length config.now.lines.items) (is_some config.now.spool)) }
-    ensures kept { OnOk result (is_some config.now.spool ≡ true → ServedOver ⟦<SpoolFolderFile<S> as Disk>⟧.seen ⟦<SpoolFolderFile<S> as Disk>⟧.may_leave ⟦<SpoolFolderFile<S> as Disk>⟧.is_usable ⟦<SpoolFolderFile<S> as Disk>⟧.is_clean ⟦<KeepingStore<SpoolFolderFile<S>, SpoolFolderFile<T>> as RunStore>⟧.is_same ⟦<KeepingStore<SpoolFolderFile<S>, SpoolFolderFile<T>> as PageStore<PageToStore>>⟧.puts ⟦<KeepingStore<SpoolFolderFile<S>, SpoolFolderFile<T>> as RunStore>⟧.notes ⟦<KeepingStore<SpoolFolderFile<S>, SpoolFolderFile<T>> as RunStore>⟧.ends (λ store. store.storage.spool) (λ store. store.storage.queues.items) S.db S.log config.now.lines.items) }
+    ensures kept { OnOk result (is_some config.now.spool ≡ true → ServedOver ⟦<SpoolFolderFile<S> as Disk>⟧.seen ⟦<SpoolFolderFile<S> as Disk>⟧.may_leave ⟦<SpoolFolderFile<S> as Disk>⟧.is_usable ⟦<SpoolFolderFile<S> as Disk>⟧.is_clean ⟦<PairedStore<SpoolFolderFile<S>, SpoolFolderFile<T>> as RunStore>⟧.is_same ⟦<PairedStore<SpoolFolderFile<S>, SpoolFolderFile<T>> as PageStore<PageToStore>>⟧.puts ⟦<PairedStore<SpoolFolderFile<S>, SpoolFolderFile<T>> as RunStore>⟧.notes ⟦<PairedStore<SpoolFolderFile<S>, SpoolFolderFile<T>> as RunStore>⟧.ends (λ store. store.storage.spool) (λ store. store.storage.queues.items) S.db S.log config.now.lines.items) }
     ensures ready { OnOk result (M.told manager.new ≡ ready_after (length config.now.lines.items) (M.told manager.old)) }
     ensures untold { OnErr result (M.told manager.new ≡ M.told manager.old) }
 {
@@ -156,7 +156,7 @@ fn serve_over<
     undelivered: T,
 ) -> Result<RunEnd, ServeFault>
     ensures alone { OnOk result (ServedAlone (length config.now.lines.items) (is_some config.now.spool)) }
-    ensures kept { OnOk result (is_some config.now.spool ≡ true → ServedOver ⟦<SpoolFolderFile<S> as Disk>⟧.seen ⟦<SpoolFolderFile<S> as Disk>⟧.may_leave ⟦<SpoolFolderFile<S> as Disk>⟧.is_usable ⟦<SpoolFolderFile<S> as Disk>⟧.is_clean ⟦<KeepingStore<SpoolFolderFile<S>, SpoolFolderFile<T>> as RunStore>⟧.is_same ⟦<KeepingStore<SpoolFolderFile<S>, SpoolFolderFile<T>> as PageStore<PageToStore>>⟧.puts ⟦<KeepingStore<SpoolFolderFile<S>, SpoolFolderFile<T>> as RunStore>⟧.notes ⟦<KeepingStore<SpoolFolderFile<S>, SpoolFolderFile<T>> as RunStore>⟧.ends (λ store. store.storage.spool) (λ store. store.storage.queues.items) S.db S.log config.now.lines.items) }
+    ensures kept { OnOk result (is_some config.now.spool ≡ true → ServedOver ⟦<SpoolFolderFile<S> as Disk>⟧.seen ⟦<SpoolFolderFile<S> as Disk>⟧.may_leave ⟦<SpoolFolderFile<S> as Disk>⟧.is_usable ⟦<SpoolFolderFile<S> as Disk>⟧.is_clean ⟦<PairedStore<SpoolFolderFile<S>, SpoolFolderFile<T>> as RunStore>⟧.is_same ⟦<PairedStore<SpoolFolderFile<S>, SpoolFolderFile<T>> as PageStore<PageToStore>>⟧.puts ⟦<PairedStore<SpoolFolderFile<S>, SpoolFolderFile<T>> as RunStore>⟧.notes ⟦<PairedStore<SpoolFolderFile<S>, SpoolFolderFile<T>> as RunStore>⟧.ends (λ store. store.storage.spool) (λ store. store.storage.queues.items) S.db S.log config.now.lines.items) }
     ensures ready { OnOk result (M.told manager.new ≡ ready_after (length config.now.lines.items) (M.told manager.old)) }
     ensures untold { OnErr result (M.told manager.new ≡ M.told manager.old) }
 {
@@ -204,7 +204,7 @@ fn serve_beside<
     undelivered: T,
 ) -> Result<RunEnd, ServeFault>
     ensures alone { OnOk result (ServedAlone (length config.now.lines.items) (is_some config.now.spool)) }
-    ensures kept { OnOk result (is_some config.now.spool ≡ true → ServedOver ⟦<SpoolFolderFile<S> as Disk>⟧.seen ⟦<SpoolFolderFile<S> as Disk>⟧.may_leave ⟦<SpoolFolderFile<S> as Disk>⟧.is_usable ⟦<SpoolFolderFile<S> as Disk>⟧.is_clean ⟦<KeepingStore<SpoolFolderFile<S>, SpoolFolderFile<T>> as RunStore>⟧.is_same ⟦<KeepingStore<SpoolFolderFile<S>, SpoolFolderFile<T>> as PageStore<PageToStore>>⟧.puts ⟦<KeepingStore<SpoolFolderFile<S>, SpoolFolderFile<T>> as RunStore>⟧.notes ⟦<KeepingStore<SpoolFolderFile<S>, SpoolFolderFile<T>> as RunStore>⟧.ends (λ store. store.storage.spool) (λ store. store.storage.queues.items) S.db S.log config.now.lines.items) }
+    ensures kept { OnOk result (is_some config.now.spool ≡ true → ServedOver ⟦<SpoolFolderFile<S> as Disk>⟧.seen ⟦<SpoolFolderFile<S> as Disk>⟧.may_leave ⟦<SpoolFolderFile<S> as Disk>⟧.is_usable ⟦<SpoolFolderFile<S> as Disk>⟧.is_clean ⟦<PairedStore<SpoolFolderFile<S>, SpoolFolderFile<T>> as RunStore>⟧.is_same ⟦<PairedStore<SpoolFolderFile<S>, SpoolFolderFile<T>> as PageStore<PageToStore>>⟧.puts ⟦<PairedStore<SpoolFolderFile<S>, SpoolFolderFile<T>> as RunStore>⟧.notes ⟦<PairedStore<SpoolFolderFile<S>, SpoolFolderFile<T>> as RunStore>⟧.ends (λ store. store.storage.spool) (λ store. store.storage.queues.items) S.db S.log config.now.lines.items) }
     ensures ready { OnOk result (M.told manager.new ≡ ready_after (length config.now.lines.items) (M.told manager.old)) }
     ensures untold { OnErr result (M.told manager.new ≡ M.told manager.old) }
 {
@@ -300,7 +300,7 @@ fn serve_spooled<
     undelivered: T,
 ) -> Result<RunEnd, ServeFault>
     ensures alone { OnOk result (ServedAlone (length config.now.lines.items) true) }
-    ensures kept { OnOk result (ServedOver ⟦<SpoolFolderFile<S> as Disk>⟧.seen ⟦<SpoolFolderFile<S> as Disk>⟧.may_leave ⟦<SpoolFolderFile<S> as Disk>⟧.is_usable ⟦<SpoolFolderFile<S> as Disk>⟧.is_clean ⟦<KeepingStore<SpoolFolderFile<S>, SpoolFolderFile<T>> as RunStore>⟧.is_same ⟦<KeepingStore<SpoolFolderFile<S>, SpoolFolderFile<T>> as PageStore<PageToStore>>⟧.puts ⟦<KeepingStore<SpoolFolderFile<S>, SpoolFolderFile<T>> as RunStore>⟧.notes ⟦<KeepingStore<SpoolFolderFile<S>, SpoolFolderFile<T>> as RunStore>⟧.ends (λ store. store.storage.spool) (λ store. store.storage.queues.items) S.db S.log config.now.lines.items) }
+    ensures kept { OnOk result (ServedOver ⟦<SpoolFolderFile<S> as Disk>⟧.seen ⟦<SpoolFolderFile<S> as Disk>⟧.may_leave ⟦<SpoolFolderFile<S> as Disk>⟧.is_usable ⟦<SpoolFolderFile<S> as Disk>⟧.is_clean ⟦<PairedStore<SpoolFolderFile<S>, SpoolFolderFile<T>> as RunStore>⟧.is_same ⟦<PairedStore<SpoolFolderFile<S>, SpoolFolderFile<T>> as PageStore<PageToStore>>⟧.puts ⟦<PairedStore<SpoolFolderFile<S>, SpoolFolderFile<T>> as RunStore>⟧.notes ⟦<PairedStore<SpoolFolderFile<S>, SpoolFolderFile<T>> as RunStore>⟧.ends (λ store. store.storage.spool) (λ store. store.storage.queues.items) S.db S.log config.now.lines.items) }
     ensures ready { OnOk result (M.told manager.new ≡ ready_after (length config.now.lines.items) (M.told manager.old)) }
     ensures untold { OnErr result (M.told manager.new ≡ M.told manager.old) }
 {
@@ -344,7 +344,7 @@ fn serve_opened<
     manager: &mut M,
 ) -> Result<RunEnd, ServeFault>
     ensures alone { OnOk result (ServedAlone (length config.now.lines.items) true) }
-    ensures kept { OnOk result (ServedWith ⟦<KeepingStore<D, U> as RunStore>⟧.is_same ⟦<KeepingStore<D, U> as PageStore<PageToStore>>⟧.puts ⟦<KeepingStore<D, U> as RunStore>⟧.notes ⟦<KeepingStore<D, U> as RunStore>⟧.ends (λ store. store.storage.spool) (λ store. store.storage.queues.items) config.now.lines.items opened) }
+    ensures kept { OnOk result (ServedWith ⟦<PairedStore<D, U> as RunStore>⟧.is_same ⟦<PairedStore<D, U> as PageStore<PageToStore>>⟧.puts ⟦<PairedStore<D, U> as RunStore>⟧.notes ⟦<PairedStore<D, U> as RunStore>⟧.ends (λ store. store.storage.spool) (λ store. store.storage.queues.items) config.now.lines.items opened) }
     ensures ready { OnOk result (M.told manager.new ≡ ready_after (length config.now.lines.items) (M.told manager.old)) }
     ensures untold { OnErr result (M.told manager.new ≡ M.told manager.old) }
 {
@@ -383,10 +383,10 @@ fn serve_opened<
         spool_failures,
     )?;
     pace.tell_aside(damage, pages.as_slice(), torn.as_slice(), queues.as_slice());
-    pace.tell_kept_aside(kept.pages.as_slice(), kept.torn.as_slice())?;
+    pace.tell_undelivered_aside(kept.pages.as_slice(), kept.torn.as_slice())?;
     let undelivered = Undelivered::new(alloc, kept)?;
     let storage = Storage::new(alloc, spool, queues);
-    let store = KeepingStore::new(alloc, storage, Some(undelivered));
+    let store = PairedStore::new(alloc, storage, Some(undelivered));
     let mut pace = NoticingPace::begin(pace, manager, lines.len());
     serve_restored(lines, store, &mut pace);
     Ok(pace.ordering.finish())
@@ -511,7 +511,7 @@ fn serve_new<
     requires idle { pace.old.waits ≡ None }
     ensures { ServedAlone (length lines.lines) false }
 {
-    let mut store: Option<KeepingStore<D, U>> = None;
+    let mut store: Option<PairedStore<D, U>> = None;
     serve(&mut lines, &mut store, pace);
 }
 
@@ -528,14 +528,14 @@ fn serve_restored<
     U: Disk + Drop,
 >(
     mut lines: Lines<HoldingWire<W>>,
-    store: KeepingStore<D, U>,
+    store: PairedStore<D, U>,
     pace: &mut NoticingPace<RealPace<'_, C, I, O, R, P>, M>,
 )
     requires begun { AreBegun lines.lines }
     requires first { lines.slot ≡ 0 }
     requires idle { pace.old.waits ≡ None }
     ensures alone { ServedAlone (length lines.lines) true }
-    ensures kept { RunIsStored ⟦<KeepingStore<D, U> as RunStore>⟧.is_same ⟦<KeepingStore<D, U> as PageStore<PageToStore>>⟧.puts ⟦<KeepingStore<D, U> as RunStore>⟧.notes ⟦<KeepingStore<D, U> as RunStore>⟧.ends lines.lines store }
+    ensures kept { RunIsStored ⟦<PairedStore<D, U> as RunStore>⟧.is_same ⟦<PairedStore<D, U> as PageStore<PageToStore>>⟧.puts ⟦<PairedStore<D, U> as RunStore>⟧.notes ⟦<PairedStore<D, U> as RunStore>⟧.ends lines.lines store }
 {
     let mut store = Some(store);
     serve(&mut lines, &mut store, pace);

@@ -269,7 +269,7 @@ happens_right most C told now line (happened.Asked job tag) old new came right a
 happens_right most C told now line (happened.Ended ended ending) old new came right ends = ends_right most C told now _ old new (call_brought C now (line_call line ended.call) (λ on is. came (CallOver on) (on, is, refl))) right ends
 happens_right most C told now line (happened.Job report tag cause) old new came right ends = ends_right most C told now _ old new (job_brought C now (line_call line report.call) (λ on is. came (JobOver on) (on, is, refl))) right ends
 happens_right most C told now line (happened.Rung rung) old new came right is = is_right most C told old new right is
-happens_right most C told now line (happened.NotKept lost) old new came right is = is_right most C told old new right is
+happens_right most C told now line (happened.NotStored lost) old new came right is = is_right most C told old new right is
 happens_right most C told now line (happened.Page page tag) old new came right is = is_right most C told old new right is
 happens_right most C told now line (happened.RefusedPage page tag) old new came right is = is_right most C told old new right is
 happens_right most C told now line (happened.Dial dialled) old new came right is = is_right most C told old new right is

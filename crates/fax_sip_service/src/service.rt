@@ -562,7 +562,7 @@ impl SipService {
             LineEvent::Ended(ended, _) => self.end_call(now, line_call(line, ended.call)),
             LineEvent::Job(report, _, _) => self.end_job(now, line_call(line, report.call)),
             LineEvent::Rung(_)
-            | LineEvent::NotKept(_)
+            | LineEvent::NotStored(_)
             | LineEvent::Page(_, _)
             | LineEvent::RefusedPage(_, _)
             | LineEvent::Dial(_)

@@ -5,9 +5,9 @@ use Rattle.std.proofs.lemmas.List.{append-nil, map-append}
 use Rattle.std.proofs.lemmas.Bool.Decides.{nat_tests}
 use Rattle.std.proofs.lemmas.Slice.Eq.{bytes_eq-Decides}
 use Rattle.fax_spool.specs.RecordOctets.{PageValue, EndedValue}
-use Rattle.fax_spool.specs.SpoolRecords.{kept_of}
+use Rattle.fax_spool.specs.SpoolRecords.{page_record}
 use Rattle.fax_spool.specs.Waits.{name_of, ends, without, left_of, left_after, waiting_after, waiting}
-use Rattle.fax_spool.specs.KeptPages.{end_alone, ended_alone, put_again}
+use Rattle.fax_spool.specs.StoredPages.{end_alone, ended_alone, put_again}
 use Rattle.fax_spool.specs.Spools.{AreAbove, NoneIsLeft, greatest_after, raised}
 use Rattle.fax_spool.specs.declared.spool_record.SpoolRecord.{SpoolRecord}
 use Rattle.fax_spool.proofs.Shares.{follows, shares}
@@ -101,11 +101,11 @@ waits_ended waits (p ∷ pages) = waits_ended (without (end_alone (name_of p)) w
 
 -- ---- the records of pages
 
-left_kept : (waits pages : List PageValue) → left_after waits (map kept_of pages) ≡ waits
+left_kept : (waits pages : List PageValue) → left_after waits (map page_record pages) ≡ waits
 left_kept waits [] = refl
 left_kept waits (p ∷ pages) = left_kept waits pages
 
-waits_kept : (waits pages : List PageValue) → waiting_after waits (map kept_of pages) ≡ waits ++ pages
+waits_kept : (waits pages : List PageValue) → waiting_after waits (map page_record pages) ≡ waits ++ pages
 waits_kept waits [] = sym (append-nil waits)
 waits_kept waits (p ∷ pages) = waits_kept (waits ++ p ∷ []) pages ∙ append_assoc waits (p ∷ []) pages
 
@@ -113,7 +113,7 @@ waits_kept waits (p ∷ pages) = waits_kept (waits ++ p ∷ []) pages ∙ append
 
 left_so : (olds news : List SpoolRecord) (pages : List PageValue) → pages ≡ left_after (waiting olds) news ++ waiting news → left_after (waiting olds) (news ++ put_again pages) ≡ []
 left_so olds news pages are =
-    left_both (waiting olds) news (put_again pages) ∙ left_both (left_after (waiting olds) news) (ends_of pages) (map kept_of pages)
+    left_both (waiting olds) news (put_again pages) ∙ left_both (left_after (waiting olds) news) (ends_of pages) (map page_record pages)
     ∙ left_kept (left_after (left_after (waiting olds) news) (ends_of pages)) pages
     ∙ ap (λ (l : List PageValue). left_after (left_after (waiting olds) news) (ends_of l)) are ∙ none_of_first (left_after (waiting olds) news) (waiting news)
 
@@ -122,7 +122,7 @@ left_again olds news = left_so olds news (waiting (olds ++ news)) (shares olds n
 
 waits_so : (olds news : List SpoolRecord) (pages : List PageValue) → pages ≡ left_after (waiting olds) news ++ waiting news → waiting (news ++ put_again pages) ≡ pages
 waits_so olds news pages are =
-    follows [] news (put_again pages) ∙ follows (waiting news) (ends_of pages) (map kept_of pages)
+    follows [] news (put_again pages) ∙ follows (waiting news) (ends_of pages) (map page_record pages)
     ∙ waits_kept (waiting_after (waiting news) (ends_of pages)) pages
     ∙ ap (λ (l : List PageValue). l ++ pages) (waits_ended (waiting news) pages ∙ ap (λ (l : List PageValue). left_after (waiting news) (ends_of l)) are ∙ none_of_last (left_after (waiting olds) news) (waiting news))
 
@@ -137,7 +137,7 @@ more_again olds news =
 
 -- ---- epochs
 
-above_kept : (n : ℕ) (pages : List PageValue) → AreAbove n (map kept_of pages)
+above_kept : (n : ℕ) (pages : List PageValue) → AreAbove n (map page_record pages)
 above_kept n [] = tt
 above_kept n (p ∷ pages) = above_kept n pages
 
@@ -146,9 +146,9 @@ above_ended n [] more above = above
 above_ended n (p ∷ pages) more above = above_ended n pages more above
 
 pub above_again : (n : ℕ) (pages : List PageValue) → AreAbove n (put_again pages)
-above_again n pages = above_ended n pages (map kept_of pages) (above_kept n pages)
+above_again n pages = above_ended n pages (map page_record pages) (above_kept n pages)
 
-greatest_kept : (pages : List PageValue) (most : ℕ) → greatest_after most (map kept_of pages) ≡ most
+greatest_kept : (pages : List PageValue) (most : ℕ) → greatest_after most (map page_record pages) ≡ most
 greatest_kept [] most = refl
 greatest_kept (p ∷ pages) most = greatest_kept pages most
 
@@ -157,5 +157,5 @@ greatest_ended [] more most = refl
 greatest_ended (p ∷ pages) more most = greatest_ended pages more most
 
 pub greatest_again : (records : List SpoolRecord) (pages : List PageValue) (most : ℕ) → greatest_after most (records ++ put_again pages) ≡ greatest_after most records
-greatest_again [] pages most = greatest_ended pages (map kept_of pages) most ∙ greatest_kept pages most
+greatest_again [] pages most = greatest_ended pages (map page_record pages) most ∙ greatest_kept pages most
 greatest_again (r ∷ records) pages most = greatest_again records pages (raised most r)

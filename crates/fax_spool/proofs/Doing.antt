@@ -3,7 +3,7 @@ use Rattle.std.proofs.Common.{◌≡◌, ◌⊎◌, ◌<◌, inl, inr, ℕ, Bool
 use Rattle.std.specs.Result.{is_ok}
 use Rattle.std.proofs.lemmas.List.{append-nil}
 use Rattle.fax_spool.specs.RecordOctets.{PageValue}
-use Rattle.fax_spool.specs.SpoolRecords.{kept_of}
+use Rattle.fax_spool.specs.SpoolRecords.{page_record}
 use Rattle.fax_spool.specs.Waits.{after, waiting}
 use Rattle.fax_spool.specs.Spools.{AreAbove, AreInOrder, IsOrderFound, MayLeaveBoth, NoneIsLeft, Stores, TellBoth, epoch_records, greatest_epoch}
 use Rattle.fax_spool.specs.Calls.{AnsweredCall, Call, Does, DoneButOne, EachCrashTells, IsAsBefore, OneWithoutAnOk, Refuses, Rests, TellWaits, WereMade, done_by, done_by_all}
@@ -13,16 +13,16 @@ use Rattle.fax_spool.specs.Settled.{IsSettled}
 use Rattle.fax_spool.specs.declared.file.RecordFile.{RecordFile}
 use Rattle.fax_spool.specs.declared.spool.Spool.{Spool}
 use Rattle.fax_spool.proofs.Order.{order_changed, order_found, order_stays}
-use Rattle.fax_spool.specs.KeptPages.{put_again}
+use Rattle.fax_spool.specs.StoredPages.{put_again}
 use Rattle.fax_spool.proofs.Again.{above_again, more_again}
-use Rattle.fax_spool.proofs.Kept.{same_kept}
+use Rattle.fax_spool.proofs.KnownPages.{same_kept}
 use Rattle.fax_spool.proofs.Shares.{shares}
 use Rattle.fax_spool.proofs.SpoolSteps.{at_rest, waiting_epochs, waiting_pages, waiting_push}
 
 -- ---- what waits after more records
 
-pub more_pages : (pages : List PageValue) (olds news : List SpoolRecord) → waiting (olds ++ (news ++ map kept_of pages)) ≡ waiting (olds ++ news) ++ pages
-more_pages pages olds news = ap (λ (l : List SpoolRecord). waiting l) (sym (append_assoc olds news (map kept_of pages))) ∙ waiting_pages [] (olds ++ news) pages
+pub more_pages : (pages : List PageValue) (olds news : List SpoolRecord) → waiting (olds ++ (news ++ map page_record pages)) ≡ waiting (olds ++ news) ++ pages
+more_pages pages olds news = ap (λ (l : List SpoolRecord). waiting l) (sym (append_assoc olds news (map page_record pages))) ∙ waiting_pages [] (olds ++ news) pages
 
 pub one_more : (r : SpoolRecord) (olds news : List SpoolRecord) → waiting (olds ++ (news ++ r ∷ [])) ≡ after (waiting (olds ++ news)) r
 one_more r olds news = ap (λ (l : List SpoolRecord). waiting l) (sym (append_assoc olds news (r ∷ []))) ∙ waiting_push [] (olds ++ news) r

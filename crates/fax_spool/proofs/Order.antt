@@ -3,7 +3,7 @@ use Rattle.std.proofs.Common.{◌≡◌, ◌⊎◌, ◌<◌, ◌≤◌, inl, inr
 use Rattle.std.proofs.lemmas.List.{append-nil}
 use Rattle.fax_spool.specs.Waits.{waiting}
 use Rattle.fax_spool.specs.RecordOctets.{PageValue}
-use Rattle.fax_spool.specs.SpoolRecords.{kept_of}
+use Rattle.fax_spool.specs.SpoolRecords.{page_record}
 use Rattle.fax_spool.specs.Spools.{AreAbove, AreInOrder, ComeAfter, IsOrderFound, epoch_of, epoch_records, epochs, greatest_epoch}
 use Rattle.fax_spool.specs.Opened.{comes_first, newer_of, older_of}
 use Rattle.fax_spool.specs.declared.spool_record.SpoolRecord.{SpoolRecord}
@@ -27,7 +27,7 @@ more_above n (Ended ended ∷ records) more first second = more_above n records 
 more_above n (Epoch number ∷ records) more first second = (first.0, more_above n records more first.1 second)
 more_above n (Damaged ∷ records) more first second = more_above n records more first second
 
-pub above_pages : (n : ℕ) (pages : List PageValue) → AreAbove n (map kept_of pages)
+pub above_pages : (n : ℕ) (pages : List PageValue) → AreAbove n (map page_record pages)
 above_pages n [] = tt
 above_pages n (p ∷ pages) = above_pages n pages
 
@@ -49,8 +49,8 @@ order_stays olds news more above (inl none) = inl none
 order_stays olds news more above (inr come) = inr (omega (arith, come.0, more_epochs news more), more_above (greatest_epoch olds) news more come.1 above)
 
 -- after the records of pages
-pub order_pages : (olds news : List SpoolRecord) (pages : List PageValue) → AreInOrder olds news → AreInOrder olds (news ++ map kept_of pages)
-order_pages olds news pages order = order_stays olds news (map kept_of pages) (above_pages (greatest_epoch olds) pages) order
+pub order_pages : (olds news : List SpoolRecord) (pages : List PageValue) → AreInOrder olds news → AreInOrder olds (news ++ map page_record pages)
+order_pages olds news pages order = order_stays olds news (map page_record pages) (above_pages (greatest_epoch olds) pages) order
 
 -- two records of an epoch
 pub order_changed : (olds : List SpoolRecord) (number : ℕ) → greatest_epoch olds < number → AreInOrder olds (epoch_records number)

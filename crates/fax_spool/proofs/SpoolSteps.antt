@@ -4,9 +4,9 @@ use Rattle.std.proofs.lemmas.List.{append-nil}
 use Rattle.fax_spool.specs.Records.{Stands}
 use Rattle.fax_spool.specs.Settled.{IsSettled}
 use Rattle.fax_spool.specs.RecordOctets.{PageValue}
-use Rattle.fax_spool.specs.SpoolRecords.{IsReadAs, AreReadAs, kept_of}
+use Rattle.fax_spool.specs.SpoolRecords.{IsReadAs, AreReadAs, page_record}
 use Rattle.fax_spool.specs.Waits.{left_of, after, left_after, waiting_after, waiting}
-use Rattle.fax_spool.specs.KeptPages.{AreKept, is_in_memory, put_again}
+use Rattle.fax_spool.specs.StoredPages.{AreKnownAs, is_in_memory, put_again}
 use Rattle.fax_spool.specs.Spools.{epoch_of, epoch_records, greatest_after, greatest_epoch, raised, Tells, MayLeaveBoth, Stores, NoneIsLeft, TellBoth}
 use Rattle.fax_spool.specs.declared.file.RecordFile.{RecordFile}
 use Rattle.fax_spool.specs.declared.spool.Spool.{Spool}
@@ -14,24 +14,24 @@ use Rattle.fax_spool.specs.declared.spool_record.SpoolRecord.{SpoolRecord}
 use Rattle.fax_spool.specs.declared.spool_record.SpoolRecord.TheVariants.{Page, Ended, Epoch, Damaged}
 use Rattle.fax_spool.proofs.Again.{greatest_again, left_again, waits_again}
 use Rattle.std.specs.List.{list_all}
-use Rattle.fax_spool.proofs.Kept.{kept_anywhere, kept_append, kept_more, no_pages, none_anywhere, same_kept}
+use Rattle.fax_spool.proofs.KnownPages.{kept_anywhere, kept_append, kept_more, no_pages, none_anywhere, same_kept}
 pub use Rattle.fax_spool.proofs.ReadRecords.{read_all_through, read_append, read_push, read_through}
 use Rattle.fax_spool.proofs.Shares.{shares}
 use Rattle.fax_spool.proofs.Steps.{rests, none_open}
 
 -- pages end none of those before them
-left_pages : (waits : List PageValue) (records : List SpoolRecord) (pages : List PageValue) → left_after waits (records ++ map kept_of pages) ≡ left_after waits records
+left_pages : (waits : List PageValue) (records : List SpoolRecord) (pages : List PageValue) → left_after waits (records ++ map page_record pages) ≡ left_after waits records
 left_pages waits [] [] = refl
 left_pages waits [] (p ∷ pages) = left_pages waits [] pages
 left_pages waits (q ∷ records) pages = left_pages (left_of waits q) records pages
 
 -- and each of them waits
-pub waiting_pages : (waits : List PageValue) (records : List SpoolRecord) (pages : List PageValue) → waiting_after waits (records ++ map kept_of pages) ≡ waiting_after waits records ++ pages
+pub waiting_pages : (waits : List PageValue) (records : List SpoolRecord) (pages : List PageValue) → waiting_after waits (records ++ map page_record pages) ≡ waiting_after waits records ++ pages
 waiting_pages waits [] [] = sym (append-nil waits)
 waiting_pages waits [] (p ∷ pages) = waiting_pages (waits ++ p ∷ []) [] pages ∙ append_assoc waits (p ∷ []) pages
 waiting_pages waits (q ∷ records) pages = waiting_pages (after waits q) records pages
 
-greatest_pages : (records : List SpoolRecord) (pages : List PageValue) (most : ℕ) → greatest_after most (records ++ map kept_of pages) ≡ greatest_after most records
+greatest_pages : (records : List SpoolRecord) (pages : List PageValue) (most : ℕ) → greatest_after most (records ++ map page_record pages) ≡ greatest_after most records
 greatest_pages [] [] most = refl
 greatest_pages [] (p ∷ pages) most = greatest_pages [] pages most
 greatest_pages (r ∷ records) pages most = greatest_pages records pages (raised most r)
@@ -102,7 +102,7 @@ first_within records = within_after 0 records
 pub begun : {D : Type 0} (seen : D → List ℕ) (may_leave : D → List ℕ → Type 0) (is_usable : D → Bool) (spool : Spool D) (olds news : List SpoolRecord) (older_items newer_items : List (List ℕ))
     → IsSettled seen may_leave is_usable spool.older.disk spool.older.end older_items → AreReadAs older_items olds
     → IsSettled seen may_leave is_usable spool.newer.disk spool.newer.end newer_items → AreReadAs newer_items news
-    → AreKept older_items spool.older_pages.items (left_after (waiting olds) news) → AreKept newer_items spool.newer_pages.items (waiting news)
+    → AreKnownAs older_items spool.older_pages.items (left_after (waiting olds) news) → AreKnownAs newer_items spool.newer_pages.items (waiting news)
     → greatest_epoch news ≤ spool.epoch → Stores seen may_leave is_usable spool olds news
 begun seen may_leave is_usable spool olds news older_items newer_items older olds_read newer news_read older_kept newer_kept most = record {
   older_items = older_items;
@@ -130,8 +130,8 @@ module _ {D : Type 0} (seen : D → List ℕ) (may_leave : D → List ℕ → Ty
   -- one more record
   pub keeps_more : (item : List ℕ) (r : SpoolRecord) → IsReadAs item r → new.older ≡ old.older
       → IsSettled seen may_leave is_usable new.newer.disk new.newer.end (k.newer_items ++ item ∷ [])
-      → AreKept k.older_items new.older_pages.items (left_of (left_after (waiting olds) news) r)
-      → AreKept (k.newer_items ++ item ∷ []) new.newer_pages.items (after (waiting news) r)
+      → AreKnownAs k.older_items new.older_pages.items (left_of (left_after (waiting olds) news) r)
+      → AreKnownAs (k.newer_items ++ item ∷ []) new.newer_pages.items (after (waiting news) r)
       → old.epoch ≤ new.epoch → greatest_epoch (r ∷ []) ≤ new.epoch → Stores seen may_leave is_usable new olds (news ++ r ∷ [])
   keeps_more item r is same settled older newer grows epoch = record {
     older_items = k.older_items;
@@ -156,30 +156,30 @@ module _ {D : Type 0} (seen : D → List ℕ) (may_leave : D → List ℕ → Ty
       ]
 
   -- the records of pages, one after the other
-  pub keeps_pages : (items : List (List ℕ)) (pages : List PageValue) → AreReadAs items (map kept_of pages) → new.older ≡ old.older
+  pub keeps_pages : (items : List (List ℕ)) (pages : List PageValue) → AreReadAs items (map page_record pages) → new.older ≡ old.older
       → IsSettled seen may_leave is_usable new.newer.disk new.newer.end (k.newer_items ++ items)
-      → new.older_pages.items ≡ old.older_pages.items → AreKept (k.newer_items ++ items) new.newer_pages.items (waiting news ++ pages) → new.epoch ≡ old.epoch
-      → Stores seen may_leave is_usable new olds (news ++ map kept_of pages)
+      → new.older_pages.items ≡ old.older_pages.items → AreKnownAs (k.newer_items ++ items) new.newer_pages.items (waiting news ++ pages) → new.epoch ≡ old.epoch
+      → Stores seen may_leave is_usable new olds (news ++ map page_record pages)
   keeps_pages items pages are same settled older newer epoch = record {
     older_items = k.older_items;
     newer_items = k.newer_items ++ items;
     older = subst (λ (f : RecordFile D). IsSettled seen may_leave is_usable f.disk f.end k.older_items) (sym same) k.older;
     newer = settled;
     older_read = k.older_read;
-    newer_read = read_append k.newer_items items news (map kept_of pages) k.newer_read are;
+    newer_read = read_append k.newer_items items news (map page_record pages) k.newer_read are;
     older_waits = same_kept _ _ _ _ _ older (left_pages (waiting olds) news pages) k.older_waits;
     newer_waits = same_kept _ _ _ _ _ refl (waiting_pages [] news pages) newer;
     epoch = omega (arith, greatest_pages news pages 0, k.epoch, epoch);
   }
 
-  pub leaves_pages : (items : List (List ℕ)) (pages : List PageValue) → AreReadAs items (map kept_of pages) → new.older ≡ old.older
+  pub leaves_pages : (items : List (List ℕ)) (pages : List PageValue) → AreReadAs items (map page_record pages) → new.older ≡ old.older
       → ((rs : List (List ℕ)) → IsSettled seen may_leave is_usable old.newer.disk old.newer.end rs → (c : List ℕ) → may_leave new.newer.disk c → Stands c rs ⊎ Stands c (rs ++ items))
-      → (older newer : List ℕ) → MayLeaveBoth may_leave new older newer → TellBoth older newer olds news ⊎ TellBoth older newer olds (news ++ map kept_of pages)
+      → (older newer : List ℕ) → MayLeaveBoth may_leave new older newer → TellBoth older newer olds news ⊎ TellBoth older newer olds (news ++ map page_record pages)
   leaves_pages items pages are same crash older newer left =
       let first : Tells older olds = older_tells older (subst (λ (f : RecordFile D). may_leave f.disk older) same left.0) in
       elim (crash k.newer_items k.newer newer left.1) [
         | inl stands ↦ inl (first, record { items = k.newer_items; stands = stands; read = k.newer_read })
-        | inr stands ↦ inr (first, record { items = k.newer_items ++ items; stands = stands; read = read_append k.newer_items items news (map kept_of pages) k.newer_read are })
+        | inr stands ↦ inr (first, record { items = k.newer_items ++ items; stands = stands; read = read_append k.newer_items items news (map page_record pages) k.newer_read are })
       ]
 
   -- all pages that wait, put again

@@ -8,7 +8,7 @@ pub mod SpoolRecords
 pub mod Listed
 pub mod Waits
 pub mod Places
-pub mod KeptPages
+pub mod StoredPages
 pub mod Torn
 pub mod Harm
 pub mod Spools

@@ -8,23 +8,23 @@ use Rattle.fax_spool.specs.declared.spool_record.SpoolRecord.TheVariants.{Page, 
 abbrev pub stored_page : PageValue → List ℕ
 stored_page page = sealed (page_octets page)
 
-abbrev pub kept_ended : EndedValue → List ℕ
-kept_ended ended = sealed (ended_octets ended)
+abbrev pub stored_end : EndedValue → List ℕ
+stored_end ended = sealed (ended_octets ended)
 
-abbrev pub kept_epoch : ℕ → List ℕ
-kept_epoch number = sealed (epoch_octets number)
+abbrev pub stored_epoch : ℕ → List ℕ
+stored_epoch number = sealed (epoch_octets number)
 
 -- octets of none of the three kinds
 pub record IsDamaged (octets : List ℕ) : Type 0 where
   pub no_page : (page : PageValue) → octets ≢ stored_page page
-  pub no_end : (ended : EndedValue) → octets ≢ kept_ended ended
-  pub no_epoch : (number : ℕ) → octets ≢ kept_epoch number
+  pub no_end : (ended : EndedValue) → octets ≢ stored_end ended
+  pub no_epoch : (number : ℕ) → octets ≢ stored_epoch number
 
 -- a record of one of the three kinds, each number of which has four octets
 abbrev pub IsReadAs : List ℕ → SpoolRecord → Type 0
 IsReadAs octets (Page page) = (octets ≡ stored_page page) × PageFits page
-IsReadAs octets (Ended ended) = (octets ≡ kept_ended ended) × EndFits ended
-IsReadAs octets (Epoch number) = (octets ≡ kept_epoch number) × (number < 2 ^ 32)
+IsReadAs octets (Ended ended) = (octets ≡ stored_end ended) × EndFits ended
+IsReadAs octets (Epoch number) = (octets ≡ stored_epoch number) × (number < 2 ^ 32)
 IsReadAs octets Damaged = IsDamaged octets
 
 -- each of these octets, one after another, is read as the record at its place
@@ -34,5 +34,5 @@ AreReadAs (octets ∷ items) (record_of ∷ records) = IsReadAs octets record_of
 AreReadAs items records = ⊥
 
 -- a page's record, as one of the three kinds
-abbrev pub kept_of : PageValue → SpoolRecord
-kept_of page = Page page
+abbrev pub page_record : PageValue → SpoolRecord
+page_record page = Page page

@@ -4,7 +4,7 @@ use Rattle.fax_spool.specs.Records.{Stands}
 use Rattle.fax_spool.specs.Settled.{IsSettled}
 use Rattle.fax_spool.specs.SpoolRecords.{AreReadAs}
 use Rattle.fax_spool.specs.Waits.{waiting, left_after}
-use Rattle.fax_spool.specs.KeptPages.{AreKept}
+use Rattle.fax_spool.specs.StoredPages.{AreKnownAs}
 use Rattle.fax_spool.specs.declared.spool_record.SpoolRecord.{SpoolRecord}
 use Rattle.fax_spool.specs.declared.spool_record.SpoolRecord.TheVariants.{Page, Ended, Epoch, Damaged}
 use Rattle.fax_spool.specs.declared.file.RecordFile.{RecordFile}
@@ -59,8 +59,8 @@ pub record Stores {D : Type 0} (seen : D → List ℕ) (may_leave : D → List �
   pub newer : IsSettled seen may_leave is_usable spool.newer.disk spool.newer.end newer_items
   pub older_read : AreReadAs older_items olds
   pub newer_read : AreReadAs newer_items news
-  pub older_waits : AreKept older_items spool.older_pages.items (left_after (waiting olds) news)
-  pub newer_waits : AreKept newer_items spool.newer_pages.items (waiting news)
+  pub older_waits : AreKnownAs older_items spool.older_pages.items (left_after (waiting olds) news)
+  pub newer_waits : AreKnownAs newer_items spool.newer_pages.items (waiting news)
   pub epoch : greatest_epoch news ≤ spool.epoch
 
 -- no wrong answer of either file was taken as true

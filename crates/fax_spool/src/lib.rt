@@ -3,7 +3,6 @@
 #![tactic(auto)]
 
 mod file;
-mod kept_page;
 pub mod laws;
 mod listing;
 mod opening;
@@ -15,6 +14,7 @@ mod record_place;
 mod sealing;
 mod spool;
 mod spool_record;
+mod stored_page;
 mod torn;
 mod waiting;
 mod waiting_page;

@@ -1,14 +1,14 @@
 //! The pages that wait, read back while a spool is in use: each from its own record, wherever that is.
 ghost use Rattle.std.specs.Prelude.{◌≡◌, ◌++◌, [], ◌∷◌, List, ℕ, IfOk, IsTrue, OnOk};
-ghost use Rattle.fax_spool.specs.KeptPages.{AreKept, IsKept, IsRecordOf};
+ghost use Rattle.fax_spool.specs.StoredPages.{AreKnownAs, IsKnownAs, IsRecordOf};
 ghost use Rattle.fax_spool.specs.Places.{StandsAt};
 ghost use Rattle.fax_spool.specs.RecordOctets.{PageValue};
 ghost use Rattle.fax_spool.specs.Settled.{IsSettled};
 ghost use Rattle.fax_spool.specs.SpoolRecords.{IsReadAs};
 ghost use Rattle.fax_spool.specs.Waits.{ended_by};
 
-use crate::kept_page::{KeptPage, RecordSource};
 use crate::record_place::RecordPlace;
+use crate::stored_page::{RecordSource, StoredPage};
 use crate::{EndedRecord, PageRecord, RecordFile, SpoolRecord, WaitingPage, read_spool_record};
 use sqlite_disk::Disk;
 use std::alloc::{AllocError, Global};
@@ -20,10 +20,10 @@ pub(crate) fn push_ended<D: Disk>(
     alloc: Global,
     found: &mut Vec<WaitingPage>,
     file: &mut RecordFile<D>,
-    pages: &[KeptPage],
+    pages: &[StoredPage],
     ended: &EndedRecord<'_>,
 ) -> io::Result<()>
-    ensures found { OnOk result (IsTrue (D.is_clean file.new.disk) → (rs : List (List ℕ)) (waits : List PageValue) → IsSettled D.seen D.may_leave D.is_usable file.old.disk file.old.end rs → AreKept rs pages.now waits
+    ensures found { OnOk result (IsTrue (D.is_clean file.new.disk) → (rs : List (List ℕ)) (waits : List PageValue) → IsSettled D.seen D.may_leave D.is_usable file.old.disk file.old.end rs → AreKnownAs rs pages.now waits
         → found.new.items ≡ found.old.items ++ ended_by ended.now waits) }
     ensures settled { (rs : List (List ℕ)) → IsSettled D.seen D.may_leave D.is_usable file.old.disk file.old.end rs
         → IsSettled D.seen D.may_leave D.is_usable file.new.disk file.new.end rs }
@@ -40,10 +40,10 @@ fn push_page<D: Disk>(
     alloc: Global,
     found: &mut Vec<WaitingPage>,
     file: &mut RecordFile<D>,
-    kept: &KeptPage,
+    kept: &StoredPage,
     ended: &EndedRecord<'_>,
 ) -> io::Result<()>
-    ensures found { OnOk result (IsTrue (D.is_clean file.new.disk) → (rs : List (List ℕ)) (page : PageValue) → IsSettled D.seen D.may_leave D.is_usable file.old.disk file.old.end rs → IsKept rs kept.now page
+    ensures found { OnOk result (IsTrue (D.is_clean file.new.disk) → (rs : List (List ℕ)) (page : PageValue) → IsSettled D.seen D.may_leave D.is_usable file.old.disk file.old.end rs → IsKnownAs rs kept.now page
         → found.new.items ≡ found.old.items ++ ended_by ended.now (page ∷ [])) }
     ensures settled { (rs : List (List ℕ)) → IsSettled D.seen D.may_leave D.is_usable file.old.disk file.old.end rs
         → IsSettled D.seen D.may_leave D.is_usable file.new.disk file.new.end rs }
@@ -61,9 +61,9 @@ fn push_page<D: Disk>(
 fn read_page<D: Disk>(
     alloc: Global,
     file: &mut RecordFile<D>,
-    kept: &KeptPage,
+    kept: &StoredPage,
 ) -> io::Result<WaitingPage>
-    ensures page { IfOk result (λ read. IsTrue (D.is_clean file.new.disk) → (rs : List (List ℕ)) (page : PageValue) → IsSettled D.seen D.may_leave D.is_usable file.old.disk file.old.end rs → IsKept rs kept.now page
+    ensures page { IfOk result (λ read. IsTrue (D.is_clean file.new.disk) → (rs : List (List ℕ)) (page : PageValue) → IsSettled D.seen D.may_leave D.is_usable file.old.disk file.old.end rs → IsKnownAs rs kept.now page
         → read ≡ page) }
     ensures settled { (rs : List (List ℕ)) → IsSettled D.seen D.may_leave D.is_usable file.old.disk file.old.end rs
         → IsSettled D.seen D.may_leave D.is_usable file.new.disk file.new.end rs }

@@ -6,21 +6,21 @@ ghost use Rattle.std.specs.Result.{is_ok};
 ghost use Rattle.fax_spool.specs.Calls.{Accepts, Does, IsRead, Puts, Ends, Refuses, Turns, refuses_now};
 ghost use Rattle.fax_spool.specs.Records.{Stands};
 ghost use Rattle.fax_spool.specs.Settled.{IsSettled};
-ghost use Rattle.fax_spool.specs.SpoolRecords.{AreReadAs, kept_of};
-ghost use Rattle.fax_spool.specs.KeptPages.{is_in_memory, put_again};
+ghost use Rattle.fax_spool.specs.SpoolRecords.{AreReadAs, page_record};
+ghost use Rattle.fax_spool.specs.StoredPages.{is_in_memory, put_again};
 ghost use Rattle.fax_spool.specs.Waits.{ended_by, ends, waiting};
 ghost use Rattle.fax_spool.specs.Spools.{AreClean, Stores, NoneIsLeft, MayLeaveBoth, TellBoth, epoch_now, epoch_records, files_of, greatest_epoch};
 ghost use Rattle.fax_spool.specs.declared.spool_record.SpoolRecord.{SpoolRecord as SpoolRecordShown};
 
-use crate::kept_page::{
-    KeptPage, Room, are_in_memory, keep_placed_pages, records_again, room_left, seal_pages,
-    source_of, taken_by,
-};
 use crate::page_name::PageName;
 use crate::placed_page::{drop_ended, placed_pages};
 use crate::reading::push_ended;
 use crate::record_place::RecordPlace;
 use crate::spool_record::{seal_ended, seal_epochs, seal_page};
+use crate::stored_page::{
+    Room, StoredPage, are_in_memory, keep_placed_pages, records_again, room_left, seal_pages,
+    source_of, taken_by,
+};
 use crate::waiting::newest_epoch;
 use crate::{EndedRecord, PageRecord, RecordFile, SpoolRecord, WaitingPage};
 use sqlite_disk::Disk;
@@ -40,9 +40,9 @@ pub struct Spool<D: Disk> {
     older: RecordFile<D>,
     newer: RecordFile<D>,
     /// The pages of the older file that wait.
-    older_pages: Vec<KeptPage>,
+    older_pages: Vec<StoredPage>,
     /// The pages of the newer file that wait.
-    newer_pages: Vec<KeptPage>,
+    newer_pages: Vec<StoredPage>,
     /// What room there is for the records of more.
     room: Room,
     /// The greatest number of an epoch so far.
@@ -151,7 +151,7 @@ impl<D: Disk> Spool<D> {
         self.newer_pages.reserve(1)?;
         append(&mut self.newer, &mut self.refuses, alloc, octets.as_slice())?;
         let source = source_of(octets, place, &mut self.room);
-        self.newer_pages.push_reserved(KeptPage { name, source });
+        self.newer_pages.push_reserved(StoredPage { name, source });
         Ok(())
     }
 
@@ -160,11 +160,11 @@ impl<D: Disk> Spool<D> {
     /// octets is `InvalidInput`, and nothing is put then.
     pub fn put_all(&mut self, alloc: Global, pages: &[PageRecord<'_>]) -> io::Result<()>
         ensures acknowledged { OnOk result ((olds news : List SpoolRecordShown) → Stores D.seen D.may_leave D.is_usable self.old olds news
-            → Stores D.seen D.may_leave D.is_usable self.new olds (news ++ map kept_of pages.now)) }
+            → Stores D.seen D.may_leave D.is_usable self.new olds (news ++ map page_record pages.now)) }
         // Whenever the machine stops, the files tell the records from before, with all of the new ones or with none.
         ensures crash { (olds news : List SpoolRecordShown) → Stores D.seen D.may_leave D.is_usable self.old olds news
             → (older newer : List ℕ) → MayLeaveBoth D.may_leave self.new older newer
-            → TellBoth older newer olds news ⊎ TellBoth older newer olds (news ++ map kept_of pages.now) }
+            → TellBoth older newer olds news ⊎ TellBoth older newer olds (news ++ map page_record pages.now) }
         ensures does { Does D.seen D.may_leave D.is_usable (Puts pages.now) (is_ok result) self.old self.new }
     {
         if self.refuses {
@@ -377,7 +377,7 @@ fn append_all<D: Disk>(
 }
 
 /// Forgets the pages of a job that ended.
-fn forget_ended(pages: &mut Vec<KeptPage>, ended: &EndedRecord<'_>)
+fn forget_ended(pages: &mut Vec<StoredPage>, ended: &EndedRecord<'_>)
     ensures { pages.new.items ≡ filter (λ page. not (ends ended.now page.name)) pages.old.items }
 {
     pages.retain(|page| !page.name.is_ended_by(ended));

@@ -26,7 +26,7 @@ use Rattle.fax_switch.specs.Calls.{begun_by, call_row, came, dialled, freed, not
 use Rattle.fax_switch.specs.Histories.{Dial, Ring, dial_after, dial_by, dial_with, fax_in, fax_told, is_dial_of, is_reinvite, is_ring_of, reinvites, ring_after, ring_with}
 use Rattle.fax_switch.specs.Places.{called_place, calling_place, holds, holds_leg, is_leg}
 use Rattle.fax_switch.specs.SwitchLaws.{IsAcceptedFor, IsOfItsDial, IsOverItsRoute, IsRouted, OnCalled}
-use Rattle.fax_switch.proofs.Keeping.{IsKept, Keeps, SipIs, WordIs, not_rung_keeps, passed_keeps, released_keeps, within_keeps}
+use Rattle.fax_switch.proofs.Preserving.{IsKept, Keeps, SipIs, WordIs, not_rung_keeps, passed_keeps, released_keeps, within_keeps}
 
 abbrev pub HoldsLeg : (ℕ → Option Ring) → (ℕ → Option Dial) → ℕ → ℕ → Leg → ℕ → ℕ → Type 0
 HoldsLeg ring dial id route Calling line call = ring line ≡ Some (ring_with id call)

@@ -2,7 +2,7 @@ pub mod CallEnds
 pub mod EntryLemmas
 pub mod Findings
 pub mod Holding
-pub mod Keeping
+pub mod Preserving
 pub mod Stages
 pub mod Stepping
 pub mod SwitchProofs

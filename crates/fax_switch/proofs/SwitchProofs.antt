@@ -24,7 +24,7 @@ use Rattle.fax_switch.specs.SwitchLaws.{AnsweredCallsAreRung, AreOnOtherLegs, Le
 use Rattle.fax_switch.specs.Tables.{Table, has_room, is_on, new_entry, row, stepped, swept, with_new}
 use Rattle.fax_switch.proofs.EntryLemmas.{Differ, differ_filter, differ_map, differ_push, each_both, each_filter, each_map, each_push, each_weaker}
 use Rattle.fax_switch.proofs.Holding.{Holds, HoldsLeg, HoldsPlace, IfNew, Right, begun_right, call_right}
-use Rattle.fax_switch.proofs.Keeping.{not_rung_keeps, passed_keeps, released_keeps, within_keeps}
+use Rattle.fax_switch.proofs.Preserving.{not_rung_keeps, passed_keeps, released_keeps, within_keeps}
 
 -- ---- a step of all calls
 

@@ -89,7 +89,7 @@ abbrev pub stored_all : {A : Type 0} → Result A TerminalFault → Bool
 stored_all (Ok answer) = true
 stored_all (Err faults.NoMemory) = true
 stored_all (Err faults.Clock) = true
-stored_all (Err faults.Keeping) = false
+stored_all (Err faults.Storing) = false
 
 -- some events of a call led an answerer here, and a store from there to here: by the pages that its ticks confirmed
 pub record StoresInCall {K : Type 0} (keeps : PageValue → Bool → K → K → Type 0) (pause : ℕ) (all_stored : Bool) (first : K) (kept : answerer.Rep) (store : K) : Type 0 where

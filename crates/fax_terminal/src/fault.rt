@@ -13,7 +13,7 @@ pub enum TerminalFault {
     Clock,
     /// A page that was to be confirmed was not kept.
     #[error("a page was not kept")]
-    Keeping,
+    Storing,
 }
 
 impl From<NoMemory> for TerminalFault {
@@ -31,9 +31,9 @@ impl From<StoreFault> for TerminalFault {
     ghost use Rattle.std.specs.Prelude.{◌≡◌};
     ghost use Rattle.fax_terminal.specs.declared.fault.TerminalFault.TheVariants as faults;
 
-    ghost from_gives = { λ _ fault. fault ≡ faults.Keeping };
+    ghost from_gives = { λ _ fault. fault ≡ faults.Storing };
 
     fn from(_: StoreFault) -> Self {
-        TerminalFault::Keeping
+        TerminalFault::Storing
     }
 }

@@ -19,7 +19,7 @@ use Rattle.fax_queue.specs.Refusals.{EndsSomehowAt, IsAnEnd, notes_of}
 use Rattle.fax_queue.specs.SpoolStorage.{EndsJobIf}
 use Rattle.fax_queue.specs.Storing.{Agree}
 use Rattle.fax_undelivered.specs.Cards.{CardValue}
-use Rattle.fax_undelivered.specs.KeptEnds.{EndsKept, EndsWhere, KeepsLeft, MayEnd, PutsIf, card_for}
+use Rattle.fax_undelivered.specs.StoredEnds.{EndsStored, EndsWhere, KeepsLeft, MayEnd, PutsIf, card_for}
 use Rattle.fax_undelivered.specs.declared.undelivered.Undelivered.{Undelivered}
 
 -- ---- a spool that was read
@@ -85,7 +85,7 @@ module _ {D : Type 0} (seen : D → List ℕ) (may_leave : D → List ℕ → Ty
 
 why_left : {D : Type 0} (pages : ℕ) (o : Option QueueValue) (now : Spool D) → (fault : EndFault) × MatchOption o (fault ≡ faults.NoLine) (λ was. IsWhy fault pages was now)
 why_left pages None now = (faults.NoLine, refl)
-why_left pages (Some queue) now = (faults.NotKept, tt)
+why_left pages (Some queue) now = (faults.NotStored, tt)
 
 pub not_ended : {D : Type 0} (seen : D → List ℕ) (may_leave : D → List ℕ → Type 0) (is_usable : D → Bool) (line : ℕ) (report : Report) (olds news : List QueueValue) (before after : Spool D) → after ≡ before
     → ((pages : ℕ) → line < length olds → EndsSomehowAt seen may_leave is_usable pages line olds news before after) → EndsJobIf seen may_leave is_usable line report olds news before after
@@ -117,7 +117,7 @@ pub ends_kept :
     (line day : ℕ) (report : Report) (said cause : List ℕ) (olds queues news : List QueueValue) (before read after : Spool D) (may : Bool) (old new : Option (Undelivered U)) → said ≡ cause
     → MayEnd seen may_leave is_usable is_clean seen_too may_leave_too is_usable_too line report (card_for report said day) olds before read may old new
     → IsRead seen may_leave is_usable before read → (Refuses before → read ≡ before) → queues ≡ olds → EndsWhere seen may_leave is_usable may line report queues news read after
-    → EndsKept seen may_leave is_usable is_clean seen_too may_leave_too is_usable_too line report (card_for report cause day) olds news before after old new
+    → EndsStored seen may_leave is_usable is_clean seen_too may_leave_too is_usable_too line report (card_for report cause day) olds news before after old new
 unfolding ends_read
 ends_kept seen may_leave is_usable is_clean seen_too may_leave_too is_usable_too line day report said cause olds queues news before read after may old new causes first is_read still same ends =
     let here : EndsWhere seen may_leave is_usable may line report olds news read after = subst (λ (q : List QueueValue). EndsWhere seen may_leave is_usable may line report q news read after) same ends in

@@ -15,8 +15,8 @@ use Rattle.fax_queue.specs.Queues.{QueueValue}
 use Rattle.fax_undelivered.specs.Cards.{CardValue, card_octets}
 use Rattle.fax_undelivered.specs.Calls.{card_records, end_from, end_of, with_its_card}
 use Rattle.fax_undelivered.specs.Keeps.{Keeps}
-use Rattle.fax_undelivered.specs.KeptEnds.{EndsKept, KeepsLeft, MayEnd, MayEndWith, PutsIf}
-use Rattle.fax_undelivered.specs.Dropped.{AreKept, AreNotDelivered, Arrives, Befell, Comes, Discards, Ends, EndsAs, Event, FailedPutsLeaveJobs, Goes, IsIn, IsNotDropped, KeptEndsAreEvents, MayPut, NothingIsDropped, Pairs, Puts, Rests, put_in, with_if}
+use Rattle.fax_undelivered.specs.StoredEnds.{EndsStored, KeepsLeft, MayEnd, MayEndWith, PutsIf}
+use Rattle.fax_undelivered.specs.Dropped.{AreKept, AreNotDelivered, Arrives, Befell, Comes, Discards, Ends, EndsAs, Event, FailedPutsLeaveJobs, Goes, IsIn, IsNotDropped, StoredEndsAreEvents, MayPut, NothingIsDropped, Pairs, Puts, Rests, put_in, with_if}
 use Rattle.fax_undelivered.specs.declared.undelivered.Undelivered.{Undelivered}
 use Rattle.fax_undelivered.proofs.Ending.{wait_still}
 use Rattle.fax_undelivered.proofs.Numbered.{ended_is_of, in_filter}
@@ -149,7 +149,7 @@ module _ {D U : Type 0} (seen : D → List ℕ) (may_leave : D → List ℕ → 
       (with_its_card (p ∷ pages) card, put.kept so kept keeps, λ page is. in_front page (p ∷ pages) (card_records (p ∷ pages) (card_octets card)) is)
 
   module _ (line : ℕ) (report : Report) (card : CardValue) (olds news : List QueueValue) (before after : Spool D) (old : Undelivered U) (new : Option (Undelivered U)) (waits kept : List PageValue)
-      (e : EndsKept seen may_leave is_usable is_clean seen_too may_leave_too is_usable_too line report card olds news before after (Some old) new) (so : e.ends.noted ≡ true)
+      (e : EndsStored seen may_leave is_usable is_clean seen_too may_leave_too is_usable_too line report card olds news before after (Some old) new) (so : e.ends.noted ≡ true)
       (wait : PagesWait seen may_leave is_usable before waits) (keeps : Keeps seen_too may_leave_too is_usable_too old kept) (clean : AreClean is_clean (files_of e.read)) where
     may_so : (b : Bool) → e.may ≡ b → e.may ≡ true
     may_so true is = is
@@ -195,8 +195,8 @@ module _ {D U : Type 0} (seen : D → List ℕ) (may_leave : D → List ℕ → 
     ends_as : EndsAs seen may_leave is_usable seen_too may_leave_too is_usable_too line report olds waits kept after new
     ends_as = by_first e.first.2
 
-  pub kept_ends_are_events : KeptEndsAreEvents seen may_leave is_usable is_clean seen_too may_leave_too is_usable_too
-  kept_ends_are_events line report card olds news before after old new waits kept e so wait keeps clean = ends_as line report card olds news before after old new waits kept e so wait keeps clean
+  pub stored_ends_are_events : StoredEndsAreEvents seen may_leave is_usable is_clean seen_too may_leave_too is_usable_too
+  stored_ends_are_events line report card olds news before after old new waits kept e so wait keeps clean = ends_as line report card olds news before after old new waits kept e so wait keeps clean
 
   pub failed_puts_leave_jobs : FailedPutsLeaveJobs seen may_leave is_usable is_clean seen_too may_leave_too is_usable_too
   failed_puts_leave_jobs line report card olds news before after old new waits e failed wait =

@@ -14,7 +14,7 @@ use Rattle.fax_queue.specs.declared.queue.EndedJob.{EndedJob}
 use Rattle.fax_undelivered.specs.Cards.{CardValue}
 use Rattle.fax_undelivered.specs.Calls.{end_of, is_among}
 use Rattle.fax_undelivered.specs.Keeps.{Keeps}
-use Rattle.fax_undelivered.specs.KeptEnds.{EndsKept}
+use Rattle.fax_undelivered.specs.StoredEnds.{EndsStored}
 use Rattle.fax_undelivered.specs.declared.undelivered.Undelivered.{Undelivered}
 
 -- the page is one of these
@@ -139,10 +139,10 @@ pub record EndsAs {D U : Type 0} (seen : D → List ℕ) (may_leave : D → List
   pub not_delivered : AreNotDelivered report queue left
 
 -- THE END OF A JOB THAT IS NOTED IS SUCH AN EVENT, where nothing wrong was read of the first pair: its pages came into the second before.
-abbrev pub KeptEndsAreEvents : {D U : Type 0} → (D → List ℕ) → (D → List ℕ → Type 0) → (is_usable is_clean : D → Bool) → (U → List ℕ) → (U → List ℕ → Type 0) → (U → Bool) → Type 0
-KeptEndsAreEvents {D} {U} seen may_leave is_usable is_clean seen_too may_leave_too is_usable_too =
+abbrev pub StoredEndsAreEvents : {D U : Type 0} → (D → List ℕ) → (D → List ℕ → Type 0) → (is_usable is_clean : D → Bool) → (U → List ℕ) → (U → List ℕ → Type 0) → (U → Bool) → Type 0
+StoredEndsAreEvents {D} {U} seen may_leave is_usable is_clean seen_too may_leave_too is_usable_too =
     (line : ℕ) (report : Report) (card : CardValue) (olds news : List QueueValue) (before after : Spool D) (old : Undelivered U) (new : Option (Undelivered U)) (waits kept : List PageValue)
-    → (e : EndsKept seen may_leave is_usable is_clean seen_too may_leave_too is_usable_too line report card olds news before after (Some old) new) → e.ends.noted ≡ true
+    → (e : EndsStored seen may_leave is_usable is_clean seen_too may_leave_too is_usable_too line report card olds news before after (Some old) new) → e.ends.noted ≡ true
     → PagesWait seen may_leave is_usable before waits → Keeps seen_too may_leave_too is_usable_too old kept → AreClean is_clean (files_of e.read)
     → EndsAs seen may_leave is_usable seen_too may_leave_too is_usable_too line report olds waits kept after new
 
@@ -150,5 +150,5 @@ KeptEndsAreEvents {D} {U} seen may_leave is_usable is_clean seen_too may_leave_t
 abbrev pub FailedPutsLeaveJobs : {D U : Type 0} → (D → List ℕ) → (D → List ℕ → Type 0) → (is_usable is_clean : D → Bool) → (U → List ℕ) → (U → List ℕ → Type 0) → (U → Bool) → Type 0
 FailedPutsLeaveJobs {D} {U} seen may_leave is_usable is_clean seen_too may_leave_too is_usable_too =
     (line : ℕ) (report : Report) (card : CardValue) (olds news : List QueueValue) (before after : Spool D) (old new : Option (Undelivered U)) (waits : List PageValue)
-    → (e : EndsKept seen may_leave is_usable is_clean seen_too may_leave_too is_usable_too line report card olds news before after old new) → e.may ≡ false
+    → (e : EndsStored seen may_leave is_usable is_clean seen_too may_leave_too is_usable_too line report card olds news before after old new) → e.may ≡ false
     → PagesWait seen may_leave is_usable before waits → PagesWait seen may_leave is_usable after waits

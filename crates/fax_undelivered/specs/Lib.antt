@@ -1,5 +1,5 @@
 pub mod Cards
 pub mod Calls
 pub mod Keeps
-pub mod KeptEnds
+pub mod StoredEnds
 pub mod Dropped

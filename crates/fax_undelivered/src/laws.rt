@@ -1,7 +1,7 @@
 //! Laws of what could not be delivered: functions that do nothing, each of whose contracts is a theorem.
 ghost use Rattle.fax_undelivered.specs.Calls.{PagesAreListed};
 ghost use Rattle.fax_undelivered.specs.Cards.{CardsAreReadBack};
-ghost use Rattle.fax_undelivered.specs.Dropped.{FailedPutsLeaveJobs, KeptEndsAreEvents, NothingIsDropped};
+ghost use Rattle.fax_undelivered.specs.Dropped.{FailedPutsLeaveJobs, StoredEndsAreEvents, NothingIsDropped};
 
 use sqlite_disk::Disk;
 
@@ -21,10 +21,10 @@ pub fn nothing_is_dropped()
     ensures { NothingIsDropped }
 {}
 
-/// The end of a job that `KeepingStore` notes is one of the events of `nothing_is_dropped`: the pages that were not delivered came into the
+/// The end of a job that `PairedStore` notes is one of the events of `nothing_is_dropped`: the pages that were not delivered came into the
 /// second pair before.
-pub fn kept_ends_are_events<D: Disk, U: Disk>()
-    ensures { KeptEndsAreEvents D.seen D.may_leave D.is_usable D.is_clean U.seen U.may_leave U.is_usable }
+pub fn stored_ends_are_events<D: Disk, U: Disk>()
+    ensures { StoredEndsAreEvents D.seen D.may_leave D.is_usable D.is_clean U.seen U.may_leave U.is_usable }
 {}
 
 /// A job whose pages could not be kept is owed: what waited in the first pair waits there.

@@ -5,11 +5,11 @@
 mod call;
 mod card;
 mod firsts;
-mod keeping;
 pub mod laws;
+mod paired_store;
 mod undelivered;
 
 pub use call::UndeliveredCall;
 pub use card::{Card, read_card, write_card};
-pub use keeping::KeepingStore;
+pub use paired_store::PairedStore;
 pub use undelivered::Undelivered;

@@ -91,7 +91,7 @@ impl<
     /// The counts, with what the lines and the spool count.
     pub(super) fn counts<L: SeenLines>(&self, seen: &L) -> Counters {
         let mut counters = counters_of(self.teller.counters(), seen);
-        counters.pages_kept = seen.pages_kept();
+        counters.pages_stored = seen.pages_stored();
         counters.pages_undelivered = pages_undelivered(calls_in(seen, &self.held));
         counters
     }

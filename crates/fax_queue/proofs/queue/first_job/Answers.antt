@@ -12,7 +12,7 @@ returns-clause-names c =
     let first = c.in_ok-first.first.now in
     let last = c.in_ok-last.last.now in
     let n = c.in_ok-checked_sub.field-0 in
-    let ended : EndedJob = record { life = first.life; call = first.call; first = first.number; pages = c.in_ok-checked_add.field-0; kept = c.count_kept.result } in
+    let ended : EndedJob = record { life = first.life; call = first.call; first = first.number; pages = c.in_ok-checked_add.field-0; stored = c.count_stored.result } in
     let less = c.in_ok-checked_sub.ensures in
     let span = c.in_ok-checked_sub-2.ensures in
     let more = c.in_ok-checked_add.ensures in
@@ -20,7 +20,7 @@ returns-clause-names c =
     let at : slice_get waits n ≡ Some last = slice_get_read waits (length waits) n last refl looked.3.0 looked.1 in
     let all : suc n ≡ c.args.pages = omega (arith, less.0, less.1) in
     subst (λ (m : ℕ). NamesFirst m ended waits) all
-    (names_first waits first last n ended c.requires (sym c.in_ok-first.ensures.value) at (c.if-first-last.false) (c.if-first-last-2.false) refl refl refl span.0 (omega (arith, span.0, span.1, more.1)) (c.count_kept.ensures ∙ ap (λ (m : ℕ). count_by (λ (page : QueuedPage). page.is_stored) (take m waits)) (sym all)))
+    (names_first waits first last n ended c.requires (sym c.in_ok-first.ensures.value) at (c.if-first-last.false) (c.if-first-last-2.false) refl refl refl span.0 (omega (arith, span.0, span.1, more.1)) (c.count_stored.ensures ∙ ap (λ (m : ℕ). count_by (λ (page : QueuedPage). page.is_stored) (take m waits)) (sym all)))
 
 on_none : {T : Type 0} {P : Type 0} (o : Option T) → P → IfNone o P
 on_none None p = p

@@ -1,5 +1,5 @@
 use Rattle.std.proofs.Common.{sym, arith}
-use Rattle.fax_spool.proofs.Kept.{as_many, kept_at}
+use Rattle.fax_spool.proofs.KnownPages.{as_many, kept_at}
 use Rattle.fax_spool.proofs.ReadBack.{all_ended, next_ended, none_yet}
 use Rattle.fax_spool.proofs.reading.push_ended.Goals as goal
 

@@ -1,6 +1,6 @@
 use Rattle.std.proofs.Common.{◌∙◌, subst}
-use Rattle.fax_spool.specs.KeptPages.{IsRecordOf}
-use Rattle.fax_spool.specs.declared.kept_page.RecordSource.{RecordSource}
+use Rattle.fax_spool.specs.StoredPages.{IsRecordOf}
+use Rattle.fax_spool.specs.declared.stored_page.RecordSource.{RecordSource}
 use Rattle.fax_spool.specs.declared.spool_record.SpoolRecord.TheVariants.{Page}
 use Rattle.fax_spool.proofs.ReadRecords.{read_through}
 use Rattle.fax_spool.proofs.reading.read_source.Goals as goal

@@ -15,6 +15,6 @@ returns-clause-ok g c =
 
 pub returns-clause-fault : goal.returns-clause-fault
 returns-clause-fault g c =
-    subst (λ (o : Option QueueValue). IfErr c.read_job.result (λ fault. MatchOption o (fault ≡ faults.NoLine) (λ queue. fault ≡ faults.NotKept)))
+    subst (λ (o : Option QueueValue). IfErr c.read_job.result (λ fault. MatchOption o (fault ≡ faults.NoLine) (λ queue. fault ≡ faults.NotStored)))
     (sym (get_at c.args.self.now.queues.items c.args.i c.index.result.now (omega (arith, c.if-i-len.false, c.len.ensures)) c.index.ensures))
     c.read_job.ensures.fault

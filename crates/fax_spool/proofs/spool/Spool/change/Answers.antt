@@ -1,6 +1,6 @@
 use Rattle.std.proofs.Common.{◌≡◌, ◌+◌, ℕ, List, refl, inl, inr, Vec, Global, map, sym, ap, subst, arith}
 use Rattle.fax_spool.specs.Settled.{IsSettled}
-use Rattle.fax_spool.specs.declared.kept_page.KeptPage.{KeptPage}
+use Rattle.fax_spool.specs.declared.stored_page.StoredPage.{StoredPage}
 use Rattle.fax_spool.specs.declared.file.RecordFile.{RecordFile}
 use Rattle.fax_spool.specs.Spools.{epoch_records}
 use Rattle.fax_spool.specs.Calls.{Turns}
@@ -32,8 +32,8 @@ returns-clause-changed g c = λ olds news k.
       omega (arith, k.epoch),
       keeps_changed _ _ _ old new olds news k empty (map (λ (v : Vec ℕ Global). v.items) c.as_slice.result.now) (old.epoch + 1) (read_all_through _ _ (epoch_records (old.epoch + 1)) (ap (λ (l : List (Vec ℕ Global)). map (λ (v : Vec ℕ Global). v.items) l) c.as_slice.ensures.value) c.in_ok-items.ensures) c.swap.ensures.x_after
           (λ rs s. c.in_ok-append_all.ensures.acknowledged rs (subst (λ (f : RecordFile g.row.D.Denot). IsSettled g.D.Disk.seen g.D.Disk.may_leave g.D.Disk.is_usable f.disk f.end rs) (sym c.swap.ensures.y_after) s))
-          (ap (λ (v : Vec KeptPage Global). v.items) c.swap-2.ensures.x_after)
-          (ap (λ (v : Vec KeptPage Global). v.items) c.swap-2.ensures.y_after)
+          (ap (λ (v : Vec StoredPage Global). v.items) c.swap-2.ensures.x_after)
+          (ap (λ (v : Vec StoredPage Global). v.items) c.swap-2.ensures.y_after)
           (omega arith),
     )
 

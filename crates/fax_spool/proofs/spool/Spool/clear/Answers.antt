@@ -2,7 +2,7 @@ use Rattle.std.proofs.Common.{◌≡◌, [], true, false, length, refl, sym, ap,
 use Rattle.fax_spool.proofs.Loops.{none_more}
 use Rattle.fax_spool.specs.Calls.{Turns}
 use Rattle.fax_spool.proofs.Doing.{does_err, does_nothing, does_turn, may_have_turned, none_gone, told_cleared}
-use Rattle.fax_spool.proofs.Kept.{none_kept, same_kept}
+use Rattle.fax_spool.proofs.KnownPages.{none_kept, same_kept}
 use Rattle.fax_spool.proofs.SpoolSteps.{at_rest, none_waits, keeps_cleared, leaves_cleared}
 use Rattle.fax_spool.proofs.spool.Spool.clear.Goals as goal
 

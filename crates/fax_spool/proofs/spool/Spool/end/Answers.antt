@@ -3,7 +3,7 @@ use Rattle.fax_spool.specs.Waits.{waiting, left_after}
 use Rattle.fax_spool.specs.declared.spool_record.SpoolRecord.TheVariants.{Ended}
 use Rattle.fax_spool.specs.Calls.{Ends}
 use Rattle.fax_spool.proofs.Doing.{does_err, does_nothing, does_put, may_have_put, one_more}
-use Rattle.fax_spool.proofs.Kept.{kept_left, kept_more, same_kept}
+use Rattle.fax_spool.proofs.KnownPages.{kept_left, kept_more, same_kept}
 use Rattle.fax_spool.proofs.SpoolSteps.{at_rest, keeps_more, leaves_more, read_through}
 use Rattle.fax_spool.proofs.spool.Spool.end.Goals as goal
 

@@ -1,6 +1,6 @@
 use Rattle.std.proofs.Common.{refl}
 use Rattle.fax_spool.specs.Waits.{left_after, waiting}
-use Rattle.fax_spool.proofs.Kept.{same_kept}
+use Rattle.fax_spool.proofs.KnownPages.{same_kept}
 use Rattle.fax_spool.proofs.ReadBack.{ended_both, is_read}
 use Rattle.fax_spool.proofs.spool.Spool.pages_ended_by.Goals as goal
 

@@ -1,10 +1,10 @@
 use Rattle.std.proofs.Common.{List, ℕ, [], ◌∷◌, ◌++◌, length, refl, sym, subst, inl, ◌∙◌, ap, arith}
-use Rattle.fax_spool.specs.declared.kept_page.KeptPage.{KeptPage}
+use Rattle.fax_spool.specs.declared.stored_page.StoredPage.{StoredPage}
 use Rattle.fax_spool.specs.declared.spool_record.SpoolRecord.TheVariants.{Page}
 use Rattle.fax_spool.specs.Calls.{Puts}
 use Rattle.fax_spool.proofs.Doing.{as_before, does_err, does_none, does_nothing, does_put, may_have_put, more_pages}
 use Rattle.fax_spool.specs.Places.{StandsAt}
-use Rattle.fax_spool.proofs.Kept.{kept_append, kept_more, same_kept}
+use Rattle.fax_spool.proofs.KnownPages.{kept_append, kept_more, same_kept}
 use Rattle.fax_spool.proofs.Places.{stands_put, vec_length}
 use Rattle.fax_spool.proofs.SpoolSteps.{at_rest, keeps_more, leaves_more, read_through}
 use Rattle.fax_spool.proofs.spool.Spool.put.Goals as goal
@@ -34,7 +34,7 @@ returns-clause-acknowledged g c = λ olds news k.
     keeps_more _ _ _ _ _ olds news k c.as_slice.result.now (Page c.args.page.now) (read_through _ _ (Page c.args.page.now) c.as_slice.ensures.value c.in_ok-octets.ensures) refl
     (c.in_ok-append.ensures.acknowledged k.newer_items k.newer)
     k.older_waits
-    (same_kept _ _ _ _ _ (c.push_reserved.ensures.items ∙ ap (λ (l : List KeptPage). l ++ record { name = c.in_ok-name.name; source = c.source_of-source.result } ∷ []) c.reserve.ensures.items) refl
+    (same_kept _ _ _ _ _ (c.push_reserved.ensures.items ∙ ap (λ (l : List StoredPage). l ++ record { name = c.in_ok-name.name; source = c.source_of-source.result } ∷ []) c.reserve.ensures.items) refl
     (kept_append _ _ _ _ _ (kept_more _ _ _ _ k.newer_waits) (
       (
         c.in_ok-name.ensures,

@@ -1,14 +1,14 @@
 use Rattle.std.proofs.Common.{◌++◌, ◌∙◌, List, ℕ, Vec, Global, map, refl, sym, inl, ap, subst, arith}
 use Rattle.fax_spool.specs.Calls.{Turns}
-use Rattle.fax_spool.specs.KeptPages.{put_again}
+use Rattle.fax_spool.specs.StoredPages.{put_again}
 use Rattle.fax_spool.specs.RecordOctets.{PageValue}
 use Rattle.fax_spool.specs.SpoolRecords.{AreReadAs}
 use Rattle.fax_spool.specs.Spools.{greatest_epoch}
 use Rattle.fax_spool.specs.Waits.{left_after, waiting}
-use Rattle.fax_spool.specs.declared.kept_page.KeptPage.{KeptPage}
+use Rattle.fax_spool.specs.declared.stored_page.StoredPage.{StoredPage}
 use Rattle.fax_spool.proofs.Again.{above_again, left_again, more_again}
 use Rattle.fax_spool.proofs.Doing.{as_before, does_err, does_none, does_nothing, does_turn, may_have_turned, told_again}
-use Rattle.fax_spool.proofs.Kept.{same_kept}
+use Rattle.fax_spool.proofs.KnownPages.{same_kept}
 use Rattle.fax_spool.proofs.Order.{order_stays}
 use Rattle.fax_spool.proofs.Shares.{shares}
 use Rattle.fax_spool.proofs.SpoolSteps.{at_rest, keeps_again, leaves_again, read_all_through}
@@ -42,8 +42,8 @@ returns-clause-put g c = λ olds news k.
       left_again olds news,
       keeps_again _ _ _ c.args.self.now (record c.args.self.now { newer = c.append_all.new.file; older_pages = c.swap.new.x; newer_pages = c.swap.new.y; refuses = c.append_all.new.refuses }) olds news k octets are refl
           (c.in_ok-append_all.ensures.acknowledged k.newer_items k.newer)
-          (ap (λ (v : Vec KeptPage Global). v.items) c.swap.ensures.x_after ∙ c.in_ok-append.ensures.other_items)
-          (ap (λ (v : Vec KeptPage Global). v.items) c.swap.ensures.y_after ∙ c.in_ok-append.ensures.items)
+          (ap (λ (v : Vec StoredPage Global). v.items) c.swap.ensures.x_after ∙ c.in_ok-append.ensures.other_items)
+          (ap (λ (v : Vec StoredPage Global). v.items) c.swap.ensures.y_after ∙ c.in_ok-append.ensures.items)
           (grind (arith, c.are_kept_within.ensures.older, c.if-not-are_kept_within.false))
           (grind (arith, c.are_kept_within.ensures.newer, c.if-not-are_kept_within.false))
           refl,
