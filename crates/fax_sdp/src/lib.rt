@@ -6,8 +6,6 @@ mod fault;
 mod lines;
 mod medium;
 mod reading;
-#[cfg(test)]
-mod tests;
 mod writing;
 
 pub use fault::SdpFault;

@@ -1,9 +1,10 @@
 //! Session descriptions by hand: the lines as RFC 3264 and ITU-T T.38 (annex D) write them.
 use fax_sdp::{
-    AudioFormats, AudioSection, FaxSection, Origin, Section, answer_sections, read_sdp, write_sdp,
+    AudioFormats, AudioSection, Direction, ErrorCorrection, FaxSection, Medium, Origin,
+    RateManagement, SdpFault, Section, Session, Terms, answer_sections, read_sdp, write_sdp,
 };
 use std::alloc::{AllocError, Global};
-use std::net::{IpAddr, Ipv4Addr};
+use std::net::{IpAddr, Ipv4Addr, SocketAddr};
 use std::test::Fail;
 
 /// An offer of audio and, on the second line, of T.38.
@@ -53,4 +54,67 @@ fn an_offer_of_audio_names_its_formats(rt: HostRuntime) -> Result<(), Fail> {
     let text = written(rt.alloc(), 2, &[audio])?;
     assert!(rt; text.as_str() == AUDIO);
     Ok(())
+}
+
+/// Audio that was turned to T.38, from a gateway that holds the audio.
+const FAX: &[u8] =
+    b"v=0\r\no=gw 2890844526 2890844527 IN IP4 192.0.2.9\r\ns=-\r\nc=IN IP4 192.0.2.9\r\nt=0 0\r\n\
+m=audio 0 RTP/AVP 0 8\r\nm=image 49170 udptl t38\r\nc=IN IP4 192.0.2.10\r\na=T38FaxVersion:0\r\na=T38MaxBitRate:14400\r\n\
+a=T38FaxFillBitRemoval:0\r\na=T38FaxRateManagement:transferredTCF\r\na=T38FaxMaxBuffer:260\r\na=T38FaxMaxDatagram:238\r\n\
+a=T38FaxUdpEC:t38UDPRedundancy\r\n";
+
+/// Audio on hold.
+const HOLD: &[u8] =
+    b"v=0\no=- 1 1 IN IP4 192.0.2.9\ns=-\nc=IN IP4 0.0.0.0\nt=0 0\nm=audio 40000 RTP/AVP 8\na=sendonly\n";
+
+/// What is read of a description.
+fn read(octets: &[u8]) -> Result<Session<'_>, SdpFault> {
+    read_sdp(octets)
+}
+
+/// The medium that stands at a place.
+fn medium_at<'a>(session: &Session<'a>, place: usize) -> Option<Medium<'a>> {
+    session.media.as_slice().get(place).copied()
+}
+
+/// Whether terms are those of the fax offer.
+fn are_its_terms(terms: &Terms) -> bool {
+    terms.version == Some(0)
+        && terms.bit_rate == Some(14_400)
+        && terms.rate_management == Some(RateManagement::Transferred)
+        && terms.error_correction == Some(ErrorCorrection::Redundancy)
+        && terms.max_buffer == Some(260)
+        && terms.max_datagram == Some(238)
+}
+
+#[test]
+fn an_offer_of_t38(rt: HostRuntime) -> Result<(), Fail> {
+    let session = read(FAX).ok().ok_or("an offer")?;
+    assert!(rt;
+        session.media.len() == 2
+            && session.first_t38() == Some(1)
+            && session.first_audio("0").is_none()
+    );
+    let image = medium_at(&session, 1).ok_or("an image")?;
+    let host = IpAddr::V4(Ipv4Addr::new(192, 0, 2, 10));
+    assert!(rt; image.address() == Some(SocketAddr::new(host, 49_170)) && !image.is_held());
+    assert!(rt; are_its_terms(&image.terms));
+    Ok(())
+}
+
+#[test]
+fn audio_on_hold(rt: HostRuntime) -> Result<(), Fail> {
+    let session = read(HOLD).ok().ok_or("an offer")?;
+    let audio = medium_at(&session, 0).ok_or("audio")?;
+    assert!(rt; session.first_audio("8") == Some(0));
+    assert!(rt; audio.is_held() && audio.direction == Direction::SendOnly);
+    Ok(())
+}
+
+#[test]
+fn what_is_none(rt: HostRuntime) {
+    assert!(rt; read(b"o=- 1 1 IN IP4 192.0.2.9\n").err() == Some(SdpFault::NoVersion));
+    assert!(rt; read(b"v=0\nm=image udptl t38\n").err() == Some(SdpFault::BadMedium));
+    assert!(rt; read(b"v=0\nc=IN IP5 x\n").err() == Some(SdpFault::BadConnection));
+    assert!(rt; read(b"v=0\n\xff\n").err() == Some(SdpFault::NoText));
 }
