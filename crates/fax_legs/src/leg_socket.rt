@@ -1,7 +1,7 @@
 //! The socket of a leg.
 ghost use Rattle.std.specs.Prelude.{◌≡◌, ◌≤◌, ◌||◌, Ok, None, Some, false, true, is_ok, is_some, length, option_map, IfOk, IfSome, IsOk, IsSome, OnErr, OnOk};
 ghost use Rattle.fax_repeat.specs.Peers.{bounded, cut_off, gone, said, settled, state_of};
-ghost use Rattle.fax_legs.specs.Counts.{one_not_received};
+ghost use Rattle.fax_legs.specs.Counts.{one_not_received, one_received};
 ghost use Rattle.fax_legs.specs.HangUps.{HandsOut};
 ghost use Rattle.fax_legs.specs.Handing.{may_have, nothing_handed};
 ghost use Rattle.fax_legs.specs.Legs.{HearsSystem, Receives, at_address, call_settled, fixed, gone_call, new_leg, no_call, sent_by, sent_to};
@@ -23,6 +23,10 @@ use std::os::fd::RawFd;
 
 /// The most datagrams that are dropped where a leg gets another peer: more than a socket keeps.
 const MOST_DROPPED: u16 = 4096;
+
+/// Where so many octets were received in a turn, the next datagram waits for the next turn: sixteen of an honest peer have fewer,
+/// and what a turn costs is bounded, however long datagrams are.
+const MOST_RECEIVED: usize = 16_384;
 
 /// What went over a leg. Counts stop at the greatest `u64`.
 #[derive(Clone, Copy, PartialEq, Eq, Debug, Default)]
@@ -50,6 +54,8 @@ pub struct LegSocket<S: DatagramSocket + Drop> {
     is_watched: Cell<bool>,
     /// Whether a datagram may have come that was not received. Where the leg is not watched one always may.
     may_have_come: Cell<bool>,
+    /// How many octets were received in the turn that is on.
+    received: usize,
     counts: LegCounts,
 }
 
@@ -80,6 +86,7 @@ impl<S: DatagramSocket + Drop> LegSocket<S> {
             redundancy,
             is_watched: Cell::new(false),
             may_have_come: Cell::new(true),
+            received: 0,
             counts: LegCounts::default(),
         })
     }
@@ -140,6 +147,7 @@ impl<S: DatagramSocket + Drop> LegSocket<S> {
         ensures { self.new ≡ record self.old { peer = settled is_on self.old.peer; call = call_settled is_on self.old.call } }
     {
         self.peer.settle(is_on);
+        self.received = 0;
     }
 
     /// Its peer, where that is known.
@@ -245,14 +253,14 @@ impl<S: DatagramSocket + Drop> LegSocket<S> {
         self.hear(buffer)
     }
 
-    /// Receives a datagram that has come. Of a leg that is watched the system is asked only where one may have. It is counted, or
-    /// that it could not be received.
+    /// Receives a datagram that has come. Of a leg that is watched the system is asked only where one may have, and of any leg only
+    /// until a turn has received enough. It is counted, or that it could not be received.
     fn hear(&mut self, buffer: &mut [u8]) -> io::Result<Option<usize>>
         ensures fits { IfOk result (λ came. IfSome came (λ count. count ≤ length buffer.new)) }
         ensures heard { HearsSystem buffer.new result self.old self.new }
         ensures deaf { self.old.peer.address ≡ None → self.old.peer.learns ≡ false → result ≡ Ok None }
     {
-        if !self.may_have_come.get() {
+        if !self.may_have_come.get() || self.received >= MOST_RECEIVED {
             return Ok(None);
         }
         if self.peer.address.is_some() {
@@ -273,7 +281,7 @@ impl<S: DatagramSocket + Drop> LegSocket<S> {
         match self.socket.receive_octets(buffer) {
             Ok(count) => {
                 self.peer.hear(&buffer[..count]);
-                self.counts.received = self.counts.received.saturating_add(1);
+                self.count(count);
                 Ok(Some(count))
             }
             Err(error) => self.hear_none(error),
@@ -290,11 +298,19 @@ impl<S: DatagramSocket + Drop> LegSocket<S> {
         match receive_first(&mut self.socket, buffer) {
             Ok((count, from)) => {
                 self.peer.learn(from, &buffer[..count]);
-                self.counts.received = self.counts.received.saturating_add(1);
+                self.count(count);
                 Ok(Some(count))
             }
             Err(error) => self.hear_none(error),
         }
+    }
+
+    /// A datagram of so many octets was received.
+    fn count(&mut self, octets: usize)
+        ensures { self.new ≡ record self.old { counts = one_received self.old.counts } }
+    {
+        self.received = self.received.saturating_add(octets);
+        self.counts.received = self.counts.received.saturating_add(1);
     }
 
     /// None has come, or it could not be received, which is counted.
