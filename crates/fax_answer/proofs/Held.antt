@@ -166,7 +166,7 @@ begun_in s dcs readers e = ap (λ (x : State). begun x readers) e
 
 new_of : (dcs : Dcs) → IsReaderOf dcs [] (new_reader (format_of dcs) (coding_of dcs))
 unfolding less_fill zeros_after
-new_of dcs = record { format = refl; coding = refl; read = record { after = nothing_read (format_of dcs) (coding_of dcs); zeros = λ not_yet. refl } }
+new_of dcs = record { format = refl; coding = refl; read = record { others = []; read_as = λ more rows fault judged. judged; after = nothing_read (format_of dcs) (coding_of dcs); zeros = λ not_yet. refl } }
 
 pub holds_start : (s : State) (h : List Entry) (i : ImageValue) (kind : ℕ) → Holds s (record { piece = Start kind; decision = PassesOver } ∷ h) (record { readers = begun s i.readers; accepted = i.accepted; run = 0; longest = 0 })
 holds_start s h i kind =

@@ -9,7 +9,7 @@ mod Digests
 mod ReadRecords
 mod Places
 mod Again
-mod Kept
+mod KnownPages
 mod SpoolSteps
 pub mod Loops
 mod Shares
