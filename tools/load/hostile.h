@@ -23,7 +23,8 @@ enum {
     MEASURED_SECONDS = 4,
 };
 
-static const int64_t SMALL_PAUSE = 2500000, LARGE_PAUSE = 5000000; /* nanoseconds between two datagrams of a line */
+/* Nanoseconds between two datagrams of a line; large ones come no faster than a leg receives them, two in a turn. */
+static const int64_t SMALL_PAUSE = 2500000, LARGE_PAUSE = 25000000;
 
 /* A hostile caller: the number of its next datagram, when that is due, how many octets of its image went out, and whether all
    that it uploads did. */
