@@ -9,6 +9,7 @@ ghost use Rattle.fax_runs.specs.Runs.{ServedAlone};
 use crate::noticing::NoticingPace;
 use crate::redials::{RedialLines, RedialWire, open_redials};
 use crate::sip::{SipFront, open_sip};
+use fax_bits::NoMemory;
 use fax_clients::Clients;
 use fax_config::{Config, LineConfig};
 use fax_desk::{Card, Damage, Desk, RunEnd};
@@ -21,8 +22,8 @@ use fax_opening::{
     open_restored_lines,
 };
 use fax_pace::{RealPace, RedialSide, Seen, SeenLines, SipSide, Watch};
-use fax_queue::Storage;
-use fax_spool::OpenedSpool;
+use fax_queue::{Queue, Storage};
+use fax_spool::{CallName, OpenedSpool, Spool, WaitingPage};
 use fax_spool_folder::{Folders, SpoolFolderFile};
 use fax_undelivered::{PairedStore, Undelivered};
 use fax_visitors::Visitors;
@@ -367,10 +368,65 @@ fn serve_opened<
         torn.as_slice(),
         &mut queues,
     )?;
-    let seen = Seen::<HoldingWire<W>, D, U> {
-        lines: &lines,
-        store: None,
+    let aside = Aside {
+        damage,
+        pages: pages.as_slice(),
+        torn: torn.as_slice(),
+        queues: queues.as_slice(),
     };
+    let pace = pace_beside::<W, P, R, N, I, O, D, U>(
+        system,
+        alloc,
+        config,
+        clients,
+        sip,
+        redials,
+        &lines,
+        aside,
+        &kept,
+        spool_failures,
+    )?;
+    let store = store_of(alloc, spool, queues, kept)?;
+    let mut pace = NoticingPace::begin(pace, manager, lines.len());
+    serve_restored(lines, store, &mut pace);
+    Ok(pace.ordering.finish())
+}
+
+/// What a start found in a spool, as it is told: the pages that wait, the calls that lack one, and the queues of the lines.
+#[derive(Clone, Copy)]
+struct Aside<'a> {
+    damage: Damage,
+    pages: &'a [WaitingPage],
+    torn: &'a [CallName],
+    queues: &'a [Queue],
+}
+
+/// What gives the orders to restored lines, to which what both pairs of files were found to hold was told.
+fn pace_beside<
+    'a,
+    W: SocketWire + Drop,
+    P: SipSide + Drop,
+    R: RedialSide + Drop,
+    N: Net + Clock,
+    I: Read + Drop,
+    O: Write + Drop,
+    D: Disk + Drop,
+    U: Disk + Drop,
+>(
+    system: &'a N,
+    alloc: Global,
+    config: &Config,
+    clients: Clients<I, O>,
+    sip: Option<P>,
+    redials: R,
+    lines: &Lines<HoldingWire<W>>,
+    aside: Aside<'_>,
+    kept: &OpenedSpool<U>,
+    spool_failures: u64,
+) -> Result<RealPace<'a, N, I, O, R, P>, ServeFault>
+    ensures { IfOk result (λ pace. pace.waits ≡ None) }
+{
+    let seen = Seen::<HoldingWire<W>, D, U> { lines, store: None };
     let mut pace = pace_of(
         system,
         alloc,
@@ -382,14 +438,24 @@ fn serve_opened<
         None,
         spool_failures,
     )?;
-    pace.tell_aside(damage, pages.as_slice(), torn.as_slice(), queues.as_slice());
+    pace.tell_aside(aside.damage, aside.pages, aside.torn, aside.queues);
     pace.tell_undelivered_aside(kept.pages.as_slice(), kept.torn.as_slice())?;
+    Ok(pace)
+}
+
+/// The store of a run over both pairs of files.
+fn store_of<D: Disk + Drop, U: Disk + Drop>(
+    alloc: Global,
+    spool: Spool<D>,
+    queues: Vec<Queue>,
+    kept: OpenedSpool<U>,
+) -> Result<PairedStore<D, U>, NoMemory>
+    ensures spool { IfOk result (λ store. store.storage.spool ≡ spool) }
+    ensures queues { IfOk result (λ store. store.storage.queues.items ≡ queues.items) }
+{
     let undelivered = Undelivered::new(alloc, kept)?;
     let storage = Storage::new(alloc, spool, queues);
-    let store = PairedStore::new(alloc, storage, Some(undelivered));
-    let mut pace = NoticingPace::begin(pace, manager, lines.len());
-    serve_restored(lines, store, &mut pace);
-    Ok(pace.ordering.finish())
+    Ok(PairedStore::new(alloc, storage, Some(undelivered)))
 }
 
 /// What both pairs of files were found to hold that cannot be read.
