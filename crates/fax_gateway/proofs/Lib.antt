@@ -8,6 +8,7 @@ pub mod Fitting
 mod Forwarding
 mod Going
 mod Hearing
+mod Watched
 mod Held
 mod HonestCall
 mod IdleLegs
