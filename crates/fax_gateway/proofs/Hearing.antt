@@ -33,8 +33,8 @@ use Rattle.fax_gateway.specs.CallingLegs as calling_legs
 use Rattle.fax_gateway.specs.CallingLegs.{CallingLeg, is_idle, idle_after, decided_calling, asked_by}
 use Rattle.fax_gateway.specs.CalledLegs as called_legs
 use Rattle.fax_gateway.specs.CalledLegs.{CalledLeg, begun_core, comes_to, decided_called, hears}
-use Rattle.fax_gateway.specs.Reached.{CallingValue, IsCalling, HearsCalling, IsCalled}
-use Rattle.fax_gateway.specs.Watched.{HearsCallingTold, called_tellings, called_tellings_of, calling_tellings, calling_tellings_of}
+use Rattle.fax_gateway.specs.Reached.{CallingValue, IsCalling, IsCalled}
+use Rattle.fax_gateway.specs.Watched.{HearsCallingTold, called_tellings, called_tellings_of, calling_tellings_of}
 
 -- ONE MORE DATAGRAM
 newest_more : (arrived : List DatagramValue) (d : DatagramValue) (x : DecidedValue) → Decides arrived d x → newest_slots (d ∷ arrived) ≡ reverse (slots_in x) ++ newest_slots arrived

@@ -8,7 +8,6 @@ pub mod Fitting
 mod Forwarding
 mod Going
 mod Hearing
-mod Watched
 mod Held
 mod HonestCall
 mod IdleLegs
@@ -33,6 +32,7 @@ mod Steps
 mod Ticking
 mod Turning
 mod Unplaced
+mod Watched
 mod WholeCall
 mod Chained
 mod Relayed

@@ -11,7 +11,7 @@ use Rattle.fax_gateway.specs.declared.called.CalledEndpoint.{CalledEndpoint}
 use Rattle.fax_gateway.specs.Events.{Event, FromCalling, clock}
 use Rattle.fax_gateway.specs.CallingLegs.{CallingLeg, idle_after, calling_after, calling_leg, decided_calling}
 use Rattle.fax_gateway.specs.BothLegs.{book_of, both_legs, ends_if}
-use Rattle.fax_gateway.specs.Reached.{IsCalling, IsCalled, heard_on, GatewayValue, IsReachedBy, HearsFrom, refusing}
+use Rattle.fax_gateway.specs.Reached.{IsCalling, IsCalled, heard_on, GatewayValue, IsReachedBy, refusing}
 use Rattle.fax_answer.specs.Watching.{Telling}
 use Rattle.fax_gateway.specs.EachTrace.{AdvancesByHearing, AdvancesByHearingTold}
 use Rattle.fax_gateway.specs.Watched.{HearsCallingTold, HearsFromTold}

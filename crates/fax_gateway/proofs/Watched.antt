@@ -1,13 +1,11 @@
 -- Where the calls of both legs stand, and which timers act.
-use Rattle.std.proofs.Common.{◌≡◌, ℕ, [], Option, Some, None, refl, sym, ◌∙◌, ap}
+use Rattle.std.proofs.Common.{◌≡◌, ℕ, [], Option, Some, None, refl, ◌∙◌}
 use Rattle.fax_udptl.specs.Slots.{newest_slots}
 use Rattle.fax_answer.specs.Calls as answer_calls
 use Rattle.fax_answer.specs.Reached as answer
 use Rattle.fax_answer.specs.Watching as answer_watching
-use Rattle.fax_answer.specs.declared.state.State as answer_states
 use Rattle.fax_answer.specs.declared.timers.ActingTimer as answer_timers
 use Rattle.fax_call.specs.declared.acting.ActingTimer as call_timers
-use Rattle.fax_call.specs.declared.state.State as call_states
 use Rattle.fax_call.specs.Calls as call_calls
 use Rattle.fax_call.specs.Reached as call
 use Rattle.fax_call.specs.Watching as call_watching

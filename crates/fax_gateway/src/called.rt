@@ -43,7 +43,7 @@ impl CalledEndpoint {
 
     /// Where the call stands.
     pub fn state(&self) -> State
-        ensures state { EachCalledLeg self.now (λ setup writes leg. result ≡ called_state writes leg) }
+        ensures { EachCalledLeg self.now (λ setup writes leg. result ≡ called_state writes leg) }
     {
         self.caller.state()
     }

@@ -90,7 +90,7 @@ impl<S: RowStore> CallingEndpoint<S> {
 
     /// Where the call stands.
     pub fn state(&self) -> State
-        ensures state { EachCallingLeg self.now (λ setup leg. result ≡ calling_state leg) }
+        ensures { EachCallingLeg self.now (λ setup leg. result ≡ calling_state leg) }
     {
         self.answerer.state()
     }

@@ -40,6 +40,6 @@ returns-then-eq-clause-told g c setup writes leg r =
     let on : c.args.self.now.caller.procedure.state ≡ Idle = search rules in
     told_idle (Watches g.W.Watcher.tells c.args.watcher.now c.args.watcher.now) setup writes leg c.args.now c.args.octets.now c.args.self.now r on refl
 
-pub returns-in-Err-clause-told : goal.returns-in-Err-clause-told
-returns-in-Err-clause-told g c setup writes leg r =
-    told_unread (Watches g.W.Watcher.tells c.args.watcher.now c.args.watcher.now) writes leg c.args.now c.args.octets.now _ c.in-Err.ensures.fault refl
+pub returns-in_default-clause-told : goal.returns-in_default-clause-told
+returns-in_default-clause-told g c setup writes leg r =
+    told_unread (Watches g.W.Watcher.tells c.args.watcher.now c.args.watcher.now) writes leg c.args.now c.args.octets.now _ c.in_default.ensures.fault refl

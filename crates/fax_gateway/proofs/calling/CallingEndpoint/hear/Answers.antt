@@ -34,7 +34,7 @@ returns-then-is_idle-clause-heard g c setup leg r =
     hears_nothing (Watches g.W.Watcher.tells c.args.watcher.now c.args.watcher.now) setup leg c.args.now c.args.octets.now c.args.self.now r refl
     (brings_none_idle leg c.args.octets.now (sym (c.is_idle.ensures.idle setup leg r) ∙ c.if-is_idle.true))
 
-pub returns-in-Err-clause-heard : goal.returns-in-Err-clause-heard
-returns-in-Err-clause-heard g c setup leg r =
-    hears_nothing (Watches g.W.Watcher.tells c.args.watcher.now c.args.watcher.now) setup leg c.args.now c.args.octets.now _ (subst (λ (k : CallingValue). IsCalling setup leg k) (sym c.self.view_is) r) refl
-    (brings_none_unread leg c.args.octets.now _ c.in-Err.ensures.fault)
+pub returns-in_default-clause-heard : goal.returns-in_default-clause-heard
+returns-in_default-clause-heard g c setup leg r =
+    hears_nothing (Watches g.W.Watcher.tells c.args.watcher.now c.args.watcher.now) setup leg c.args.now c.args.octets.now c.args.self.now r refl
+    (brings_none_unread leg c.args.octets.now _ c.in_default.ensures.fault)
