@@ -1,8 +1,6 @@
 -- The notes are of all that was told.
-use Rattle.std.proofs.Common.{◌≡◌, false, Bool, List, [], ◌∷◌, ◌++◌, sym, ◌∙◌, ap, append_assoc}
+use Rattle.std.proofs.Common.{List, [], ◌∷◌, ◌++◌, sym, ◌∙◌, ap, append_assoc}
 use Rattle.std.proofs.lemmas.List.{append-nil}
-use Rattle.fax_answer.specs.Watching as answer
-use Rattle.fax_call.specs.Watching as call
 use Rattle.fax_notes.specs.declared.answer_notes.AnswerNote.{AnswerNote}
 use Rattle.fax_notes.specs.declared.call_notes.CallNote.{CallNote}
 use Rattle.fax_notes.specs.AnswerValues.{AnswerNotesValue}

@@ -1,4 +1,4 @@
-//! What is told of the pieces that a answerer takes.
+//! What is told of the pieces that an answerer takes.
 ghost use Rattle.std.specs.Prelude.{◌≡◌, ◌++◌, [], ◌∷◌, false};
 
 use crate::came::{Came, came_in};
@@ -16,7 +16,7 @@ pub struct AnswerNote {
     pub decision: Decision,
 }
 
-/// What is told of the pieces that a answerer takes, in the order of time. Seen as the notes, and whether memory was lacking for one.
+/// What is told of the pieces that an answerer takes, in the order of time. Seen as the notes, and whether memory was lacking for one.
 #[derive(Drop)]
 pub struct AnswerNotes {
     notes: Vec<AnswerNote>,
