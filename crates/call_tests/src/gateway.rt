@@ -2,6 +2,7 @@
 mod call;
 mod driving;
 mod restored;
+mod watched;
 mod wire;
 
 use crate::memory::refused;

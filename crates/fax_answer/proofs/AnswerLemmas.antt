@@ -13,6 +13,7 @@ use Rattle.fax_ifp.specs.Pieces.{Frame}
 use Rattle.fax_answer.specs.declared.command.Command.{Command}
 use Rattle.fax_answer.specs.declared.command.Order.{Order}
 use Rattle.fax_answer.specs.declared.command.Order.TheVariants.{Judge}
+use Rattle.fax_answer.specs.declared.decision.Decision as code
 use Rattle.fax_answer.specs.declared.decision.Decision.TheVariants as verdicts
 use Rattle.fax_answer.specs.declared.image.Accepted.{Accepted}
 use Rattle.fax_answer.specs.declared.procedure.Procedure.{Procedure}
@@ -32,8 +33,9 @@ use Rattle.fax_answer.specs.declared.refusal.Refusal.{Refusal}
 use Rattle.fax_answer.specs.declared.refusal.Refusal.TheVariants.{Fault, NotWhole, GapAfter, SeveralImages, NoImage, Untrained}
 use Rattle.fax_answer.specs.Refusals.{HasReason, IsReasonInPage, IsWhy}
 use Rattle.fax_answer.specs.Reached.{AtRtn, IsFaultOf, Rep, Holds, Stands, Takes, Answers, AnswersAgain, AnswersCommand, AnswersImage}
+use Rattle.fax_answer.specs.Watching.{Telling}
 use Rattle.fax_answer.proofs.Held.{IsNoCfr, holds_frame, frame_no_cfr, confirms_none}
-use Rattle.fax_answer.proofs.HearingLemmas.{Heard, can_decide, taken, confirms_now, follows_now, reason_now}
+use Rattle.fax_answer.proofs.HearingLemmas.{Heard, told_as, can_decide, taken, confirms_now, follows_now, reason_now}
 use Rattle.fax_answer.proofs.Refused.{at_rtn, reason_after, reason_none, reason_over}
 
 -- one image: it is read
@@ -110,12 +112,12 @@ in_again octets core command readers answer e o a =
     }
 
 -- a frame that is passed over, since packets wait
-pub frame_waits : (core : AnswererCore) (octets : List ℕ) (now : ℕ) (old new : Rep) (procedure : Procedure) (s : Stands core old) → is_waiting core.waiting ≡ true
-    → Follows (decided core (Frame octets) PassesOver now) s.confirmed procedure → Heard old new procedure old.image old.refused → Takes (Frame octets) now core new
-frame_waits core octets now old new procedure s w f n =
+pub frame_waits : (Tells : List Telling → Type 0) (core : AnswererCore) (octets : List ℕ) (now : ℕ) (old new : Rep) (procedure : Procedure) (s : Stands core old) → is_waiting core.waiting ≡ true
+    → Follows (decided core (Frame octets) PassesOver now) s.confirmed procedure → Heard old new procedure old.image old.refused → Tells (told_as core (Frame octets) verdicts.PassOver) → Takes Tells (Frame octets) now core new
+frame_waits Tells core octets now old new procedure s w f n t =
     let d : Decision = decision None core.state (is_waiting core.waiting) core.history (Frame octets) in
     let e : d ≡ PassesOver = ap (λ (b : Bool). if b then PassesOver else on_order None core.state core.history (order_of octets)) w in
-    taken core (Frame octets) now None new s.confirmed
+    taken Tells core (Frame octets) now None new s.confirmed
     (subst (λ (b : Bool). IfAsked (if b then None else order_asks core.state core.history (order_of octets)) None) (sym w) tt)
     (confirms_now old.image old new s.confirmed n.confirmed n.image_is s.confirms)
     (subst (λ (x : Decision). Follows (decided core (Frame octets) x now) s.confirmed new.procedure) (sym e) (follows_now (decided core (Frame octets) PassesOver now) s.confirmed procedure new n.procedure_is f))
@@ -123,6 +125,7 @@ frame_waits core octets now old new procedure s w f n =
     (reason_now (decided core (Frame octets) PassesOver now) old.refused new n.refused (reason_over core (Frame octets) now old.refused s.reason)))
     (holds_frame core.state core.history old.image new.image octets d (frame_no_cfr None core.state (is_waiting core.waiting) core.history octets)
     (ap (λ (i : ImageValue). i.readers) n.image_is) (λ q. ap (λ (i : ImageValue). i.accepted) n.image_is) (ap (λ (i : ImageValue). i.run) n.image_is) (ap (λ (i : ImageValue). i.longest) n.image_is) s.holds)
+    (subst (λ (v : code.Decision). Tells (told_as core (Frame octets) v)) (sym (ap verdict_of e)) t)
 
 -- a frame that is answered
 unanswered_none : (d : Decision) → is_answer d ≡ false → confirmed_after d None ≡ None
@@ -145,11 +148,11 @@ none_waits : (ws : List WaitingPacket) → is_waiting ws ≡ false → ws ≡ []
 none_waits [] e = refl
 none_waits (w ∷ ws) e = cc
 
-pub frame_free : (core : AnswererCore) (octets : List ℕ) (now : ℕ) (old new : Rep) (procedure : Procedure) (answer : Answer) (s : Stands core old) → is_waiting core.waiting ≡ false → s.confirmed ≡ None
+pub frame_free : (Tells : List Telling → Type 0) (core : AnswererCore) (octets : List ℕ) (now : ℕ) (old new : Rep) (procedure : Procedure) (answer : Answer) (s : Stands core old) → is_waiting core.waiting ≡ false → s.confirmed ≡ None
     → Answers octets core old.image.readers answer
     → ((d : Decision) → verdict_of d ≡ answer.decision → CanDecide core d → Follows (decided core (Frame octets) d now) (confirmed_after d s.confirmed) procedure)
-    → Heard old new procedure (accepted_image answer.found old.image) answer.refused → Takes (Frame octets) now core new
-frame_free core octets now old new procedure answer s w none a noted n =
+    → Heard old new procedure (accepted_image answer.found old.image) answer.refused → Tells (told_as core (Frame octets) answer.decision) → Takes Tells (Frame octets) now core new
+frame_free Tells core octets now old new procedure answer s w none a noted n t =
     let found : Option Accepted = answer.found in
     let read : Reading = a.read in
     let d : Decision = on_order read core.state core.history (order_of octets) in
@@ -167,13 +170,14 @@ frame_free core octets now old new procedure answer s w none a noted n =
     let held : Holds (state_after core.state d) (record { piece = Frame octets; decision = d } ∷ core.history) new.image =
     holds_frame core.state core.history old.image new.image octets d (subst IsNoCfr e (frame_no_cfr read core.state (is_waiting core.waiting) core.history octets))
     (ap (λ (i : ImageValue). i.readers) n.image_is) (λ q. ap (λ (i : ImageValue). i.accepted) n.image_is ∙ is ∙ quiet q ∙ sym free.0) (ap (λ (i : ImageValue). i.run) n.image_is) (ap (λ (i : ImageValue). i.longest) n.image_is) s.holds in
-    taken core (Frame octets) now read new c
+    taken Tells core (Frame octets) now read new c
     (subst (λ (b : Bool). IfAsked (if b then None else order_asks core.state core.history (order_of octets)) read) (sym w) a.right)
     (confirms_now (accepted_image found old.image) old new c n.confirmed n.image_is k)
     (subst (λ (x : Decision). Follows (decided core (Frame octets) x now) c new.procedure) (sym e) (follows_now (decided core (Frame octets) d now) c procedure new n.procedure_is f))
     (subst (λ (x : Decision). HasReason (decided core (Frame octets) x now) new.refused) (sym e)
     (reason_now (decided core (Frame octets) d now) answer.refused new n.refused (reason_after core (Frame octets) d now answer.refused can a.why (reason_none core answer.refused (none_waits core.waiting w)))))
     (subst (λ (x : Decision). Holds (state_after core.state x) (record { piece = Frame octets; decision = x } ∷ core.history) new.image) (sym e) held)
+    (subst (λ (v : code.Decision). Tells (told_as core (Frame octets) v)) (sym (ap verdict_of e ∙ a.verdict_is)) t)
 
 -- the image that is read
 pub accepts : (readers : List ReaderValue) (dcs : Dcs) (octets : List ℕ) (command : Command) (place : ℕ) (closes : Bool) (answer : Answer) → closes ≡ is_last command

@@ -21,6 +21,7 @@ use Rattle.fax_answer.specs.declared.procedure.Procedure.{Procedure}
 use Rattle.fax_answer.specs.Rep.{verdict_of}
 use Rattle.fax_answer.specs.Confirmation.{IfAsked}
 use Rattle.fax_answer.specs.Reached.{Holds, Rep, Stands, Takes}
+use Rattle.fax_answer.specs.Watching.{Telling, telling, telling_with}
 use Rattle.fax_answer.specs.declared.refusal.Refusal.{Refusal}
 use Rattle.fax_answer.specs.Refusals.{HasReason, IsWhy}
 use Rattle.fax_answer.proofs.Held.{holds_start, holds_octets, holds_end, holds_gap, confirms_begun, confirms_fed}
@@ -60,14 +61,18 @@ trained s waits before whole dcs b e h =
     ap (λ (x : State). verdict_of (decision None x waits before (End whole))) e ∙ verdict_if (is_good whole dcs before) dcs
     ∙ ap (λ (x : Bool). if◌then◌else◌ {A = code.Decision} x (verdicts.Cfr dcs) verdicts.Ftt) (sym h)
 
--- A PIECE
-pub taken : (core : AnswererCore) (piece : Piece) (now : ℕ) (read : Reading) (new : Rep) (c : Option ConfirmedPage) → IfAsked (asked core piece) read
+-- A PIECE, and what is told of it where this was decided
+abbrev pub told_as : AnswererCore → Piece → code.Decision → List Telling
+told_as core piece verdict = record { state = core.state; waits = is_waiting core.waiting; piece = piece; verdict = verdict } ∷ []
+
+pub taken : (Tells : List Telling → Type 0) (core : AnswererCore) (piece : Piece) (now : ℕ) (read : Reading) (new : Rep) (c : Option ConfirmedPage) → IfAsked (asked core piece) read
     → (let d : Decision = decision read core.state (is_waiting core.waiting) core.history piece in Confirms new.image.accepted new.image.readers new.confirmed c
     → Follows (decided core piece d now) c new.procedure
     → HasReason (decided core piece d now) new.refused
     → Holds (state_after core.state d) (record { piece = piece; decision = d } ∷ core.history) new.image
-    → Takes piece now core new)
-taken core piece now read new c right confirms f r h = record { read = read; right = right; stands = record { confirmed = c; confirms = confirms; follows = f; reason = r; holds = h } }
+    → Tells (telling_with piece (telling read core piece) [])
+    → Takes Tells piece now core new)
+taken Tells core piece now read new c right confirms f r h t = record { read = read; right = right; tells = t; stands = record { confirmed = c; confirms = confirms; follows = f; reason = r; holds = h } }
 
 -- a piece that is passed over
 pub over_can : (core : AnswererCore) → Rests core.state core.waiting → CanDecide core PassesOver
@@ -104,55 +109,60 @@ confirms_now i old new c e f k = subst (λ (j : ImageValue). Confirms j.accepted
 pub reason_now : (core : AnswererCore) (told : Option Refusal) (new : Rep) → new.refused ≡ told → HasReason core told → HasReason core new.refused
 reason_now core told new e r = subst (HasReason core) (sym e) r
 
-pub hears_start : (core : AnswererCore) (kind now : ℕ) (piece : Piece) (old new : Rep) (procedure : Procedure) → piece ≡ Start kind → (s : Stands core old)
+pub hears_start : (Tells : List Telling → Type 0) (core : AnswererCore) (kind now : ℕ) (piece : Piece) (old new : Rep) (procedure : Procedure) → piece ≡ Start kind → (s : Stands core old)
     → (CanDecide core PassesOver → Follows (decided core (Start kind) PassesOver now) s.confirmed procedure)
     → Heard old new procedure (begun_image procedure.state old.image) old.refused
-    → Takes piece now core new
-hears_start core kind now piece old new procedure e s f n =
+    → Tells (told_as core (Start kind) verdicts.PassOver)
+    → Takes Tells piece now core new
+hears_start Tells core kind now piece old new procedure e s f n t =
     let g : Follows (decided core (Start kind) PassesOver now) s.confirmed procedure = f (over_can core s.follows.rests) in
     let i : ImageValue = begun_image core.state old.image in
     let is : new.image ≡ i = n.image_is ∙ ap (λ (x : State). begun_image x old.image) g.state in
-    subst (λ (p : Piece). Takes p now core new) (sym e)
-    (taken core (Start kind) now None new s.confirmed tt
+    subst (λ (p : Piece). Takes Tells p now core new) (sym e)
+    (taken Tells core (Start kind) now None new s.confirmed tt
     (confirms_now i old new s.confirmed n.confirmed is (confirms_begun core.state old.image.accepted old.image.readers old.confirmed s.confirmed s.confirms))
     (follows_now (decided core (Start kind) PassesOver now) s.confirmed procedure new n.procedure_is g)
     (reason_now (decided core (Start kind) PassesOver now) old.refused new n.refused (reason_over core (Start kind) now old.refused s.reason))
-    (subst (λ (j : ImageValue). Holds core.state (record { piece = Start kind; decision = PassesOver } ∷ core.history) j) (sym is) (holds_start core.state core.history old.image kind)))
+    (subst (λ (j : ImageValue). Holds core.state (record { piece = Start kind; decision = PassesOver } ∷ core.history) j) (sym is) (holds_start core.state core.history old.image kind)) t)
 
-pub hears_octets : (core : AnswererCore) (octets : List ℕ) (now : ℕ) (piece : Piece) (old new : Rep) (procedure : Procedure) (image : ImageValue) → piece ≡ Octets octets → (s : Stands core old)
+pub hears_octets : (Tells : List Telling → Type 0) (core : AnswererCore) (octets : List ℕ) (now : ℕ) (piece : Piece) (old new : Rep) (procedure : Procedure) (image : ImageValue) → piece ≡ Octets octets → (s : Stands core old)
     → (CanDecide core PassesOver → Follows (decided core (Octets octets) PassesOver now) s.confirmed procedure)
     → TakesIn old.procedure.state octets old.image image
     → Heard old new procedure image old.refused
-    → Takes piece now core new
-hears_octets core octets now piece old new procedure image e s f t n =
+    → Tells (told_as core (Octets octets) verdicts.PassOver)
+    → Takes Tells piece now core new
+hears_octets Tells core octets now piece old new procedure image e s f t n told =
     let g : Follows (decided core (Octets octets) PassesOver now) s.confirmed procedure = f (over_can core s.follows.rests) in
     let u : TakesIn core.state octets old.image image = subst (λ (x : State). TakesIn x octets old.image image) s.follows.state t in
     let k : Confirms image.accepted image.readers old.confirmed s.confirmed =
     subst (λ (a : Option Accepted). Confirms a image.readers old.confirmed s.confirmed) (sym u.accepted) (confirms_fed core.state octets old.image.accepted old.image.readers image.readers old.confirmed s.confirmed u.readers s.confirms) in
-    subst (λ (p : Piece). Takes p now core new) (sym e)
-    (taken core (Octets octets) now None new s.confirmed tt
+    subst (λ (p : Piece). Takes Tells p now core new) (sym e)
+    (taken Tells core (Octets octets) now None new s.confirmed tt
     (confirms_now image old new s.confirmed n.confirmed n.image_is k)
     (follows_now (decided core (Octets octets) PassesOver now) s.confirmed procedure new n.procedure_is g)
     (reason_now (decided core (Octets octets) PassesOver now) old.refused new n.refused (reason_over core (Octets octets) now old.refused s.reason))
-    (subst (λ (j : ImageValue). Holds core.state (record { piece = Octets octets; decision = PassesOver } ∷ core.history) j) (sym n.image_is) (holds_octets core.state core.history old.image image octets s.holds u)))
+    (subst (λ (j : ImageValue). Holds core.state (record { piece = Octets octets; decision = PassesOver } ∷ core.history) j) (sym n.image_is) (holds_octets core.state core.history old.image image octets s.holds u)) told)
 
-pub hears_end : (core : AnswererCore) (whole : Bool) (now : ℕ) (piece : Piece) (old new : Rep) (procedure : Procedure) → piece ≡ End whole → (s : Stands core old)
+pub hears_end : (Tells : List Telling → Type 0) (core : AnswererCore) (whole : Bool) (now : ℕ) (piece : Piece) (old new : Rep) (procedure : Procedure) (verdict : code.Decision) → piece ≡ End whole → (s : Stands core old)
     → (let d : Decision = decision None core.state (is_waiting core.waiting) core.history (End whole) in CanDecide core d → Follows (decided core (End whole) d now) (confirmed_after d s.confirmed) procedure)
     → Heard old new procedure (begun_image procedure.state old.image) old.refused
-    → Takes piece now core new
-hears_end core whole now piece old new procedure e s f n =
+    → verdict_of (decision None core.state (is_waiting core.waiting) core.history (End whole)) ≡ verdict
+    → Tells (told_as core (End whole) verdict)
+    → Takes Tells piece now core new
+hears_end Tells core whole now piece old new procedure verdict e s f n decides t =
     let d : Decision = decision None core.state (is_waiting core.waiting) core.history (End whole) in
     let g : Follows (decided core (End whole) d now) (confirmed_after d s.confirmed) procedure = f (can_decide None core (End whole) s.follows.rests) in
     let page : confirmed_after d s.confirmed ≡ s.confirmed = end_keeps core.state (is_waiting core.waiting) core.history whole s.confirmed in
     let i : ImageValue = begun_image (state_after core.state d) old.image in
     let is : new.image ≡ i = n.image_is ∙ ap (λ (x : State). begun_image x old.image) g.state in
-    subst (λ (p : Piece). Takes p now core new) (sym e)
-    (taken core (End whole) now None new s.confirmed tt
+    subst (λ (p : Piece). Takes Tells p now core new) (sym e)
+    (taken Tells core (End whole) now None new s.confirmed tt
     (confirms_now i old new s.confirmed n.confirmed is (confirms_begun (state_after core.state d) old.image.accepted old.image.readers old.confirmed s.confirmed s.confirms))
     (follows_now (decided core (End whole) d now) s.confirmed procedure new n.procedure_is (subst (λ (c : Option ConfirmedPage). Follows (decided core (End whole) d now) c procedure) page g))
     (reason_now (decided core (End whole) d now) old.refused new n.refused
     (reason_after core (End whole) d now old.refused (can_decide None core (End whole) s.follows.rests) (end_at core.state (is_waiting core.waiting) core.history whole (IsWhy core.state core.history old.refused)) s.reason))
-    (subst (λ (j : ImageValue). Holds (state_after core.state d) (record { piece = End whole; decision = d } ∷ core.history) j) (sym is) (holds_end core.state core.history old.image whole d old.confirmed s.confirmed s.holds s.confirms)))
+    (subst (λ (j : ImageValue). Holds (state_after core.state d) (record { piece = End whole; decision = d } ∷ core.history) j) (sym is) (holds_end core.state core.history old.image whole d old.confirmed s.confirmed s.holds s.confirms))
+    (subst (λ (v : code.Decision). Tells (told_as core (End whole) v)) (sym decides) t))
   where
     check_keeps : (b : Bool) (dcs : Dcs) (c : Option ConfirmedPage) → confirmed_after (if b then GivesCfr dcs else GivesFtt) c ≡ c
     check_keeps true dcs c = refl
@@ -167,13 +177,14 @@ hears_end core whole now piece old new procedure e s f n =
     end_keeps Again waits before whole c = refl
     end_keeps Closing waits before whole c = refl
 
-pub hears_gap : (core : AnswererCore) (now : ℕ) (piece : Piece) (old new : Rep) (procedure : Procedure) → piece ≡ Gap → (s : Stands core old)
+pub hears_gap : (Tells : List Telling → Type 0) (core : AnswererCore) (now : ℕ) (piece : Piece) (old new : Rep) (procedure : Procedure) → piece ≡ Gap → (s : Stands core old)
     → (CanDecide core PassesOver → Follows (decided core Gap PassesOver now) s.confirmed procedure) → Heard old new procedure old.image old.refused
-    → Takes piece now core new
-hears_gap core now piece old new procedure e s f n =
-    subst (λ (p : Piece). Takes p now core new) (sym e)
-    (taken core Gap now None new s.confirmed tt
+    → Tells []
+    → Takes Tells piece now core new
+hears_gap Tells core now piece old new procedure e s f n t =
+    subst (λ (p : Piece). Takes Tells p now core new) (sym e)
+    (taken Tells core Gap now None new s.confirmed tt
     (confirms_now old.image old new s.confirmed n.confirmed n.image_is s.confirms)
     (follows_now (decided core Gap PassesOver now) s.confirmed procedure new n.procedure_is (f (over_can core s.follows.rests)))
     (reason_now (decided core Gap PassesOver now) old.refused new n.refused (reason_over core Gap now old.refused s.reason))
-    (subst (λ (i : ImageValue). Holds core.state (record { piece = Gap; decision = PassesOver } ∷ core.history) i) (sym n.image_is) (holds_gap core.state core.history old.image s.holds)))
+    (subst (λ (i : ImageValue). Holds core.state (record { piece = Gap; decision = PassesOver } ∷ core.history) i) (sym n.image_is) (holds_gap core.state core.history old.image s.holds)) t)

@@ -18,6 +18,7 @@ mod Refused
 pub mod Readings
 pub mod Rests
 mod SlotsLemmas
+mod Tellings
 pub mod Accepted
 pub mod Rising
 pub mod DueLemmas

@@ -48,7 +48,7 @@ order_same r s Again before orders.Disconnect h = refl
 order_same r s (Page dcs) before orders.Nothing h = refl
 order_same r s Again before orders.Nothing h = refl
 
-decision_same : (r s : Reading) (state : State) (waits : Bool) (before : List Entry) (p : pieces.Piece) → asked_of state waits before p ≡ None → decision r state waits before p ≡ decision s state waits before p
+pub decision_same : (r s : Reading) (state : State) (waits : Bool) (before : List Entry) (p : pieces.Piece) → asked_of state waits before p ≡ None → decision r state waits before p ≡ decision s state waits before p
 decision_same r s state true before (pieces.Frame octets) h = refl
 decision_same r s state false before (pieces.Frame octets) h = order_same r s state before (order_of octets) h
 decision_same r s Idle waits before (pieces.End whole) h = refl
@@ -66,11 +66,11 @@ pub came_same : (r s : Reading) (a : AnswererCore) (p : pieces.Piece) (now : ℕ
 came_same r s a p now h = ap (λ (d : Decision). decided a p d now) (decision_same r s a.state (is_waiting a.waiting) a.history p h)
 
 -- where it is asked, the reply waits, and while packets wait nothing is asked
-wait_more : (xs ys : List WaitingPacket) → is_waiting xs ≡ true → is_waiting (xs ++ ys) ≡ true
+pub wait_more : (xs ys : List WaitingPacket) → is_waiting xs ≡ true → is_waiting (xs ++ ys) ≡ true
 wait_more [] ys h = cc
 wait_more (x ∷ xs) ys h = refl
 
-wait_after : (xs ys : List WaitingPacket) → is_waiting ys ≡ true → is_waiting (xs ++ ys) ≡ true
+pub wait_after : (xs ys : List WaitingPacket) → is_waiting ys ≡ true → is_waiting (xs ++ ys) ≡ true
 wait_after [] ys h = h
 wait_after (x ∷ xs) ys h = refl
 
@@ -98,7 +98,7 @@ order_waits r q Again before orders.Disconnect h = cc
 order_waits r q (Page dcs) before orders.Nothing h = cc
 order_waits r q Again before orders.Nothing h = cc
 
-asked_waits : (r : Reading) (q : Question) (state : State) (waits : Bool) (before : List Entry) (p : pieces.Piece) → asked_of state waits before p ≡ Some q → is_waiting (reply_to (decision r state waits before p)) ≡ true
+pub asked_waits : (r : Reading) (q : Question) (state : State) (waits : Bool) (before : List Entry) (p : pieces.Piece) → asked_of state waits before p ≡ Some q → is_waiting (reply_to (decision r state waits before p)) ≡ true
 asked_waits r q state true before (pieces.Frame octets) h = cc
 asked_waits r q state false before (pieces.Frame octets) h = order_waits r q state before (order_of octets) h
 asked_waits r q state waits before (pieces.End whole) h = cc
@@ -106,7 +106,7 @@ asked_waits r q state waits before (pieces.Start k) h = cc
 asked_waits r q state waits before (pieces.Octets os) h = cc
 asked_waits r q state waits before pieces.Gap h = cc
 
-waiting_asks : (state : State) (w : Bool) (before : List Entry) (p : pieces.Piece) → w ≡ true → asked_of state w before p ≡ None
+pub waiting_asks : (state : State) (w : Bool) (before : List Entry) (p : pieces.Piece) → w ≡ true → asked_of state w before p ≡ None
 waiting_asks state true before (pieces.Frame octets) h = refl
 waiting_asks state false before (pieces.Frame octets) h = cc
 waiting_asks state w before (pieces.End whole) h = refl

@@ -11,6 +11,7 @@ use Rattle.std.specs.Result.{OnOk, is_err}
 use Rattle.fax_ifp.specs.declared.piece.Piece as code_pieces
 use Rattle.fax_ifp.specs.Shown.{piece_of, pieces_shown}
 use Rattle.fax_udptl.specs.Reading.{texts}
+use Rattle.fax_udptl.specs.Taking.{DecidedValue, slots_in}
 use Rattle.fax_ifp.specs.Elements.{Slot}
 use Rattle.fax_ifp.specs.Pieces.{Piece, Octets, Gap, pieces}
 use Rattle.fax_ifp.specs.Tracked.{TrackState, IsTracked, TracksRun, GivesRun, Tracks, Gives, lost_slots, with_octets}
@@ -26,31 +27,44 @@ use Rattle.fax_answer.specs.History.{Entry, PassesOver, since_answer, images, oc
 use Rattle.fax_answer.specs.Table.{is_one_image}
 use Rattle.fax_answer.specs.Replies.{ConfirmedPage, is_waiting}
 use Rattle.fax_answer.specs.Calls.{AnswererCore, decided, came, timers_after}
-use Rattle.fax_answer.specs.Readings.{CameSo}
+use Rattle.fax_answer.specs.Watching.{Telling, TellsNothing, CameTold, telling, telling_with, tellings}
 use Rattle.fax_answer.specs.Rep.{seen}
 use Rattle.fax_answer.specs.Images.{ImageValue, HasOpen, HasEnded, MeansAt, Confirms}
 use Rattle.fax_answer.specs.Following.{Rests, Follows, readers_wanted}
-use Rattle.fax_answer.specs.Reached.{Rep, Holds, HoldsPage, Stands, IsReached, Takes, TakesAll, Hears, HearsSo}
+use Rattle.fax_answer.specs.Reached.{Rep, Holds, HoldsPage, Stands, IsReached, Takes, TakesAll, Hears, HearsTold, HearsSo}
 use Rattle.fax_answer.specs.declared.refusal.Refusal.{Refusal}
 use Rattle.fax_answer.specs.Refusals.{HasReason}
 use Rattle.fax_answer.proofs.Held.{holds_gap}
 use Rattle.fax_answer.proofs.Refused.{reason_over}
 use Rattle.fax_answer.proofs.ReachedLemmas.{settled_follows}
-use Rattle.fax_answer.proofs.Readings.{readings_join}
+use Rattle.fax_answer.proofs.Tellings.{came_told_one, came_told_append, tellings_join}
 
 -- PIECES, one after another
-pub came_append : (a b c : AnswererCore) (xs ys : List Piece) (now : ℕ) → CameSo a xs now b → CameSo b ys now c → CameSo a (xs ++ ys) now c
-came_append a b c [] ys now x y = subst (λ (k : AnswererCore). CameSo k ys now c) (sym x) y
-came_append a b c (p ∷ xs) ys now x y = (x.0, x.1, came_append (came x.0 a p now) b c xs ys now x.2 y)
+pub takes_none : (Tells : List Telling → Type 0) (core : AnswererCore) (now : ℕ) (old : Rep) → Tells [] → Stands core old → TakesAll Tells [] now core old
+takes_none Tells core now old t s = record { after = core; told = []; came = (refl, refl); tells = t; stands = s }
 
-pub takes_none : (core : AnswererCore) (now : ℕ) (old : Rep) → Stands core old → TakesAll [] now core old
-takes_none core now old s = record { after = core; came = refl; stands = s }
+-- this is told, and then that
+abbrev pub Joins : (First Then Both : List Telling → Type 0) → Type 0
+Joins First Then Both = (s t : List Telling) → First s → Then t → Both (s ++ t)
 
-pub takes_more : (core : AnswererCore) (now : ℕ) (ps : List Piece) (p : Piece) (mid new : Rep) → TakesAll ps now core mid → ((a : AnswererCore) → Stands a mid → Takes p now a new) → TakesAll (ps ++ p ∷ []) now core new
-takes_more core now ps p mid new t f =
-    let n : Takes p now t.after new = f t.after t.stands in
+pub takes_more : (First Then Both : List Telling → Type 0) (joins : Joins First Then Both) (core : AnswererCore) (now : ℕ) (ps : List Piece) (p : Piece) (mid new : Rep) → TakesAll First ps now core mid
+    → ((a : AnswererCore) → Stands a mid → Takes Then p now a new) → TakesAll Both (ps ++ p ∷ []) now core new
+takes_more First Then Both joins core now ps p mid new t f =
+    let n : Takes Then p now t.after new = f t.after t.stands in
     let after : AnswererCore = came n.read t.after p now in
-    record { after = after; came = came_append core t.after after ps (p ∷ []) now t.came (n.read, n.right, refl); stands = n.stands }
+    let later : List Telling = telling_with p (telling n.read t.after p) [] in
+    record {
+      after = after;
+      told = t.told ++ later;
+      came = came_told_append core t.after after ps (p ∷ []) now t.told later t.came (came_told_one t.after p now n.read n.right);
+      tells = joins t.told later t.tells n.tells;
+      stands = n.stands;
+    }
+
+pub takes_one : (Tells : List Telling → Type 0) (core : AnswererCore) (now : ℕ) (p : Piece) (mid new : Rep) → ((a : AnswererCore) → Stands a mid → Stands a new) → Takes Tells p now core mid → TakesAll Tells (p ∷ []) now core new
+takes_one Tells core now p mid new f t =
+    let after : AnswererCore = came t.read core p now in
+    record { after = after; told = telling_with p (telling t.read core p) []; came = came_told_one core p now t.read t.right; tells = t.tells; stands = f after t.stands }
 
 -- LOST SLOTS
 gapped : AnswererCore → ℕ → AnswererCore
@@ -60,9 +74,9 @@ abbrev gaps : ℕ → AnswererCore → ℕ → AnswererCore
 gaps zero core now = core
 gaps (suc n) core now = gaps n (decided core Gap PassesOver now) now
 
-came_gaps : (n : ℕ) (core : AnswererCore) (now : ℕ) → CameSo core (replicate n Gap) now (gaps n core now)
-came_gaps zero core now = refl
-came_gaps (suc n) core now = (None, tt, came_gaps n (decided core Gap PassesOver now) now)
+came_gaps : (n : ℕ) (core : AnswererCore) (now : ℕ) → CameTold core (replicate n Gap) now (gaps n core now) []
+came_gaps zero core now = (refl, refl)
+came_gaps (suc n) core now = (None, tt, [], refl, came_gaps n (decided core Gap PassesOver now) now)
 
 holds_gaps : (n : ℕ) (core : AnswererCore) (now : ℕ) (i : ImageValue) → Holds core.state core.history i → Holds (gaps n core now).state (gaps n core now).history i
 holds_gaps zero core now i h = h
@@ -102,6 +116,17 @@ gaps_follow : (n : ℕ) (core : AnswererCore) (now : ℕ) (c : Option ConfirmedP
 gaps_follow zero core now c p f = f
 gaps_follow (suc n) core now c p f = gaps_follow n (decided core Gap PassesOver now) now c p (gap_again core now c p f)
 
+-- where no packet comes all slots are lost ones
+pub empty_lost : (d : DecidedValue) → slots_in d ≡ [] → slots_in d ≡ lost_slots d.lost
+empty_lost d e = by d.lost e
+  where
+    by : (n : ℕ) → replicate n None ++ map (λ (p : List ℕ). Some p) d.packets ≡ [] → replicate n None ++ map (λ (p : List ℕ). Some p) d.packets ≡ replicate n None
+    by zero e = e
+    by (suc n) e = cc
+
+pub packetless_lost : (d : DecidedValue) → d.packets ≡ [] → slots_in d ≡ lost_slots d.lost
+packetless_lost d e = ap (λ (ps : List (List ℕ)). replicate d.lost None ++ map (λ (p : List ℕ). Some p) ps) e ∙ append-nil (replicate d.lost None)
+
 -- the same lost slots, the newest first
 more_lost : (n : ℕ) → lost_slots n ++ None ∷ [] ≡ None ∷ lost_slots n
 more_lost zero = refl
@@ -119,14 +144,16 @@ followed zero now core old new f l = subst (λ (p : Procedure). Follows core old
 followed (suc n) now core old new f l = gaps_follow n core now old.confirmed new.procedure (l.1 (omega arith))
 
 pub loses : (count now : ℕ) (heard : List Slot) (core : AnswererCore) (old new : Rep) → IsReached heard core old → TracksRun (lost_slots count) old.tracked new.tracked → GivesRun (lost_slots count) old.tracked (replicate count Gap)
-    → new.image ≡ old.image → new.confirmed ≡ old.confirmed → new.refused ≡ old.refused → LosesSo count now core old new → HearsSo (lost_slots count) now heard core new
+    → new.image ≡ old.image → new.confirmed ≡ old.confirmed → new.refused ≡ old.refused → LosesSo count now core old new → HearsSo TellsNothing (lost_slots count) now heard core new
 loses count now heard core old new r tracks gives image confirmed refused l =
     let back : reverse (lost_slots count) ≡ lost_slots count = reversed_lost count in
     record {
       given = replicate count Gap;
       pieces = ap (λ (s : List Slot). pieces (s ++ heard)) back ∙ gives heard r.tracked;
       after = gaps count core now;
+      told = [];
       came = came_gaps count core now;
+      tells = refl;
       tracked = subst (λ (s : List Slot). IsTracked (s ++ heard) new.tracked) (sym back) (tracks heard r.tracked);
       stands = record {
         confirmed = old.confirmed;
@@ -139,33 +166,44 @@ loses count now heard core old new r tracks gives image confirmed refused l =
     }
 
 -- A PACKET in the next slot
-pub hears_more : (slots : List Slot) (packet : List ℕ) (now : ℕ) (heard : List Slot) (core : AnswererCore) (mid new : Rep) (tracked : TrackState) (given : List Piece) → HearsSo slots now heard core mid
-    → Tracks (Some packet) mid.tracked tracked → Gives (Some packet) mid.tracked given → new.tracked ≡ tracked → ((a : AnswererCore) → Stands a mid → TakesAll given now a new)
-    → HearsSo (slots ++ Some packet ∷ []) now heard core new
-hears_more slots packet now heard core mid new tracked given h tracks gives same takes =
+pub hears_more : (First Then Both : List Telling → Type 0) (joins : Joins First Then Both) (slots : List Slot) (packet : List ℕ) (now : ℕ) (heard : List Slot) (core : AnswererCore) (mid new : Rep) (tracked : TrackState) (given : List Piece) → HearsSo First slots now heard core mid
+    → Tracks (Some packet) mid.tracked tracked → Gives (Some packet) mid.tracked given → new.tracked ≡ tracked → ((a : AnswererCore) → Stands a mid → TakesAll Then given now a new)
+    → HearsSo Both (slots ++ Some packet ∷ []) now heard core new
+hears_more First Then Both joins slots packet now heard core mid new tracked given h tracks gives same takes =
     let back : reverse (slots ++ Some packet ∷ []) ++ heard ≡ Some packet ∷ (reverse slots ++ heard) = ap (λ (s : List Slot). s ++ heard) (reverse-append slots (Some packet ∷ [])) in
-    let t : TakesAll given now h.after new = takes h.after h.stands in
+    let t : TakesAll Then given now h.after new = takes h.after h.stands in
     record {
       given = h.given ++ given;
       pieces = ap pieces back ∙ gives (reverse slots ++ heard) h.tracked ∙ ap (λ (ps : List Piece). ps ++ given) h.pieces ∙ append_assoc (pieces heard) h.given given;
       after = t.after;
-      came = came_append core h.after t.after h.given given now h.came t.came;
+      told = h.told ++ t.told;
+      came = came_told_append core h.after t.after h.given given now h.told t.told h.came t.came;
+      tells = joins h.told t.told h.tells t.tells;
       tracked = subst (λ (s : List Slot). IsTracked s new.tracked) (sym back) (subst (λ (k : TrackState). IsTracked (Some packet ∷ (reverse slots ++ heard)) k) (sym same) (tracks (reverse slots ++ heard) h.tracked));
       stands = t.stands;
     }
 
 -- no slot yet
-hears_none : (now : ℕ) (heard : List Slot) (core : AnswererCore) (old : Rep) → IsReached heard core old → HearsSo [] now heard core old
-hears_none now heard core old r = record { given = []; pieces = sym (append-nil (pieces heard)); after = core; came = refl; tracked = r.tracked; stands = r.stands }
+hears_none : (now : ℕ) (heard : List Slot) (core : AnswererCore) (old : Rep) → IsReached heard core old → HearsSo TellsNothing [] now heard core old
+hears_none now heard core old r = record { given = []; pieces = sym (append-nil (pieces heard)); after = core; told = []; came = (refl, refl); tells = refl; tracked = r.tracked; stands = r.stands }
 
 -- the one slot of a packet that gives octets of the open image and nothing else
-pub hears_alone : (r : Result (Unit {0}) NoMemory) (slots : List Slot) (packet octets : List ℕ) (now : ℕ) (old new : Rep) → slots ≡ Some packet ∷ []
+after_nothing : (Tells : List Telling → Type 0) → Joins TellsNothing Tells Tells
+after_nothing Tells s t e h = subst (λ (k : List Telling). Tells (k ++ t)) (sym e) h
+
+-- the same, where more is said of what was told
+pub hears_so : (Tells Says : List Telling → Type 0) (slots : List Slot) (now : ℕ) (heard : List Slot) (core : AnswererCore) (new : Rep) → ((told : List Telling) → Tells told → Says told) → HearsSo Tells slots now heard core new
+    → HearsSo Says slots now heard core new
+hears_so Tells Says slots now heard core new f h =
+    record { given = h.given; pieces = h.pieces; after = h.after; told = h.told; came = h.came; tells = f h.told h.tells; tracked = h.tracked; stands = h.stands }
+
+pub hears_alone : (Tells : List Telling → Type 0) (r : Result (Unit {0}) NoMemory) (slots : List Slot) (packet octets : List ℕ) (now : ℕ) (old new : Rep) → slots ≡ Some packet ∷ []
     → Tracks (Some packet) old.tracked (with_octets old.tracked) → Gives (Some packet) old.tracked (Octets octets ∷ []) → OnOk r (new.tracked ≡ with_octets old.tracked)
-    → OnOk r ((a : AnswererCore) → Stands a old → TakesAll (Octets octets ∷ []) now a new) → OnOk r ((heard : List Slot) (core : AnswererCore) → IsReached heard core old → HearsSo slots now heard core new)
-hears_alone (Ok u) slots packet octets now old new one tracks gives same takes = λ heard core r.
-    subst (λ (s : List Slot). HearsSo s now heard core new) (sym one)
-    (hears_more [] packet now heard core old new (with_octets old.tracked) (Octets octets ∷ []) (hears_none now heard core old r) tracks gives same takes)
-hears_alone (Err e) slots packet octets now old new one tracks gives same takes = tt
+    → OnOk r ((a : AnswererCore) → Stands a old → TakesAll Tells (Octets octets ∷ []) now a new) → OnOk r ((heard : List Slot) (core : AnswererCore) → IsReached heard core old → HearsSo Tells slots now heard core new)
+hears_alone Tells (Ok u) slots packet octets now old new one tracks gives same takes = λ heard core r.
+    subst (λ (s : List Slot). HearsSo Tells s now heard core new) (sym one)
+    (hears_more TellsNothing Tells Tells (after_nothing Tells) [] packet now heard core old new (with_octets old.tracked) (Octets octets ∷ []) (hears_none now heard core old r) tracks gives same takes)
+hears_alone Tells (Err e) slots packet octets now old new one tracks gives same takes = tt
 
 -- A LIST of what came, with one more
 pub shown_more : (ps : List code_pieces.Piece) (i : ℕ) (p : code_pieces.Piece) → i < length ps → p ≡ get_or ps i p → pieces_shown (take i ps) ++ piece_of p ∷ [] ≡ pieces_shown (take (i + 1) ps)
@@ -182,16 +220,25 @@ if_right (Ok x) P e p = p
 if_right (Err x) P e p = cc
 
 -- slots that were heard piece by piece were heard by one reading
-pub hears_joined : (slots : List Slot) (now : ℕ) (heard : List Slot) (core : AnswererCore) (mid new : Rep) → HearsSo slots now heard core mid → new.tracked ≡ mid.tracked
-    → ((a : AnswererCore) → Stands a mid → Stands a new) → new.image.accepted ≡ None → Hears slots now heard core new
-hears_joined slots now heard core mid new h tracked stands settled =
-    let j = readings_join core h.given now h.after h.came in
+pub hears_joined : (Tells : List Telling → Type 0) (slots : List Slot) (now : ℕ) (heard : List Slot) (core : AnswererCore) (mid new : Rep) → HearsSo Tells slots now heard core mid → new.tracked ≡ mid.tracked
+    → ((a : AnswererCore) → Stands a mid → Stands a new) → new.image.accepted ≡ None → HearsTold Tells slots now heard core new
+hears_joined Tells slots now heard core mid new h tracked stands settled =
+    let j = tellings_join core h.given now h.after h.told h.came in
     let there : IsReached (reverse slots ++ heard) h.after new = record {
       tracked = subst (λ (t : TrackState). IsTracked (reverse slots ++ heard) t) (sym tracked) h.tracked;
       stands = stands h.after h.stands;
       settled = settled;
     } in
-    record { given = h.given; pieces = h.pieces; read = j.0; right = j.1; reached = subst (λ (a : AnswererCore). IsReached (reverse slots ++ heard) a new) (sym j.2) there }
+    record {
+      hears = record { given = h.given; pieces = h.pieces; read = j.0; right = j.1; reached = subst (λ (a : AnswererCore). IsReached (reverse slots ++ heard) a new) (sym j.2.0) there };
+      told = subst Tells (sym j.2.1) h.tells;
+    }
+
+-- what is heard, whatever is told of it
+pub hears_alike : {E : Type 0} → (Tells : List Telling → Type 0) (r : Result Bool E) (slots : List Slot) (now : ℕ) (old new : Rep) → OnOk r ((heard : List Slot) (core : AnswererCore) → IsReached heard core old → HearsTold Tells slots now heard core new)
+    → OnOk r ((heard : List Slot) (core : AnswererCore) → IsReached heard core old → Hears slots now heard core new)
+hears_alike Tells (Ok u) slots now old new h = λ heard core r. (h heard core r).hears
+hears_alike Tells (Err e) slots now old new h = tt
 
 -- what is left of readers where the one that is accepted is let go
 abbrev pub Left : Option Accepted → List ReaderValue → List ReaderValue → Type 0

@@ -16,6 +16,7 @@ pub mod Rep
 pub mod Reached
 pub mod Shown
 pub mod Readings
+pub mod Watching
 pub mod Sent
 pub mod InPage
 pub mod Due

@@ -1,5 +1,5 @@
 -- What an answerer keeps that a call has led to.
-use Rattle.std.specs.Prelude.{◌≡◌, ℕ, ◌+◌, ◌<◌, true, List, ◌++◌, reverse, length, Option, Some, None}
+use Rattle.std.specs.Prelude.{◌≡◌, ℕ, ◌+◌, ◌<◌, true, List, [], ◌++◌, reverse, length, Option, Some, None}
 use Rattle.fax_runcodes.specs.Widths.{elements_of}
 use Rattle.fax_frames.specs.declared.dcs.Dcs.{Dcs}
 use Rattle.fax_frames.specs.Capabilities.{format_of, coding_of}
@@ -23,7 +23,7 @@ use Rattle.fax_answer.specs.Table.{Reading, is_one_image, judged, on_command, on
 use Rattle.fax_answer.specs.Replies.{ConfirmedPage}
 use Rattle.fax_answer.specs.Calls.{AnswererCore, asked, came, first_asked, came_all}
 use Rattle.fax_answer.specs.Confirmation.{IfAsked, IsRead, IsRight}
-use Rattle.fax_answer.specs.Readings.{CameSo}
+use Rattle.fax_answer.specs.Watching.{Telling, CameTold, telling, telling_with, tellings}
 use Rattle.fax_answer.specs.Rep.{verdict_of}
 use Rattle.fax_answer.specs.Images.{ImageValue, HasOpen, HasEnded, Confirms, run_after, longest_after}
 use Rattle.fax_answer.specs.Following.{Follows, confirmed_after}
@@ -75,25 +75,35 @@ pub record Hears (slots : List Slot) (now : ℕ) (heard : List Slot) (core : Ans
   pub right : IsRead (first_asked core given now) read
   pub reached : IsReached (reverse slots ++ heard) (came_all read core given now) new
 
+-- the same, and this holds of what was told of them
+pub record HearsTold (Tells : List Telling → Type 0) (slots : List Slot) (now : ℕ) (heard : List Slot) (core : AnswererCore) (new : Rep) : Type 0 where
+  pub hears : Hears slots now heard core new
+  pub told : Tells (tellings hears.read core hears.given now)
+
 -- the same, with a reading for each piece, where a page that is confirmed may still be in its reader
-pub record HearsSo (slots : List Slot) (now : ℕ) (heard : List Slot) (core : AnswererCore) (new : Rep) : Type 0 where
+pub record HearsSo (Tells : List Telling → Type 0) (slots : List Slot) (now : ℕ) (heard : List Slot) (core : AnswererCore) (new : Rep) : Type 0 where
   pub given : List Piece
   pub pieces : pieces (reverse slots ++ heard) ≡ pieces heard ++ given
   pub after : AnswererCore
-  pub came : CameSo core given now after
+  pub told : List Telling
+  pub came : CameTold core given now after told
+  pub tells : Tells told
   pub tracked : IsTracked (reverse slots ++ heard) new.tracked
   pub stands : Stands after new
 
--- one more piece
-pub record Takes (piece : Piece) (now : ℕ) (core : AnswererCore) (new : Rep) : Type 0 where
+-- one more piece, and this holds of what was told of it
+pub record Takes (Tells : List Telling → Type 0) (piece : Piece) (now : ℕ) (core : AnswererCore) (new : Rep) : Type 0 where
   pub read : Reading
   pub right : IfAsked (asked core piece) read
+  pub tells : Tells (telling_with piece (telling read core piece) [])
   pub stands : Stands (came read core piece now) new
 
 -- these pieces, in the order of time
-pub record TakesAll (given : List Piece) (now : ℕ) (core : AnswererCore) (new : Rep) : Type 0 where
+pub record TakesAll (Tells : List Telling → Type 0) (given : List Piece) (now : ℕ) (core : AnswererCore) (new : Rep) : Type 0 where
   pub after : AnswererCore
-  pub came : CameSo core given now after
+  pub told : List Telling
+  pub came : CameTold core given now after told
+  pub tells : Tells told
   pub stands : Stands after new
 
 -- the fault that an image meets under this DCS

@@ -5,6 +5,7 @@ ghost use Rattle.fax_answer.specs.Due.{due_at};
 ghost use Rattle.fax_answer.specs.EachCall.{EachCall};
 ghost use Rattle.fax_answer.specs.Reached.{IsReached};
 ghost use Rattle.fax_answer.specs.Shown.{IsStep};
+ghost use Rattle.fax_answer.specs.Watching.{acting};
 
 use crate::State;
 use crate::image::Image;
@@ -13,6 +14,7 @@ use crate::procedure::Procedure;
 use crate::refusal::Refusal;
 use crate::room::Room;
 use crate::step::{Confirmed, Step};
+use crate::timers::ActingTimer;
 use fax_bits::NoMemory;
 use fax_frames::Plain;
 use fax_ifp::Signals;
@@ -88,6 +90,13 @@ impl<S: RowStore> Answerer<S> {
         ensures { EachCall self.now (λ heard core. result ≡ due_at core) }
     {
         self.procedure.next_due()
+    }
+
+    /// The timer that acts in a tick at this moment, before a packet may be given. `None`: none does, as while a packet waits.
+    pub fn acting(&self, now: u64) -> Option<ActingTimer>
+        ensures { EachCall self.now (λ heard core. result ≡ acting core now) }
+    {
+        self.procedure.acting(now)
     }
 
     /// Reserves memory, where none is reserved: after an `Ok` the next tick takes none. An `Err` changes nothing.

@@ -6,12 +6,14 @@ ghost use Rattle.fax_ifp.specs.Tracked.{lost_slots, with_octets};
 ghost use Rattle.fax_udptl.specs.Taking.{slots_in};
 ghost use Rattle.fax_answer.specs.EachCall.{EachCall, EachCore};
 ghost use Rattle.fax_answer.specs.Images.{GoesOn, TakesIn, begun};
-ghost use Rattle.fax_answer.specs.Reached.{Stands, Takes, TakesAll, Hears, HearsSo};
+ghost use Rattle.fax_answer.specs.Reached.{Stands, Takes, TakesAll, Hears, HearsSo, HearsTold};
+ghost use Rattle.fax_answer.specs.Watching.{TellsNothing, Watches};
 
 use crate::State;
 use crate::answerer::Answerer;
 use crate::decision::Decision;
 use crate::step::Confirmed;
+use crate::watcher::{Unwatched, Watcher};
 use fax_bits::NoMemory;
 use fax_ifp::{Piece, Pieces, Slot};
 use fax_pagestore::RowStore;
@@ -29,21 +31,43 @@ impl<S: RowStore> Answerer<S> {
         ensures no_packet { decided.now.packets ≡ [] → IsOk result }
         ensures spare { self.new.spare ≡ self.old.spare }
     {
-        self.hear_whole(decided, now)?;
+        self.slots_watched(decided, now, &mut Unwatched)
+    }
+
+    /// The same, and a watcher is told of each piece that they bring, but for lost slots, in the order of time. After an `Err` it
+    /// may have been told of some.
+    pub fn slots_watched<W: Watcher>(
+        &mut self,
+        decided: &Decided<'_>,
+        now: u64,
+        watcher: &mut W,
+    ) -> Result<bool, NoMemory>
+        ensures heard { OnOk result (EachCall self.old (λ heard core. HearsTold (Watches W.tells watcher.old watcher.new) (slots_in decided.now) now heard core self.new)) }
+        ensures ended { IfOk result (λ ended. IsTrue ended ↔ (self.new.procedure.state ≡ State.Idle)) }
+        ensures err { OnErr result (self.new ≡ self.old) }
+        ensures no_packet { decided.now.packets ≡ [] → IsOk result }
+        ensures spare { self.new.spare ≡ self.old.spare }
+    {
+        self.hear_whole(decided, now, watcher)?;
         self.settle();
         Ok(self.procedure.state == State::Idle)
     }
 
     /// Hears the slots, all of them or none. An `Err` changes nothing.
-    fn hear_whole(&mut self, decided: &Decided<'_>, now: u64) -> Result<(), NoMemory>
-        ensures heard { OnOk result (EachCall self.old (λ heard core. HearsSo (slots_in decided.now) now heard core self.new)) }
+    fn hear_whole<W: Watcher>(
+        &mut self,
+        decided: &Decided<'_>,
+        now: u64,
+        watcher: &mut W,
+    ) -> Result<(), NoMemory>
+        ensures heard { OnOk result (EachCall self.old (λ heard core. HearsSo (Watches W.tells watcher.old watcher.new) (slots_in decided.now) now heard core self.new)) }
         ensures err { OnErr result (self.new ≡ self.old) }
         ensures no_packet { decided.now.packets ≡ [] → IsOk result }
         ensures spare { self.new.spare ≡ self.old.spare }
     {
         if let Some(packet) = decided.only() {
             if let Some(octets) = self.signals.octets_in(packet) {
-                return self.hear_alone(octets, now);
+                return self.hear_alone(octets, now, watcher);
             }
         }
         if decided.is_empty() || decided.packets().next().is_none() {
@@ -54,7 +78,7 @@ impl<S: RowStore> Answerer<S> {
         let procedure = self.procedure;
         let refused = self.refused;
         let mark = self.image.mark()?;
-        if self.hear_slots(decided, now).is_err() {
+        if self.hear_slots(decided, now, watcher).is_err() {
             self.signals = signals;
             self.procedure = procedure;
             self.refused = refused;
@@ -65,20 +89,30 @@ impl<S: RowStore> Answerer<S> {
     }
 
     /// Hears the slot of a packet that gives these octets of the open image and nothing else. An `Err` changes nothing.
-    fn hear_alone(&mut self, octets: &[u8], now: u64) -> Result<(), NoMemory>
-        ensures heard { OnOk result (EachCore self.old (λ core. TakesAll (OctetsShown octets.now ∷ []) now core self.new)) }
+    fn hear_alone<W: Watcher>(
+        &mut self,
+        octets: &[u8],
+        now: u64,
+        watcher: &mut W,
+    ) -> Result<(), NoMemory>
+        ensures heard { OnOk result (EachCore self.old (λ core. TakesAll (Watches W.tells watcher.old watcher.new) (OctetsShown octets.now ∷ []) now core self.new)) }
         ensures tracked { OnOk result (self.new.tracked ≡ with_octets self.old.tracked) }
         ensures err { OnErr result (self.new ≡ self.old) }
         ensures spare { self.new.spare ≡ self.old.spare }
     {
-        self.hear_octets(octets, now)?;
+        self.hear_octets(octets, now, watcher)?;
         self.signals.take_octets();
         Ok(())
     }
 
     /// Hears the slots. An `Err` leaves readers to go back from, and the page that is confirmed.
-    fn hear_slots(&mut self, decided: &Decided<'_>, now: u64) -> Result<(), NoMemory>
-        ensures heard { OnOk result (EachCall self.old (λ heard core. HearsSo (slots_in decided.now) now heard core self.new)) }
+    fn hear_slots<W: Watcher>(
+        &mut self,
+        decided: &Decided<'_>,
+        now: u64,
+        watcher: &mut W,
+    ) -> Result<(), NoMemory>
+        ensures heard { OnOk result (EachCall self.old (λ heard core. HearsSo (Watches W.tells watcher.old watcher.new) (slots_in decided.now) now heard core self.new)) }
         ensures goes_on { GoesOn self.old.image.readers self.new.image.readers }
         ensures confirmed { self.new.confirmed ≡ self.old.confirmed }
         ensures spare { self.new.spare ≡ self.old.spare }
@@ -87,14 +121,14 @@ impl<S: RowStore> Answerer<S> {
         let mut pieces = Pieces::new(self.alloc);
         for packet in decided.packets() {
             self.signals.slot_into(Slot::Packet(packet), &mut pieces)?;
-            self.hear_all(pieces.as_slice(), now)?;
+            self.hear_all(pieces.as_slice(), now, watcher)?;
         }
         Ok(())
     }
 
     /// So many slots are missing.
     fn lose(&mut self, count: u16, now: u64)
-        ensures heard { EachCall self.old (λ heard core. HearsSo (lost_slots count) now heard core self.new) }
+        ensures heard { EachCall self.old (λ heard core. HearsSo TellsNothing (lost_slots count) now heard core self.new) }
         ensures image { self.new.image ≡ self.old.image }
         ensures confirmed { self.new.confirmed ≡ self.old.confirmed }
         ensures spare { self.new.spare ≡ self.old.spare }
@@ -106,36 +140,48 @@ impl<S: RowStore> Answerer<S> {
     }
 
     /// Hears pieces, in the order of time.
-    fn hear_all(&mut self, pieces: &[Piece<'_>], now: u64) -> Result<(), NoMemory>
-        ensures heard { OnOk result (EachCore self.old (λ core. TakesAll (pieces_shown pieces.now) now core self.new)) }
+    fn hear_all<W: Watcher>(
+        &mut self,
+        pieces: &[Piece<'_>],
+        now: u64,
+        watcher: &mut W,
+    ) -> Result<(), NoMemory>
+        ensures heard { OnOk result (EachCore self.old (λ core. TakesAll (Watches W.tells watcher.old watcher.new) (pieces_shown pieces.now) now core self.new)) }
         ensures tracked { self.new.tracked ≡ self.old.tracked }
         ensures spare { self.new.spare ≡ self.old.spare }
         ensures goes_on { GoesOn self.old.image.readers self.new.image.readers }
         ensures confirmed { self.new.confirmed ≡ self.old.confirmed }
     {
         for piece in pieces {
-            self.hear(piece, now)?;
+            self.hear(piece, now, watcher)?;
         }
         Ok(())
     }
 
     /// Hears a piece.
-    fn hear(&mut self, piece: &Piece<'_>, now: u64) -> Result<(), NoMemory>
-        ensures heard { OnOk result (EachCore self.old (λ core. Takes (piece_of piece.now) now core self.new)) }
+    fn hear<W: Watcher>(
+        &mut self,
+        piece: &Piece<'_>,
+        now: u64,
+        watcher: &mut W,
+    ) -> Result<(), NoMemory>
+        ensures heard { OnOk result (EachCore self.old (λ core. Takes (Watches W.tells watcher.old watcher.new) (piece_of piece.now) now core self.new)) }
         ensures tracked { self.new.tracked ≡ self.old.tracked }
         ensures spare { self.new.spare ≡ self.old.spare }
         ensures goes_on { GoesOn self.old.image.readers self.new.image.readers }
         ensures confirmed { self.new.confirmed ≡ self.old.confirmed }
     {
         match piece {
-            Piece::Frame(octets) => self.hear_frame(piece, octets.as_slice(), now),
+            Piece::Frame(octets) => self.hear_frame(piece, octets.as_slice(), now, watcher),
             Piece::Start(_) => {
+                self.procedure.tell(piece, Decision::PassOver, watcher);
                 self.procedure.note(piece, Decision::PassOver, now);
                 self.begin_image()?;
             }
-            Piece::Octets(octets) => self.hear_octets(octets, now)?,
+            Piece::Octets(octets) => self.hear_octets(octets, now, watcher)?,
             Piece::End { whole } => {
                 let decision = self.judge_training(*whole);
+                self.procedure.tell(piece, decision, watcher);
                 self.procedure.note(piece, decision, now);
                 self.begin_image()?;
             }
@@ -158,8 +204,13 @@ impl<S: RowStore> Answerer<S> {
     }
 
     /// Hears octets of the image under way. An `Err` changes nothing.
-    fn hear_octets(&mut self, octets: &[u8], now: u64) -> Result<(), NoMemory>
-        ensures heard { OnOk result (EachCore self.old (λ core. Takes (OctetsShown octets.now) now core self.new)) }
+    fn hear_octets<W: Watcher>(
+        &mut self,
+        octets: &[u8],
+        now: u64,
+        watcher: &mut W,
+    ) -> Result<(), NoMemory>
+        ensures heard { OnOk result (EachCore self.old (λ core. Takes (Watches W.tells watcher.old watcher.new) (OctetsShown octets.now) now core self.new)) }
         ensures goes_on { GoesOn self.old.image.readers self.new.image.readers }
         ensures err { OnErr result (self.new ≡ self.old) }
         ensures tracked { self.new.tracked ≡ self.old.tracked }
@@ -167,8 +218,9 @@ impl<S: RowStore> Answerer<S> {
         ensures confirmed { self.new.confirmed ≡ self.old.confirmed }
     {
         self.read_octets(octets)?;
-        self.procedure
-            .note(&Piece::Octets(octets), Decision::PassOver, now);
+        let piece = Piece::Octets(octets);
+        self.procedure.tell(&piece, Decision::PassOver, watcher);
+        self.procedure.note(&piece, Decision::PassOver, now);
         Ok(())
     }
 
@@ -186,19 +238,27 @@ impl<S: RowStore> Answerer<S> {
     }
 
     /// Hears a frame, which is passed over while a packet waits.
-    fn hear_frame(&mut self, piece: &Piece<'_>, octets: &[u8], now: u64)
+    fn hear_frame<W: Watcher>(
+        &mut self,
+        piece: &Piece<'_>,
+        octets: &[u8],
+        now: u64,
+        watcher: &mut W,
+    )
         requires { piece_of piece.now ≡ FrameShown octets.now }
-        ensures heard { EachCore self.old (λ core. Takes (FrameShown octets.now) now core self.new) }
+        ensures heard { EachCore self.old (λ core. Takes (Watches W.tells watcher.old watcher.new) (FrameShown octets.now) now core self.new) }
         ensures tracked { self.new.tracked ≡ self.old.tracked }
         ensures spare { self.new.spare ≡ self.old.spare }
         ensures readers { self.new.image.readers ≡ self.old.image.readers }
         ensures confirmed { self.new.confirmed ≡ self.old.confirmed }
     {
         if self.procedure.is_waiting() {
+            self.procedure.tell(piece, Decision::PassOver, watcher);
             self.procedure.note(piece, Decision::PassOver, now);
             return;
         }
         let answer = self.answer(octets);
+        self.procedure.tell(piece, answer.decision, watcher);
         self.procedure.note(piece, answer.decision, now);
         self.image.accept(answer.found);
         self.refused = answer.refused;

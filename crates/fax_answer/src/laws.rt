@@ -11,6 +11,7 @@ ghost use Rattle.fax_answer.specs.Readings.{ReadingsJoin, CallsAreRead, Question
 ghost use Rattle.fax_answer.specs.Refusals.{ReasonsAreUnique};
 ghost use Rattle.fax_answer.specs.Sent.{ConfirmsSignals, ConfirmsWhatItAccepted};
 ghost use Rattle.fax_answer.specs.Silence.{LittleIsGiven, NoCallHangs};
+ghost use Rattle.fax_answer.specs.Watching.{TellsTheHistory, TellsWhatActs};
 
 /// Each tick that gives a confirmed page gives the MCF frame as its packet, at the last command that was answered: a
 /// command after exactly one image since the last CFR or MCF, which is whole, with neither a missing slot nor a
@@ -122,4 +123,15 @@ pub fn no_call_hangs()
 /// However long nothing more is heard, little is given: what waits, and at most 26 packets more.
 pub fn little_is_given()
     ensures { LittleIsGiven }
+{}
+
+/// What is told of the pieces of a datagram is what the history of the call has of them: each entry, but those of lost slots, in
+/// their order, and nothing else.
+pub fn tells_the_history()
+    ensures { TellsTheHistory }
+{}
+
+/// The timer that is told of a tick is the one that acts in it, and where none is told none does, in every state.
+pub fn tells_what_acts()
+    ensures { TellsWhatActs }
 {}

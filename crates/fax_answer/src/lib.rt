@@ -3,7 +3,7 @@
 //!
 //! Moments are milliseconds. Each definition that a contract here speaks of stands in `specs/`: the answering
 //! table in `Table`, what is read off the history of a call in `History`, what waits in `Replies`, timers and
-//! pace in `Calls`.
+//! pace in `Calls`, what is told of a call while it goes on in `Watching`.
 #![tactic(auto)]
 
 mod answer;
@@ -22,9 +22,13 @@ mod state;
 mod step;
 mod table;
 mod timers;
+mod watcher;
 
 pub use answerer::Answerer;
 pub use command::{Command, Order};
+pub use decision::Decision;
 pub use refusal::Refusal;
 pub use state::State;
 pub use step::{Confirmed, Step};
+pub use timers::ActingTimer;
+pub use watcher::{Unwatched, Watcher};

@@ -5,17 +5,19 @@ ghost use Rattle.fax_ifp.specs.Pieces.{Piece as PieceShown};
 ghost use Rattle.fax_ifp.specs.Shown.{piece_of};
 ghost use Rattle.fax_answer.specs.History.{Decision as Decided, since_answer};
 ghost use Rattle.fax_answer.specs.Table.{state_after};
-ghost use Rattle.fax_answer.specs.Replies.{ConfirmedPage, reply_to};
+ghost use Rattle.fax_answer.specs.Replies.{ConfirmedPage, is_waiting, reply_to};
 ghost use Rattle.fax_answer.specs.Calls.{AnswererCore, new_answering, rung, decided, timers_after, is_heard, timed, says_goodbye, identifies_anew, state_when_given, timers_when_given, is_closing};
 ghost use Rattle.fax_answer.specs.Due.{due_at, timer_of};
 ghost use Rattle.fax_answer.specs.Rep.{pending_reply, verdict_of};
 ghost use Rattle.fax_answer.specs.Pending.{waiting_of};
+ghost use Rattle.fax_answer.specs.Watching.{acting, acting_in};
 ghost use Rattle.fax_answer.specs.Following.{readers_wanted, Follows, CanDecide, confirmed_after, GivesNext, gives_now, gives_up, repeats_dis, begins_again};
 
 use crate::counts::Counts;
 use crate::decision::Decision;
 use crate::pending::{Pending, Reply};
-use crate::timers::Timers;
+use crate::timers::{ActingTimer, Timers};
+use crate::watcher::Watcher;
 use crate::{Command, State};
 use fax_frames::Plain;
 use fax_ifp::Piece;
@@ -85,6 +87,14 @@ impl Procedure {
         }
     }
 
+    /// A watcher is told of a piece, before it is noted, and what is decided at it.
+    pub fn tell<W: Watcher>(&self, piece: &Piece<'_>, decision: Decision, watcher: &mut W)
+        ensures { (core : AnswererCore) (confirmed : Option ConfirmedPage) → Follows core confirmed self.now
+            → W.tells (record { state = core.state; waits = is_waiting core.waiting; piece = piece_of piece.now; verdict = decision }) watcher.old watcher.new }
+    {
+        watcher.tell(self.state, self.is_waiting(), piece, decision);
+    }
+
     /// The timers after a decision: a DCS that trains clears T1 and T4 and sets T2; T2 and T4 are clear while packets
     /// wait; what is heard sets T2 anew.
     fn timers_then(&self, piece: &Piece<'_>, decision: Decision, now: u64) -> Timers
@@ -130,6 +140,35 @@ impl Procedure {
             self.timers.t4.clear();
         } else if self.begins_again(now) {
             self.identify_anew(now);
+        }
+    }
+
+    /// The timer that acts in a tick at this moment, where one does.
+    pub fn acting(&self, now: u64) -> Option<ActingTimer>
+        ensures { (core : AnswererCore) (confirmed : Option ConfirmedPage) → Follows core confirmed self.now → result ≡ acting core now }
+    {
+        if self.is_waiting() {
+            return None;
+        }
+        self.acting_timer(now)
+    }
+
+    /// The same where no packet waits.
+    fn acting_timer(&self, now: u64) -> Option<ActingTimer>
+        ensures { result ≡ acting_in self.now.state self.now.timers now }
+    {
+        match self.state {
+            State::Idle | State::Closing => None,
+            State::Identify if self.timers.t1.due(now) => Some(ActingTimer::T1),
+            State::Identify if self.timers.t4.due(now) => Some(ActingTimer::T4),
+            State::Identify => None,
+            State::Listen | State::Train(_) | State::Page(_) | State::Again => {
+                if self.timers.t2.due(now) {
+                    Some(ActingTimer::T2)
+                } else {
+                    None
+                }
+            }
         }
     }
 

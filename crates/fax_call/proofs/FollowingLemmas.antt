@@ -1,5 +1,5 @@
 -- What a procedure does is what the core does that it stands for.
-use Rattle.std.proofs.Common.{◌≡◌, ℕ, zero, suc, ◌-◌, ◌<◌, Bool, true, false, ◌&&◌, nat_le, List, [], ◌∷◌, length, Option, Some, None, refl, sym, ◌∙◌, ap, subst, arith, if◌then◌else◌}
+use Rattle.std.proofs.Common.{◌≡◌, ◌≢◌, ◌↔◌, IsTrue, ℕ, zero, suc, ◌-◌, ◌<◌, Bool, true, false, ◌&&◌, nat_le, List, [], ◌∷◌, length, Option, Some, None, refl, sym, ◌∙◌, ap, subst, arith, if◌then◌else◌}
 use Rattle.fax_runcodes.specs.declared.format.Format.{Format}
 use Rattle.fax_frames.specs.declared.frame.Frame.{Frame}
 use Rattle.fax_frames.specs.declared.frame.Frame.TheVariants as frames
@@ -20,9 +20,10 @@ use Rattle.fax_call.specs.declared.state.State.TheVariants.{Idle, AwaitDis, Awai
 use Rattle.fax_call.specs.Writings.{Writing}
 use Rattle.fax_call.specs.Replies.{Due, waits, parts_of, check_length, turn_after, command_after}
 use Rattle.fax_call.specs.Table.{Counts, Move, Stays, on_frame, on_timers}
-use Rattle.fax_call.specs.Calls.{CallerCore, moved, came, timed}
+use Rattle.fax_call.specs.Calls.{CallerCore, moved, came, heard, timed}
 use Rattle.fax_call.specs.Rep.{counts_shown, waiting_of, FitsPending}
 use Rattle.fax_call.specs.Following.{IsFit, Follows, KeepsTurn, gives_now}
+use Rattle.fax_call.specs.Watching.{acting, acting_in}
 
 waits_if : (b : Bool) (d e : Due) (due : List Due) → waits (if b then d ∷ [] else e ∷ due) ≡ true
 waits_if true d e due = refl
@@ -54,6 +55,12 @@ pub core_rests : (writes : Writing) (job : JobValue) (core : CallerCore) (writer
 core_rests writes job core writer p f none =
     sym (ap waits f.waiting) ∙ ap (λ (q : Pending). waits (waiting_of q (command_after core.formats core.pages p.counts.page) p.counts.page f.from)) none
 
+-- whether a packet waits is seen by what is kept
+pub waits_is : (writes : Writing) (job : JobValue) (core : CallerCore) (writer : WriterValue) (p : Procedure) (b : Bool) → IsFit p → Follows writes job core writer p
+    → IsTrue b ↔ (p.pending ≢ Nothing) → (b ≡ false → p.pending ≡ Nothing) → b ≡ waits core.waiting
+waits_is writes job core writer p true fit f some none = sym (core_waits writes job core writer p fit f (some.0 refl))
+waits_is writes job core writer p false fit f some none = sym (core_rests writes job core writer p f (none refl))
+
 pub gives_is : (writes : Writing) (job : JobValue) (core : CallerCore) (writer : WriterValue) (p : Procedure) (now : ℕ) → IsFit p → Follows writes job core writer p
     → (p.pending ≡ Nothing → ⊥) → pace_allows p.pace.last now ≡ gives_now core now
 gives_is writes job core writer p now fit f some =
@@ -68,10 +75,17 @@ stays_if core false m e = cc
 pub passed_over : (core : CallerCore) (octets : List ℕ) (now : ℕ) → waits core.waiting ≡ true → came core (pieces.Frame octets) now ≡ core
 passed_over core octets now w = stays_if core (waits core.waiting) _ w
 
+pub waits_decides : (core : CallerCore) (octets : List ℕ) (now : ℕ) → waits core.waiting ≡ true → heard core (pieces.Frame octets) now ≡ Stays
+waits_decides core octets now w = stays (waits core.waiting) _ w
+  where
+    stays : (b : Bool) (m : Move) → b ≡ true → (if b then Stays else m) ≡ Stays
+    stays true m e = refl
+    stays false m e = cc
+
 pub not_timed : (core : CallerCore) (now : ℕ) → waits core.waiting ≡ true → timed core now ≡ core
 not_timed core now w = stays_if core (waits core.waiting) _ w
 
-no_frame : (now : ℕ) (format : Format) (turn : Option Format) (pages : ℕ) (state : State) (c : Counts) → on_frame now format turn pages state c None ≡ Stays
+pub no_frame : (now : ℕ) (format : Format) (turn : Option Format) (pages : ℕ) (state : State) (c : Counts) → on_frame now format turn pages state c None ≡ Stays
 no_frame now format turn pages Idle c = refl
 no_frame now format turn pages AwaitDis c = refl
 no_frame now format turn pages (AwaitCfr dis dcs) c = refl
@@ -111,29 +125,46 @@ turn_known now format pages (AwaitMcf dis dcs) c o formats page turn k = ap (λ 
 turn_known now format pages (Closing x) c o formats page turn k = refl
 
 -- what a frame brings about, told of what is kept
-pub frame_heard : (writes : Writing) (job : JobValue) (core : CallerCore) (writer : WriterValue) (p : Procedure) (octets : List ℕ) (frame : Frame) (now : ℕ) (m : Move)
-    → Follows writes job core writer p → p.pending ≡ Nothing → frame_of octets ≡ Some frame
-    → m ≡ on_frame now p.format p.turn p.pages p.state (counts_shown p.counts) (Some frame)
-    → came core (pieces.Frame octets) now ≡ moved core m
-frame_heard writes job core writer p octets frame now m f none read decided =
-    acts_if core (waits core.waiting) _ (core_rests writes job core writer p f none)
-    ∙ ap (λ (o : Option Frame). moved core (on_frame now core.format (turn_after core.formats core.counts.page) core.pages core.state core.counts o)) read
-    ∙ ap (moved core) (sym (decided ∙ same))
+pub frame_decides : (writes : Writing) (job : JobValue) (core : CallerCore) (writer : WriterValue) (p : Procedure) (octets : List ℕ) (now : ℕ) (m : Move)
+    → Follows writes job core writer p → p.pending ≡ Nothing
+    → m ≡ on_frame now p.format p.turn p.pages p.state (counts_shown p.counts) (frame_of octets)
+    → heard core (pieces.Frame octets) now ≡ m
+frame_decides writes job core writer p octets now m f none decided =
+    decides_if (waits core.waiting) _ (core_rests writes job core writer p f none) ∙ sym (decided ∙ same)
   where
+    o : Option Frame
+    o = frame_of octets
+
+    decides_if : (b : Bool) (m : Move) → b ≡ false → (if b then Stays else m) ≡ m
+    decides_if true m e = cc
+    decides_if false m e = refl
+
     kept : KeepsTurn p.state Nothing core.formats p.counts.page p.turn
     kept = subst (λ (q : Pending). KeepsTurn p.state q core.formats p.counts.page p.turn) none f.turn
 
     page : p.counts.page ≡ core.counts.page
     page = ap (λ (c : Counts). c.page) f.counts
 
-    same : on_frame now p.format p.turn p.pages p.state (counts_shown p.counts) (Some frame) ≡ on_frame now core.format (turn_after core.formats core.counts.page) core.pages core.state core.counts (Some frame)
+    same : on_frame now p.format p.turn p.pages p.state (counts_shown p.counts) o ≡ on_frame now core.format (turn_after core.formats core.counts.page) core.pages core.state core.counts o
     same =
-        turn_known now p.format p.pages p.state (counts_shown p.counts) (Some frame) core.formats p.counts.page p.turn kept
-        ∙ ap (λ (n : ℕ). on_frame now p.format (turn_after core.formats n) p.pages p.state (counts_shown p.counts) (Some frame)) page
-        ∙ ap (λ (x : Format). on_frame now x (turn_after core.formats core.counts.page) p.pages p.state (counts_shown p.counts) (Some frame)) f.format
-        ∙ ap (λ (x : ℕ). on_frame now core.format (turn_after core.formats core.counts.page) x p.state (counts_shown p.counts) (Some frame)) f.pages
-        ∙ ap (λ (x : State). on_frame now core.format (turn_after core.formats core.counts.page) core.pages x (counts_shown p.counts) (Some frame)) f.state
-        ∙ ap (λ (x : Counts). on_frame now core.format (turn_after core.formats core.counts.page) core.pages core.state x (Some frame)) f.counts
+        turn_known now p.format p.pages p.state (counts_shown p.counts) o core.formats p.counts.page p.turn kept
+        ∙ ap (λ (n : ℕ). on_frame now p.format (turn_after core.formats n) p.pages p.state (counts_shown p.counts) o) page
+        ∙ ap (λ (x : Format). on_frame now x (turn_after core.formats core.counts.page) p.pages p.state (counts_shown p.counts) o) f.format
+        ∙ ap (λ (x : ℕ). on_frame now core.format (turn_after core.formats core.counts.page) x p.state (counts_shown p.counts) o) f.pages
+        ∙ ap (λ (x : State). on_frame now core.format (turn_after core.formats core.counts.page) core.pages x (counts_shown p.counts) o) f.state
+        ∙ ap (λ (x : Counts). on_frame now core.format (turn_after core.formats core.counts.page) core.pages core.state x o) f.counts
+
+-- the timer that acts, by what is kept
+pub acting_is : (writes : Writing) (job : JobValue) (core : CallerCore) (writer : WriterValue) (p : Procedure) (now : ℕ) → Follows writes job core writer p → p.pending ≡ Nothing
+    → acting_in p.state (is_due p.t1 now) (is_due p.t4 now) ≡ acting core now
+acting_is writes job core writer p now f none =
+    ap (λ (x : Option ℕ). acting_in p.state (is_due x now) (is_due p.t4 now)) f.t1
+    ∙ ap (λ (x : Option ℕ). acting_in p.state (is_due core.t1 now) (is_due x now)) f.t4
+    ∙ ap (λ (x : State). acting_in x (is_due core.t1 now) (is_due core.t4 now)) f.state
+    ∙ sym (ap (λ (b : Bool). if b then None else acting_in core.state (is_due core.t1 now) (is_due core.t4 now)) (core_rests writes job core writer p f none))
+
+pub acting_none : (core : CallerCore) (now : ℕ) → waits core.waiting ≡ true → None ≡ acting core now
+acting_none core now w = sym (ap (λ (b : Bool). if b then None else acting_in core.state (is_due core.t1 now) (is_due core.t4 now)) w)
 
 pub timers_acted : (writes : Writing) (job : JobValue) (core : CallerCore) (writer : WriterValue) (p : Procedure) (now : ℕ) (m : Move)
     → Follows writes job core writer p → p.pending ≡ Nothing

@@ -14,6 +14,7 @@ mod Paged
 pub mod Refusals
 mod Tally
 mod TextLemmas
+mod Tellings
 mod Unanswered
 mod Waiting
 pub mod ClosedPackets

@@ -10,6 +10,7 @@ pub mod Refusals
 pub mod Replies
 pub mod Table
 pub mod Writings
+pub mod Watching
 pub mod Given
 pub mod GivenSignals
 pub mod GivingUp

@@ -10,6 +10,7 @@ use Rattle.fax_call.specs.Writings.{Writing}
 use Rattle.fax_call.specs.Replies.{written}
 use Rattle.fax_call.specs.Calls.{CallerCore, came_all, TickResult}
 use Rattle.fax_call.specs.Following.{Follows}
+use Rattle.fax_call.specs.Watching.{Telling, tellings}
 
 -- what is left of the slots for frames to come, the procedure, the writer of the text of a page that is given, and for how
 -- many octets of a packet there is room
@@ -29,6 +30,11 @@ pub record Hears (writes : Writing) (job : JobValue) (slots : List Slot) (now : 
   pub given : List Piece
   pub pieces : pieces (reverse slots ++ heard) ≡ pieces heard ++ given
   pub reached : IsReached writes job (reverse slots ++ heard) (came_all core given now) new
+
+-- the same, and this holds of what was told of them
+pub record HearsTold (Tells : List Telling → Type 0) (writes : Writing) (job : JobValue) (slots : List Slot) (now : ℕ) (heard : List Slot) (core : CallerCore) (new : Rep) : Type 0 where
+  pub hears : Hears writes job slots now heard core new
+  pub told : Tells (tellings core hears.given now)
 
 -- a tick gives the octets of its packet, where it gives one
 abbrev pub IsGiven : TickResult → Option (List ℕ) → Type 0

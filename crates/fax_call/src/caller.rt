@@ -12,9 +12,11 @@ ghost use Rattle.fax_frames.specs.declared.dcs.Dcs.{Dcs as DcsShown};
 ghost use Rattle.fax_frames.specs.declared.writing.Plain.{Plain as PlainShown};
 ghost use Rattle.fax_pagestore.specs.Writers.{HasMore};
 ghost use Rattle.fax_call.specs.Due.{due_at};
+ghost use Rattle.fax_call.specs.Watching.{acting};
 ghost use Rattle.fax_call.specs.Reached.{IsReached, IsGiven};
 
 use crate::State;
+use crate::acting::ActingTimer;
 use crate::pending::{INDICATOR_OCTETS, Pending};
 use crate::procedure::{NO_FORMAT, Procedure};
 use crate::room::Room;
@@ -137,6 +139,13 @@ impl Caller {
         ensures { EachCall self.now (λ writes job heard core. result ≡ due_at core) }
     {
         self.procedure.next_due()
+    }
+
+    /// The timer that acts in a tick at this moment, before a packet may be given. `None`: none does, as while a packet waits.
+    pub fn acting(&self, now: u64) -> Option<ActingTimer>
+        ensures { EachCall self.now (λ writes job heard core. result ≡ acting core now) }
+    {
+        self.procedure.acting(now)
     }
 
     /// Time goes on: where no packet waits a timer that is due acts, and then at most one packet is given, where one waits

@@ -15,6 +15,7 @@ ghost use Rattle.fax_call.specs.Silence.{NoCallHangs};
 ghost use Rattle.fax_call.specs.Steps.{FttStepsTheRates};
 ghost use Rattle.fax_call.specs.Tries.{ThreeTries};
 ghost use Rattle.fax_call.specs.Writings.{PagesHaveTexts, TextsAreOne};
+ghost use Rattle.fax_call.specs.Watching.{TellsWhatActs, TellsWhatIsDone};
 
 /// Each image that is emitted to its end means, under the DCS given before it, a page of the job, its format included:
 /// the first is page 0, the next page goes out only after an MCF or RTP that answers the command after the image, the
@@ -132,4 +133,14 @@ pub fn every_call_ends()
 /// `every_call_ends` is there for every job.
 pub fn texts_have_a_longest()
     ensures { TextsHaveALongest }
+{}
+
+/// Of a piece at which nothing is told to be decided nothing comes: it changes nothing.
+pub fn tells_what_is_done()
+    ensures { TellsWhatIsDone }
+{}
+
+/// The timer that is told of a tick is the one that acts in it, and where none is told none does, in every state.
+pub fn tells_what_acts()
+    ensures { TellsWhatActs }
 {}

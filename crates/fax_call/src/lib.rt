@@ -2,11 +2,14 @@
 //! packets and moments go in, packets come out.
 //!
 //! Moments are milliseconds. Each definition that a contract here speaks of stands in `specs/`: the calling table in
-//! `Table`, the packets of a reply in `Replies`, what waits, timers and pace in `Calls`, the text of a page in `Writings`.
+//! `Table`, the packets of a reply in `Replies`, what waits, timers and pace in `Calls`, the text of a page in `Writings`, what is told of a call
+//! while it goes on in `Watching`.
 #![tactic(auto)]
 
+mod acting;
 mod caller;
 mod counts;
+mod decision;
 mod hearing;
 pub mod laws;
 mod pending;
@@ -15,7 +18,11 @@ mod room;
 mod state;
 mod table;
 mod text;
+mod watcher;
 
+pub use acting::ActingTimer;
 pub use caller::Caller;
+pub use decision::Decision;
 pub use fax_jobs::Outcome;
 pub use state::State;
+pub use watcher::{Unwatched, Watcher};

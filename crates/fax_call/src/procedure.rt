@@ -1,22 +1,30 @@
 //! The procedure of a call (ITU-T T.30): its state, what is counted of it, what waits, timers and pace. It is plain data
 //! and takes no memory.
-ghost use Rattle.std.specs.Prelude.{◌≡◌, ◌≢◌, ◌↔◌, ◌≤◌, ◌<◌, IsTrue, List, ℕ, length, Option, None, Some, if◌then◌else◌, false};
+ghost use Rattle.std.specs.Prelude.{◌≡◌, ◌≢◌, ◌↔◌, ◌≤◌, ◌<◌, IsTrue, List, [], ◌∷◌, ℕ, length, Option, None, Some, if◌then◌else◌, false};
 ghost use Rattle.fax_jobs.specs.Jobs.{JobValue, IsJob};
 ghost use Rattle.fax_pagestore.specs.Writers.{WriterValue};
 ghost use Rattle.fax_call.specs.EachCall.{EachCore};
 ghost use Rattle.fax_call.specs.Writings.{Writing};
-ghost use Rattle.fax_call.specs.Replies.{turn_after};
+ghost use Rattle.fax_call.specs.Replies.{turn_after, waits};
 ghost use Rattle.fax_call.specs.Calls.{formats_of};
 ghost use Rattle.fax_call.specs.Calls.{CallerCore, new_calling, not_placed, started, moved, timed, came, came_all, state_when_given, outcome_when_given, t4_when_given};
 ghost use Rattle.fax_call.specs.Due.{due_at, timer_of};
-ghost use Rattle.fax_call.specs.Rep.{move_shown, pending_of, FitsMove};
+ghost use Rattle.fax_call.specs.Rep.{counts_shown, move_shown, pending_of, FitsMove};
+ghost use Rattle.fax_call.specs.Table.{on_frame};
 ghost use Rattle.fax_call.specs.Following.{IsFit, Follows, HasText, IsJobOfCall, command_kept, with_turn, given_by, gives_now};
+ghost use Rattle.fax_ifp.specs.Pieces.{Frame as FrameShown};
 ghost use Rattle.fax_ifp.specs.Shown.{piece_of, pieces_shown};
+ghost use Rattle.fax_call.specs.Watching.{Watches, acting, acting_in, telling, telling_with, tellings};
+ghost use Rattle.fax_frames.specs.Frames.{frame_of};
+ghost use Rattle.fax_timers.specs.Moments.{is_due};
 
 use crate::State;
+use crate::acting::ActingTimer;
 use crate::counts::Counts;
+use crate::decision::Decision;
 use crate::pending::{Message, Pending};
 use crate::table::Move;
+use crate::watcher::Watcher;
 use fax_frames::{Frame, Plain};
 use fax_ifp::Piece;
 use fax_jobs::{Job, Outcome};
@@ -209,36 +217,81 @@ impl Procedure {
     }
 
     /// Hears pieces, in the order of time.
-    pub fn hear_all(&mut self, pieces: &[Piece<'_>], now: u64)
+    pub fn hear_all<W: Watcher>(&mut self, pieces: &[Piece<'_>], now: u64, watcher: &mut W)
         requires { IsFit self.old }
         ensures fit { IsFit self.new }
         ensures idle { self.old.state ≡ State.Idle → self.new ≡ self.old }
         ensures job { (job : JobValue) → IsJobOfCall self.old job → IsJobOfCall self.new job }
         ensures text { (writer : WriterValue) → HasText self.old.pending writer → HasText self.new.pending writer }
         ensures heard { EachCore self.old (λ writes job core writer. Follows writes job (came_all core (pieces_shown pieces.now) now) writer self.new) }
+        ensures told { EachCore self.old (λ writes job core writer. Watches W.tells watcher.old watcher.new (tellings core (pieces_shown pieces.now) now)) }
     {
         for piece in pieces {
-            self.hear(piece, now);
+            self.hear(piece, now, watcher);
         }
     }
 
     /// Hears a piece: frames alone matter, and none while packets wait.
-    fn hear(&mut self, piece: &Piece<'_>, now: u64)
+    fn hear<W: Watcher>(&mut self, piece: &Piece<'_>, now: u64, watcher: &mut W)
         requires { IsFit self.old }
         ensures fit { IsFit self.new }
         ensures text { (writer : WriterValue) → HasText self.old.pending writer → HasText self.new.pending writer }
         ensures idle { self.old.state ≡ State.Idle → self.new ≡ self.old }
         ensures heard { EachCore self.old (λ writes job core writer. Follows writes job (came core (piece_of piece.now) now) writer self.new) }
+        ensures told { EachCore self.old (λ writes job core writer. Watches W.tells watcher.old watcher.new (telling_with (piece_of piece.now) (telling core (piece_of piece.now) now) [])) }
     {
-        let Piece::Frame(octets) = piece else {
-            return;
-        };
+        match piece {
+            Piece::Frame(octets) => self.hear_frame(piece, octets.as_slice(), now, watcher),
+            Piece::Start(_) => self.pass_over(piece, watcher),
+            Piece::Octets(_) => self.pass_over(piece, watcher),
+            Piece::End { .. } => self.pass_over(piece, watcher),
+            Piece::Gap => {}
+        }
+    }
+
+    /// A piece is passed over, and that is told.
+    fn pass_over<W: Watcher>(&self, piece: &Piece<'_>, watcher: &mut W)
+        requires { IsFit self.now }
+        ensures { EachCore self.now (λ writes job core writer. W.tells (record { state = core.state; waits = waits core.waiting; piece = piece_of piece.now; verdict = Decision.PassOver }) watcher.old watcher.new) }
+    {
+        watcher.tell(self.state, self.is_waiting(), piece, Decision::PassOver);
+    }
+
+    /// Hears a frame: none matters while packets wait.
+    fn hear_frame<W: Watcher>(
+        &mut self,
+        piece: &Piece<'_>,
+        octets: &[u8],
+        now: u64,
+        watcher: &mut W,
+    )
+        requires fit { IsFit self.old }
+        requires frame { piece_of piece.now ≡ FrameShown octets.now }
+        ensures fit { IsFit self.new }
+        ensures text { (writer : WriterValue) → HasText self.old.pending writer → HasText self.new.pending writer }
+        ensures idle { self.old.state ≡ State.Idle → self.new ≡ self.old }
+        ensures heard { EachCore self.old (λ writes job core writer. Follows writes job (came core (FrameShown octets.now) now) writer self.new) }
+        ensures told { EachCore self.old (λ writes job core writer. Watches W.tells watcher.old watcher.new (telling core (FrameShown octets.now) now ∷ [])) }
+    {
         if self.is_waiting() {
+            watcher.tell(self.state, true, piece, Decision::PassOver);
             return;
         }
-        if let Some(frame) = Frame::read(octets.as_slice()) {
-            let decided = self.on_frame(&frame);
-            self.make(decided, now);
+        let decided = self.decide(octets);
+        watcher.tell(self.state, false, piece, decided.decision());
+        self.make(decided, now);
+    }
+
+    /// What is decided at the octets of a frame, where no packet waits.
+    fn decide(&self, octets: &[u8]) -> Move
+        requires { IsFit self.now }
+        ensures decided { (now : ℕ) → move_shown now result ≡ on_frame now self.now.format self.now.turn self.now.pages self.now.state (counts_shown self.now.counts) (frame_of octets.now) }
+        ensures fits { FitsMove self.now.pages self.now.counts.page self.now.state result }
+        ensures idle { self.now.state ≡ State.Idle → result ≡ Move.Stay }
+    {
+        match Frame::read(octets) {
+            Some(frame) => self.on_frame(&frame),
+            None => Move::Stay,
         }
     }
 
@@ -272,6 +325,29 @@ impl Procedure {
             State::Idle | State::Closing(_) => None,
             State::AwaitDis => self.t1.moment(),
             State::AwaitCfr(..) | State::AwaitMcf(..) => self.t4.moment(),
+        }
+    }
+
+    /// The timer that acts in a tick at this moment, where one does.
+    pub fn acting(&self, now: u64) -> Option<ActingTimer>
+        requires { IsFit self.now }
+        ensures { EachCore self.now (λ writes job core writer. result ≡ acting core now) }
+    {
+        if self.is_waiting() {
+            return None;
+        }
+        self.acting_timer(now)
+    }
+
+    /// The same where no packet waits.
+    fn acting_timer(&self, now: u64) -> Option<ActingTimer>
+        ensures { result ≡ acting_in self.now.state (is_due self.now.t1 now) (is_due self.now.t4 now) }
+    {
+        match self.state {
+            State::AwaitDis if self.t1.due(now) => Some(ActingTimer::T1),
+            State::AwaitCfr(..) if self.t4.due(now) => Some(ActingTimer::T4),
+            State::AwaitMcf(..) if self.t4.due(now) => Some(ActingTimer::T4),
+            _ => None,
         }
     }
 

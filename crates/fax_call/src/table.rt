@@ -4,9 +4,11 @@ ghost use Rattle.fax_call.specs.Table.{on_frame, on_timers, by_choice, tries_aga
 ghost use Rattle.fax_call.specs.Rep.{counts_shown, move_shown, AwaitsMcf, FitsMove, HasTerms};
 ghost use Rattle.fax_call.specs.Following.{IsFit};
 ghost use Rattle.fax_frames.specs.Choice.{choice};
+ghost use Rattle.fax_call.specs.Watching.{decision_of};
 
 use crate::State;
 use crate::counts::Counts;
+use crate::decision::Decision;
 use crate::procedure::Procedure;
 use fax_frames::{Dcs, Dis, Frame, Refusal, choose};
 use fax_jobs::Outcome;
@@ -28,6 +30,23 @@ pub(crate) enum Move {
     Close(Outcome, Counts),
     /// The call is over.
     HangUp,
+}
+
+impl Move {
+    /// What is told of it.
+    pub fn decision(&self) -> Decision
+        ensures { (now : ℕ) → result ≡ decision_of (move_shown now self.now) }
+    {
+        match self {
+            Move::Stay => Decision::PassOver,
+            Move::Train(..) => Decision::Train,
+            Move::Send(..) => Decision::Send,
+            Move::AskAgain(_) => Decision::AskAgain,
+            Move::Turn(..) => Decision::Turn,
+            Move::Close(outcome, _) => Decision::Close(*outcome),
+            Move::HangUp => Decision::HangUp,
+        }
+    }
 }
 
 /// The trainings or commands that are sent for one wait.

@@ -16,6 +16,7 @@ use Rattle.fax_answer.specs.Calls as answer_calls
 use Rattle.fax_answer.specs.Calls.{AnswererCore, first_asked, came_all, rung}
 use Rattle.fax_answer.specs.Confirmation.{IsRead}
 use Rattle.fax_answer.specs.Readings.{comes_all}
+use Rattle.fax_answer.specs.Watching as answer_watching
 use Rattle.fax_answer.specs.Reached as answer
 use Rattle.fax_call.specs.declared.state.State.{State}
 use Rattle.fax_call.specs.declared.state.State.TheVariants.{Idle, AwaitDis, AwaitCfr, AwaitMcf, Closing}
@@ -24,6 +25,7 @@ use Rattle.fax_call.specs.Calls as call_calls
 use Rattle.fax_call.specs.Calls.{CallerCore}
 use Rattle.fax_call.specs.Delivery.{is_over}
 use Rattle.fax_call.specs.Reached as call
+use Rattle.fax_call.specs.Watching as call_watching
 use Rattle.fax_gateway.specs.Setups.{Setup}
 use Rattle.fax_gateway.specs.declared.called.CalledEndpoint.{CalledEndpoint}
 use Rattle.fax_gateway.specs.Legs.{new_pieces, decides, decided_by}
@@ -31,7 +33,8 @@ use Rattle.fax_gateway.specs.CallingLegs as calling_legs
 use Rattle.fax_gateway.specs.CallingLegs.{CallingLeg, is_idle, idle_after, decided_calling, asked_by}
 use Rattle.fax_gateway.specs.CalledLegs as called_legs
 use Rattle.fax_gateway.specs.CalledLegs.{CalledLeg, begun_core, comes_to, decided_called, hears}
-use Rattle.fax_gateway.specs.Reached.{CallingValue, IsCalling, HearsCalling, IsCalled}
+use Rattle.fax_gateway.specs.Reached.{CallingValue, IsCalling, IsCalled}
+use Rattle.fax_gateway.specs.Watched.{HearsCallingTold, called_tellings, called_tellings_of, calling_tellings_of}
 
 -- ONE MORE DATAGRAM
 newest_more : (arrived : List DatagramValue) (d : DatagramValue) (x : DecidedValue) → Decides arrived d x → newest_slots (d ∷ arrived) ≡ reverse (slots_in x) ++ newest_slots arrived
@@ -115,12 +118,16 @@ leg_hears setup l now d x old new r n after number sender h =
       on_leg = record { receiver = after; sender = subst (λ (s : SenderValue). HasSent setup.redundancy l.given s) (sym sender) r.on_leg.sender };
     }
 
-pub hears_calling : (setup : Setup) (leg : Option CallingLeg) (now : ℕ) (octets : List ℕ) (x : DecidedValue) (old new : CallingValue) → idle_after leg ≡ false → IsCalling setup leg old → Takes octets old.leg.receiver new.leg.receiver x
-    → new.number ≡ old.number → new.leg.sender ≡ old.leg.sender → ((heard : List Slot) (core : AnswererCore) → answer.IsReached heard core old.kept → answer.Hears (slots_in x) now heard core new.kept)
-    → HearsCalling setup leg now octets new
-hears_calling setup None now octets x old new off r t number sender f = cc
-hears_calling setup (Some l) now octets x old new off r t number sender f =
-    let h = f (newest_slots l.arrived) (calling_legs.core_of l) r.core in
+abbrev told_by : Bool → CallingLeg → ℕ → Reading → Result DatagramValue UdptlFault → List answer_watching.Telling
+told_by b l now read r = if b then [] else calling_tellings_of l now read r
+
+pub hears_calling : (Tells : List answer_watching.Telling → Type 0) (setup : Setup) (leg : Option CallingLeg) (now : ℕ) (octets : List ℕ) (x : DecidedValue) (old new : CallingValue) → idle_after leg ≡ false → IsCalling setup leg old → Takes octets old.leg.receiver new.leg.receiver x
+    → new.number ≡ old.number → new.leg.sender ≡ old.leg.sender → ((heard : List Slot) (core : AnswererCore) → answer.IsReached heard core old.kept → answer.HearsTold Tells (slots_in x) now heard core new.kept)
+    → HearsCallingTold Tells setup leg now octets new
+hears_calling Tells setup None now octets x old new off r t number sender f = cc
+hears_calling Tells setup (Some l) now octets x old new off r t number sender f =
+    let both = f (newest_slots l.arrived) (calling_legs.core_of l) r.core in
+    let h = both.hears in
     let n : Decides l.arrived t.datagram x = t.decides l.arrived r.on_leg.receiver in
     let given : new_pieces l.arrived t.datagram ≡ h.given = pieces_new l.arrived t.datagram x h.given n h.pieces in
     let asks : question_by (is_idle (calling_legs.core_of l).state) l now (datagram_of octets) ≡ first_asked (calling_legs.core_of l) h.given now =
@@ -128,11 +135,56 @@ hears_calling setup (Some l) now octets x old new off r t number sender f =
     ∙ ap (λ (ps : List Piece). first_asked (calling_legs.core_of l) ps now) given in
     let gives : heard_by (is_idle (calling_legs.core_of l).state) l now h.read (datagram_of octets) ≡ Some (calling_legs.leg_with l now h.read (Ok t.datagram)) =
     ap (λ (b : Bool). heard_by b l now h.read (datagram_of octets)) off ∙ ap (λ (r : Result DatagramValue UdptlFault). heard_by false l now h.read r) t.is in
+    let tells : told_by (is_idle (calling_legs.core_of l).state) l now h.read (datagram_of octets) ≡ answer_watching.tellings h.read (calling_legs.core_of l) h.given now =
+    ap (λ (b : Bool). told_by b l now h.read (datagram_of octets)) off ∙ ap (λ (r : Result DatagramValue UdptlFault). told_by false l now h.read r) t.is
+    ∙ ap (λ (ps : List Piece). answer_watching.tellings h.read (calling_legs.core_of l) ps now) given in
     record {
-      read = h.read;
-      right = subst (λ (q : Option Question). IsRead q h.read) (sym asks) h.right;
-      calling = subst (λ (o : Option CallingLeg). IsCalling setup o new) (sym gives) (leg_hears setup l now t.datagram x old new r n (t.after l.arrived r.on_leg.receiver) number sender h);
+      hears = record {
+        read = h.read;
+        right = subst (λ (q : Option Question). IsRead q h.read) (sym asks) h.right;
+        calling = subst (λ (o : Option CallingLeg). IsCalling setup o new) (sym gives) (leg_hears setup l now t.datagram x old new r n (t.after l.arrived r.on_leg.receiver) number sender h);
+      };
+      told = subst Tells (sym tells) both.told;
     }
+
+-- one that comes while no call is on, and one that cannot be read, bring nothing, and nothing is told
+abbrev pub BringsNothing : Bool → Result DatagramValue UdptlFault → Type 0
+BringsNothing true r = Unit {0}
+BringsNothing false (Ok d) = ⊥
+BringsNothing false (Err fault) = Unit {0}
+
+abbrev Quiet : (Tells : List answer_watching.Telling → Type 0) → Setup → CallingLeg → ℕ → CallingValue → Bool → Result DatagramValue UdptlFault → Type 0
+Quiet Tells setup l now endpoint b r = (read : Reading) × IsRead (question_by b l now r) read × IsCalling setup (heard_by b l now read r) endpoint × Tells (told_by b l now read r)
+
+quiet : (Tells : List answer_watching.Telling → Type 0) (setup : Setup) (l : CallingLeg) (now : ℕ) (endpoint : CallingValue) (b : Bool) (r : Result DatagramValue UdptlFault) → IsCalling setup (Some l) endpoint → Tells [] → BringsNothing b r
+    → Quiet Tells setup l now endpoint b r
+quiet Tells setup l now endpoint true r c t n = (None, refl, c, t)
+quiet Tells setup l now endpoint false (Ok d) c t n = absurd n
+quiet Tells setup l now endpoint false (Err fault) c t n = (None, refl, c, t)
+
+abbrev pub LegBringsNothing : Option CallingLeg → List ℕ → Type 0
+LegBringsNothing None octets = Unit {0}
+LegBringsNothing (Some l) octets = BringsNothing (is_idle (calling_legs.core_of l).state) (datagram_of octets)
+
+pub hears_nothing : (Tells : List answer_watching.Telling → Type 0) (setup : Setup) (leg : Option CallingLeg) (now : ℕ) (octets : List ℕ) (endpoint : CallingValue) → IsCalling setup leg endpoint → Tells [] → LegBringsNothing leg octets
+    → HearsCallingTold Tells setup leg now octets endpoint
+hears_nothing Tells setup None now octets endpoint c t n = record { hears = record { read = None; right = refl; calling = c }; told = t }
+hears_nothing Tells setup (Some l) now octets endpoint c t n =
+    let q : Quiet Tells setup l now endpoint (is_idle (calling_legs.core_of l).state) (datagram_of octets) = quiet Tells setup l now endpoint (is_idle (calling_legs.core_of l).state) (datagram_of octets) c t n in
+    record { hears = record { read = q.0; right = q.1; calling = q.2 }; told = q.3 }
+
+pub brings_none_idle : (leg : Option CallingLeg) (octets : List ℕ) → idle_after leg ≡ true → LegBringsNothing leg octets
+brings_none_idle None octets e = tt
+brings_none_idle (Some l) octets e = subst (λ (b : Bool). BringsNothing b (datagram_of octets)) (sym e) tt
+
+fault_brings : (b : Bool) (fault : UdptlFault) → BringsNothing b (Err fault)
+fault_brings true fault = tt
+fault_brings false fault = tt
+
+pub brings_none_unread : (leg : Option CallingLeg) (octets : List ℕ) (fault : UdptlFault) → datagram_of octets ≡ Err fault → LegBringsNothing leg octets
+brings_none_unread None octets fault e = tt
+brings_none_unread (Some l) octets fault e =
+    subst (λ (r : Result DatagramValue UdptlFault). BringsNothing (is_idle (calling_legs.core_of l).state) r) (sym e) (fault_brings (is_idle (calling_legs.core_of l).state) fault)
 
 -- THE CALLED LEG
 came_core : (writes : Writing) (job : JobValue) (a : CallerCore) (ps : List Piece) (now : ℕ) (events : List call_calls.CallEvent) → call_calls.after_events writes job a (comes_to ps now events) ≡ call_calls.came_all (call_calls.after_events writes job a events) ps now
@@ -189,3 +241,40 @@ hears_called setup writes (Some l) now octets x old new off r t sender f =
     let gives : hears_by (is_over (called_legs.core_of writes l).state) l now (datagram_of octets) ≡ called_legs.leg_with (Ok t.datagram) now l =
     ap (λ (b : Bool). hears_by b l now (datagram_of octets)) (on_called setup writes (Some l) old r off) ∙ ap (λ (r : Result DatagramValue UdptlFault). hears_by false l now r) t.is in
     subst (λ (k : CalledLeg). IsCalled setup writes (Some k) new) (sym gives) (leg_hears_called setup writes l now t.datagram x old new r n (t.after l.arrived r.on_leg.receiver) sender h)
+
+-- what is told of it
+abbrev told_on : Bool → Writing → CalledLeg → ℕ → Result DatagramValue UdptlFault → List call_watching.Telling
+told_on b writes l now r = if b then [] else called_tellings_of writes l now r
+
+pub told_called : (Tells : List call_watching.Telling → Type 0) (setup : Setup) (writes : Writing) (leg : Option CalledLeg) (now : ℕ) (octets : List ℕ) (x : DecidedValue) (old new : CalledEndpoint) → (old.caller.procedure.state ≡ Idle → ⊥) → IsCalled setup writes leg old
+    → Takes octets old.leg.receiver new.leg.receiver x
+    → ((writes : Writing) (job : JobValue) (heard : List Slot) (core : CallerCore) → call.IsReached writes job heard core old.caller → call.HearsTold Tells writes job (slots_in x) now heard core new.caller)
+    → Tells (called_tellings writes leg now octets)
+told_called Tells setup writes None now octets x old new off r t f = absurd (on_called setup writes None old r off)
+told_called Tells setup writes (Some l) now octets x old new off r t f =
+    let both = f writes l.job (newest_slots l.arrived) (called_legs.core_of writes l) r.core in
+    let given : new_pieces l.arrived t.datagram ≡ both.hears.given = pieces_new l.arrived t.datagram x both.hears.given (t.decides l.arrived r.on_leg.receiver) both.hears.pieces in
+    let tells : told_on (is_over (called_legs.core_of writes l).state) writes l now (datagram_of octets) ≡ call_watching.tellings (called_legs.core_of writes l) both.hears.given now =
+    ap (λ (b : Bool). told_on b writes l now (datagram_of octets)) (on_called setup writes (Some l) old r off) ∙ ap (λ (r : Result DatagramValue UdptlFault). told_on false writes l now r) t.is
+    ∙ ap (λ (ps : List Piece). call_watching.tellings (called_legs.core_of writes l) ps now) given in
+    subst Tells (sym tells) both.told
+
+-- where no call is on, and where it cannot be read, nothing is told
+is_called_over : (s : State) → s ≡ Idle → is_over s ≡ true
+is_called_over s e = ap is_over e
+
+pub told_idle : (Tells : List call_watching.Telling → Type 0) (setup : Setup) (writes : Writing) (leg : Option CalledLeg) (now : ℕ) (octets : List ℕ) (endpoint : CalledEndpoint) → IsCalled setup writes leg endpoint → endpoint.caller.procedure.state ≡ Idle → Tells []
+    → Tells (called_tellings writes leg now octets)
+told_idle Tells setup writes None now octets endpoint r e t = t
+told_idle Tells setup writes (Some l) now octets endpoint r e t =
+    subst (λ (b : Bool). Tells (told_on b writes l now (datagram_of octets))) (sym (is_called_over (called_legs.core_of writes l).state (sym r.core.follows.state ∙ e))) t
+
+fault_told : (Tells : List call_watching.Telling → Type 0) (b : Bool) (writes : Writing) (l : CalledLeg) (now : ℕ) (fault : UdptlFault) → Tells [] → Tells (told_on b writes l now (Err fault))
+fault_told Tells true writes l now fault t = t
+fault_told Tells false writes l now fault t = t
+
+pub told_unread : (Tells : List call_watching.Telling → Type 0) (writes : Writing) (leg : Option CalledLeg) (now : ℕ) (octets : List ℕ) (fault : UdptlFault) → datagram_of octets ≡ Err fault → Tells [] → Tells (called_tellings writes leg now octets)
+told_unread Tells writes None now octets fault e t = t
+told_unread Tells writes (Some l) now octets fault e t =
+    subst (λ (r : Result DatagramValue UdptlFault). Tells (told_on (is_over (called_legs.core_of writes l).state) writes l now r)) (sym e)
+    (fault_told Tells (is_over (called_legs.core_of writes l).state) writes l now fault t)

@@ -32,6 +32,7 @@ mod Steps
 mod Ticking
 mod Turning
 mod Unplaced
+mod Watched
 mod WholeCall
 mod Chained
 mod Relayed

@@ -8,7 +8,9 @@ use Rattle.fax_gateway.specs.Events.{Event, Given, Tick, clock}
 use Rattle.fax_gateway.specs.CallingLegs.{CallingLeg, calling_leg}
 use Rattle.fax_gateway.specs.CalledLegs.{CalledLeg}
 use Rattle.fax_gateway.specs.BothLegs.{book_of, both_legs}
+use Rattle.fax_answer.specs.Watching.{Telling}
 use Rattle.fax_gateway.specs.Asking.{asked_after}
+use Rattle.fax_gateway.specs.Watched.{HearsFromTold}
 use Rattle.fax_gateway.specs.Reached.{CallingValue, GatewayValue, HearsFrom, IsCalled, IsCalling, IsReachedBy}
 use Rattle.fax_gateway.specs.declared.called.CalledEndpoint.{CalledEndpoint}
 
@@ -28,6 +30,10 @@ AdvancesByTick old now given new = (setup : Setup) (writes : Writing) (trace : L
 abbrev pub AdvancesByHearing : (old : GatewayValue) → (octets : List ℕ) → (now : ℕ) → (decided : Bool) → (new : GatewayValue) → Type 0
 AdvancesByHearing old octets now decided new = EachTrace old (λ setup writes trace. HearsFrom setup writes trace octets now decided new)
 
+-- and this holds of what was told of it
+abbrev pub AdvancesByHearingTold : (List Telling → Type 0) → (old : GatewayValue) → (octets : List ℕ) → (now : ℕ) → (decided : Bool) → (new : GatewayValue) → Type 0
+AdvancesByHearingTold Tells old octets now decided new = EachTrace old (λ setup writes trace. HearsFromTold Tells setup writes trace octets now decided new)
+
 -- nothing happened: each trace that led to the old one led to the new one
 abbrev pub Remains : (old new : GatewayValue) → Type 0
 Remains old new = EachTrace old (λ setup writes trace. IsReachedBy setup writes trace new)
@@ -35,6 +41,10 @@ Remains old new = EachTrace old (λ setup writes trace. IsReachedBy setup writes
 -- this is so of its calling leg, at this moment or the latest that it was told
 abbrev pub OfCallingLeg : GatewayValue → (now : ℕ) → (Option CallingLeg → ℕ → Type 0) → Type 0
 OfCallingLeg gateway now IsSo = EachTrace gateway (λ setup writes trace. IsSo (calling_leg setup trace) (max now (clock trace)))
+
+-- and of its called leg
+abbrev pub OfCalledLeg : GatewayValue → (now : ℕ) → (Writing → Option CalledLeg → ℕ → Type 0) → Type 0
+OfCalledLeg gateway now IsSo = EachTrace gateway (λ setup writes trace. IsSo writes (both_legs setup writes trace).leg (max now (clock trace)))
 
 -- this is so of its book
 abbrev pub OfBook : GatewayValue → (Book → Type 0) → Type 0

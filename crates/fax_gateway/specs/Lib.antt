@@ -28,6 +28,7 @@ pub mod BothLegs
 pub mod Told
 pub mod Traces
 pub mod Turns
+pub mod Watched
 pub mod Wires
 pub mod Sent
 pub mod Restored

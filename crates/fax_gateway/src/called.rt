@@ -7,13 +7,15 @@ ghost use Rattle.fax_call.specs.declared.pending.Pending.TheVariants as Pending;
 ghost use Rattle.fax_gateway.specs.Setups.{AreAllowed, HasSettings, Setup};
 ghost use Rattle.fax_gateway.specs.CalledLegs.{CalledLeg, begun_leg, placed_leg, core_left, core_of, decided_called, hears};
 ghost use Rattle.fax_gateway.specs.Due.{call_due};
+ghost use Rattle.fax_call.specs.Watching.{Watches};
 ghost use Rattle.fax_gateway.specs.EachTrace.{EachCalledLeg};
+ghost use Rattle.fax_gateway.specs.Watched.{called_acting, called_state, called_tellings};
 ghost use Rattle.fax_gateway.specs.Reached.{Begins, CalledHasRoom, IsCalled, IsLeg, IsServed, TicksOn, called_alone, most_octets, outcome_of_rep};
 
 use crate::endpoint::{Endpoint, MOST_OCTETS};
 use crate::settings::Settings;
 use fax_bits::{NoMemory, Octets};
-use fax_call::{Caller, State};
+use fax_call::{ActingTimer, Caller, State, Watcher};
 use fax_jobs::{Job, Jobs, Outcome};
 use fax_pagestore::RowStore;
 use std::alloc::Global;
@@ -39,10 +41,30 @@ impl CalledEndpoint {
         })
     }
 
-    /// A datagram came: the octets of it. It answers whether it decided a slot, and it takes memory only where it did. An
-    /// `Err` changes nothing.
-    pub fn hear(&mut self, octets: &[u8], now: u64) -> Result<bool, NoMemory>
+    /// Where the call stands.
+    pub fn state(&self) -> State
+        ensures { EachCalledLeg self.now (λ setup writes leg. result ≡ called_state writes leg) }
+    {
+        self.caller.state()
+    }
+
+    /// The timer that acts in a tick at this moment.
+    pub fn acting(&self, now: u64) -> Option<ActingTimer>
+        ensures { EachCalledLeg self.now (λ setup writes leg. result ≡ called_acting writes leg now) }
+    {
+        self.caller.acting(now)
+    }
+
+    /// A datagram came: the octets of it. It answers whether it decided a slot, and it takes memory only where it did. A watcher
+    /// is told of each piece that it brings. An `Err` changes nothing, but that the watcher may have been told of some.
+    pub fn hear<W: Watcher>(
+        &mut self,
+        octets: &[u8],
+        now: u64,
+        watcher: &mut W,
+    ) -> Result<bool, NoMemory>
         ensures heard { OnOk result (EachCalledLeg self.old (λ setup writes leg. IsCalled setup writes (option_map (hears writes octets.now now) leg) self.new)) }
+        ensures told { OnOk result (EachCalledLeg self.old (λ setup writes leg. Watches W.tells watcher.old watcher.new (called_tellings writes leg now octets.now))) }
         ensures decided { IfOk result (λ decided. EachCalledLeg self.old (λ setup writes leg. decided ≡ decided_called writes leg octets.now)) }
         ensures memory { OnErr result (EachCalledLeg self.old (λ setup writes leg. decided_called writes leg octets.now ≡ true)) }
         ensures idle { self.old.caller.procedure.state ≡ State.Idle → self.new ≡ self.old }
@@ -56,7 +78,7 @@ impl CalledEndpoint {
         let Ok(decided) = receiver.take(octets) else {
             return Ok(false);
         };
-        self.caller.slots(&decided, now)?;
+        self.caller.slots_watched(&decided, now, watcher)?;
         self.leg.receiver = receiver;
         Ok(!decided.is_empty())
     }

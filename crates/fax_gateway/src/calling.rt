@@ -5,12 +5,14 @@ ghost use Rattle.fax_gateway.specs.Setups.{AreAllowed, HasSettings, Setup};
 ghost use Rattle.fax_gateway.specs.CallingLegs.{CallingLeg, decided_calling, idle_after, rung_leg};
 ghost use Rattle.fax_gateway.specs.Due.{calling_due};
 ghost use Rattle.fax_gateway.specs.EachTrace.{EachCallingLeg};
-ghost use Rattle.fax_gateway.specs.Reached.{IsCalling, HearsCalling, CallingHasRoom, TellsTick, answering_of, calling_alone, ticked_on};
+ghost use Rattle.fax_answer.specs.Watching.{Watches};
+ghost use Rattle.fax_gateway.specs.Watched.{HearsCallingTold, calling_acting, calling_state};
+ghost use Rattle.fax_gateway.specs.Reached.{IsCalling, CallingHasRoom, TellsTick, answering_of, calling_alone, ticked_on};
 ghost use Rattle.fax_gateway.specs.Turns.{call_of_rep, call_on};
 
 use crate::endpoint::Endpoint;
 use crate::settings::Settings;
-use fax_answer::{Answerer, State, Step};
+use fax_answer::{ActingTimer, Answerer, State, Step, Watcher};
 use fax_bits::NoMemory;
 use fax_pagestore::RowStore;
 use std::alloc::Global;
@@ -86,10 +88,29 @@ impl<S: RowStore> CallingEndpoint<S> {
         Ok(())
     }
 
-    /// A datagram came: the octets of it. It answers whether it decided a slot, and it takes memory only where it did. An
-    /// `Err` changes nothing.
-    pub fn hear(&mut self, octets: &[u8], now: u64) -> Result<bool, NoMemory>
-        ensures heard { OnOk result (EachCallingLeg self.old (λ setup leg. HearsCalling setup leg now octets.now self.new)) }
+    /// Where the call stands.
+    pub fn state(&self) -> State
+        ensures { EachCallingLeg self.now (λ setup leg. result ≡ calling_state leg) }
+    {
+        self.answerer.state()
+    }
+
+    /// The timer that acts in a tick at this moment.
+    pub fn acting(&self, now: u64) -> Option<ActingTimer>
+        ensures { EachCallingLeg self.now (λ setup leg. result ≡ calling_acting leg now) }
+    {
+        self.answerer.acting(now)
+    }
+
+    /// A datagram came: the octets of it. It answers whether it decided a slot, and it takes memory only where it did. A watcher
+    /// is told of each piece that it brings. An `Err` changes nothing, but that the watcher may have been told of some.
+    pub fn hear<W: Watcher>(
+        &mut self,
+        octets: &[u8],
+        now: u64,
+        watcher: &mut W,
+    ) -> Result<bool, NoMemory>
+        ensures heard { OnOk result (EachCallingLeg self.old (λ setup leg. HearsCallingTold (Watches W.tells watcher.old watcher.new) setup leg now octets.now self.new)) }
         ensures decided { IfOk result (λ decided. EachCallingLeg self.old (λ setup leg. decided ≡ decided_calling leg octets.now)) }
         ensures memory { OnErr result (EachCallingLeg self.old (λ setup leg. decided_calling leg octets.now ≡ true)) }
         ensures err { OnErr result (self.new ≡ self.old) }
@@ -101,7 +122,7 @@ impl<S: RowStore> CallingEndpoint<S> {
         let Ok(decided) = receiver.take(octets) else {
             return Ok(false);
         };
-        self.answerer.slots(&decided, now)?;
+        self.answerer.slots_watched(&decided, now, watcher)?;
         self.leg.receiver = receiver;
         Ok(!decided.is_empty())
     }

@@ -16,7 +16,10 @@ ghost use Rattle.fax_gateway.specs.CalledLegs.{decided_called};
 ghost use Rattle.fax_gateway.specs.BothLegs.{book_of, both_legs, job_asked};
 ghost use Rattle.fax_gateway.specs.Due.{called_due, due_at, job_due, nothing_given};
 ghost use Rattle.fax_gateway.specs.Reached.{CallingHasRoom, HasRoom, IsCalling, IsLeg, IsReachedBy, IsServed, alone, closed_if, confirmed_if, confirmed_on, ended_if, ended_on, given_shown, most_octets, outcome_of_rep, refusals_if, refusing, report_if, ticked_on};
-ghost use Rattle.fax_gateway.specs.EachTrace.{Advances, AdvancesByHearing, AdvancesByTick, EachTrace, OfBook, OfCallingLeg, OfJobAsked, Remains};
+ghost use Rattle.fax_answer.specs.Watching as answer_watching;
+ghost use Rattle.fax_call.specs.Watching as call_watching;
+ghost use Rattle.fax_gateway.specs.Watched.{called_acting, called_state, called_tellings, calling_acting, calling_state};
+ghost use Rattle.fax_gateway.specs.EachTrace.{Advances, AdvancesByHearing, AdvancesByHearingTold, AdvancesByTick, EachTrace, OfBook, OfCalledLeg, OfCallingLeg, OfJobAsked, Remains};
 ghost use Rattle.fax_gateway.specs.Turns.{IsRefusedAt, Refuses, call_asked, call_if, call_of_rep, call_on, given_up_at, kept_at, kept_if, refused_if};
 
 use crate::called::CalledEndpoint;
@@ -147,10 +150,26 @@ impl<S: RowStore> Gateway<S> {
         ensures err { OnErr result (self.new ≡ refusing self.old) }
         ensures refusals { self.new.refusals ≡ refusals_if (is_err result) self.old.refusals }
     {
+        self.from_calling_watched(octets, now, &mut fax_answer::Unwatched)
+    }
+
+    /// The same, and a watcher is told of each piece that the datagram brings, but for lost slots, in the order of time: what it was
+    /// taken as. After an `Err` it may have been told of some.
+    pub fn from_calling_watched<W: fax_answer::Watcher>(
+        &mut self,
+        octets: &[u8],
+        now: u64,
+        watcher: &mut W,
+    ) -> Result<bool, NoMemory>
+        ensures heard { IfOk result (λ decided. AdvancesByHearingTold (answer_watching.Watches W.tells watcher.old watcher.new) self.old octets.now now decided self.new) }
+        ensures memory { EachTrace self.old (λ setup writes trace. decided_calling (calling_leg setup trace) octets.now ≡ false → result ≡ Ok false) }
+        ensures err { OnErr result (self.new ≡ refusing self.old) }
+        ensures refusals { self.new.refusals ≡ refusals_if (is_err result) self.old.refusals }
+    {
         let mut clock = self.clock;
         let now = clock.read(now);
         let was_idle = self.calling.is_idle();
-        let Ok(decided) = self.calling.hear(octets, now) else {
+        let Ok(decided) = self.calling.hear(octets, now, watcher) else {
             return Err(self.refuse());
         };
         self.clock = clock;
@@ -167,12 +186,60 @@ impl<S: RowStore> Gateway<S> {
         ensures err { OnErr result (self.new ≡ refusing self.old) }
         ensures refusals { self.new.refusals ≡ refusals_if (is_err result) self.old.refusals }
     {
+        self.from_called_watched(octets, now, &mut fax_call::Unwatched)
+    }
+
+    /// The same, and a watcher is told of each piece that the datagram brings, but for lost slots, in the order of time: what it was
+    /// taken as. After an `Err` it may have been told of some.
+    pub fn from_called_watched<W: fax_call::Watcher>(
+        &mut self,
+        octets: &[u8],
+        now: u64,
+        watcher: &mut W,
+    ) -> Result<bool, NoMemory>
+        ensures heard { IfOk result (λ decided. Advances self.old (FromCalled octets.now now decided) self.new) }
+        ensures told { OnOk result (OfCalledLeg self.old now (λ writes leg moment. call_watching.Watches W.tells watcher.old watcher.new (called_tellings writes leg moment octets.now))) }
+        ensures memory { EachTrace self.old (λ setup writes trace. decided_called writes (both_legs setup writes trace).leg octets.now ≡ false → result ≡ Ok false) }
+        ensures err { OnErr result (self.new ≡ refusing self.old) }
+        ensures refusals { self.new.refusals ≡ refusals_if (is_err result) self.old.refusals }
+    {
         let mut clock = self.clock;
-        let Ok(decided) = self.called.hear(octets, clock.read(now)) else {
+        let Ok(decided) = self.called.hear(octets, clock.read(now), watcher) else {
             return Err(self.refuse());
         };
         self.clock = clock;
         Ok(decided)
+    }
+
+    /// Where the call of the calling leg stands, or the last one stood.
+    pub fn calling_state(&self) -> fax_answer::State
+        ensures { EachTrace self.now (λ setup writes trace. result ≡ calling_state (calling_leg setup trace)) }
+    {
+        self.calling.state()
+    }
+
+    /// The timer of the calling leg that acts in a tick at this moment, before it gives a packet. `None`: none does, as while a
+    /// packet waits.
+    pub fn calling_acting(&self, now: u64) -> Option<fax_answer::ActingTimer>
+        ensures { OfCallingLeg self.now now (λ leg moment. result ≡ calling_acting leg moment) }
+    {
+        let mut clock = self.clock;
+        self.calling.acting(clock.read(now))
+    }
+
+    /// Where the call of the called leg stands, or the last one stood.
+    pub fn called_state(&self) -> fax_call::State
+        ensures { EachTrace self.now (λ setup writes trace. result ≡ called_state writes (both_legs setup writes trace).leg) }
+    {
+        self.called.state()
+    }
+
+    /// The timer of the called leg that acts in a tick at this moment, before it gives a packet.
+    pub fn called_acting(&self, now: u64) -> Option<fax_call::ActingTimer>
+        ensures { OfCalledLeg self.now now (λ writes leg moment. result ≡ called_acting writes leg moment) }
+    {
+        let mut clock = self.clock;
+        self.called.acting(clock.read(now))
     }
 
     /// The call of the job that is asked for is placed: the called machine has answered, and the job's call begins, with all its

@@ -402,6 +402,6 @@ fn is_at_rest<S: RowStore>(gateway: &Gateway<S>, report: Option<Report>) -> bool
 }
 
 /// The moment of a turn.
-fn moment(turn: u32) -> u64 {
+pub(super) fn moment(turn: u32) -> u64 {
     40 * u64::from(turn)
 }

@@ -6,6 +6,8 @@ use Rattle.fax_answer.specs.Images.{GoesOn}
 use Rattle.fax_answer.specs.Following.{Follows}
 use Rattle.fax_answer.specs.Reached.{Rep}
 use Rattle.fax_answer.specs.Shown.{confirmed_shown}
+use Rattle.fax_answer.specs.Watching.{Watches}
+use Rattle.fax_answer.proofs.Tellings.{watches_one}
 use Rattle.fax_answer.proofs.ImageLemmas.{goes_same, goes_fed}
 use Rattle.fax_answer.proofs.HearingLemmas.{hears_octets}
 use Rattle.fax_answer.proofs.answerer.Answerer.hear_octets.Goals as goal
@@ -25,7 +27,8 @@ returns-clause-heard g c core s =
     let new : Rep = record { tracked = c.self.inside.signals; procedure = c.note.new.self; image = c.self.inside.image; confirmed = confirmed; refused = c.self.inside.refused; spare = c.self.inside.room } in
     let procedure : c.self.inside.procedure ≡ c.args.self.now.procedure = ap (λ (x : Rep). x.procedure) same in
     let follows : Follows core s.confirmed c.self.inside.procedure = subst (λ (x : Procedure). Follows core s.confirmed x) (sym procedure) s.follows in
-    hears_octets core c.args.octets.now c.args.now (Octets c.args.octets.now) c.args.self.now new c.note.new.self c.read_octets.new.self.image refl s
+    hears_octets (Watches g.W.Watcher.tells c.args.watcher.now c.tell.new.watcher) core c.args.octets.now c.args.now (Octets c.args.octets.now) c.args.self.now new c.note.new.self c.read_octets.new.self.image refl s
     (λ can. c.note.ensures.noted core s.confirmed (Octets c.args.octets.now) PassesOver follows refl refl can)
     c.in_ok-read_octets.ensures.taken
     (record { procedure_is = refl; confirmed = ap (λ (x : Rep). x.confirmed) same; refused = ap (λ (x : Rep). x.refused) same; image_is = ap (λ (x : Rep). x.image) c.self.view_is })
+    (watches_one g.W.Watcher.tells c.args.watcher.now c.tell.new.watcher _ (c.tell.ensures core s.confirmed follows))

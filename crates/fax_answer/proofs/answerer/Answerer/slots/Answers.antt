@@ -1,7 +1,7 @@
 use Rattle.fax_udptl.specs.Taking.{slots_in}
-use Rattle.fax_answer.proofs.SlotsLemmas.{hears_joined}
+use Rattle.fax_answer.proofs.SlotsLemmas.{hears_alike}
 use Rattle.fax_answer.proofs.answerer.Answerer.slots.Goals as goal
 
 pub returns-clause-heard : goal.returns-clause-heard
-returns-clause-heard g c heard core r =
-    hears_joined (slots_in c.args.decided.now) c.args.now heard core c.hear_whole.new.self c.settle.new.self (c.in_ok-hear_whole.ensures.heard heard core r) c.settle.ensures.tracked c.settle.ensures.stands c.settle.ensures.settled
+returns-clause-heard g c =
+    hears_alike _ c.slots_watched.result (slots_in c.args.decided.now) c.args.now c.args.self.now c.slots_watched.new.self c.slots_watched.ensures.heard

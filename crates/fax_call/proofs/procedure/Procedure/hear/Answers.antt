@@ -1,29 +1,37 @@
-use Rattle.std.proofs.Common.{◌≡◌, ℕ, List, Some, sym, ◌∙◌, ap, subst, rules}
-use Rattle.fax_frames.specs.declared.frame.Frame.{Frame}
-use Rattle.fax_frames.specs.Frames.{frame_of}
-use Rattle.fax_ifp.specs.Pieces.{Piece}
+use Rattle.std.proofs.Common.{◌≡◌, [], refl, sym, ap, subst, rules}
+use Rattle.fax_ifp.specs.Pieces.{Piece, Frame}
 use Rattle.fax_ifp.specs.Shown.{piece_of}
-use Rattle.fax_call.specs.declared.pending.Pending.TheVariants.{Nothing}
 use Rattle.fax_call.specs.Calls.{CallerCore, came}
 use Rattle.fax_call.specs.Following.{Follows}
-use Rattle.fax_call.proofs.FollowingLemmas.{core_waits, passed_over, frame_heard}
+use Rattle.fax_call.specs.Watching.{Watches, telling, telling_with}
+use Rattle.fax_call.proofs.Tellings.{watches_one}
 use Rattle.fax_call.proofs.procedure.Procedure.hear.Goals as goal
 
-pub returns-then-is_waiting-clause-heard : goal.returns-then-is_waiting-clause-heard
-returns-then-is_waiting-clause-heard c writes job core writer f =
-    let some : c.args.self.now.pending ≡ Nothing → ⊥ = search rules in
-    let p = c.args.self.now in
-    subst (λ (a : CallerCore). Follows writes job a writer p)
-    (sym (ap (λ (x : Piece). came core x c.args.now) (ap piece_of c.in-Frame.is) ∙ passed_over core c.in-Frame.octets.items c.args.now (core_waits writes job core writer p c.requires f some))) f
+pub returns-in-Frame-clause-heard : goal.returns-in-Frame-clause-heard
+returns-in-Frame-clause-heard g c writes job core writer f =
+    let is : piece_of c.args.piece.now ≡ Frame c.as_slice.result.now = search rules in
+    subst (λ (p : Piece). Follows writes job (came core p c.args.now) writer c.hear_frame.new.self) (sym is) (c.hear_frame.ensures.heard writes job core writer f)
 
-pub returns-in-Some-clause-heard : goal.returns-in-Some-clause-heard
-returns-in-Some-clause-heard c writes job core writer f =
-    let none : c.args.self.now.pending ≡ Nothing = search rules in
-    let p = c.args.self.now in
-    let now : ℕ = c.args.now in
-    let octets : List ℕ = c.in-Frame.octets.items in
-    let frame : Frame = c.in-Some.frame in
-    let read : frame_of octets ≡ Some frame = search rules in
-    subst (λ (a : CallerCore). Follows writes job a writer c.make.new.self)
-    (sym (ap (λ (x : Piece). came core x now) (ap piece_of c.in-Frame.is) ∙ frame_heard writes job core writer p octets frame now _ f none read (c.on_frame-decided.ensures.decided now)))
-    (c.make.ensures.made writes job core writer writer f)
+pub returns-in-Frame-clause-told : goal.returns-in-Frame-clause-told
+returns-in-Frame-clause-told g c writes job core writer f =
+    let is : piece_of c.args.piece.now ≡ Frame c.as_slice.result.now = search rules in
+    subst (λ (p : Piece). Watches g.W.Watcher.tells c.args.watcher.now c.hear_frame.new.watcher (telling_with p (telling core p c.args.now) [])) (sym is) (c.hear_frame.ensures.told writes job core writer f)
+
+pub returns-in-Start-clause-told : goal.returns-in-Start-clause-told
+returns-in-Start-clause-told g c writes job core writer f =
+    subst (λ (p : Piece). Watches g.W.Watcher.tells c.args.watcher.now c.pass_over.new.watcher (telling_with p (telling core p c.args.now) [])) (sym (ap piece_of c.in-Start.is))
+    (watches_one g.W.Watcher.tells c.args.watcher.now c.pass_over.new.watcher _ _ _ _ _ _ _ _ refl refl (ap piece_of c.in-Start.is) refl (c.pass_over.ensures writes job core writer f))
+
+pub returns-in-Octets-clause-told : goal.returns-in-Octets-clause-told
+returns-in-Octets-clause-told g c writes job core writer f =
+    subst (λ (p : Piece). Watches g.W.Watcher.tells c.args.watcher.now c.pass_over-in-Octets.new.watcher (telling_with p (telling core p c.args.now) [])) (sym (ap piece_of c.in-Octets.is))
+    (watches_one g.W.Watcher.tells c.args.watcher.now c.pass_over-in-Octets.new.watcher _ _ _ _ _ _ _ _ refl refl (ap piece_of c.in-Octets.is) refl (c.pass_over-in-Octets.ensures writes job core writer f))
+
+pub returns-in-End-clause-told : goal.returns-in-End-clause-told
+returns-in-End-clause-told g c writes job core writer f =
+    subst (λ (p : Piece). Watches g.W.Watcher.tells c.args.watcher.now c.pass_over-in-End.new.watcher (telling_with p (telling core p c.args.now) [])) (sym (ap piece_of c.in-End.is))
+    (watches_one g.W.Watcher.tells c.args.watcher.now c.pass_over-in-End.new.watcher _ _ _ _ _ _ _ _ refl refl (ap piece_of c.in-End.is) refl (c.pass_over-in-End.ensures writes job core writer f))
+
+pub returns-in-Gap-clause-told : goal.returns-in-Gap-clause-told
+returns-in-Gap-clause-told g c writes job core writer f =
+    subst (λ (p : Piece). Watches g.W.Watcher.tells c.args.watcher.now c.args.watcher.now (telling_with p (telling core p c.args.now) [])) (sym (ap piece_of c.in-Gap.is)) refl

@@ -1,33 +1,5 @@
-use Rattle.std.proofs.Common.{ℕ, true, false, Bool, not, ◌&&◌, Option, refl, sym, ◌∙◌, ap, subst}
-use Rattle.fax_gateway.specs.CallingLegs.{CallingLeg, calling_leg, idle_after}
-use Rattle.fax_gateway.specs.Reached.{GatewayValue, IsCalling, IsReachedBy, HearsCalling}
-use Rattle.fax_gateway.proofs.Steps.{hears_from}
+use Rattle.fax_gateway.proofs.Steps.{heard_alike}
 use Rattle.fax_gateway.proofs.gateway.Gateway.from_calling.Goals as goal
 
-pub returns-then-has_ended-clause-heard : goal.returns-then-has_ended-clause-heard
-returns-then-has_ended-clause-heard g c setup writes trace r =
-    let inside = c.self.inside in
-    let s = subst (λ (k : GatewayValue). IsReachedBy setup writes trace k) (sym c.self.view_is) r in
-    let old : GatewayValue = record { settings = inside.settings; clock = inside.clock; rings = inside.rings; calling = inside.calling; called = inside.called; book = inside.jobs.book; spare = inside.jobs.spare; refusals = inside.refusals } in
-    let new : GatewayValue = record { settings = inside.settings; clock = c.read-now.new.self; rings = inside.rings; calling = c.hear.new.self; called = inside.called; book = c.end_call.new.self.book; spare = c.end_call.new.self.spare; refusals = inside.refusals } in
-    hears_from setup writes trace c.args.octets.now c.args.now c.in-Ok.decided true old new s c.read-now.ensures.later refl refl refl
-    (c.in-Ok.ensures.decided setup (calling_leg setup trace) s.calling)
-    (subst (λ (m : ℕ). HearsCalling setup (calling_leg setup trace) m c.args.octets.now c.hear.new.self) c.read-now.ensures.moment (c.in-Ok.ensures.heard setup (calling_leg setup trace) s.calling))
-    (λ (leg : Option CallingLeg) (h : IsCalling setup leg c.hear.new.self).
-    sym c.if-has_ended.true ∙ c.has_ended.ensures ∙ ap (λ (b : Bool). not b && c.is_idle.result) (c.is_idle-was_idle.ensures.idle setup (calling_leg setup trace) s.calling)
-    ∙ ap (λ (b : Bool). not (idle_after (calling_leg setup trace)) && b) (c.is_idle.ensures.idle setup leg h))
-    c.end_call.ensures.closed
-
-pub returns-else-has_ended-clause-heard : goal.returns-else-has_ended-clause-heard
-returns-else-has_ended-clause-heard g c setup writes trace r =
-    let inside = c.self.inside in
-    let s = subst (λ (k : GatewayValue). IsReachedBy setup writes trace k) (sym c.self.view_is) r in
-    let old : GatewayValue = record { settings = inside.settings; clock = inside.clock; rings = inside.rings; calling = inside.calling; called = inside.called; book = inside.jobs.book; spare = inside.jobs.spare; refusals = inside.refusals } in
-    let new : GatewayValue = record { settings = inside.settings; clock = c.read-now.new.self; rings = inside.rings; calling = c.hear.new.self; called = inside.called; book = inside.jobs.book; spare = inside.jobs.spare; refusals = inside.refusals } in
-    hears_from setup writes trace c.args.octets.now c.args.now c.in-Ok.decided false old new s c.read-now.ensures.later refl refl refl
-    (c.in-Ok.ensures.decided setup (calling_leg setup trace) s.calling)
-    (subst (λ (m : ℕ). HearsCalling setup (calling_leg setup trace) m c.args.octets.now c.hear.new.self) c.read-now.ensures.moment (c.in-Ok.ensures.heard setup (calling_leg setup trace) s.calling))
-    (λ (leg : Option CallingLeg) (h : IsCalling setup leg c.hear.new.self).
-    sym c.if-has_ended.false ∙ c.has_ended.ensures ∙ ap (λ (b : Bool). not b && c.is_idle.result) (c.is_idle-was_idle.ensures.idle setup (calling_leg setup trace) s.calling)
-    ∙ ap (λ (b : Bool). not (idle_after (calling_leg setup trace)) && b) (c.is_idle.ensures.idle setup leg h))
-    refl
+pub returns-clause-heard : goal.returns-clause-heard
+returns-clause-heard g c = heard_alike _ c.from_calling_watched.result c.args.octets.now c.args.now c.args.self.now c.from_calling_watched.new.self c.from_calling_watched.ensures.heard

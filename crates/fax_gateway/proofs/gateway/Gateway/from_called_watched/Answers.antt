@@ -5,7 +5,9 @@ use Rattle.fax_gateway.specs.CallingLegs.{CallingLeg, calling_after, calling_leg
 use Rattle.fax_gateway.specs.CalledLegs.{hears}
 use Rattle.fax_gateway.specs.BothLegs.{both_legs}
 use Rattle.fax_gateway.specs.Reached.{GatewayValue, IsCalled, IsCalling, IsReachedBy}
-use Rattle.fax_gateway.proofs.gateway.Gateway.from_called.Goals as goal
+use Rattle.fax_call.specs.Watching.{Watches}
+use Rattle.fax_gateway.specs.Watched.{called_tellings}
+use Rattle.fax_gateway.proofs.gateway.Gateway.from_called_watched.Goals as goal
 
 same_leg : (setup : Setup) (leg : Option CallingLeg) (now : ℕ) (octets : List ℕ) (at : ℕ) (decided : Bool) → leg ≡ calling_after setup leg now (FromCalled octets at decided)
 same_leg setup None now octets at decided = refl
@@ -28,3 +30,10 @@ returns-clause-heard g c = λ setup writes trace r.
       called = subst (λ (m : ℕ). IsCalled setup writes (option_map (hears writes octets m) leg) new) (c.read.ensures.moment ∙ now) (c.in-Ok.ensures.heard setup writes leg s.called);
       book = s.book;
     }
+
+pub returns-clause-told : goal.returns-clause-told
+returns-clause-told g c setup writes trace r =
+    let s = subst (λ (k : GatewayValue). IsReachedBy setup writes trace k) (sym c.self.view_is) r in
+    let now : c.read.new.self ≡ max c.args.now (clock trace) = c.read.ensures.later ∙ ap (λ (m : ℕ). max c.args.now m) s.at in
+    let leg = (both_legs setup writes trace).leg in
+    subst (λ (m : ℕ). Watches g.W.Watcher.tells c.args.watcher.now c.hear.new.watcher (called_tellings writes leg m c.args.octets.now)) (c.read.ensures.moment ∙ now) (c.in-Ok.ensures.told setup writes leg s.called)

@@ -1,0 +1,3 @@
+pub mod AnswerValues
+pub mod CallValues
+pub mod Notes
