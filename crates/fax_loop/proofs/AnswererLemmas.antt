@@ -1,5 +1,5 @@
 -- The machine that is called, step by step.
-use Rattle.std.proofs.Common.{◌≡◌, ℕ, ◌+◌, ◌≤◌, Bool, true, false, List, [], ◌∷◌, ◌++◌, reverse, is_some, Option, Some, None, Result, Ok, Err, refl, sym, ◌∙◌, ap, subst, arith, append-nil, if◌then◌else◌}
+use Rattle.std.proofs.Common.{◌≡◌, ℕ, ◌+◌, ◌≤◌, Bool, true, false, List, [], ◌∷◌, ◌++◌, reverse, is_some, Option, Some, None, Result, Ok, Err, refl, sym, ◌∙◌, ap, subst, arith, append-nil}
 use Rattle.std.proofs.lemmas.List.{reverse-append}
 use Rattle.fax_udptl.specs.declared.fault.UdptlFault.{UdptlFault}
 use Rattle.fax_udptl.specs.Datagrams.{DatagramValue, datagram_of}
@@ -21,13 +21,13 @@ use Rattle.fax_answer.specs.Sent.{confirmed_in_tick, confirmed_with, pages_confi
 use Rattle.fax_answer.specs.Shown.{confirmed_shown}
 use Rattle.fax_gateway.specs.Setups.{Setup}
 use Rattle.fax_gateway.specs.Legs.{new_pieces}
-use Rattle.fax_gateway.specs.CallingLegs.{CallingLeg, answers, confirmed_by, core_of, is_idle, leg_with, packets_with, told_by, told_calling}
+use Rattle.fax_gateway.specs.CallingLegs.{CallingLeg, answers, confirmed_by, core_of, is_idle, packets_with, told_by, told_calling}
 use Rattle.fax_gateway.specs.Driving.{most_datagrams}
 use Rattle.fax_gateway.specs.Reached.{IsLeg, confirmed_on, given_on, ticked_on}
 use Rattle.fax_gateway.specs.Wires.{Grows}
 use Rattle.fax_gateway.proofs.DrivingLemmas.{grows_as, grows_more, grows_none}
-use Rattle.fax_loop.proofs.LegsHear.{hears_calling}
-use Rattle.fax_loop.proofs.LegsTick.{Answers, Gives, leg_ticks, leg_tells}
+use Rattle.fax_gateway.proofs.Hearing.{heard_by, hears_calling}
+use Rattle.fax_gateway.proofs.Serving.{Answers, Gives, leg_ticks, leg_tells}
 use Rattle.fax_loop.specs.declared.answering_machine.AnsweringMachine.{AnsweringMachine}
 use Rattle.fax_loop.specs.declared.link.Link.{Link}
 use Rattle.fax_loop.specs.Ends.{EndTraffic, handed}
@@ -35,9 +35,6 @@ use Rattle.fax_loop.specs.Machines.{ReadDatagram, called_turned, called_with, da
 use Rattle.fax_loop.specs.Rep.{AnswererHears, AnswererListens, AnswererTurns, IsAnswering, answerer_of, leg_of, pages_in}
 
 -- ---- a datagram, by whether the call is over
-abbrev heard_by : Bool → CallingLeg → ℕ → Reading → Result DatagramValue UdptlFault → Option CallingLeg
-heard_by b l now read r = if b then Some l else Some (leg_with l now read r)
-
 -- pieces confirm nothing
 pages_confirmed-comes : (a : AnswererCore) (given : List Piece) (now : ℕ) (read : Reading) (events : List CallEvent)
     → pages_confirmed a (comes_all given now read events) ≡ pages_confirmed a events
@@ -74,7 +71,7 @@ pub listens : {S : Type 0} (setup : Setup) (l : CallingLeg) (now : ℕ) (octets 
     → IsAnswering setup (Some l) old → AnswererListens setup l now octets new
 listens setup l now octets x old new off takes sender has_rung confirmed hears r =
     let is_on : is_idle (core_of l).state ≡ false = on_leg (core_of l).state (λ idle. off (r.calling.core.stands.follows.state ∙ idle)) in
-    let h = hears_calling setup (Some l) now octets x (answerer_of old) (answerer_of new) is_on r.calling takes refl sender hears in
+    let h = (hears_calling (λ told. Unit {0}) setup (Some l) now octets x (answerer_of old) (answerer_of new) is_on r.calling takes refl sender (λ heard core k. record { hears = hears heard core k; told = tt })).hears in
     let b = is_idle (core_of l).state in
     record {
       read = h.read;

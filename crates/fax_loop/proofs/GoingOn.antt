@@ -13,7 +13,7 @@ use Rattle.fax_gateway.specs.declared.leg.Leg.{Leg}
 use Rattle.fax_gateway.specs.declared.leg.Leg.TheVariants as legs
 use Rattle.fax_gateway.specs.Setups.{Setup}
 use Rattle.fax_gateway.specs.Events.{Event, FromCalling, FromCalled, Tick, Given}
-use Rattle.fax_gateway.specs.CallingLegs.{CallingLeg, calling_leg, question, told_calling}
+use Rattle.fax_gateway.specs.CallingLegs.{CallingLeg, question, told_calling}
 use Rattle.fax_gateway.specs.CalledLegs.{CalledLeg, calls, told_by}
 use Rattle.fax_gateway.specs.Driving.{Entry, Accepts, ReceivesNothing, FailsToReceive, Sends, AreReceives, Comes, IsSent, IsTick, IsTurn, events, events_in, failed_in_a_row, most_datagrams, most_failed, receipts, receipts_in, sent, sent_in}
 use Rattle.fax_gateway.specs.GoesOn.{TracesGoOn}
@@ -29,7 +29,8 @@ use Rattle.fax_loop.specs.Links.{AreLinked, AreLinkedBack, came_called, came_cal
 use Rattle.fax_loop.specs.Machines.{AreCame, ReadDatagram, called_turned, called_with, calling_turned, calling_with, datagrams_of, octets_of, pages_on, rung_once}
 use Rattle.fax_loop.proofs.AnswererLemmas.{called_with-given, datagrams_of-ticked}
 use Rattle.fax_loop.proofs.CallerLemmas as caller
-use Rattle.fax_loop.proofs.OneCall.{AreQuiet, after_is, quiet_both, quiet_sent, receives_quiet, sent_called, sent_calling}
+use Rattle.fax_loop.proofs.OneCall as one
+use Rattle.fax_loop.proofs.OneCall.{AreQuiet, after_is, quiet_both, quiet_sent, receives_quiet}
 
 -- ---- what was handed over stays, and each turn adds one datagram at most
 stays : (newer older some : List (List ℕ)) → All (Contains older) some → All (Contains (newer ++ older)) some
@@ -80,21 +81,7 @@ record Hands (log : List Entry) : Type 0 where
 
 tick_hands : (now : ℕ) (log : List Entry) → IsTick now log → Hands log
 tick_hands now log (inr e) = record { given = None; hands = λ earlier. ap (λ (l : List Entry). handed_called (sent l ++ earlier)) e }
-tick_hands now log (inl k) =
-    let given : Given = k.0 in
-    let tick : List Entry = Accepts (Tick now given) ∷ [] in
-    record {
-      given = given.on_called;
-      hands = λ earlier.
-          ap (λ (l : List Entry). handed_called (sent l ++ earlier)) k.5
-          ∙ ap (λ (hs : List HandedDatagram). handed_called (hs ++ earlier)) (flat_map-append sent_in k.2 (k.1 ++ tick))
-          ∙ ap handed_called (append_assoc (sent k.2) (sent (k.1 ++ tick)) earlier)
-          ∙ sent_called given.on_called k.2 (sent (k.1 ++ tick) ++ earlier) k.4
-          ∙ ap (λ (hs : List (List ℕ)). handed given.on_called ++ hs)
-          (ap (λ (hs : List HandedDatagram). handed_called (hs ++ earlier)) (flat_map-append sent_in k.1 tick)
-          ∙ ap handed_called (append_assoc (sent k.1) (sent tick) earlier)
-          ∙ sent_calling given.on_calling k.1 (sent tick ++ earlier) k.3);
-    }
+tick_hands now log (inl k) = record { given = k.0.on_called; hands = λ earlier. one.tick_hands k.0 k.1 k.2 log (Accepts (Tick now k.0)) earlier refl k.3 k.4 k.5 }
 
 turn_hands : (now : ℕ) (log : List Entry) → IsTurn now log → Hands log
 turn_hands now log turn =
