@@ -83,10 +83,6 @@ stays e earlier l k =
     let b : l.begun ≤ clock earlier = k.begun in
     record { begun = omega arith; pace = k.pace; until = until_later (clock earlier) (clock (e ∷ earlier)) l.events (omega arith) k.until }
 
-all_stay : (e : Event) (earlier : List Event) (leg : Option CallingLeg) → IfKnown earlier leg → IfKnown (e ∷ earlier) leg
-all_stay e earlier None k = tt
-all_stay e earlier (Some l) k = stays e earlier l k
-
 comes_until : (ps : List Piece) (now from : ℕ) (read : Reading) (events : List CallEvent) → now ≤ from → AllUntil from events → AllUntil from (comes_all ps now read events)
 comes_until [] now from read events h u = u
 comes_until (p ∷ ps) now from read events h u = comes_until ps now from read (Comes p now read ∷ events) h (h, u)

@@ -9,7 +9,7 @@ use Rattle.fax_ifp.specs.Elements.{Slot}
 use Rattle.fax_ifp.specs.Pieces.{Piece}
 use Rattle.fax_pagestore.specs.Pages.{PageValue}
 use Rattle.fax_answer.specs.declared.state.State.{State}
-use Rattle.fax_answer.specs.declared.state.State.TheVariants.{Idle, Identify, Listen, Train, Page, Again, Closing}
+use Rattle.fax_answer.specs.declared.state.State.TheVariants.{Idle}
 use Rattle.fax_answer.specs.declared.step.Confirmed.{Confirmed}
 use Rattle.fax_answer.specs.declared.step.Step.{Step}
 use Rattle.fax_answer.specs.Table.{Reading}
@@ -27,6 +27,7 @@ use Rattle.fax_gateway.specs.Reached.{IsLeg, confirmed_on, given_on, ticked_on}
 use Rattle.fax_gateway.specs.Wires.{Grows}
 use Rattle.fax_gateway.proofs.DrivingLemmas.{grows_as, grows_more, grows_none}
 use Rattle.fax_gateway.proofs.Hearing.{heard_by, hears_calling}
+use Rattle.fax_gateway.proofs.IdleLegs.{idle_is}
 use Rattle.fax_gateway.proofs.Serving.{Answers, Gives, leg_ticks, leg_tells}
 use Rattle.fax_loop.specs.declared.answering_machine.AnsweringMachine.{AnsweringMachine}
 use Rattle.fax_loop.specs.declared.link.Link.{Link}
@@ -56,13 +57,11 @@ heard-given false l now read (Ok d) = refl
 heard-given false l now read (Err e) = refl
 
 on_leg : (s : State) → (s ≡ Idle → ⊥) → is_idle s ≡ false
-on_leg Idle h = absurd (h refl)
-on_leg Identify h = refl
-on_leg Listen h = refl
-on_leg (Train dcs) h = refl
-on_leg (Page dcs) h = refl
-on_leg Again h = refl
-on_leg Closing h = refl
+on_leg s h = by (is_idle s) refl
+  where
+    by : (b : Bool) → is_idle s ≡ b → b ≡ false
+    by true e = absurd (h (idle_is s e))
+    by false e = refl
 
 -- slots are heard
 pub listens : {S : Type 0} (setup : Setup) (l : CallingLeg) (now : ℕ) (octets : List ℕ) (x : DecidedValue) (old new : AnsweringMachine S) → (old.answerer.procedure.state ≡ Idle → ⊥)

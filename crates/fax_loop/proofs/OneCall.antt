@@ -1,25 +1,21 @@
 -- In an exchange the gateway makes one call, and the datagrams that it hands over on its called leg are those of the packets that it
 -- gives there.
-use Rattle.std.proofs.Common.{◌≡◌, ℕ, ◌-◌, max, Bool, true, false, not, ◌&&◌, List, [], ◌∷◌, ◌++◌, length, drop, slice_get, ◌⊎◌, inl, inr, is_some, Option, Some, None, option_map, Result, Ok, Err, refl, sym, ◌∙◌, ap, subst, arith, append-nil, append_assoc, length-drop, if◌then◌else◌}
+use Rattle.std.proofs.Common.{◌≡◌, ℕ, ◌-◌, max, Bool, true, false, not, ◌&&◌, List, [], ◌∷◌, ◌++◌, length, drop, slice_get, ◌⊎◌, inl, inr, is_some, Option, Some, None, option_map, refl, sym, ◌∙◌, ap, subst, arith, append-nil, append_assoc, length-drop, if◌then◌else◌}
 use Rattle.std.specs.List.{AllByRecursion}
 use Rattle.std.proofs.lemmas.List.Concat.{flat_map-append}
 use Rattle.std.proofs.lemmas.List.Elements.{recursion_from_All}
-use Rattle.fax_udptl.specs.declared.fault.UdptlFault.{UdptlFault}
-use Rattle.fax_udptl.specs.Datagrams.{DatagramValue, datagram_of}
 use Rattle.fax_jobs.specs.declared.outcome.Outcome.{Outcome}
 use Rattle.fax_jobs.specs.declared.report.Report.{Report}
 use Rattle.fax_jobs.specs.Books.{kept_reports, last_of}
 use Rattle.fax_jobs.specs.Jobs.{JobValue}
 use Rattle.fax_call.specs.Writings.{Writing}
 use Rattle.fax_call.specs.Calls.{CallerCore}
-use Rattle.fax_call.specs.Delivery.{is_over}
-use Rattle.fax_call.specs.Replies.{Packet}
 use Rattle.fax_gateway.specs.declared.leg.Leg.{Leg}
 use Rattle.fax_gateway.specs.declared.leg.Leg.TheVariants as legs
 use Rattle.fax_gateway.specs.Setups.{Setup}
 use Rattle.fax_gateway.specs.Events.{Event, Ring, FromCalling, FromCalled, Tick, Placed, Given, clock}
 use Rattle.fax_gateway.specs.CallingLegs.{calling_leg}
-use Rattle.fax_gateway.specs.CalledLegs.{CalledLeg, calls, core_left, core_of, delivered_told, hears, is_free, leg_ticked, leg_with, outcome_of, packets_given, report_by, told_by, told_called, told_report, with_tick}
+use Rattle.fax_gateway.specs.CalledLegs.{CalledLeg, calls, core_left, delivered_told, hears, is_free, leg_ticked, outcome_of, report_by, told_by, told_called, told_report, with_tick}
 use Rattle.fax_gateway.specs.Driving.{Entry, Accepts, RefusesRing, RefusesDatagram, RefusesTick, ReceivesNothing, FailsToReceive, Sends, AreReceives, GivesNoDatagram, Comes, IsSent, IsTick, IsTurn, events, events_in, sent, sent_in}
 use Rattle.fax_gateway.specs.Reports.{JobsHaveStates, report_list, reports_given}
 use Rattle.fax_gateway.specs.BothLegs.{BothLegs, begins_next, book_of, both_legs, heard_in_tick, in_tick, leg_of, sends, sends_if}
@@ -30,6 +26,9 @@ use Rattle.fax_loop.specs.Exchanges.{AreRounds, Round, log_after, moment_after, 
 use Rattle.fax_loop.specs.Faithful.{given_by}
 use Rattle.fax_loop.specs.Links.{handed_called}
 use Rattle.fax_loop.specs.Machines.{datagrams_of}
+use Rattle.fax_gateway.proofs.DrivingLemmas.{sends_no_event}
+use Rattle.fax_loop.proofs.CallerLemmas.{datagrams_of-given}
+use Rattle.fax_loop.proofs.EachLeg.{hears_each}
 
 -- ---- A CALL THAT IS OVER WAS REPORTED
 abbrev HasReport : Option CalledLeg → List Report → Type 0
@@ -78,17 +77,9 @@ sends_report setup writes now s reports h = by (begins_next setup s.leg)
     by true = placed_report true setup writes now s reports h
     by false = h
 
-with_report : (l : CalledLeg) (now : ℕ) (r : Result DatagramValue UdptlFault) (reports : List Report) → HasReport (Some l) reports → HasReport (Some (leg_with r now l)) reports
-with_report l now (Ok d) reports h = h
-with_report l now (Err f) reports h = h
-
 hears_report : (writes : Writing) (leg : Option CalledLeg) (octets : List ℕ) (now : ℕ) (reports : List Report) → HasReport leg reports → HasReport (option_map (hears writes octets now) leg) reports
 hears_report writes None octets now reports h = tt
-hears_report writes (Some l) octets now reports h = by (is_over (core_of writes l).state)
-  where
-    by : (b : Bool) → HasReport (Some (if◌then◌else◌ {A = CalledLeg} b l (leg_with (datagram_of octets) now l))) reports
-    by true = h
-    by false = with_report l now (datagram_of octets) reports h
+hears_report writes (Some l) octets now reports h = hears_each (λ (k : CalledLeg). HasReport (Some k) reports) octets (λ k n d e x. x) writes now l h
 
 has_report : (setup : Setup) (writes : Writing) (trace : List Event) → IsTrace setup writes trace → HasReport (both_legs setup writes trace).leg (reports_given trace)
 has_report setup writes [] t = tt
@@ -153,17 +144,9 @@ record IsAs (old new : Option CalledLeg) : Type 0 where
   given : given_by new ≡ given_by old
   stays : IsOpen old → IsOpen new
 
-with_as : (l : CalledLeg) (now : ℕ) (r : Result DatagramValue UdptlFault) → IsAs (Some l) (Some (leg_with r now l))
-with_as l now (Ok d) = record { given = refl; stays = λ h. h }
-with_as l now (Err f) = record { given = refl; stays = λ h. h }
-
 hears_as : (writes : Writing) (leg : Option CalledLeg) (octets : List ℕ) (now : ℕ) → IsAs leg (option_map (hears writes octets now) leg)
 hears_as writes None octets now = record { given = refl; stays = λ h. h }
-hears_as writes (Some l) octets now = by (is_over (core_of writes l).state)
-  where
-    by : (b : Bool) → IsAs (Some l) (Some (if◌then◌else◌ {A = CalledLeg} b l (leg_with (datagram_of octets) now l)))
-    by true = record { given = refl; stays = λ h. h }
-    by false = with_as l now (datagram_of octets)
+hears_as writes (Some l) octets now = hears_each (λ (k : CalledLeg). IsAs (Some l) (Some k)) octets (λ k n d e x. record { given = x.given; stays = x.stays }) writes now l (record { given = refl; stays = λ h. h })
 
 comes_as : (setup : Setup) (writes : Writing) (came trace : List Event) → OnlyComes came → IsAs (both_legs setup writes trace).leg (both_legs setup writes (came ++ trace)).leg
 comes_as setup writes [] trace c = record { given = refl; stays = λ h. h }
@@ -198,10 +181,6 @@ sends_given setup writes now s (Some l) e h = by (begins_next setup s.leg) (none
     by true f = cc
     by false f = ap given_by e
 
-packet_given : (setup : Setup) (o : Option Packet) (given : List (List ℕ)) → datagrams_of setup (packets_given o given) ≡ handed (told_by setup given o) ++ datagrams_of setup given
-packet_given setup None given = refl
-packet_given setup (Some packet) given = refl
-
 ticked_given : (setup : Setup) (writes : Writing) (leg : Option CalledLeg) (now : ℕ) → datagrams_of setup (given_by (option_map (leg_ticked writes now) leg)) ≡ handed (told_called setup writes leg now) ++ datagrams_of setup (given_by leg)
 ticked_given setup writes None now = refl
 ticked_given setup writes (Some l) now = by l.entered
@@ -209,7 +188,7 @@ ticked_given setup writes (Some l) now = by l.entered
     by : (b : Bool) → datagrams_of setup (if◌then◌else◌ {A = CalledLeg} b l (with_tick (calls writes l now) now l)).given
         ≡ handed (if◌then◌else◌ {A = Option (List ℕ)} b None (told_by setup l.given (calls writes l now).given)) ++ datagrams_of setup l.given
     by true = refl
-    by false = packet_given setup (calls writes l now).given l.given
+    by false = datagrams_of-given setup (calls writes l now).given l.given
 
 tick_given : (setup : Setup) (writes : Writing) (earlier : List Event) (at : ℕ) (given : Given) → IsTrace setup writes (Tick at given ∷ earlier) → IsOpen (both_legs setup writes earlier).leg
     → datagrams_of setup (given_by (both_legs setup writes (Tick at given ∷ earlier)).leg) ≡ handed given.on_called ++ datagrams_of setup (given_by (both_legs setup writes earlier).leg)
@@ -284,10 +263,6 @@ sent_calling : (o : Option (List ℕ)) (log : List Entry) (earlier : List Handed
 sent_calling None log earlier e = subst (λ (l : List Entry). handed_called (sent l ++ earlier) ≡ handed_called earlier) (sym e) refl
 sent_calling (Some octets) log earlier e = subst (λ (l : List Entry). handed_called (sent l ++ earlier) ≡ handed_called earlier) (sym e.1) refl
 
-sent_events : (at : Leg) (o : Option (List ℕ)) (log : List Entry) → IsSent at o log → events log ≡ []
-sent_events at None log e = ap events e
-sent_events at (Some octets) log e = ap events e.1
-
 -- what the tick hands over, and which event it is
 pub tick_hands : (given : Given) (calling called log : List Entry) (tick : Entry) (earlier : List HandedDatagram) → sent_in tick ≡ [] → IsSent legs.Calling given.on_calling calling → IsSent legs.Called given.on_called called
     → log ≡ called ++ (calling ++ tick ∷ []) → handed_called (sent log ++ earlier) ≡ handed given.on_called ++ handed_called earlier
@@ -302,12 +277,12 @@ tick_hands given calling called log tick earlier none first second is =
     ∙ sent_calling given.on_calling calling (sent (tick ∷ []) ++ earlier) first
     ∙ ap (λ (hs : List HandedDatagram). handed_called ((hs ++ []) ++ earlier)) none)
 
-tick_event : (now : ℕ) (given : Given) (calling called log : List Entry) → IsSent legs.Calling given.on_calling calling → IsSent legs.Called given.on_called called
+pub tick_event : (now : ℕ) (given : Given) (calling called log : List Entry) → IsSent legs.Calling given.on_calling calling → IsSent legs.Called given.on_called called
     → log ≡ called ++ (calling ++ Accepts (Tick now given) ∷ []) → events log ≡ Tick now given ∷ []
 tick_event now given calling called log first second is =
     let tick : List Entry = Accepts (Tick now given) ∷ [] in
-    ap events is ∙ flat_map-append events_in called (calling ++ tick) ∙ ap (λ (es : List Event). es ++ events (calling ++ tick)) (sent_events legs.Called given.on_called called second)
-    ∙ flat_map-append events_in calling tick ∙ ap (λ (es : List Event). es ++ events tick) (sent_events legs.Calling given.on_calling calling first)
+    ap events is ∙ flat_map-append events_in called (calling ++ tick) ∙ ap (λ (es : List Event). es ++ events (calling ++ tick)) (sends_no_event legs.Called given.on_called called second)
+    ∙ flat_map-append events_in calling tick ∙ ap (λ (es : List Event). es ++ events tick) (sends_no_event legs.Calling given.on_calling calling first)
 
 tick_tells : (setup : Setup) (writes : Writing) (now : ℕ) (log : List Entry) (trace : List Event) (earlier : List HandedDatagram) → IsTick now log → IsTrace setup writes (events log ++ trace) → IsOpen (both_legs setup writes trace).leg
     → handed_called earlier ≡ datagrams_of setup (given_by (both_legs setup writes trace).leg) → handed_called (sent log ++ earlier) ≡ datagrams_of setup (given_by (both_legs setup writes (events log ++ trace)).leg)

@@ -1,6 +1,6 @@
 -- The pages that a gateway confirms, and those of its jobs, where the datagrams of its one call are those of a caller that sends one
 -- page.
-use Rattle.std.proofs.Common.{◌≡◌, ℕ, Bool, true, false, List, [], ◌∷◌, ◌++◌, length, reverse, Option, Some, None, Result, Ok, Err, inr, refl, sym, ◌∙◌, subst, if◌then◌else◌}
+use Rattle.std.proofs.Common.{◌≡◌, ℕ, Bool, true, false, List, [], ◌∷◌, ◌++◌, length, reverse, Option, Some, None, Result, Ok, Err, inr, refl, sym, ◌∙◌, ap, subst, if◌then◌else◌}
 use Rattle.std.specs.Prelude.{IfSome}
 use Rattle.fax_udptl.specs.declared.fault.UdptlFault.{UdptlFault}
 use Rattle.fax_udptl.specs.Datagrams.{DatagramValue, datagram_of}
@@ -16,7 +16,7 @@ use Rattle.fax_answer.specs.Confirmation.{IsConfirmedIn}
 use Rattle.fax_answer.specs.Sent.{page_accepted, pieces_heard}
 use Rattle.fax_call.specs.Writings.{Writing, IsWriting}
 use Rattle.fax_gateway.specs.Setups.{Setup}
-use Rattle.fax_gateway.specs.Events.{Event, Ring, FromCalling, FromCalled, Tick, Placed, Given, clock}
+use Rattle.fax_gateway.specs.Events.{Event, Ring, FromCalling, FromCalled, Tick, Placed, clock}
 use Rattle.fax_gateway.specs.CallingLegs.{CallingLeg, calling_after, calling_leg, core_of, is_idle, leg_with}
 use Rattle.fax_gateway.specs.CalledLegs.{CalledLeg}
 use Rattle.fax_gateway.specs.Forwards.{OrRestored, WasConfirmed, WasConfirmedIn}
@@ -80,42 +80,31 @@ heard_back setup given (Some l) now octets at decided read c = by (is_idle (core
     by true c = c
     by false c = with_back given l now read (datagram_of octets) c
 
-called_back : (setup : Setup) (given : List (List ℕ)) (o : Option CallingLeg) (now : ℕ) (octets : List ℕ) (at : ℕ) (decided : Bool) → IsBack given (calling_after setup o now (FromCalled octets at decided)) o
-called_back setup given None now octets at decided c = c
-called_back setup given (Some l) now octets at decided c = c
-
-tick_back : (setup : Setup) (given : List (List ℕ)) (o : Option CallingLeg) (now at : ℕ) (told : Given) → IsBack given (calling_after setup o now (Tick at told)) o
-tick_back setup given None now at told c = c
-tick_back setup given (Some l) now at told c = c
-
 -- what came in its one call is what was given at the other end
 pub record Carries (setup : Setup) (writes : Writing) (given : List (List ℕ)) (trace : List Event) : Type 0 where
   pub is_trace : IsTrace setup writes trace
   pub rings : RingsFirst trace
   pub carried : AreCarried given (arrived_on (calling_leg setup trace))
 
+earlier_rings : (e : Event) (earlier : List Event) → RingsFirst (e ∷ earlier) → RingsFirst earlier
+earlier_rings (Ring at n) earlier r = subst RingsFirst (sym r) tt
+earlier_rings (FromCalling octets at decided read) earlier r = r
+earlier_rings (FromCalled octets at decided) earlier r = r
+earlier_rings (Tick at told) earlier r = r
+earlier_rings (Placed at connected) earlier r = absurd r
+
+earlier_back : (setup : Setup) (given : List (List ℕ)) (e : Event) (earlier : List Event) (o : Option CallingLeg) → calling_leg setup earlier ≡ o → RingsFirst (e ∷ earlier) → IsBack given (calling_after setup o (clock (e ∷ earlier)) e) o
+earlier_back setup given (Ring at n) earlier o is r c = subst (λ (k : Option CallingLeg). AreCarried given (arrived_on k)) (sym (ap (calling_leg setup) r) ∙ is) (record { arrivals = []; honest = tt; arrived_are = refl })
+earlier_back setup given (FromCalling octets at decided read) earlier o is r c = heard_back setup given o (clock (FromCalling octets at decided read ∷ earlier)) octets at decided read c
+earlier_back setup given (FromCalled octets at decided) earlier None is r c = c
+earlier_back setup given (FromCalled octets at decided) earlier (Some l) is r c = c
+earlier_back setup given (Tick at told) earlier None is r c = c
+earlier_back setup given (Tick at told) earlier (Some l) is r c = c
+earlier_back setup given (Placed at connected) earlier o is r c = absurd r
+
 earlier_carries : (setup : Setup) (writes : Writing) (given : List (List ℕ)) (e : Event) (earlier : List Event) → Carries setup writes given (e ∷ earlier) → Carries setup writes given earlier
-earlier_carries setup writes given (Ring at n) earlier c = record {
-  is_trace = c.is_trace.1;
-  rings = subst RingsFirst (sym c.rings) tt;
-  carried = subst (λ (t : List Event). AreCarried given (arrived_on (calling_leg setup t))) (sym c.rings) (record { arrivals = []; honest = tt; arrived_are = refl });
-}
-earlier_carries setup writes given (FromCalling octets at decided read) earlier c = record {
-  is_trace = c.is_trace.1;
-  rings = c.rings;
-  carried = heard_back setup given (calling_leg setup earlier) (clock (FromCalling octets at decided read ∷ earlier)) octets at decided read c.carried;
-}
-earlier_carries setup writes given (FromCalled octets at decided) earlier c = record {
-  is_trace = c.is_trace.1;
-  rings = c.rings;
-  carried = called_back setup given (calling_leg setup earlier) (clock (FromCalled octets at decided ∷ earlier)) octets at decided c.carried;
-}
-earlier_carries setup writes given (Tick at told) earlier c = record {
-  is_trace = c.is_trace.1;
-  rings = c.rings;
-  carried = tick_back setup given (calling_leg setup earlier) (clock (Tick at told ∷ earlier)) at told c.carried;
-}
-earlier_carries setup writes given (Placed at connected) earlier c = absurd c.rings
+earlier_carries setup writes given e earlier c =
+    record { is_trace = c.is_trace.1; rings = earlier_rings e earlier c.rings; carried = earlier_back setup given e earlier (calling_leg setup earlier) refl c.rings c.carried }
 
 before_carries : (setup : Setup) (writes : Writing) (given : List (List ℕ)) (later earlier : List Event) → Carries setup writes given (later ++ earlier) → Carries setup writes given earlier
 before_carries setup writes given [] earlier c = c
