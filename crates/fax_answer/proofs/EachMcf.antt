@@ -107,10 +107,10 @@ chosen true c None asked command h = cc
 chosen false true r asked command h = (cc, refl)
 chosen false false r asked command h = cc
 
-record Repeats (before : List Entry) (order : Order) (command : Command) : Type 0 where
-  order_is : order ≡ orders.Judge command
-  same : repeated before ≡ Some command
-  quiet : is_quiet (since_answer before) ≡ true
+pub record Repeats (before : List Entry) (order : Order) (command : Command) : Type 0 where
+  pub order_is : order ≡ orders.Judge command
+  pub same : repeated before ≡ Some command
+  pub quiet : is_quiet (since_answer before) ≡ true
 
 -- the parts of a repeat
 parts : (a b c : Bool) → (a && (b && c)) ≡ true → ((a && b) ≡ true) × (c ≡ true)
@@ -174,11 +174,11 @@ check_passes : (b : Bool) (dcs : Dcs) (command : Command) → (if b then GivesCf
 check_passes true dcs command h = cc
 check_passes false dcs command h = cc
 
-frame_repeats : (read : Reading) (state : State) (waits : Bool) (before : List Entry) (octets : List ℕ) (command : Command) → KnowsDcs state before → decision read state waits before (pieces.Frame octets) ≡ GivesMcf command None → Repeats before (order_of octets) command
+pub frame_repeats : (read : Reading) (state : State) (waits : Bool) (before : List Entry) (octets : List ℕ) (command : Command) → KnowsDcs state before → decision read state waits before (pieces.Frame octets) ≡ GivesMcf command None → Repeats before (order_of octets) command
 frame_repeats read state true before octets command n h = cc
 frame_repeats read state false before octets command n h = by_order read state before (order_of octets) command n h
 
-end_none : (read : Reading) (state : State) (waits : Bool) (before : List Entry) (whole : Bool) (command : Command) → decision read state waits before (pieces.End whole) ≡ GivesMcf command None → ⊥
+pub end_none : (read : Reading) (state : State) (waits : Bool) (before : List Entry) (whole : Bool) (command : Command) → decision read state waits before (pieces.End whole) ≡ GivesMcf command None → ⊥
 end_none read Idle waits before whole command h = cc
 end_none read Identify waits before whole command h = cc
 end_none read Listen waits before whole command h = cc

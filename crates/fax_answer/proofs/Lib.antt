@@ -1,6 +1,7 @@
 mod AnswerLemmas
 pub mod Confirmations
 pub mod EachMcf
+pub mod EachReply
 pub mod EachRtn
 mod Examples
 mod FollowingLemmas
@@ -23,5 +24,5 @@ pub mod Accepted
 pub mod Rising
 pub mod DueLemmas
 mod InTime
-mod Silence
+pub mod Silence
 mod Silences

@@ -231,7 +231,7 @@ span_long : (preamble : Bool) (pause now : ℕ) → (packet_at preamble pause no
 span_long true pause now = omega arith
 span_long false pause now = omega arith
 
-abbrev IsPaced : (m : ℕ) → AnswererCore → Type 0
+abbrev pub IsPaced : (m : ℕ) → AnswererCore → Type 0
 IsPaced m a = allowed_from a.pace.last ≤ m + spans.longest_pause
 
 if_pace : (c : Bool) (a b : AnswererCore) (p : PaceValue) → a.pace ≡ p → b.pace ≡ p → (if◌then◌else◌ {A = AnswererCore} c a b).pace ≡ p
@@ -264,11 +264,11 @@ paced_paced m now a l k = by (pace_allows a.pace.last now)
     by true = given_paced m now a a.waiting l k
     by false = k
 
-ticked_paced : (m now : ℕ) (a : AnswererCore) → now ≤ m → IsPaced m a → IsPaced m (ticked a now).core
+pub ticked_paced : (m now : ℕ) (a : AnswererCore) → now ≤ m → IsPaced m a → IsPaced m (ticked a now).core
 ticked_paced m now a l k =
     paced_paced m now (timed a now) l (subst (λ (p : PaceValue). allowed_from p.last ≤ m + spans.longest_pause) (sym (timed_pace a now)) k)
 
-until_paced : (core : AnswererCore) (start from : ℕ) (events : List CallEvent) → allowed_from core.pace.last ≤ start + spans.longest_pause → start ≤ from → AllUntil from events
+pub until_paced : (core : AnswererCore) (start from : ℕ) (events : List CallEvent) → allowed_from core.pace.last ≤ start + spans.longest_pause → start ≤ from → AllUntil from events
     → IsPaced from (after_events (rung core start) events)
 until_paced core start from [] p l u = omega arith
 until_paced core start from (Comes piece now read ∷ before) p l u = until_paced core start from before p l u.1

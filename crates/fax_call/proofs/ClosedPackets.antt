@@ -26,13 +26,13 @@ use Rattle.fax_call.proofs.Emitted.{Good, timed_good, start_good, events_good}
 use Rattle.fax_timers.specs.Paces.{pace_allows}
 
 -- single packets
-abbrev Closed : replies.Packet → Type 0
+abbrev pub Closed : replies.Packet → Type 0
 Closed p = is_closed (packet_of (written p)) ≡ true
 
-signal_closed : (code : ℕ) → code < 16 → Closed (Signals code)
+pub signal_closed : (code : ℕ) → code < 16 → Closed (Signals code)
 signal_closed code h = ap is_closed (indicators code (omega arith))
 
-frame_closed : (frame : List ℕ) → 1 ≤ length frame → length frame ≤ 256 → Closed (Tells frame)
+pub frame_closed : (frame : List ℕ) → 1 ≤ length frame → length frame ≤ 256 → Closed (Tells frame)
 frame_closed frame some few =
     ap is_closed
     (messages_back 0 (frame_fields frame) (record {

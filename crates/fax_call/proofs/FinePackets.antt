@@ -173,6 +173,9 @@ pub record OneKind (writes : Writing) (job : JobValue) (core : CallerCore) (star
   pub heard : (octets : List ℕ) (dcs : Dcs) → Contains (pieces.pieces (map Some (map written (packets_given writes job (started core job start) events)))) (pieces.Frame octets)
       → frame_of octets ≡ Some (frames.Dcs dcs) → IsOfKind job.format coding dcs
 
+all_fine : (texts : Texts) (job : JobValue) (core : CallerCore) (start : ℕ) (events : List CallEvent) → IsJob job → AreFine (packets_given texts.writes job (started core job start) events)
+all_fine texts job core start events is = given_fine texts job (started core job start) events is (start_good texts job [] core start is) (omega arith, tt)
+
 no_eom : (packets : List replies.Packet) → AreFine packets → list_any is_eom_frame (pieces.pieces (map Some (map written packets))) ≡ false → list_any tells_eom packets ≡ false
 no_eom packets f h = by (list_any tells_eom packets) refl
   where
@@ -180,19 +183,24 @@ no_eom packets f h = by (list_any tells_eom packets) refl
     by false e = refl
     by true e = let heard : HearsEom packets = eom_heard packets f e in let x : true ≡ false = sym heard ∙ h in cc
 
-pub one_kind : (writes : Writing) (job : JobValue) (core : CallerCore) (start : ℕ) (events : List CallEvent) → IsWriting writes → IsJob job
-    → list_any is_eom_frame (pieces.pieces (map Some (map written (packets_given writes job (started core job start) events)))) ≡ false → OneKind writes job core start events
-one_kind writes job core start events w is none =
+-- where it gave no EOM, and where who hears it hears none
+pub one_kind_given : (writes : Writing) (job : JobValue) (core : CallerCore) (start : ℕ) (events : List CallEvent) → IsWriting writes → IsJob job
+    → list_any tells_eom (packets_given writes job (started core job start) events) ≡ false → OneKind writes job core start events
+one_kind_given writes job core start events w is none =
     let texts : Texts = record { writes = writes; are = w } in
-    let a : CallerCore = started core job start in
-    let packets : List replies.Packet = packets_given writes job a events in
-    let fine : AreFine packets = given_fine texts job a events is (start_good texts job [] core start is) (omega arith, tt) in
-    let one = gives_one_kind writes job core start events (no_eom packets fine none) in
+    let packets : List replies.Packet = packets_given writes job (started core job start) events in
+    let one = gives_one_kind writes job core start events none in
     record {
       coding = one.0;
       given = one.1;
-      heard = λ octets dcs c. told_frames (OfKind job.format one.0) packets octets fine (each_told job.format one.0 packets one.1) c dcs;
+      heard = λ octets dcs c. told_frames (OfKind job.format one.0) packets octets (all_fine texts job core start events is) (each_told job.format one.0 packets one.1) c dcs;
     }
+
+pub one_kind : (writes : Writing) (job : JobValue) (core : CallerCore) (start : ℕ) (events : List CallEvent) → IsWriting writes → IsJob job
+    → list_any is_eom_frame (pieces.pieces (map Some (map written (packets_given writes job (started core job start) events)))) ≡ false → OneKind writes job core start events
+one_kind writes job core start events w is none =
+    one_kind_given writes job core start events w is
+    (no_eom (packets_given writes job (started core job start) events) (all_fine (record { writes = writes; are = w }) job core start events is) none)
 
 pub tells_one_kind : TellsOneKind
 tells_one_kind writes job core start events w is none = let one : OneKind writes job core start events = one_kind writes job core start events w is none in (one.coding, one.heard)

@@ -8,7 +8,7 @@ mod RepLemmas
 mod MakingLemmas
 mod Numbered
 mod PacketLemmas
-mod PacketsBack
+pub mod PacketsBack
 mod Paddings
 mod Paged
 pub mod Refusals
@@ -25,7 +25,7 @@ pub mod GivenSignals
 pub mod ImagesInOrder
 mod OneKind
 pub mod SignalsGiven
-mod ToldFrames
+pub mod ToldFrames
 pub mod Due
 pub mod GivingUp
 pub mod Lacking

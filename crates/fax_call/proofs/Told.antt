@@ -32,7 +32,7 @@ record Sound (texts : Texts) (job : JobValue) (a : CallerCore) (events : List Ca
   silent : elements_given marks ≡ elements_given until
 
 -- a call that is over stays as it is
-over_is_idle : (state : State) → is_over state ≡ true → state ≡ Idle
+pub over_is_idle : (state : State) → is_over state ≡ true → state ≡ Idle
 over_is_idle Idle h = refl
 over_is_idle AwaitDis h = cc
 over_is_idle (AwaitCfr dis dcs) h = cc

@@ -1,5 +1,5 @@
 -- Each of these datagrams is read as the one that a sender of the packets sends at its place.
-use Rattle.std.proofs.Common.{◌≡◌, ℕ, zero, suc, ◌%◌, ◌<◌, ◌≤◌, List, [], ◌∷◌, ◌++◌, length, reverse, take, slice_get, Option, Some, None, Result, Ok, ◌⊎◌, inl, inr, refl, sym, ◌∙◌, ap, subst, arith}
+use Rattle.std.proofs.Common.{◌≡◌, ℕ, zero, suc, List, [], ◌∷◌, ◌++◌, length, reverse, slice_get, Option, Some, None, Result, Ok, ◌⊎◌, inl, inr, refl, sym, ◌∙◌, ap, subst}
 use Rattle.std.proofs.lemmas.Grind.{reverse_onto}
 use Rattle.std.proofs.lemmas.List.{length-reverse}
 use Rattle.fax_udptl.specs.declared.fault.UdptlFault.{UdptlFault}
@@ -7,32 +7,11 @@ use Rattle.fax_udptl.specs.Datagrams.{DatagramValue, datagram_of}
 use Rattle.fax_udptl.specs.Sending.{AreShort, datagram_for}
 use Rattle.fax_udptl.specs.Schedules.{IsSentAt}
 use Rattle.fax_udptl.proofs.Honest.{senders_send_their_list}
-use Rattle.fax_udptl.proofs.WrittenLemmas.{datagram_back}
 use Rattle.fax_gateway.specs.Setups.{Setup}
 use Rattle.fax_gateway.specs.Legs.{sent}
+use Rattle.fax_gateway.proofs.Fitting.{sent_back}
 use Rattle.fax_chains.specs.Given.{CallsGiveTheirPackets, GivesItsPackets, NoneIsGivenBeforeACall, ReadsAsSent, octets_given, packet_in, packets_in}
 use Rattle.fax_chains.proofs.Octets.{datagrams_of, leg_given, leg_short, none_given}
-
--- ---- one datagram is read back
-take_short : (n : ℕ) (packets : List (List ℕ)) → AreShort packets → AreShort (take n packets)
-take_short zero packets s = tt
-take_short (suc n) [] s = tt
-take_short (suc n) (p ∷ packets) s = (s.0, take_short n packets s.1)
-
-few_taken : (n : ℕ) (packets : List (List ℕ)) → length (take n packets) ≤ n
-few_taken zero packets = omega arith
-few_taken (suc n) [] = omega arith
-few_taken (suc n) (p ∷ packets) = let l : length (take n packets) ≤ n = few_taken n packets in omega arith
-
-countable : (n : ℕ) (packets : List (List ℕ)) → n ≤ 8 → length (take n packets) ≤ 16383
-countable n packets few = let l : length (take n packets) ≤ n = few_taken n packets in omega arith
-
-number_fits : (n : ℕ) → n % 65536 < 65536
-number_fits n = omega arith
-
-pub sent_back : (setup : Setup) (older : List (List ℕ)) (packet : List ℕ) → AreShort (packet ∷ older) → datagram_of (sent setup older packet) ≡ Ok (datagram_for setup.redundancy older packet)
-sent_back setup older packet short =
-    datagram_back (datagram_for setup.redundancy older packet) (number_fits (length older)) short.0 (take_short setup.redundancy older short.1) (countable setup.redundancy older setup.few)
 
 -- ---- the one at a place
 pub none_some : {A : Type 0} (x : A) → ◌≡◌ {A = Option A} None (Some x) → ⊥
@@ -94,7 +73,7 @@ reads_as_sent setup given place octets short e =
     let own : AreShort (m.packet ∷ m.older) = after_short m.later (m.packet ∷ m.older) (subst AreShort m.given_is short) in
     record {
       datagram = made;
-      is = subst (λ (x : List ℕ). datagram_of x ≡ Ok made) m.octets_are (sent_back setup m.older m.packet own);
+      is = subst (λ (x : List ℕ). datagram_of x ≡ Ok made) m.octets_are (sent_back setup m.older m.packet own.1 own.0);
       sent =
           subst (λ (n : ℕ). IsSentAt (reverse given) n made) m.place_is
           (subst (λ (xs : List (List ℕ)). IsSentAt (reverse xs) (length m.older) made) (sym m.given_is) (senders_send_their_list setup.redundancy m.later m.packet m.older setup.few));
@@ -107,7 +86,7 @@ own_packet r d e = ap packet_in e
 packets_back : (setup : Setup) (given : List (List ℕ)) → AreShort given → packets_in (datagrams_of setup given) ≡ given
 packets_back setup [] s = refl
 packets_back setup (packet ∷ older) s =
-    ap (λ (xs : List (List ℕ)). xs ++ packets_in (datagrams_of setup older)) (own_packet (datagram_of (sent setup older packet)) (datagram_for setup.redundancy older packet) (sent_back setup older packet s))
+    ap (λ (xs : List (List ℕ)). xs ++ packets_in (datagrams_of setup older)) (own_packet (datagram_of (sent setup older packet)) (datagram_for setup.redundancy older packet) (sent_back setup older packet s.1 s.0))
     ∙ ap (λ (xs : List (List ℕ)). packet ∷ xs) (packets_back setup older s.1)
 
 pub calls_give_their_packets : CallsGiveTheirPackets

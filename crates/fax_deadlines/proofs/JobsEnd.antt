@@ -1,19 +1,18 @@
 -- Each job that is sent is reported in time.
-use Rattle.std.proofs.Common.{◌≡◌, ℕ, zero, suc, ◌+◌, ◌-◌, ◌<◌, ◌≤◌, ◌^◌, max, nat_le, Bool, true, false, not, is_some, IsSome, List, [], ◌∷◌, ◌++◌, length, Option, Some, None, Result, Ok, Err, option_map, refl, sym, ◌∙◌, ap, subst, arith, if◌then◌else◌}
+use Rattle.std.proofs.Common.{◌≡◌, ℕ, zero, suc, ◌+◌, ◌-◌, ◌<◌, ◌≤◌, ◌^◌, max, nat_le, Bool, true, false, is_some, IsSome, List, [], ◌∷◌, ◌++◌, length, Option, Some, None, Result, Ok, Err, option_map, refl, sym, ◌∙◌, ap, subst, arith, if◌then◌else◌}
 use Rattle.fax_udptl.specs.declared.fault.UdptlFault.{UdptlFault}
 use Rattle.fax_udptl.specs.Datagrams.{DatagramValue, datagram_of}
 use Rattle.fax_timers.specs.Moments.{earlier}
-use Rattle.fax_timers.specs.Paces.{PaceValue, allowed_from, pace_allows}
+use Rattle.fax_timers.specs.Paces.{PaceValue, allowed_from}
 use Rattle.fax_timers.specs.Spans as spans
 use Rattle.fax_ifp.specs.Pieces as pieces
 use Rattle.fax_jobs.specs.declared.outcome.Outcome.{Outcome}
 use Rattle.fax_jobs.specs.Jobs.{JobValue, IsJob}
-use Rattle.fax_jobs.specs.Books.{Book}
-use Rattle.fax_jobs.specs.Pasts.{Sends, Step, as_list, after_steps, jobs_of, new_past}
+use Rattle.fax_jobs.specs.Pasts.{Sends, as_list, after_steps, jobs_of, new_past}
 use Rattle.fax_call.specs.declared.state.State.{State}
 use Rattle.fax_call.specs.declared.state.State.TheVariants.{Idle}
 use Rattle.fax_call.specs.Writings.{IsWriting, Writing}
-use Rattle.fax_call.specs.Calls.{CallerCore, CallEvent, Comes, Ticks, TickResult, after_event, after_events, came, given_first, new_calling, not_placed, started, ticked}
+use Rattle.fax_call.specs.Calls.{CallerCore, CallEvent, Comes, Ticks, TickResult, after_events, came, not_placed, started, ticked}
 use Rattle.fax_call.specs.Delivery.{is_over}
 use Rattle.fax_call.specs.Due.{due_at, untouched}
 use Rattle.fax_call.specs.Ending.{AreSteady, NoTextIsLonger, longest_call}
@@ -33,35 +32,9 @@ use Rattle.fax_gateway.specs.Due.{call_due, called_due, calling_due, job_due}
 use Rattle.fax_gateway.specs.Origins.{AreOfTheirCalls, JobsAreOfTheirCalls}
 use Rattle.fax_gateway.specs.Reports.{HaveStates, JobsHaveStates, job_sent}
 use Rattle.fax_gateway.specs.Traces.{IsTrace}
+use Rattle.fax_gateway.proofs.Unplaced.{stays_over}
 use Rattle.fax_deadlines.specs.Deadlines.{IsPrompt, JobsEndInTime, deadline, wanted}
 use Rattle.fax_deadlines.proofs.Prompts.{IsBefore, IsNear, before_due, before_right, between, comes_soon, near_begin, near_next, near_tick, not_due, reached, reached_most, upto, upto_most}
-
--- ---- A CALL THAT WAS NOT PLACED is over as it begins
-
-comes_over : (a : CallerCore) (job : JobValue) (piece : pieces.Piece) (now : ℕ) → came (not_placed a job) piece now ≡ not_placed a job
-comes_over a job (pieces.Frame octets) now = refl
-comes_over a job (pieces.Start kind) now = refl
-comes_over a job (pieces.Octets octets) now = refl
-comes_over a job (pieces.End whole) now = refl
-comes_over a job pieces.Gap now = refl
-
-abbrev nothing_given : CallerCore → JobValue → TickResult
-nothing_given a job = record { core = not_placed a job; given = None }
-
-ticks_over : (writes : Writing) (a : CallerCore) (job : JobValue) (now : ℕ) → ticked writes job (not_placed a job) now ≡ nothing_given a job
-ticks_over writes a job now = by (pace_allows a.pace.last now)
-  where
-    by : (b : Bool) → (if◌then◌else◌ {A = TickResult} b (given_first writes job (not_placed a job) now []) (nothing_given a job)) ≡ nothing_given a job
-    by true = refl
-    by false = refl
-
-event_over : (writes : Writing) (a : CallerCore) (job : JobValue) (e : CallEvent) → after_event writes job (not_placed a job) e ≡ not_placed a job
-event_over writes a job (Comes piece now) = comes_over a job piece now
-event_over writes a job (Ticks now) = ap (λ (t : TickResult). t.core) (ticks_over writes a job now)
-
-stays_over : (writes : Writing) (a : CallerCore) (job : JobValue) (events : List CallEvent) → after_events writes job (not_placed a job) events ≡ not_placed a job
-stays_over writes a job [] = refl
-stays_over writes a job (e ∷ events) = ap (λ (c : CallerCore). after_event writes job c e) (stays_over writes a job events) ∙ event_over writes a job e
 
 -- ---- THE CALL OF A JOB, by its events
 

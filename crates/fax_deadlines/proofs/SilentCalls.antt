@@ -1,19 +1,17 @@
 -- Silent calls of the calling leg end.
-use Rattle.std.proofs.Common.{◌≡◌, ℕ, zero, suc, ◌+◌, ◌-◌, ◌<◌, ◌≤◌, ◌^◌, max, min, nat_le, nat_lt, Bool, true, false, not, ◌&&◌, List, [], ◌∷◌, ◌++◌, reverse, length, drop, Option, Some, None, Result, Ok, Err, refl, sym, ◌∙◌, ap, subst, arith, length-append, if◌then◌else◌}
+use Rattle.std.proofs.Common.{◌≡◌, ℕ, zero, suc, ◌+◌, ◌-◌, ◌<◌, ◌≤◌, ◌^◌, nat_le, nat_lt, Bool, true, false, List, [], ◌∷◌, ◌++◌, reverse, length, drop, Option, Some, None, Result, Ok, Err, refl, sym, ◌∙◌, ap, subst, arith, length-append, if◌then◌else◌}
 use Rattle.std.proofs.lemmas.List.{reverse-append, length-reverse, drop_all}
 use Rattle.fax_udptl.specs.declared.fault.UdptlFault.{UdptlFault}
 use Rattle.fax_udptl.specs.Datagrams.{DatagramValue, datagram_of}
 use Rattle.fax_udptl.specs.Slots.{newest_slots, slots}
 use Rattle.fax_udptl.specs.Laws.{SlotsGoOn}
-use Rattle.fax_timers.specs.Moments.{earlier, is_due}
-use Rattle.fax_timers.specs.Paces.{PaceValue, allowed_from, pace_allows, packet_at}
+use Rattle.fax_timers.specs.Moments.{earlier}
+use Rattle.fax_timers.specs.Paces.{allowed_from}
 use Rattle.fax_timers.specs.Spans as spans
 use Rattle.fax_ifp.specs.Pieces.{Piece, pieces}
-use Rattle.fax_answer.specs.declared.state.State.{State}
-use Rattle.fax_answer.specs.declared.state.State.TheVariants.{Idle, Identify, Listen, Train, Page, Again, Closing}
+use Rattle.fax_answer.specs.declared.state.State.TheVariants.{Idle}
 use Rattle.fax_answer.specs.Table.{Reading}
-use Rattle.fax_answer.specs.Replies.{WaitingPacket, is_preamble, is_waiting}
-use Rattle.fax_answer.specs.Calls.{AnswererCore, CallEvent, Comes, Ticks, TickResult, after_event, after_events, given_first, new_answering, identifies_again, identifies_anew, paced, rung, says_goodbye, ticked, timed, timed_in}
+use Rattle.fax_answer.specs.Calls.{AnswererCore, CallEvent, Comes, Ticks, TickResult, after_events, rung, ticked}
 use Rattle.fax_answer.specs.Readings.{comes_all}
 use Rattle.fax_answer.specs.Due.{due_at, untouched}
 use Rattle.fax_answer.specs.Silence as answer
@@ -22,12 +20,13 @@ use Rattle.fax_call.specs.Writings.{Writing}
 use Rattle.fax_gateway.specs.Setups.{Setup}
 use Rattle.fax_gateway.specs.Events.{Event, Ring, FromCalling, FromCalled, Tick, Placed, Given, clock}
 use Rattle.fax_gateway.specs.Legs.{decided_by, decides, new_pieces}
-use Rattle.fax_gateway.specs.CallingLegs.{CallingLeg, calling_after, decided_calling, calling_leg, core_of, idle_after, is_idle, leg_ticked, leg_with, rung_leg}
+use Rattle.fax_gateway.specs.CallingLegs.{CallingLeg, calling_after, decided_calling, calling_leg, core_of, idle_after, is_idle, leg_ticked, leg_with}
 use Rattle.fax_gateway.specs.BothLegs.{book_of, both_legs}
 use Rattle.fax_gateway.specs.Due as gateway
 use Rattle.fax_gateway.specs.Due.{called_due, calling_due}
 use Rattle.fax_gateway.specs.Traces.{IsTrace}
 use Rattle.fax_answer.proofs.DueLemmas.{rests_before}
+use Rattle.fax_answer.proofs.Silence.{IsPaced, until_paced}
 use Rattle.fax_deadlines.specs.Deadlines.{IsInTime, IsPrompt, IsQuiet, SilentCallsEnd, deadline, wanted}
 use Rattle.fax_deadlines.proofs.Prompts.{IsBefore, IsNear, before_due, before_left, between, comes_soon, near_begin, near_next, near_tick, not_due, reached, reached_most, upto, upto_most}
 
@@ -63,55 +62,6 @@ no_pieces go arrived d none =
     let before : List Piece = pieces (newest_slots arrived) in
     ap (λ (s : List (Option (List ℕ))). drop (length before) (pieces s)) (same_newest go arrived d none) ∙ drop_all (length before) before (omega arith)
 
--- ---- THE PACE of a call
-
-abbrev IsPaced : (m : ℕ) → AnswererCore → Type 0
-IsPaced m a = allowed_from a.pace.last ≤ m + spans.longest_pause
-
-span_most : (preamble : Bool) (pause now : ℕ) → (packet_at preamble pause now).span ≤ spans.longest_pause
-span_most true pause now = omega arith
-span_most false pause now = omega arith
-
-if_pace : (c : Bool) (a b : AnswererCore) (p : PaceValue) → a.pace ≡ p → b.pace ≡ p → (if◌then◌else◌ {A = AnswererCore} c a b).pace ≡ p
-if_pace true a b p e f = e
-if_pace false a b p e f = f
-
-timed_in_pace : (s : State) (a : AnswererCore) (now : ℕ) → (timed_in s a now).pace ≡ a.pace
-timed_in_pace Idle a now = refl
-timed_in_pace Identify a now =
-    if_pace (is_due a.timers.t1 now) (says_goodbye a) (if is_due a.timers.t4 now then identifies_again a else a) a.pace refl
-    (if_pace (is_due a.timers.t4 now) (identifies_again a) a a.pace refl refl)
-timed_in_pace Listen a now = if_pace (is_due a.timers.t2 now) (says_goodbye a) a a.pace refl refl
-timed_in_pace (Train dcs) a now = if_pace (is_due a.timers.t2 now) (says_goodbye a) a a.pace refl refl
-timed_in_pace (Page dcs) a now = if_pace (is_due a.timers.t2 now) (says_goodbye a) a a.pace refl refl
-timed_in_pace Again a now = if_pace (is_due a.timers.t2 now) (identifies_anew a now) a a.pace refl refl
-timed_in_pace Closing a now = refl
-
-timed_pace : (a : AnswererCore) (now : ℕ) → (timed a now).pace ≡ a.pace
-timed_pace a now = if_pace (is_waiting a.waiting) a (timed_in a.state a now) a.pace refl (timed_in_pace a.state a now)
-
-given_paced : (m now : ℕ) (a : AnswererCore) (ws : List WaitingPacket) → now ≤ m → IsPaced m a → IsPaced m (given_first a now ws).core
-given_paced m now a [] l k = k
-given_paced m now a (w ∷ []) l k = let s : (packet_at (is_preamble w.packet) a.pace.pause now).span ≤ spans.longest_pause = span_most (is_preamble w.packet) a.pace.pause now in omega arith
-given_paced m now a (w ∷ v ∷ ws) l k = let s : (packet_at (is_preamble w.packet) a.pace.pause now).span ≤ spans.longest_pause = span_most (is_preamble w.packet) a.pace.pause now in omega arith
-
-paced_paced : (m now : ℕ) (a : AnswererCore) → now ≤ m → IsPaced m a → IsPaced m (paced a now).core
-paced_paced m now a l k = by (pace_allows a.pace.last now)
-  where
-    by : (c : Bool) → IsPaced m (if◌then◌else◌ {A = TickResult} c (given_first a now a.waiting) (record { core = a; given = None; ended = false })).core
-    by true = given_paced m now a a.waiting l k
-    by false = k
-
-ticked_paced : (m now : ℕ) (a : AnswererCore) → now ≤ m → IsPaced m a → IsPaced m (ticked a now).core
-ticked_paced m now a l k =
-    paced_paced m now (timed a now) l (subst (λ (p : PaceValue). allowed_from p.last ≤ m + spans.longest_pause) (sym (timed_pace a now)) k)
-
-until_paced : (core : AnswererCore) (start from : ℕ) (events : List CallEvent) → allowed_from core.pace.last ≤ start + spans.longest_pause → start ≤ from → AllUntil from events
-    → IsPaced from (after_events (rung core start) events)
-until_paced core start from [] p l u = omega arith
-until_paced core start from (Comes piece now read ∷ before) p l u = until_paced core start from before p l u.1
-until_paced core start from (Ticks now ∷ before) p l u = ticked_paced from now (after_events (rung core start) before) u.0 (until_paced core start from before p l u.1)
-
 -- ---- WHAT IS KNOWN of the calling leg after a trace
 
 pub record Known (trace : List Event) (l : CallingLeg) : Type 0 where
@@ -132,10 +82,6 @@ stays : (e : Event) (earlier : List Event) (l : CallingLeg) → Known earlier l 
 stays e earlier l k =
     let b : l.begun ≤ clock earlier = k.begun in
     record { begun = omega arith; pace = k.pace; until = until_later (clock earlier) (clock (e ∷ earlier)) l.events (omega arith) k.until }
-
-all_stay : (e : Event) (earlier : List Event) (leg : Option CallingLeg) → IfKnown earlier leg → IfKnown (e ∷ earlier) leg
-all_stay e earlier None k = tt
-all_stay e earlier (Some l) k = stays e earlier l k
 
 comes_until : (ps : List Piece) (now from : ℕ) (read : Reading) (events : List CallEvent) → now ≤ from → AllUntil from events → AllUntil from (comes_all ps now read events)
 comes_until [] now from read events h u = u

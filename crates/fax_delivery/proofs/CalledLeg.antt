@@ -14,7 +14,7 @@ use Rattle.fax_answer.specs.Replies.{ConfirmedPage}
 use Rattle.fax_call.specs.declared.state.State.{State as Calling}
 use Rattle.fax_call.specs.declared.state.State.TheVariants as calling
 use Rattle.fax_call.specs.Calls as call
-use Rattle.fax_call.specs.Calls.{CallerCore, started}
+use Rattle.fax_call.specs.Calls.{CallerCore}
 use Rattle.fax_call.specs.Delivery.{is_over}
 use Rattle.fax_call.specs.Replies.{Due}
 use Rattle.fax_call.specs.Table.{on_timers}
@@ -25,10 +25,11 @@ use Rattle.fax_gateway.specs.Setups.{Setup}
 use Rattle.fax_gateway.specs.Events.{Event, clock}
 use Rattle.fax_gateway.specs.Legs.{new_pieces}
 use Rattle.fax_gateway.specs.CallingLegs as answers
-use Rattle.fax_gateway.specs.CallingLegs.{CallingLeg, calling_leg, confirmed_by, decided_calling, idle_after, question, rung_leg}
+use Rattle.fax_gateway.specs.CallingLegs.{CallingLeg, calling_leg, confirmed_by, idle_after}
 use Rattle.fax_gateway.specs.CalledLegs as calls
-use Rattle.fax_gateway.specs.CalledLegs.{CalledLeg, begun_leg, core_left, decided_called, delivered_told, hears, is_free, leg_ticked, outcome_of, outcome_told, told_called, with_tick}
+use Rattle.fax_gateway.specs.CalledLegs.{CalledLeg, begun_leg, core_left, hears, is_free}
 use Rattle.fax_gateway.specs.BothLegs.{BothLegs, book_of, both_legs, confirms_if, ends_if, heard_in_tick, leg_of, sends, sends_if}
+use Rattle.fax_gateway.proofs.Hearing.{came_core}
 use Rattle.fax_delivery.specs.Links.{Reader}
 use Rattle.fax_delivery.specs.Datagrams.{caller_with}
 use Rattle.fax_delivery.specs.Gateways.{with_calling, with_called}
@@ -225,11 +226,6 @@ over_rests writes job a m now t e =
     caller_rests writes job a now (idle_waits m a.state a.waiting a.t1 a.t4 a.outcome t.state e)
     (ap (λ (s : Calling). on_timers (is_due a.t1 now) (is_due a.t4 now) s a.counts) e)
 
-comes_so : (writes : Writing) (job : JobValue) (a : CallerCore) (ps : List Piece) (now : ℕ) (events : List call.CallEvent) →
-    call.after_events writes job a (calls.comes_to ps now events) ≡ call.came_all (call.after_events writes job a events) ps now
-comes_so writes job a [] now events = refl
-comes_so writes job a (p ∷ ps) now events = comes_so writes job a ps now (call.Comes p now ∷ events)
-
 came_timely : (m : ℕ) (a : CallerCore) (ps : List Piece) (now : ℕ) → now ≤ m → IsTimely m a → IsTimely m (call.came_all a ps now)
 came_timely m a [] now h t = t
 came_timely m a (p ∷ ps) now h t = came_timely m (call.came a p now) ps now h (timely.came_timely m a p now h t)
@@ -242,7 +238,7 @@ with_timely writes now (Some octets) l t = by (is_over (calls.core_of writes l).
     by true r = t
     by false (Err f) = t
     by false (Ok d) =
-        subst (IsTimely now) (sym (comes_so writes l.job (calls.begun_core l) (new_pieces l.arrived d) now l.events))
+        subst (IsTimely now) (sym (came_core writes l.job (calls.begun_core l) (new_pieces l.arrived d) now l.events))
         (came_timely now (calls.core_of writes l) (new_pieces l.arrived d) now (omega arith) t)
 
 pub same_over : (writes : Writing) (now : ℕ) (o : Option (List ℕ)) (l : CalledLeg) → (calls.core_of writes l).state ≡ calling.Idle → caller_with writes now o l ≡ l

@@ -1,5 +1,5 @@
 -- Datagrams that come once and in order: each brings its packet, and nothing else.
-use Rattle.std.proofs.Common.{◌≡◌, ℕ, zero, suc, ◌+◌, ◌-◌, ◌%◌, ◌<◌, ◌≤◌, max, nat_le, is_some, Bool, true, false, List, [], ◌∷◌, ◌++◌, length, take, reverse, Option, Some, None, Ok, refl, ◌∙◌, ap, arith, if◌then◌else◌, slice_get, length-take}
+use Rattle.std.proofs.Common.{◌≡◌, ℕ, zero, suc, ◌+◌, ◌-◌, ◌%◌, ◌<◌, ◌≤◌, max, nat_le, is_some, Bool, true, false, List, [], ◌∷◌, ◌++◌, length, reverse, Option, Some, None, Ok, refl, ◌∙◌, ap, arith, if◌then◌else◌, slice_get}
 use Rattle.std.specs.Prelude.{filter_map}
 use Rattle.std.specs.List.{cons_option}
 use Rattle.std.proofs.lemmas.List.{reverse-append}
@@ -7,9 +7,9 @@ use Rattle.fax_udptl.specs.Datagrams.{DatagramValue, datagram_of}
 use Rattle.fax_udptl.specs.Sending.{AreShort, datagram_for}
 use Rattle.fax_udptl.specs.Slots.{nearest, IsNearest, greatest, integer_after, said_of, decision, integers_from, slots, newest_slots}
 use Rattle.fax_udptl.proofs.SlotLemmas.{is_nearest, decided_below, decided_now, slots_go_on}
-use Rattle.fax_udptl.proofs.WrittenLemmas.{datagram_back}
 use Rattle.fax_gateway.specs.Setups.{Setup}
 use Rattle.fax_gateway.specs.Legs.{sent}
+use Rattle.fax_gateway.proofs.Fitting.{sent_back}
 
 -- the datagrams of packets that were given, each with some before it
 abbrev pub datagrams_in : ℕ → List (List ℕ) → List DatagramValue
@@ -91,17 +91,5 @@ newest_is redundancy (q ∷ given) packet =
     by g e = let more : length (q ∷ given) ≡ length given + 1 = omega arith in omega arith
 
 -- a datagram that is sent is read back
-short_take : (n : ℕ) (ps : List (List ℕ)) → AreShort ps → AreShort (take n ps)
-short_take zero ps h = tt
-short_take (suc n) [] h = tt
-short_take (suc n) (p ∷ ps) h = (h.0, short_take n ps h.1)
-
-few : (n : ℕ) (ps : List (List ℕ)) → n ≤ 8 → length (take n ps) ≤ 16383
-few n ps h = grind (arith, length-take)
-
-number_fits : (n : ℕ) → n % 65536 < 65536
-number_fits n = omega arith
-
 pub read_back : (setup : Setup) (given : List (List ℕ)) (packet : List ℕ) → AreShort (packet ∷ given) → datagram_of (sent setup given packet) ≡ Ok (datagram_for setup.redundancy given packet)
-read_back setup given packet s =
-    datagram_back (datagram_for setup.redundancy given packet) (number_fits (length given)) s.0 (short_take setup.redundancy given s.1) (few setup.redundancy given setup.few)
+read_back setup given packet s = sent_back setup given packet s.1 s.0

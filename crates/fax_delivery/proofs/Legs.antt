@@ -27,12 +27,14 @@ use Rattle.fax_gateway.specs.Legs.{new_pieces}
 use Rattle.fax_gateway.specs.CallingLegs as answers
 use Rattle.fax_gateway.specs.CallingLegs.{CallingLeg, is_idle, question, asked_by}
 use Rattle.fax_gateway.specs.CalledLegs as calls
-use Rattle.fax_gateway.specs.CalledLegs.{CalledLeg, begun_core, comes_to, hears, packets_given, with_tick}
+use Rattle.fax_gateway.specs.CalledLegs.{CalledLeg, begun_core, packets_given}
 use Rattle.fax_gateway.proofs.Fitting.{AllFit, FitGiven, FitTick, ticked_fits}
 use Rattle.fax_delivery.specs.Links.{Reader, read_by, Link, slots_with, pieces_with, caller_turned, answerer_turned, packet_given, kept_with, round, rounds, begun}
 use Rattle.fax_delivery.specs.Datagrams.{Legs, caller_with, answerer_with, by_caller, by_answerer, legs_round, legs_rounds, legs_begun}
 use Rattle.fax_delivery.proofs.InOrder.{datagrams_in, newest_is, read_back}
-use Rattle.fax_delivery.proofs.Short.{AllShort, ShortGiven, ShortTick, rung_short, came_short, ticked_short, came_fits, stays_over, stays_idle}
+use Rattle.fax_answer.proofs.EachReply.{Each, EachTick, IfGiven, rung_each, ticked_each}
+use Rattle.fax_gateway.proofs.Hearing.{came_core}
+use Rattle.fax_delivery.proofs.Short.{IsShort, are_short, came_short, came_fits, stays_over, stays_idle}
 
 -- ---- ONE DATAGRAM MORE brings the pieces of its packet
 
@@ -68,11 +70,6 @@ OnWay redundancy given arrived (Some octets) (Some packet) =
 OnWay redundancy given arrived reply packet = ⊥
 
 -- ---- THE CALLER HEARS
-
-comes_so : (writes : Writing) (job : JobValue) (a : CallerCore) (ps : List Piece) (now : ℕ) (events : List call.CallEvent) →
-    call.after_events writes job a (comes_to ps now events) ≡ call.came_all (call.after_events writes job a events) ps now
-comes_so writes job a [] now events = refl
-comes_so writes job a (p ∷ ps) now events = comes_so writes job a ps now (call.Comes p now ∷ events)
 
 record CallerHears (writes : Writing) (now : ℕ) (redundancy : ℕ) (given : List (List ℕ)) (l x : CalledLeg) (a : CallerCore) (over : Bool) (packet : Option (List ℕ)) (before : List Slot) : Type 0 where
   core : calls.core_of writes x ≡ call.came_all a (pieces_with packet over before) now
@@ -118,7 +115,7 @@ caller_hears writes now redundancy given l a false (Some octets) (Some packet) b
     subst (λ (y : CalledLeg). CallerHears writes now redundancy given l y a false (Some packet) before) (sym heard)
     (record {
       core =
-          comes_so writes l.job (begun_core l) (new_pieces l.arrived d) now l.events
+          came_core writes l.job (begun_core l) (new_pieces l.arrived d) now l.events
           ∙ ap (λ (ps : List Piece). call.came_all (calls.core_of writes l) ps now) n.0
           ∙ ap (λ (c : CallerCore). call.came_all c (pieces_with (Some packet) false before) now) core;
       slots = n.1;
@@ -214,7 +211,7 @@ pub record GoAlike (setup other : Setup) (writes : Writing) (job : JobValue) (x 
   pub to_answerer : newest_slots x.answerer.arrived ≡ y.to_answerer
   pub pages : pages_confirmed (rung x.answerer.before x.answerer.begun) x.answerer.events ≡ map (λ (c : ConfirmedPage). c.page) y.kept
   pub fit : AllFit y.caller.waiting
-  pub short : AllShort y.answerer.waiting
+  pub short : Each IsShort y.answerer.waiting
   pub caller_gave : AreShort x.caller.given
   pub answerer_gave : AreShort x.answerer.given
   pub sent : is_idle y.answerer.state ≡ false → x.answerer.arrived ≡ datagrams_in setup.redundancy x.caller.given
@@ -232,11 +229,11 @@ more_short : (given : List (List ℕ)) (o : Option Packet) → AreShort given �
 more_short given None s f = s
 more_short given (Some p) s f = (f, s)
 
-reply_short : (given : List (List ℕ)) (o : Option WaitingPacket) → AreShort given → ShortGiven o → AreShort (answers.packets_with o given)
+reply_short : (given : List (List ℕ)) (o : Option WaitingPacket) → AreShort given → IfGiven IsShort o → AreShort (answers.packets_with o given)
 reply_short given None s f = s
 reply_short given (Some w) s f = (f, s)
 
-way_so : (other : Setup) (given : List (List ℕ)) (arrived : List DatagramValue) (o : Option WaitingPacket) → AreShort given → ShortGiven o → arrived ≡ datagrams_in other.redundancy given
+way_so : (other : Setup) (given : List (List ℕ)) (arrived : List DatagramValue) (o : Option WaitingPacket) → AreShort given → IfGiven IsShort o → arrived ≡ datagrams_in other.redundancy given
     → OnWay other.redundancy (answers.packets_with o given) arrived (answers.told_by other given o) (packet_in o)
 way_so other given arrived None s f is = is
 way_so other given arrived (Some w) s f is = (given, refl, is, read_back other given w.packet (f, s))
@@ -279,7 +276,7 @@ alike_after setup other writes reads job now x y g =
     answerer_hears reads now setup.redundancy x.caller.given x.answerer y.answerer idle (by_caller setup writes now xc) packet y.to_answerer refl g.answerer g.to_answerer g.sent
     (subst (λ (o : Option (List ℕ)). Told setup.redundancy x.caller.given o packet) (sym datagram) (told_so setup x.caller.given c.given g.caller_gave fits.given)) in
     let goes : answers.answers xa now ≡ t = ap (λ (b : AnswererCore). answer.ticked b now) k.core in
-    let shorts : ShortTick t = ticked_short listened now (came_short read y.answerer qs now g.short) in
+    let shorts : EachTick IsShort t = ticked_each IsShort are_short listened now (came_short read y.answerer qs now g.short) in
     let replies : answers.packets_with (answers.answers xa now).given xa.given ≡ answers.packets_with t.given x.answerer.given =
     ap (λ (r : answer.TickResult). answers.packets_with r.given xa.given) goes ∙ ap (λ (gs : List (List ℕ)). answers.packets_with t.given gs) k.same_given in
     let told : by_answerer other now xa ≡ answers.told_by other x.answerer.given t.given =
@@ -347,7 +344,7 @@ begin_alike setup other writes job now =
       to_answerer = newest_at_first;
       pages = refl;
       fit = (omega arith, tt);
-      short = rung_short (new_answering other.pause) now;
+      short = rung_each IsShort are_short (new_answering other.pause) now;
       caller_gave = tt;
       answerer_gave = tt;
       sent = λ on. refl;

@@ -1,5 +1,5 @@
 -- What both machines give is short enough for a datagram; and a call that is over stays so.
-use Rattle.std.proofs.Common.{◌≡◌, ℕ, ◌≤◌, Bool, true, false, List, [], ◌∷◌, ◌++◌, length, Option, Some, None, refl, sym, ◌∙◌, ap, arith, if◌then◌else◌}
+use Rattle.std.proofs.Common.{◌≡◌, ℕ, ◌≤◌, Bool, true, false, List, [], ◌∷◌, length, Option, None, refl, sym, ◌∙◌, ap, arith, if◌then◌else◌}
 use Rattle.fax_frames.specs.declared.writing.Plain.{Plain}
 use Rattle.fax_frames.specs.declared.writing.Plain.TheVariants as plain
 use Rattle.fax_frames.specs.Frames.{frame_of}
@@ -26,29 +26,27 @@ use Rattle.fax_call.specs.Replies.{Due, Packet, waits, turn_after}
 use Rattle.fax_call.specs.Table.{Move, Stays, on_frame, on_timers}
 use Rattle.fax_call.specs.Writings.{Writing}
 use Rattle.fax_gateway.specs.CallingLegs.{is_idle}
+use Rattle.fax_answer.proofs.EachReply.{Each, OfReplies, came_each}
+use Rattle.fax_call.proofs.Told.{over_is_idle}
 use Rattle.fax_gateway.proofs.Fitting.{AllFit, moved_fits}
+use Rattle.fax_gateway.proofs.IdleLegs.{idle_is, idle_timed}
 
 -- ---- THE ANSWERER's packets
-abbrev pub AllShort : List WaitingPacket → Type 0
-AllShort [] = Unit {0}
-AllShort (w ∷ ws) = (length w.packet ≤ 16383) × AllShort ws
-
-short_both : (xs ys : List WaitingPacket) → AllShort xs → AllShort ys → AllShort (xs ++ ys)
-short_both [] ys a b = b
-short_both (x ∷ xs) ys a b = (a.0, short_both xs ys a.1 b)
+abbrev pub IsShort : WaitingPacket → Type 0
+IsShort w = length w.packet ≤ 16383
 
 plain_packet : (p : Plain) → length (frame_packet (written_plain p false)) ≤ 16383
 unfolding written_after
 plain_packet p = omega arith
 
-plain_short : (p : Plain) (confirmed : Option ConfirmedPage) → AllShort (plain_reply p confirmed)
+plain_short : (p : Plain) (confirmed : Option ConfirmedPage) → Each IsShort (plain_reply p confirmed)
 plain_short p confirmed = (omega arith, (plain_packet p, tt))
 
-dis_short : AllShort answer.dis_reply
+dis_short : Each IsShort answer.dis_reply
 unfolding written_after
 dis_short = (omega arith, (omega arith, tt))
 
-reply_short : (d : Decision) → AllShort (reply_to d)
+reply_short : (d : Decision) → Each IsShort (reply_to d)
 reply_short PassesOver = tt
 reply_short (Trains dcs) = tt
 reply_short HangsUp = tt
@@ -57,50 +55,12 @@ reply_short GivesFtt = plain_short plain.Ftt None
 reply_short (GivesMcf command page) = plain_short plain.Mcf (confirmed_if command page)
 reply_short GivesRtn = plain_short plain.Rtn None
 
-pub rung_short : (a : AnswererCore) (now : ℕ) → AllShort (answer.rung a now).waiting
-rung_short a now = (omega arith, dis_short)
+pub are_short : OfReplies IsShort
+are_short = record { tone = omega arith; dis = dis_short; goodbye = plain_short plain.Dcn None; reply = reply_short }
 
-pub came_short : (read : Reading) (a : AnswererCore) (ps : List Piece) (now : ℕ) → AllShort a.waiting → AllShort (answer.came_all read a ps now).waiting
+pub came_short : (read : Reading) (a : AnswererCore) (ps : List Piece) (now : ℕ) → Each IsShort a.waiting → Each IsShort (answer.came_all read a ps now).waiting
 came_short read a [] now h = h
-came_short read a (p ∷ ps) now h =
-    came_short read (answer.came read a p now) ps now (short_both a.waiting (reply_to (decision read a.state (is_waiting a.waiting) a.history p)) h (reply_short (decision read a.state (is_waiting a.waiting) a.history p)))
-
-either : (b : Bool) (x y : AnswererCore) → AllShort x.waiting → AllShort y.waiting → AllShort (if b then x else y).waiting
-either true x y i j = i
-either false x y i j = j
-
-timed_short : (state : Answering) (a : AnswererCore) (now : ℕ) → AllShort a.waiting → AllShort (answer.timed_in state a now).waiting
-timed_short answering.Idle a now i = i
-timed_short answering.Closing a now i = i
-timed_short answering.Identify a now i =
-    either (is_due a.timers.t1 now) _ _ (plain_short plain.Dcn None) (either (is_due a.timers.t4 now) (answer.identifies_again a) a dis_short i)
-timed_short answering.Listen a now i = either (is_due a.timers.t2 now) _ _ (plain_short plain.Dcn None) i
-timed_short (answering.Train d) a now i = either (is_due a.timers.t2 now) _ _ (plain_short plain.Dcn None) i
-timed_short (answering.Page d) a now i = either (is_due a.timers.t2 now) _ _ (plain_short plain.Dcn None) i
-timed_short answering.Again a now i = either (is_due a.timers.t2 now) (answer.identifies_anew a now) a dis_short i
-
-abbrev pub ShortGiven : Option WaitingPacket → Type 0
-ShortGiven None = Unit {0}
-ShortGiven (Some w) = length w.packet ≤ 16383
-
-pub record ShortTick (t : answer.TickResult) : Type 0 where
-  pub core : AllShort t.core.waiting
-  pub given : ShortGiven t.given
-
-first_short : (a : AnswererCore) (now : ℕ) (ws : List WaitingPacket) → AllShort a.waiting → AllShort ws → ShortTick (answer.given_first a now ws)
-first_short a now [] g h = record { core = g; given = tt }
-first_short a now (w ∷ []) g h = record { core = tt; given = h.0 }
-first_short a now (w ∷ v ∷ ws) g h = record { core = h.1; given = h.0 }
-
-tick_if : (b : Bool) (a : AnswererCore) (t : answer.TickResult) → AllShort a.waiting → ShortTick t → ShortTick (if b then t else record { core = a; given = None; ended = false })
-tick_if true a t i k = k
-tick_if false a t i k = record { core = i; given = tt }
-
-pub ticked_short : (a : AnswererCore) (now : ℕ) → AllShort a.waiting → ShortTick (answer.ticked a now)
-ticked_short a now h =
-    let b : AnswererCore = answer.timed a now in
-    let n : AllShort b.waiting = either (is_waiting a.waiting) a (answer.timed_in a.state a now) h (timed_short a.state a now h) in
-    tick_if (pace_allows b.pace.last now) b (answer.given_first b now b.waiting) n (first_short b now b.waiting n n)
+came_short read a (p ∷ ps) now h = came_short read (answer.came read a p now) ps now (came_each IsShort are_short read a p now h)
 
 -- ---- THE CALLER's
 pub came_fits : (a : CallerCore) (ps : List Piece) (now : ℕ) → AllFit a.waiting → AllFit (call.came_all a ps now).waiting
@@ -108,13 +68,6 @@ came_fits a [] now h = h
 came_fits a (p ∷ ps) now h = came_fits (call.came a p now) ps now (moved_fits a (call.heard a p now) h)
 
 -- ---- A CALL THAT IS OVER STAYS SO
-over_is : (s : Calling) → is_over s ≡ true → s ≡ calling.Idle
-over_is calling.Idle h = refl
-over_is calling.AwaitDis h = cc
-over_is (calling.AwaitCfr dis dcs) h = cc
-over_is (calling.AwaitMcf dis dcs) h = cc
-over_is (calling.Closing o) h = cc
-
 either_stays : (b : Bool) → (if◌then◌else◌ {A = Move} b Stays Stays) ≡ Stays
 either_stays true = refl
 either_stays false = refl
@@ -160,18 +113,9 @@ stays_over writes job a ps now h = by (is_over a.state) refl
     by : (b : Bool) → is_over a.state ≡ b → b ≡ false
     by false e = refl
     by true e =
-        let idle : a.state ≡ calling.Idle = over_is a.state e in
+        let idle : a.state ≡ calling.Idle = over_is_idle a.state e in
         let same : (call.ticked writes job (call.came_all a ps now) now).core.state ≡ calling.Idle = ap (λ (b : CallerCore). (call.ticked writes job b now).core.state) (came_over a ps now idle) ∙ ticked_over writes job a now idle in
         sym (ap is_over same) ∙ h
-
-idle_is : (s : Answering) → is_idle s ≡ true → s ≡ answering.Idle
-idle_is answering.Idle h = refl
-idle_is answering.Identify h = cc
-idle_is answering.Listen h = cc
-idle_is (answering.Train d) h = cc
-idle_is (answering.Page d) h = cc
-idle_is answering.Again h = cc
-idle_is answering.Closing h = cc
 
 either_passes : (b : Bool) → (if◌then◌else◌ {A = Decision} b PassesOver PassesOver) ≡ PassesOver
 either_passes true = refl
@@ -203,13 +147,7 @@ paced_idle a now e = by (pace_allows a.pace.last now)
     by false = e
 
 ticked_idle : (a : AnswererCore) (now : ℕ) → a.state ≡ answering.Idle → (answer.ticked a now).core.state ≡ answering.Idle
-ticked_idle a now e =
-    let held : answer.timed a now ≡ a = ap (λ (s : Answering). if◌then◌else◌ {A = AnswererCore} (is_waiting a.waiting) a (answer.timed_in s a now)) e ∙ same (is_waiting a.waiting) in
-    ap (λ (b : AnswererCore). (answer.paced b now).core.state) held ∙ paced_idle a now e
-  where
-    same : (b : Bool) → (if◌then◌else◌ {A = AnswererCore} b a a) ≡ a
-    same true = refl
-    same false = refl
+ticked_idle a now e = ap (λ (b : AnswererCore). (answer.paced b now).core.state) (idle_timed a now e) ∙ paced_idle a now e
 
 pub stays_idle : (read : Reading) (a : AnswererCore) (ps : List Piece) (now : ℕ) → is_idle (answer.ticked (answer.came_all read a ps now) now).core.state ≡ false → is_idle a.state ≡ false
 stays_idle read a ps now h = by (is_idle a.state) refl

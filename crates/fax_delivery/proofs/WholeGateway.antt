@@ -11,7 +11,7 @@ use Rattle.fax_runcodes.specs.declared.format.Format.{Format}
 use Rattle.fax_jobs.specs.Jobs.{IsJob, IsOfFirst, JobValue}
 use Rattle.fax_answer.specs.Calls as answer
 use Rattle.fax_answer.specs.Calls.{AnswererCore, new_answering}
-use Rattle.fax_answer.specs.Replies.{ConfirmedPage, WaitingPacket}
+use Rattle.fax_answer.specs.Replies.{ConfirmedPage}
 use Rattle.fax_answer.specs.Shown.{confirmed_in}
 use Rattle.fax_call.specs.declared.state.State.TheVariants as calling
 use Rattle.fax_call.specs.Calls.{CallerCore}
@@ -23,9 +23,10 @@ use Rattle.fax_gateway.specs.Restored.{RestoredCall, restores}
 use Rattle.fax_gateway.specs.CallingLegs as answers
 use Rattle.fax_gateway.specs.CallingLegs.{CallingLeg, confirmed_by, is_idle, rung_leg}
 use Rattle.fax_gateway.specs.CalledLegs as calls
-use Rattle.fax_gateway.specs.CalledLegs.{CalledLeg, core_left, outcome_of}
+use Rattle.fax_gateway.specs.CalledLegs.{core_left, outcome_of}
 use Rattle.fax_gateway.specs.BothLegs.{book_of, both_legs}
 use Rattle.fax_gateway.specs.Traces.{IsTrace}
+use Rattle.fax_gateway.proofs.Serving.{waiting_confirms}
 use Rattle.fax_delivery.specs.Jobs.{AreAllPassed, AreDelivered, all_kept, rounds_of_pages}
 use Rattle.fax_delivery.specs.Links.{Reader, IsReader, read_by, Link, caller_turned, answerer_turned, packet_given, kept_with, round, rounds, begun}
 use Rattle.fax_delivery.specs.Datagrams.{Legs, caller_with, answerer_with, by_caller, legs_round, legs_rounds, legs_begun}
@@ -110,16 +111,12 @@ no_more more all c h =
     omega (arith, a, b)
 
 -- what a round confirms on the leg it keeps on the link
-same_confirmed : (o : Option WaitingPacket) → confirmed_in o ≡ confirmed_by o
-same_confirmed None = refl
-same_confirmed (Some w) = refl
-
 kept_by : (first gateway : Setup) (writes : Writing) (reads : Reader) (job : JobValue) (now : ℕ) (x : Legs) (y : Link) → GoAlike first gateway writes job x y
     → (round writes reads job now y).kept ≡ kept_with (confirms first writes reads now x) y.kept
 kept_by first gateway writes reads job now x y g =
     round_kept writes reads job now y
     ∙ ap (λ (o : Option ConfirmedPage). kept_with o y.kept)
-    (same_confirmed (answerer_turned reads now (packet_given (caller_turned writes job now y).given) y).given ∙ ap (λ (t : answer.TickResult). confirmed_by t.given) (sym (confirms_alike first gateway writes reads job now x y g)))
+    (waiting_confirms (answerer_turned reads now (packet_given (caller_turned writes job now y).given) y).given ∙ ap (λ (t : answer.TickResult). confirmed_by t.given) (sym (confirms_alike first gateway writes reads job now x y g)))
 
 -- the number of the call stays
 heard_number : (reads : Reader) (now : ℕ) (o : Option (List ℕ)) (l : CallingLeg) → (answerer_with reads now o l).number ≡ l.number

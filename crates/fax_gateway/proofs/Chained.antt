@@ -37,11 +37,11 @@ pub record KeptLeg (writes : Writing) (P : ℕ → PageValue → Type 0) (l : Ca
   pub given_is : l.given ≡ map written (call_packets writes l l.events)
   pub closed : AreClosed l.given
 
-abbrev IfKept : Writing → (ℕ → PageValue → Type 0) → Option CalledLeg → Type 0
+abbrev pub IfKept : Writing → (ℕ → PageValue → Type 0) → Option CalledLeg → Type 0
 IfKept writes P None = Unit {0}
 IfKept writes P (Some l) = KeptLeg writes P l
 
-begins : (connected : Bool) (writes : Writing) (P : ℕ → PageValue → Type 0) (o : Option JobValue) (leg : Option CalledLeg) (before : CallerCore) (now : ℕ) → IfHolds P o → IfKept writes P leg → IfKept writes P (leg_of connected o before now leg)
+pub begins : (connected : Bool) (writes : Writing) (P : ℕ → PageValue → Type 0) (o : Option JobValue) (leg : Option CalledLeg) (before : CallerCore) (now : ℕ) → IfHolds P o → IfKept writes P leg → IfKept writes P (leg_of connected o before now leg)
 begins connected writes P None leg before now h c = c
 begins connected writes P (Some job) leg before now h c = record { holds = h; given_is = refl; closed = tt }
 
@@ -60,28 +60,30 @@ one_closed writes l now (Some packet) P w c e =
     subst (λ (a : CallerCore). (ticked writes l.job (after_events writes l.job a l.events) now).given ≡ Some packet) is e in
     (gives_closed_packets writes l.job l.before l.begun now l.events packet w c.holds.is_job given, c.closed)
 
-one_given : (o : Option Packet) (given : List (List ℕ)) (packets : List Packet) → given ≡ map written packets → packets_given o given ≡ map written (call.packets_with o packets)
+pub one_given : (o : Option Packet) (given : List (List ℕ)) (packets : List Packet) → given ≡ map written packets → packets_given o given ≡ map written (call.packets_with o packets)
 one_given None given packets e = e
 one_given (Some packet) given packets e = ap (λ (xs : List (List ℕ)). written packet ∷ xs) e
+
+pub with_tick_kept : (P : ℕ → PageValue → Type 0) (writes : Writing) (l : CalledLeg) (now : ℕ) → IsWriting writes → KeptLeg writes P l → KeptLeg writes P (with_tick (calls writes l now) now l)
+with_tick_kept P writes l now w c = record {
+  holds = c.holds;
+  given_is = one_given (calls writes l now).given l.given (call_packets writes l l.events) c.given_is;
+  closed = one_closed writes l now (calls writes l now).given P w c refl;
+}
 
 ticked_kept : (P : ℕ → PageValue → Type 0) (writes : Writing) (l : CalledLeg) (now : ℕ) → IsWriting writes → KeptLeg writes P l → KeptLeg writes P (leg_ticked writes now l)
 ticked_kept P writes l now w c = by l.entered
   where
     by : (b : Bool) → KeptLeg writes P (if◌then◌else◌ {A = CalledLeg} b l (with_tick (calls writes l now) now l))
     by true = c
-    by false =
-        record {
-          holds = c.holds;
-          given_is = one_given (calls writes l now).given l.given (call_packets writes l l.events) c.given_is;
-          closed = one_closed writes l now (calls writes l now).given P w c refl;
-        }
+    by false = with_tick_kept P writes l now w c
 
 serves_kept : (P : ℕ → PageValue → Type 0) (writes : Writing) (leg : Option CalledLeg) (now : ℕ) → IsWriting writes → IfKept writes P leg → IfKept writes P (option_map (leg_ticked writes now) leg)
 serves_kept P writes None now w c = tt
 serves_kept P writes (Some l) now w c = ticked_kept P writes l now w c
 
 -- pieces that come give nothing
-comes_given : (writes : Writing) (job : JobValue) (a : CallerCore) (ps : List Piece) (now : ℕ) (events : List CallEvent) → call.packets_given writes job a events ≡ call.packets_given writes job a (comes_to ps now events)
+pub comes_given : (writes : Writing) (job : JobValue) (a : CallerCore) (ps : List Piece) (now : ℕ) (events : List CallEvent) → call.packets_given writes job a events ≡ call.packets_given writes job a (comes_to ps now events)
 comes_given writes job a [] now events = refl
 comes_given writes job a (p ∷ ps) now events = comes_given writes job a ps now (Comes p now ∷ events)
 
@@ -94,7 +96,7 @@ with_kept P writes l now (Ok d) c =
     }
 with_kept P writes l now (Err f) c = c
 
-hears_kept : (P : ℕ → PageValue → Type 0) (writes : Writing) (leg : Option CalledLeg) (octets : List ℕ) (now : ℕ) → IfKept writes P leg → IfKept writes P (option_map (hears writes octets now) leg)
+pub hears_kept : (P : ℕ → PageValue → Type 0) (writes : Writing) (leg : Option CalledLeg) (octets : List ℕ) (now : ℕ) → IfKept writes P leg → IfKept writes P (option_map (hears writes octets now) leg)
 hears_kept P writes None octets now c = tt
 hears_kept P writes (Some l) octets now c = by (is_over (core_of writes l).state)
   where
@@ -103,11 +105,11 @@ hears_kept P writes (Some l) octets now c = by (is_over (core_of writes l).state
     by false = with_kept P writes l now (datagram_of octets) c
 
 -- where the trace grows
-each_map : (P Q : PageValue → Type 0) (pages : List PageValue) → ((page : PageValue) → P page → Q page) → EachPage P pages → EachPage Q pages
+pub each_map : (P Q : PageValue → Type 0) (pages : List PageValue) → ((page : PageValue) → P page → Q page) → EachPage P pages → EachPage Q pages
 each_map P Q [] f h = tt
 each_map P Q (page ∷ pages) f h = (f page h.0, each_map P Q pages f h.1)
 
-later_kept : (writes : Writing) (P Q : ℕ → PageValue → Type 0) (leg : Option CalledLeg) → ((number : ℕ) (page : PageValue) → P number page → Q number page) → IfKept writes P leg → IfKept writes Q leg
+pub later_kept : (writes : Writing) (P Q : ℕ → PageValue → Type 0) (leg : Option CalledLeg) → ((number : ℕ) (page : PageValue) → P number page → Q number page) → IfKept writes P leg → IfKept writes Q leg
 later_kept writes P Q None f c = tt
 later_kept writes P Q (Some l) f c =
     record {
@@ -141,7 +143,7 @@ if_kept setup writes (e ∷ earlier) w t = by e t (later_kept writes (WasConfirm
 pub kept_leg : (setup : Setup) (writes : Writing) (trace : List Event) (l : CalledLeg) → IsWriting writes → IsTrace setup writes trace → (both_legs setup writes trace).leg ≡ Some l → KeptLeg writes (WasConfirmed setup trace) l
 kept_leg setup writes trace l w t is = subst (IfKept writes (WasConfirmed setup trace)) is (if_kept setup writes trace w t)
 
-turned : (xs ys : List (List ℕ)) → AreClosed xs → AreClosed ys → AreClosed (reverse_aux xs ys)
+pub turned : (xs ys : List (List ℕ)) → AreClosed xs → AreClosed ys → AreClosed (reverse_aux xs ys)
 turned [] ys a b = b
 turned (x ∷ xs) ys a b = turned xs (x ∷ ys) a.1 (a.0, b)
 

@@ -1,5 +1,5 @@
 -- What is given on the called leg fits a datagram, and is read back from it.
-use Rattle.std.proofs.Common.{◌≡◌, ℕ, zero, suc, ◌+◌, ◌/◌, ◌%◌, ◌<◌, ◌≤◌, Bool, true, false, nat_le, List, [], ◌∷◌, ◌++◌, length, take, drop, Option, Some, None, refl, ap, arith, if◌then◌else◌, length-take}
+use Rattle.std.proofs.Common.{◌≡◌, ℕ, zero, suc, ◌+◌, ◌/◌, ◌%◌, ◌<◌, ◌≤◌, Bool, true, false, nat_le, List, [], ◌∷◌, ◌++◌, length, take, drop, Option, Some, None, Ok, refl, ap, arith, if◌then◌else◌, length-take}
 use Rattle.std.proofs.lemmas.List.{append-nil}
 use Rattle.fax_frames.specs.declared.dcs.Dcs.{Dcs}
 use Rattle.fax_frames.specs.declared.rate.Rate.{Rate}
@@ -7,6 +7,7 @@ use Rattle.fax_frames.specs.declared.rate.Rate.TheVariants.{V27At2400, V27At4800
 use Rattle.fax_frames.specs.declared.writing.Plain.{Plain}
 use Rattle.fax_frames.specs.Rates.{bits_a_second, kind_of}
 use Rattle.fax_timers.specs.Paces.{pace_allows}
+use Rattle.fax_udptl.specs.Datagrams.{datagram_of}
 use Rattle.fax_udptl.specs.Sending.{AreShort, datagram_for}
 use Rattle.fax_udptl.proofs.WrittenLemmas.{datagram_back}
 use Rattle.fax_ifp.specs.Elements as elements
@@ -35,8 +36,11 @@ few n ps h = grind (arith, length-take)
 number_fits : (n : ℕ) → n % 65536 < 65536
 number_fits n = omega arith
 
+pub sent_back : (setup : Setup) (given : List (List ℕ)) (packet : List ℕ) → AreShort given → length packet ≤ 16383 → datagram_of (sent setup given packet) ≡ Ok (datagram_for setup.redundancy given packet)
+sent_back setup given packet s p = datagram_back (datagram_for setup.redundancy given packet) (number_fits (length given)) p (short_take setup.redundancy given s) (few setup.redundancy given setup.few)
+
 pub told_back : (setup : Setup) (given : List (List ℕ)) (packet : List ℕ) → AreShort given → length packet ≤ 16383 → elements_told (Some (sent setup given packet)) ≡ elements.elements_in (packet_of packet)
-told_back setup given packet s p = ap elements_read (datagram_back (datagram_for setup.redundancy given packet) (number_fits (length given)) p (short_take setup.redundancy given s) (few setup.redundancy given setup.few))
+told_back setup given packet s p = ap elements_read (sent_back setup given packet s p)
 
 -- what waits fits
 abbrev pub IsFit : Due → Type 0

@@ -37,7 +37,7 @@ use Rattle.fax_gateway.specs.Reached.{CallingValue, IsCalling, IsCalled}
 use Rattle.fax_gateway.specs.Watched.{HearsCallingTold, called_tellings, called_tellings_of, calling_tellings_of}
 
 -- ONE MORE DATAGRAM
-newest_more : (arrived : List DatagramValue) (d : DatagramValue) (x : DecidedValue) → Decides arrived d x → newest_slots (d ∷ arrived) ≡ reverse (slots_in x) ++ newest_slots arrived
+pub newest_more : (arrived : List DatagramValue) (d : DatagramValue) (x : DecidedValue) → Decides arrived d x → newest_slots (d ∷ arrived) ≡ reverse (slots_in x) ++ newest_slots arrived
 unfolding newest_slots
 newest_more arrived d x h = ap (λ (ss : List Slot). reverse ss) h.slots ∙ reverse-append (slots arrived) (slots_in x)
 
@@ -85,14 +85,14 @@ on_err (Ok x) p = tt
 on_err (Err e) p = p
 
 -- THE CALLING LEG
-comes_core : (a : AnswererCore) (ps : List Piece) (now : ℕ) (read : Reading) (events : List answer_calls.CallEvent) → answer_calls.after_events a (comes_all ps now read events) ≡ came_all read (answer_calls.after_events a events) ps now
+pub comes_core : (a : AnswererCore) (ps : List Piece) (now : ℕ) (read : Reading) (events : List answer_calls.CallEvent) → answer_calls.after_events a (comes_all ps now read events) ≡ came_all read (answer_calls.after_events a events) ps now
 comes_core a [] now read events = refl
 comes_core a (p ∷ ps) now read events = comes_core a ps now read (answer_calls.Comes p now read ∷ events)
 
 abbrev question_by : Bool → CallingLeg → ℕ → Result DatagramValue UdptlFault → Option Question
 question_by b l now r = if b then None else asked_by l now r
 
-abbrev heard_by : Bool → CallingLeg → ℕ → Reading → Result DatagramValue UdptlFault → Option CallingLeg
+abbrev pub heard_by : Bool → CallingLeg → ℕ → Reading → Result DatagramValue UdptlFault → Option CallingLeg
 heard_by b l now read r = if b then Some l else Some (calling_legs.leg_with l now read r)
 
 -- where no call is on, nothing is heard: so one is on
@@ -187,11 +187,11 @@ brings_none_unread (Some l) octets fault e =
     subst (λ (r : Result DatagramValue UdptlFault). BringsNothing (is_idle (calling_legs.core_of l).state) r) (sym e) (fault_brings (is_idle (calling_legs.core_of l).state) fault)
 
 -- THE CALLED LEG
-came_core : (writes : Writing) (job : JobValue) (a : CallerCore) (ps : List Piece) (now : ℕ) (events : List call_calls.CallEvent) → call_calls.after_events writes job a (comes_to ps now events) ≡ call_calls.came_all (call_calls.after_events writes job a events) ps now
+pub came_core : (writes : Writing) (job : JobValue) (a : CallerCore) (ps : List Piece) (now : ℕ) (events : List call_calls.CallEvent) → call_calls.after_events writes job a (comes_to ps now events) ≡ call_calls.came_all (call_calls.after_events writes job a events) ps now
 came_core writes job a [] now events = refl
 came_core writes job a (p ∷ ps) now events = came_core writes job a ps now (call_calls.Comes p now ∷ events)
 
-abbrev hears_by : Bool → CalledLeg → ℕ → Result DatagramValue UdptlFault → CalledLeg
+abbrev pub hears_by : Bool → CalledLeg → ℕ → Result DatagramValue UdptlFault → CalledLeg
 hears_by b l now r = if b then l else called_legs.leg_with r now l
 
 on_call : (s : State) → (s ≡ Idle → ⊥) → is_over s ≡ false

@@ -54,7 +54,7 @@ pub rests_of : (setup : Setup) (trace : List Event) → IfRests (calling_leg set
 rests_of setup [] = tt
 rests_of setup (e ∷ earlier) = step_rests setup (calling_leg setup earlier) (clock (e ∷ earlier)) e (rests_of setup earlier)
 
-idle_is : (s : State) → is_idle s ≡ true → s ≡ Idle
+pub idle_is : (s : State) → is_idle s ≡ true → s ≡ Idle
 idle_is Idle h = refl
 idle_is Identify h = cc
 idle_is Listen h = cc
@@ -63,7 +63,7 @@ idle_is (Page d) h = cc
 idle_is Again h = cc
 idle_is Closing h = cc
 
-idle_timed : (a : AnswererCore) (now : ℕ) → a.state ≡ Idle → timed a now ≡ a
+pub idle_timed : (a : AnswererCore) (now : ℕ) → a.state ≡ Idle → timed a now ≡ a
 idle_timed a now p = by (is_waiting a.waiting)
   where
     by : (t : Bool) → (if◌then◌else◌ {A = AnswererCore} t a (timed_in a.state a now)) ≡ a

@@ -7,13 +7,13 @@ mod Examples
 pub mod Fitting
 mod Forwarding
 mod Going
-mod Hearing
-mod Held
+pub mod Hearing
+pub mod Held
 mod HonestCall
-mod IdleLegs
+pub mod IdleLegs
 pub mod InCalls
 mod KeptApart
-mod LegsRead
+pub mod LegsRead
 mod Living
 mod McfAnswers
 mod Newest
@@ -21,21 +21,21 @@ mod OfTheirCalls
 mod OwnConfirmed
 mod Preambles
 mod RefusedJobs
-mod Replied
+pub mod Replied
 mod Reporting
 mod RtnAnswers
 mod Restoring
-mod ServedAlone
-mod Serving
+pub mod ServedAlone
+pub mod Serving
 mod States
 mod Steps
 mod Ticking
 mod Turning
-mod Unplaced
+pub mod Unplaced
 mod Watched
 mod WholeCall
-mod Chained
-mod Relayed
+pub mod Chained
+pub mod Relayed
 pub mod SentPages
-mod Zeros
+pub mod Zeros
 mod Resting

@@ -47,10 +47,10 @@ use Rattle.fax_gateway.proofs.Unplaced.{as_begun, from_begun, packets_none}
 use Rattle.fax_gateway.proofs.Zeros.{zeros_mean_none}
 
 -- THE DCS UNDER WHICH THE SECOND READS was heard
-record HasDcs (h : List Entry) (dcs : Dcs) : Type 0 where
-  octets : List ℕ
-  heard : Has (pieces_heard h) octets
-  says : frame_of octets ≡ Some (frames.Dcs dcs)
+pub record HasDcs (h : List Entry) (dcs : Dcs) : Type 0 where
+  pub octets : List ℕ
+  pub heard : Has (pieces_heard h) octets
+  pub says : frame_of octets ≡ Some (frames.Dcs dcs)
 
 older_dcs : (e : Entry) (h : List Entry) (dcs : Dcs) → HasDcs h dcs → HasDcs (e ∷ h) dcs
 older_dcs e h dcs x = record { octets = x.octets; heard = inr x.heard; says = x.says }
@@ -87,7 +87,7 @@ trained_in (e ∷ h) dcs s = by e.decision (trained_in h dcs) s
     by (GivesMcf command page) f s = older_dcs e h dcs (f s)
     by GivesRtn f s = older_dcs e h dcs (f s)
 
-answered_in : (h : List Entry) (dcs : Dcs) → answered_dcs h ≡ Some dcs → HasDcs h dcs
+pub answered_in : (h : List Entry) (dcs : Dcs) → answered_dcs h ≡ Some dcs → HasDcs h dcs
 answered_in [] dcs s = cc
 answered_in (e ∷ h) dcs s = by e.decision (answered_in h dcs) s
   where
@@ -119,7 +119,7 @@ each_before P writes job a (Comes piece now ∷ more) before k = each_before P w
 each_before P writes job a (Ticks now ∷ more) before k =
     each_before P writes job a more before (with_each P (ticked writes job (after_events writes job a (more ++ before)) now).given (call.packets_given writes job a (more ++ before)) k)
 
-image_kind : (P : Dcs → Type 0) (writes : Writing) (job : JobValue) (old : List Mark) (a : CallerCore) (events : List CallEvent) (octets : List ℕ) (i : IsImage writes job old a events octets)
+pub image_kind : (P : Dcs → Type 0) (writes : Writing) (job : JobValue) (old : List Mark) (a : CallerCore) (events : List CallEvent) (octets : List ℕ) (i : IsImage writes job old a events octets)
     → EachDcs P (call.packets_given writes job a events) → P i.dcs
 image_kind P writes job old a events octets i k =
     last_kind P (call.packets_given writes job a i.before) i.dcs
@@ -128,7 +128,7 @@ image_kind P writes job old a events octets i k =
     i.told
 
 -- under two DCS of one kind octets mean one page
-means_as : (f : Format) (c : Coding) (dcs : Dcs) (octets : List ℕ) (page : PageValue) → IsOfKind f c dcs → MeansPage (format_of dcs) (coding_of dcs) octets page → MeansPage f c octets page
+pub means_as : (f : Format) (c : Coding) (dcs : Dcs) (octets : List ℕ) (page : PageValue) → IsOfKind f c dcs → MeansPage (format_of dcs) (coding_of dcs) octets page → MeansPage f c octets page
 means_as f c dcs octets page k m =
     subst (λ (x : Coding). MeansPage f x octets page) k.coding_is (subst (λ (x : Format). MeansPage x (coding_of dcs) octets page) k.format_is m)
 

@@ -1,8 +1,6 @@
 -- What is given on the calling leg fits a datagram; a frame MCF is read back from it exactly where the MCF packet is given, and
 -- a frame RTN only where the RTN packet is.
-use Rattle.std.proofs.Common.{◌≡◌, ℕ, ◌≤◌, ◌⊎◌, inl, inr, Bool, true, false, List, [], ◌∷◌, ◌++◌, length, Option, Some, None, Result, Ok, Err, refl, sym, ◌∙◌, ap, arith, if◌then◌else◌}
-use Rattle.fax_timers.specs.Moments.{is_due}
-use Rattle.fax_timers.specs.Paces.{pace_allows}
+use Rattle.std.proofs.Common.{◌≡◌, ℕ, ◌≤◌, ◌⊎◌, inl, inr, Bool, true, false, List, [], ◌∷◌, length, Option, Some, None, Result, Ok, Err, refl, sym, ◌∙◌, ap, arith, if◌then◌else◌}
 use Rattle.fax_frames.specs.declared.writing.Plain.{Plain}
 use Rattle.fax_frames.specs.declared.writing.Plain.TheVariants as plain
 use Rattle.fax_frames.specs.Written.{written_plain}
@@ -15,12 +13,10 @@ use Rattle.fax_ifp.specs.Packets as packets
 use Rattle.fax_ifp.specs.Packets.{packet_of, fields_at}
 use Rattle.fax_ifp.specs.Pieces as pieces
 use Rattle.fax_ifp.specs.WrittenPackets.{written_after}
-use Rattle.fax_answer.specs.declared.state.State.{State}
-use Rattle.fax_answer.specs.declared.state.State.TheVariants.{Idle, Identify, Listen, Train, Page, Again, Closing}
 use Rattle.fax_answer.specs.History.{Decision, PassesOver, Trains, HangsUp, GivesCfr, GivesFtt, GivesMcf, GivesRtn}
-use Rattle.fax_answer.specs.Table.{Reading, decision}
-use Rattle.fax_answer.specs.Replies.{ConfirmedPage, WaitingPacket, silent, called_tone, preamble, frame_packet, mcf_packet, reply_to, plain_reply, is_waiting}
-use Rattle.fax_answer.specs.Calls.{AnswererCore, rung, dis_reply, says_goodbye, identifies_again, identifies_anew, timed_in, timed, TickResult, given_first, ticked, CallEvent, Comes, after_events}
+use Rattle.fax_answer.specs.Table.{Reading}
+use Rattle.fax_answer.specs.Replies.{ConfirmedPage, WaitingPacket, silent, called_tone, preamble, frame_packet, mcf_packet, reply_to, plain_reply}
+use Rattle.fax_answer.specs.Calls.{AnswererCore, rung, dis_reply, ticked, CallEvent, Comes, after_events}
 use Rattle.fax_answer.specs.Readings.{comes_all}
 use Rattle.fax_call.specs.Emission.{ended_frame}
 use Rattle.fax_gateway.specs.Setups.{Setup}
@@ -29,6 +25,7 @@ use Rattle.fax_gateway.specs.Legs.{new_pieces}
 use Rattle.fax_gateway.specs.CallingLegs.{CallingLeg, core_of, is_idle, answers, rung_leg, leg_with, packets_with, calling_after, calling_leg, told_by}
 use Rattle.fax_answer.specs.EachRtn.{rtn_packet}
 use Rattle.fax_gateway.specs.Told.{has_mcf, gives_mcf, has_rtn, gives_rtn}
+use Rattle.fax_answer.proofs.EachReply.{Each, EachTick, IfGiven, OfReplies, came_each, ticked_each}
 use Rattle.fax_gateway.proofs.Fitting.{told_back}
 
 abbrev pub mcf_in : List ℕ → Bool
@@ -42,14 +39,6 @@ pub record IsNeat (w : WaitingPacket) : Type 0 where
   pub only : (mcf_in w.packet ≡ false) ⊎ (w.packet ≡ mcf_packet)
   pub rtn : (rtn_in w.packet ≡ false) ⊎ (w.packet ≡ rtn_packet)
 
-abbrev pub AllNeat : List WaitingPacket → Type 0
-AllNeat [] = Unit {0}
-AllNeat (w ∷ ws) = IsNeat w × AllNeat ws
-
-neat_both : (xs ys : List WaitingPacket) → AllNeat xs → AllNeat ys → AllNeat (xs ++ ys)
-neat_both [] ys a b = b
-neat_both (x ∷ xs) ys a b = (a.0, neat_both xs ys a.1 b)
-
 tone_neat : IsNeat (silent called_tone)
 unfolding packet_of bits.bit packets.fields_after
 tone_neat = record { short = omega arith; only = inl refl; rtn = inl refl }
@@ -58,7 +47,7 @@ preamble_neat : IsNeat (silent preamble)
 unfolding packet_of bits.bit packets.fields_after
 preamble_neat = record { short = omega arith; only = inl refl; rtn = inl refl }
 
-dis_neat : AllNeat dis_reply
+dis_neat : Each IsNeat dis_reply
 unfolding written_after fields_at ended_frame packet_of bits.bit packets.fields_after packets.field_at packets.octets_at
 dis_neat = (preamble_neat, (record { short = omega arith; only = inl refl; rtn = inl refl }, tt))
 
@@ -88,10 +77,10 @@ plain_short : (p : Plain) → length (frame_packet (written_plain p false)) ≤ 
 unfolding written_after
 plain_short p = omega arith
 
-plain_neat : (p : Plain) (confirmed : Option ConfirmedPage) → AllNeat (plain_reply p confirmed)
+plain_neat : (p : Plain) (confirmed : Option ConfirmedPage) → Each IsNeat (plain_reply p confirmed)
 plain_neat p confirmed = (preamble_neat, (record { short = plain_short p; only = plain_only p; rtn = plain_rtn p }, tt))
 
-reply_neat : (d : Decision) → AllNeat (reply_to d)
+reply_neat : (d : Decision) → Each IsNeat (reply_to d)
 reply_neat PassesOver = tt
 reply_neat (Trains dcs) = tt
 reply_neat HangsUp = tt
@@ -100,64 +89,28 @@ reply_neat GivesFtt = plain_neat plain.Ftt None
 reply_neat (GivesMcf command page) = plain_neat plain.Mcf _
 reply_neat GivesRtn = plain_neat plain.Rtn None
 
-either : (b : Bool) (x y : AnswererCore) → AllNeat x.waiting → AllNeat y.waiting → AllNeat (if b then x else y).waiting
-either true x y i j = i
-either false x y i j = j
+replies_neat : OfReplies IsNeat
+replies_neat = record { tone = tone_neat; dis = dis_neat; goodbye = plain_neat plain.Dcn None; reply = reply_neat }
 
-goodbye_neat : (a : AnswererCore) → AllNeat (says_goodbye a).waiting
-goodbye_neat a = plain_neat plain.Dcn None
-
-timed_in_neat : (state : State) (a : AnswererCore) (now : ℕ) → AllNeat a.waiting → AllNeat (timed_in state a now).waiting
-timed_in_neat Idle a now i = i
-timed_in_neat Closing a now i = i
-timed_in_neat Identify a now i =
-    either (is_due a.timers.t1 now) _ _ (goodbye_neat a) (either (is_due a.timers.t4 now) (identifies_again a) a dis_neat i)
-timed_in_neat Listen a now i = either (is_due a.timers.t2 now) _ _ (goodbye_neat a) i
-timed_in_neat (Train d) a now i = either (is_due a.timers.t2 now) _ _ (goodbye_neat a) i
-timed_in_neat (Page d) a now i = either (is_due a.timers.t2 now) _ _ (goodbye_neat a) i
-timed_in_neat Again a now i = either (is_due a.timers.t2 now) (identifies_anew a now) a dis_neat i
-
-abbrev pub NeatGiven : Option WaitingPacket → Type 0
-NeatGiven None = Unit {0}
-NeatGiven (Some w) = IsNeat w
-
-pub record NeatTick (t : TickResult) : Type 0 where
-  pub core : AllNeat t.core.waiting
-  pub given : NeatGiven t.given
-
-first_neat : (a : AnswererCore) (now : ℕ) (ws : List WaitingPacket) → AllNeat a.waiting → AllNeat ws → NeatTick (given_first a now ws)
-first_neat a now [] g h = record { core = g; given = tt }
-first_neat a now (w ∷ []) g h = record { core = tt; given = h.0 }
-first_neat a now (w ∷ v ∷ ws) g h = record { core = h.1; given = h.0 }
-
-tick_if : (b : Bool) (a : AnswererCore) (t : TickResult) → AllNeat a.waiting → NeatTick t → NeatTick (if b then t else record { core = a; given = None; ended = false })
-tick_if true a t i k = k
-tick_if false a t i k = record { core = i; given = tt }
-
-pub ticked_neat : (a : AnswererCore) (now : ℕ) → AllNeat a.waiting → NeatTick (ticked a now)
-ticked_neat a now h =
-    let b : AnswererCore = timed a now in
-    let n : AllNeat b.waiting = either (is_waiting a.waiting) a (timed_in a.state a now) h (timed_in_neat a.state a now h) in
-    tick_if (pace_allows b.pace.last now) b (given_first b now b.waiting) n (first_neat b now b.waiting n n)
+pub ticked_neat : (a : AnswererCore) (now : ℕ) → Each IsNeat a.waiting → EachTick IsNeat (ticked a now)
+ticked_neat a now h = ticked_each IsNeat replies_neat a now h
 
 -- the calling leg
 pub record NeatLeg (l : CallingLeg) : Type 0 where
-  pub core : AllNeat (core_of l).waiting
+  pub core : Each IsNeat (core_of l).waiting
   pub short : AreShort l.given
 
 abbrev pub IfNeat : Option CallingLeg → Type 0
 IfNeat None = Unit {0}
 IfNeat (Some l) = NeatLeg l
 
-short_with : (o : Option WaitingPacket) (given : List (List ℕ)) → NeatGiven o → AreShort given → AreShort (packets_with o given)
+short_with : (o : Option WaitingPacket) (given : List (List ℕ)) → IfGiven IsNeat o → AreShort given → AreShort (packets_with o given)
 short_with None given n s = s
 short_with (Some w) given n s = (n.short, s)
 
-comes_neat : (a : AnswererCore) (ps : List pieces.Piece) (now : ℕ) (read : Reading) (events : List CallEvent) → AllNeat (after_events a events).waiting → AllNeat (after_events a (comes_all ps now read events)).waiting
+comes_neat : (a : AnswererCore) (ps : List pieces.Piece) (now : ℕ) (read : Reading) (events : List CallEvent) → Each IsNeat (after_events a events).waiting → Each IsNeat (after_events a (comes_all ps now read events)).waiting
 comes_neat a [] now read events h = h
-comes_neat a (p ∷ ps) now read events h =
-    let c : AnswererCore = after_events a events in
-    comes_neat a ps now read (Comes p now read ∷ events) (neat_both c.waiting (reply_to (decision read c.state (is_waiting c.waiting) c.history p)) h (reply_neat _))
+comes_neat a (p ∷ ps) now read events h = comes_neat a ps now read (Comes p now read ∷ events) (came_each IsNeat replies_neat read (after_events a events) p now h)
 
 rung_neat : (before : AnswererCore) (now number : ℕ) → NeatLeg (rung_leg before now number)
 rung_neat before now number = record { core = (tone_neat, dis_neat); short = tt }
@@ -181,7 +134,7 @@ step_neat setup (Some l) now (FromCalling octets at decided read) n = by (is_idl
 step_neat setup (Some l) now (FromCalled octets at decided) n = n
 step_neat setup (Some l) now (Placed at connected) n = n
 step_neat setup (Some l) now (Tick at given) n =
-    let t : NeatTick (answers l now) = ticked_neat (core_of l) now n.core in
+    let t : EachTick IsNeat (answers l now) = ticked_neat (core_of l) now n.core in
     record { core = t.core; short = short_with (answers l now).given l.given t.given n.short }
 
 pub neat_of : (setup : Setup) (trace : List Event) → IfNeat (calling_leg setup trace)
@@ -193,14 +146,14 @@ is_mcf : mcf_in mcf_packet ≡ true
 unfolding written_after fields_at ended_frame packet_of bits.bit packets.fields_after packets.field_at packets.octets_at
 is_mcf = refl
 
-pub told_mcf : (setup : Setup) (given : List (List ℕ)) (o : Option WaitingPacket) (w : WaitingPacket) → AreShort given → NeatGiven o → o ≡ Some w → w.packet ≡ mcf_packet → gives_mcf (told_by setup given o) ≡ true
+pub told_mcf : (setup : Setup) (given : List (List ℕ)) (o : Option WaitingPacket) (w : WaitingPacket) → AreShort given → IfGiven IsNeat o → o ≡ Some w → w.packet ≡ mcf_packet → gives_mcf (told_by setup given o) ≡ true
 told_mcf setup given None w s n is e = cc
 told_mcf setup given (Some v) w s n is e =
     let same : v ≡ w = cc in
     ap (has_mcf []) (told_back setup given v.packet s n.short) ∙ ap mcf_in (ap (λ (x : WaitingPacket). x.packet) same ∙ e) ∙ is_mcf
 
 -- and no other packet does
-pub mcf_only : (setup : Setup) (given : List (List ℕ)) (o : Option WaitingPacket) → AreShort given → NeatGiven o → gives_mcf (told_by setup given o) ≡ true → (w : WaitingPacket) × (o ≡ Some w) × (w.packet ≡ mcf_packet)
+pub mcf_only : (setup : Setup) (given : List (List ℕ)) (o : Option WaitingPacket) → AreShort given → IfGiven IsNeat o → gives_mcf (told_by setup given o) ≡ true → (w : WaitingPacket) × (o ≡ Some w) × (w.packet ≡ mcf_packet)
 mcf_only setup given None s n h = cc
 mcf_only setup given (Some w) s n h = (w, refl, by n.only)
   where
@@ -209,7 +162,7 @@ mcf_only setup given (Some w) s n h = (w, refl, by n.only)
     by (inr e) = e
 
 -- the same of the frame RTN, which has no MCF
-pub rtn_only : (setup : Setup) (given : List (List ℕ)) (o : Option WaitingPacket) → AreShort given → NeatGiven o → gives_rtn (told_by setup given o) ≡ true → (w : WaitingPacket) × (o ≡ Some w) × (w.packet ≡ rtn_packet)
+pub rtn_only : (setup : Setup) (given : List (List ℕ)) (o : Option WaitingPacket) → AreShort given → IfGiven IsNeat o → gives_rtn (told_by setup given o) ≡ true → (w : WaitingPacket) × (o ≡ Some w) × (w.packet ≡ rtn_packet)
 rtn_only setup given None s n h = cc
 rtn_only setup given (Some w) s n h = (w, refl, by n.rtn)
   where
@@ -221,7 +174,7 @@ rtn_has_no_mcf : mcf_in rtn_packet ≡ false
 unfolding written_after fields_at ended_frame packet_of bits.bit packets.fields_after packets.field_at packets.octets_at
 rtn_has_no_mcf = refl
 
-pub rtn_is_no_mcf : (setup : Setup) (given : List (List ℕ)) (o : Option WaitingPacket) (w : WaitingPacket) → AreShort given → NeatGiven o → o ≡ Some w → w.packet ≡ rtn_packet → gives_mcf (told_by setup given o) ≡ false
+pub rtn_is_no_mcf : (setup : Setup) (given : List (List ℕ)) (o : Option WaitingPacket) (w : WaitingPacket) → AreShort given → IfGiven IsNeat o → o ≡ Some w → w.packet ≡ rtn_packet → gives_mcf (told_by setup given o) ≡ false
 rtn_is_no_mcf setup given None w s n is e = cc
 rtn_is_no_mcf setup given (Some v) w s n is e =
     let same : v ≡ w = cc in

@@ -48,7 +48,7 @@ more_newest [] d = (newest_slots (d ∷ []), sym (none_after (newest_slots (d �
 more_newest (e ∷ old) d =
     (reverse (decided_now d (e ∷ old)), ap (λ (s : List Slot). reverse s) (slots_go_on d e old) ∙ reverse-append (slots (e ∷ old)) (decided_now d (e ∷ old)))
 
-go_on : (old : List DatagramValue) (d : DatagramValue) → pieces (newest_slots (d ∷ old)) ≡ pieces (newest_slots old) ++ new_pieces old d
+pub go_on : (old : List DatagramValue) (d : DatagramValue) → pieces (newest_slots (d ∷ old)) ≡ pieces (newest_slots old) ++ new_pieces old d
 go_on old d = let m = more_newest old d in after_more old d m.0 m.1
 
 abbrev HeardSo : Option CallingLeg → Type 0
@@ -68,7 +68,7 @@ leg_heard l now read (Ok d) h =
     ∙ sym (onto_both (pieces (newest_slots l.arrived)) (new_pieces l.arrived d) [])
     ∙ ap (λ (ps : List Piece). reverse ps) (sym (go_on l.arrived d))
 
-none_newest : [] ≡ reverse (pieces (newest_slots []))
+pub none_newest : [] ≡ reverse (pieces (newest_slots []))
 unfolding newest_slots slots
 none_newest = refl
 

@@ -38,7 +38,7 @@ waiting_given : (w : Option WaitingPacket) (given : List (List ℕ)) → given_w
 waiting_given None given = refl
 waiting_given (Some w) given = refl
 
-waiting_confirms : (w : Option WaitingPacket) → confirmed_in w ≡ confirmed_by w
+pub waiting_confirms : (w : Option WaitingPacket) → confirmed_in w ≡ confirmed_by w
 waiting_confirms None = refl
 waiting_confirms (Some w) = refl
 

@@ -41,7 +41,7 @@ comes_over a job (pieces.Octets octets) now = refl
 comes_over a job (pieces.End whole) now = refl
 comes_over a job pieces.Gap now = refl
 
-abbrev nothing_given : CallerCore → JobValue → TickResult
+abbrev pub nothing_given : CallerCore → JobValue → TickResult
 nothing_given a job = record { core = not_placed a job; given = None }
 
 pub ticks_over : (writes : Writing) (a : CallerCore) (job : JobValue) (now : ℕ) → ticked writes job (not_placed a job) now ≡ nothing_given a job
@@ -51,7 +51,7 @@ ticks_over writes a job now = by (pace_allows a.pace.last now)
     by true = refl
     by false = refl
 
-event_over : (writes : Writing) (a : CallerCore) (job : JobValue) (e : CallEvent) → after_event writes job (not_placed a job) e ≡ not_placed a job
+pub event_over : (writes : Writing) (a : CallerCore) (job : JobValue) (e : CallEvent) → after_event writes job (not_placed a job) e ≡ not_placed a job
 event_over writes a job (Comes piece now) = comes_over a job piece now
 event_over writes a job (Ticks now) = ap (λ (t : TickResult). t.core) (ticks_over writes a job now)
 

@@ -1,5 +1,5 @@
 -- The machine that is called, step by step.
-use Rattle.std.proofs.Common.{◌≡◌, ℕ, ◌+◌, ◌≤◌, Bool, true, false, List, [], ◌∷◌, ◌++◌, reverse, is_some, Option, Some, None, Result, Ok, Err, refl, sym, ◌∙◌, ap, subst, arith, append-nil, if◌then◌else◌}
+use Rattle.std.proofs.Common.{◌≡◌, ℕ, ◌+◌, ◌≤◌, Bool, true, false, List, [], ◌∷◌, ◌++◌, reverse, is_some, Option, Some, None, Result, Ok, Err, refl, sym, ◌∙◌, ap, subst, arith, append-nil}
 use Rattle.std.proofs.lemmas.List.{reverse-append}
 use Rattle.fax_udptl.specs.declared.fault.UdptlFault.{UdptlFault}
 use Rattle.fax_udptl.specs.Datagrams.{DatagramValue, datagram_of}
@@ -9,7 +9,7 @@ use Rattle.fax_ifp.specs.Elements.{Slot}
 use Rattle.fax_ifp.specs.Pieces.{Piece}
 use Rattle.fax_pagestore.specs.Pages.{PageValue}
 use Rattle.fax_answer.specs.declared.state.State.{State}
-use Rattle.fax_answer.specs.declared.state.State.TheVariants.{Idle, Identify, Listen, Train, Page, Again, Closing}
+use Rattle.fax_answer.specs.declared.state.State.TheVariants.{Idle}
 use Rattle.fax_answer.specs.declared.step.Confirmed.{Confirmed}
 use Rattle.fax_answer.specs.declared.step.Step.{Step}
 use Rattle.fax_answer.specs.Table.{Reading}
@@ -21,13 +21,14 @@ use Rattle.fax_answer.specs.Sent.{confirmed_in_tick, confirmed_with, pages_confi
 use Rattle.fax_answer.specs.Shown.{confirmed_shown}
 use Rattle.fax_gateway.specs.Setups.{Setup}
 use Rattle.fax_gateway.specs.Legs.{new_pieces}
-use Rattle.fax_gateway.specs.CallingLegs.{CallingLeg, answers, confirmed_by, core_of, is_idle, leg_with, packets_with, told_by, told_calling}
+use Rattle.fax_gateway.specs.CallingLegs.{CallingLeg, answers, confirmed_by, core_of, is_idle, packets_with, told_by, told_calling}
 use Rattle.fax_gateway.specs.Driving.{most_datagrams}
 use Rattle.fax_gateway.specs.Reached.{IsLeg, confirmed_on, given_on, ticked_on}
 use Rattle.fax_gateway.specs.Wires.{Grows}
 use Rattle.fax_gateway.proofs.DrivingLemmas.{grows_as, grows_more, grows_none}
-use Rattle.fax_loop.proofs.LegsHear.{hears_calling}
-use Rattle.fax_loop.proofs.LegsTick.{Answers, Gives, leg_ticks, leg_tells}
+use Rattle.fax_gateway.proofs.Hearing.{heard_by, hears_calling}
+use Rattle.fax_gateway.proofs.IdleLegs.{idle_is}
+use Rattle.fax_gateway.proofs.Serving.{Answers, Gives, leg_ticks, leg_tells}
 use Rattle.fax_loop.specs.declared.answering_machine.AnsweringMachine.{AnsweringMachine}
 use Rattle.fax_loop.specs.declared.link.Link.{Link}
 use Rattle.fax_loop.specs.Ends.{EndTraffic, handed}
@@ -35,9 +36,6 @@ use Rattle.fax_loop.specs.Machines.{ReadDatagram, called_turned, called_with, da
 use Rattle.fax_loop.specs.Rep.{AnswererHears, AnswererListens, AnswererTurns, IsAnswering, answerer_of, leg_of, pages_in}
 
 -- ---- a datagram, by whether the call is over
-abbrev heard_by : Bool → CallingLeg → ℕ → Reading → Result DatagramValue UdptlFault → Option CallingLeg
-heard_by b l now read r = if b then Some l else Some (leg_with l now read r)
-
 -- pieces confirm nothing
 pages_confirmed-comes : (a : AnswererCore) (given : List Piece) (now : ℕ) (read : Reading) (events : List CallEvent)
     → pages_confirmed a (comes_all given now read events) ≡ pages_confirmed a events
@@ -59,13 +57,11 @@ heard-given false l now read (Ok d) = refl
 heard-given false l now read (Err e) = refl
 
 on_leg : (s : State) → (s ≡ Idle → ⊥) → is_idle s ≡ false
-on_leg Idle h = absurd (h refl)
-on_leg Identify h = refl
-on_leg Listen h = refl
-on_leg (Train dcs) h = refl
-on_leg (Page dcs) h = refl
-on_leg Again h = refl
-on_leg Closing h = refl
+on_leg s h = by (is_idle s) refl
+  where
+    by : (b : Bool) → is_idle s ≡ b → b ≡ false
+    by true e = absurd (h (idle_is s e))
+    by false e = refl
 
 -- slots are heard
 pub listens : {S : Type 0} (setup : Setup) (l : CallingLeg) (now : ℕ) (octets : List ℕ) (x : DecidedValue) (old new : AnsweringMachine S) → (old.answerer.procedure.state ≡ Idle → ⊥)
@@ -74,7 +70,7 @@ pub listens : {S : Type 0} (setup : Setup) (l : CallingLeg) (now : ℕ) (octets 
     → IsAnswering setup (Some l) old → AnswererListens setup l now octets new
 listens setup l now octets x old new off takes sender has_rung confirmed hears r =
     let is_on : is_idle (core_of l).state ≡ false = on_leg (core_of l).state (λ idle. off (r.calling.core.stands.follows.state ∙ idle)) in
-    let h = hears_calling setup (Some l) now octets x (answerer_of old) (answerer_of new) is_on r.calling takes refl sender hears in
+    let h = (hears_calling (λ told. Unit {0}) setup (Some l) now octets x (answerer_of old) (answerer_of new) is_on r.calling takes refl sender (λ heard core k. record { hears = hears heard core k; told = tt })).hears in
     let b = is_idle (core_of l).state in
     record {
       read = h.read;

@@ -55,9 +55,6 @@ rings_once setup writes now None t =
 rings_once setup writes now (Some l) t = t
 
 -- a datagram
-heard_same : (setup : Setup) (l : CallingLeg) (now : ℕ) (octets : List ℕ) (at : ℕ) (decided : Bool) (read : Reading) → calling_after setup (Some l) now (FromCalling octets at decided read) ≡ heard_on setup (Some l) now octets read
-heard_same setup l now octets at decided read = refl
-
 heard_rung : (b : Bool) (l k : CallingLeg) (count : ℕ) → Unrung (if◌then◌else◌ {A = Option CallingLeg} b (Some l) (Some k)) count
 heard_rung true l k count = tt
 heard_rung false l k count = tt

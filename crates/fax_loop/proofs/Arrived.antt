@@ -1,26 +1,24 @@
 -- The datagrams that came in a call were received, and were read.
-use Rattle.std.proofs.Common.{◌≡◌, ℕ, max, option_map, Bool, true, false, List, [], ◌∷◌, ◌++◌, Option, Some, None, Result, Ok, Err, refl, if◌then◌else◌}
+use Rattle.std.proofs.Common.{◌≡◌, ℕ, Bool, true, false, List, [], ◌∷◌, ◌++◌, Option, Some, None, Result, Ok, Err, refl, if◌then◌else◌}
 use Rattle.std.specs.Prelude.{flat_map}
 use Rattle.fax_udptl.specs.declared.fault.UdptlFault.{UdptlFault}
 use Rattle.fax_udptl.specs.Datagrams.{DatagramValue, datagram_of}
-use Rattle.fax_jobs.specs.Jobs.{JobValue}
 use Rattle.fax_answer.specs.Table.{Reading}
 use Rattle.fax_call.specs.Writings.{Writing}
-use Rattle.fax_call.specs.Calls.{CallerCore}
-use Rattle.fax_call.specs.Delivery.{is_over}
 use Rattle.fax_gateway.specs.declared.leg.Leg.TheVariants as legs
 use Rattle.fax_gateway.specs.Setups.{Setup}
 use Rattle.fax_gateway.specs.Events.{Event, Ring, FromCalling, FromCalled, Tick, Placed, Given, clock}
 use Rattle.fax_gateway.specs.CallingLegs.{CallingLeg, calling_after, calling_leg, core_of, is_idle, leg_with}
 use Rattle.fax_gateway.specs.CalledLegs as called
 use Rattle.fax_gateway.specs.CalledLegs.{CalledLeg}
-use Rattle.fax_gateway.specs.BothLegs.{BothLegs, begins_next, book_of, both_legs, heard_in_tick, in_tick, leg_of, sends, sends_if}
+use Rattle.fax_gateway.specs.BothLegs.{both_legs}
 use Rattle.fax_gateway.specs.Driving.{Entry, Accepts, RefusesRing, RefusesDatagram, RefusesTick, ReceivesNothing, FailsToReceive, Sends, events, receipts}
 use Rattle.fax_gateway.specs.Reached.{arrived_on, ticked_on}
 use Rattle.fax_loop.specs.Exchanges.{Round, answerer_after, moment_after}
 use Rattle.fax_loop.specs.Faithful.{arrived_by}
 use Rattle.fax_loop.specs.Links.{came_called, came_calling}
 use Rattle.fax_loop.specs.Machines.{ReadDatagram, called_with, octets_of, rung_once}
+use Rattle.fax_loop.proofs.EachLeg.{EachBack, IfLeg, RingsFirst, Stays, leg_each}
 use Rattle.fax_loop.proofs.Linked.{AreIn, AreReadOf, IsIn, in_both}
 
 -- ---- one datagram
@@ -116,66 +114,7 @@ answerer_read setup others (round ∷ earlier) i =
     (came_read setup others now round.called (answerer_after setup earlier) b.0 (answerer_read setup others earlier b.1))
 
 -- ---- THE GATEWAY's called leg, in its last call
-abbrev ReadBy : List (List ℕ) → Option CalledLeg → Type 0
-ReadBy others o = AreReadOf others (arrived_by o)
-
-called_with_read : (others : List (List ℕ)) (l : CalledLeg) (now : ℕ) (octets : List ℕ) (r : Result DatagramValue UdptlFault) → datagram_of octets ≡ r → IsIn others octets → AreReadOf others l.arrived → ReadBy others (Some (called.leg_with r now l))
-called_with_read others l now octets (Ok d) e i a = (record { octets = octets; among = i; read = e }, a)
-called_with_read others l now octets (Err f) e i a = a
-
-hears_read : (writes : Writing) (others : List (List ℕ)) (o : Option CalledLeg) (octets : List ℕ) (now : ℕ) → IsIn others octets → ReadBy others o → ReadBy others (option_map (called.hears writes octets now) o)
-hears_read writes others None octets now i a = tt
-hears_read writes others (Some l) octets now i a = by (is_over (called.core_of writes l).state)
-  where
-    by : (b : Bool) → ReadBy others (Some (if◌then◌else◌ {A = CalledLeg} b l (called.leg_with (datagram_of octets) now l)))
-    by true = a
-    by false = called_with_read others l now octets (datagram_of octets) refl i a
-
-ticked_by : (writes : Writing) (others : List (List ℕ)) (o : Option CalledLeg) (now : ℕ) → ReadBy others o → ReadBy others (option_map (called.leg_ticked writes now) o)
-ticked_by writes others None now a = tt
-ticked_by writes others (Some l) now a = by l.entered
-  where
-    by : (b : Bool) → ReadBy others (Some (if◌then◌else◌ {A = CalledLeg} b l (called.with_tick (called.calls writes l now) now l)))
-    by true = a
-    by false = a
-
-begun_by : (others : List (List ℕ)) (connected : Bool) (o : Option JobValue) (leg : Option CalledLeg) (before : CallerCore) (now : ℕ) → ReadBy others leg → ReadBy others (leg_of connected o before now leg)
-begun_by others connected None leg before now a = a
-begun_by others connected (Some job) leg before now a = tt
-
-placed_by : (connected : Bool) (setup : Setup) (writes : Writing) (others : List (List ℕ)) (now : ℕ) (s : BothLegs) → ReadBy others s.leg → ReadBy others (sends connected setup writes now s).leg
-placed_by connected setup writes others now s a = begun_by others connected (book_of (sends connected setup writes now s)).sending s.leg (called.core_left setup writes s.leg) now a
-
-sends_by : (setup : Setup) (writes : Writing) (others : List (List ℕ)) (now : ℕ) (s : BothLegs) → ReadBy others s.leg → ReadBy others (sends_if setup writes now s).leg
-sends_by setup writes others now s a = by (begins_next setup s.leg)
-  where
-    by : (b : Bool) → ReadBy others (if◌then◌else◌ {A = BothLegs} b (sends true setup writes now s) s).leg
-    by true = placed_by true setup writes others now s a
-    by false = a
-
-abbrev AreBack : List (List ℕ) → List Event → Type 0
-AreBack others [] = Unit {0}
-AreBack others (Ring at number ∷ earlier) = AreBack others earlier
-AreBack others (FromCalling octets at decided read ∷ earlier) = AreBack others earlier
-AreBack others (FromCalled octets at decided ∷ earlier) = IsIn others octets × AreBack others earlier
-AreBack others (Tick at given ∷ earlier) = AreBack others earlier
-AreBack others (Placed at connected ∷ earlier) = AreBack others earlier
-
-back_read : (setup : Setup) (writes : Writing) (others : List (List ℕ)) (trace : List Event) → AreBack others trace → ReadBy others (both_legs setup writes trace).leg
-back_read setup writes others [] b = tt
-back_read setup writes others (Ring at number ∷ earlier) b = back_read setup writes others earlier b
-back_read setup writes others (FromCalling octets at decided read ∷ earlier) b = back_read setup writes others earlier b
-back_read setup writes others (FromCalled octets at decided ∷ earlier) b =
-    hears_read writes others (both_legs setup writes earlier).leg octets (clock (FromCalled octets at decided ∷ earlier)) b.0 (back_read setup writes others earlier b.1)
-back_read setup writes others (Tick at given ∷ earlier) b =
-    let now : ℕ = max at (clock earlier) in
-    let old : BothLegs = both_legs setup writes earlier in
-    let z : BothLegs = record old { steps = heard_in_tick (calling_leg setup earlier) now old.steps } in
-    ticked_by writes others (in_tick setup writes earlier at).leg now (sends_by setup writes others now z (back_read setup writes others earlier b))
-back_read setup writes others (Placed at connected ∷ earlier) b =
-    placed_by connected setup writes others (clock (Placed at connected ∷ earlier)) (both_legs setup writes earlier) (back_read setup writes others earlier b)
-
-logged_back : (others : List (List ℕ)) (log : List Entry) → AreIn others (came_called (receipts log)) → AreBack others (events log ++ Ring 0 0 ∷ [])
+logged_back : (others : List (List ℕ)) (log : List Entry) → AreIn others (came_called (receipts log)) → EachBack (IsIn others) (events log ++ Ring 0 0 ∷ [])
 logged_back others [] a = tt
 logged_back others (Accepts (Ring at number) ∷ log) a = logged_back others log a
 logged_back others (Accepts (FromCalling octets at decided read) ∷ log) a = logged_back others log a
@@ -190,5 +129,19 @@ logged_back others (ReceivesNothing at ∷ log) a = logged_back others log a
 logged_back others (FailsToReceive at ∷ log) a = logged_back others log a
 logged_back others (Sends at octets fails ∷ log) a = logged_back others log a
 
-pub called_leg_read : (setup : Setup) (writes : Writing) (others : List (List ℕ)) (log : List Entry) → AreIn others (came_called (receipts log)) → AreReadOf others (arrived_by (both_legs setup writes (events log ++ Ring 0 0 ∷ [])).leg)
-called_leg_read setup writes others log a = back_read setup writes others (events log ++ Ring 0 0 ∷ []) (logged_back others log a)
+pub called_leg_read : (setup : Setup) (writes : Writing) (others : List (List ℕ)) (log : List Entry) → RingsFirst (events log ++ Ring 0 0 ∷ []) → AreIn others (came_called (receipts log))
+    → AreReadOf others (arrived_by (both_legs setup writes (events log ++ Ring 0 0 ∷ [])).leg)
+called_leg_read setup writes others log rings a = by (both_legs setup writes trace).leg read
+  where
+    trace : List Event
+    trace = events log ++ Ring 0 0 ∷ []
+
+    stays : Stays writes (IsIn others) (λ l. AreReadOf others l.arrived)
+    stays = record { begins = λ job before now. tt; comes = λ l now octets d i e a. (record { octets = octets; among = i; read = e }, a); ticks = λ l now a. a }
+
+    read : IfLeg (λ l. AreReadOf others l.arrived) (both_legs setup writes trace).leg
+    read = leg_each (IsIn others) (λ l. AreReadOf others l.arrived) writes stays setup trace rings (logged_back others log a)
+
+    by : (o : Option CalledLeg) → IfLeg (λ l. AreReadOf others l.arrived) o → AreReadOf others (arrived_by o)
+    by None a = tt
+    by (Some l) a = a

@@ -1,50 +1,31 @@
 -- The machine that calls, step by step.
-use Rattle.std.proofs.Common.{◌≡◌, ℕ, ◌+◌, ◌≤◌, Bool, true, false, List, [], ◌∷◌, ◌++◌, Option, Some, None, Result, Ok, Err, OnOk, refl, sym, ◌∙◌, ap, arith, append-nil, if◌then◌else◌}
-use Rattle.fax_udptl.specs.declared.fault.UdptlFault.{UdptlFault}
-use Rattle.fax_udptl.specs.Datagrams.{DatagramValue, datagram_of}
+use Rattle.std.proofs.Common.{◌≡◌, ℕ, ◌+◌, ◌≤◌, List, [], ◌∷◌, ◌++◌, Option, Some, None, Result, Ok, Err, OnOk, refl, sym, ◌∙◌, ap, arith, append-nil}
 use Rattle.fax_ifp.specs.Elements.{Slot}
 use Rattle.fax_jobs.specs.Jobs.{JobValue}
 use Rattle.fax_call.specs.Writings.{Writing}
 use Rattle.fax_call.specs.Replies.{Packet}
 use Rattle.fax_call.specs.Calls.{CallerCore, ticked}
-use Rattle.fax_call.specs.Delivery.{is_over}
 use Rattle.fax_call.specs.Reached as call
 use Rattle.fax_gateway.specs.declared.called.CalledEndpoint.{CalledEndpoint}
 use Rattle.fax_gateway.specs.Setups.{Setup}
-use Rattle.fax_gateway.specs.CalledLegs.{CalledLeg, calls, core_of, hears, leg_with, packets_given, told_by}
+use Rattle.fax_gateway.specs.CalledLegs.{CalledLeg, calls, hears, packets_given, told_by}
 use Rattle.fax_gateway.specs.Driving.{most_datagrams}
 use Rattle.fax_gateway.specs.Reached.{IsCalled}
 use Rattle.fax_gateway.specs.Wires.{Grows}
 use Rattle.fax_gateway.proofs.DrivingLemmas.{grows_as, grows_more, grows_none}
-use Rattle.fax_loop.proofs.LegsTick.{Gives, leg_ticks_on}
+use Rattle.fax_gateway.proofs.Serving.{Gives, leg_ticks_on}
 use Rattle.fax_loop.specs.Ends.{EndTraffic, handed}
 use Rattle.fax_loop.specs.Machines.{calling_turned, calling_with, datagrams_of}
 use Rattle.fax_loop.specs.Exchanges.{Round, caller_after, moment_after}
 use Rattle.fax_loop.specs.Rep.{CallerHears, CallerTurns}
+use Rattle.fax_loop.proofs.EachLeg.{came_each}
 
--- a datagram, by whether the call is over
-abbrev hears_by : Bool → CalledLeg → ℕ → Result DatagramValue UdptlFault → CalledLeg
-hears_by b l now r = if b then l else leg_with r now l
-
-hears-job : (b : Bool) (l : CalledLeg) (now : ℕ) (r : Result DatagramValue UdptlFault) → (hears_by b l now r).job ≡ l.job
-hears-job true l now r = refl
-hears-job false l now (Ok d) = refl
-hears-job false l now (Err e) = refl
-
-hears-given : (b : Bool) (l : CalledLeg) (now : ℕ) (r : Result DatagramValue UdptlFault) → (hears_by b l now r).given ≡ l.given
-hears-given true l now r = refl
-hears-given false l now (Ok d) = refl
-hears-given false l now (Err e) = refl
-
+-- datagrams change neither the job nor what was given
 calling_with-job : (writes : Writing) (now : ℕ) (came : List (List ℕ)) (l : CalledLeg) → (calling_with writes now came l).job ≡ l.job
-calling_with-job writes now [] l = refl
-calling_with-job writes now (octets ∷ came) l =
-    hears-job (is_over (core_of writes (calling_with writes now came l)).state) (calling_with writes now came l) now (datagram_of octets) ∙ calling_with-job writes now came l
+calling_with-job writes now came l = came_each (λ (k : CalledLeg). k.job ≡ l.job) (λ k n d e. e) writes now came l refl
 
 pub calling_with-given : (writes : Writing) (now : ℕ) (came : List (List ℕ)) (l : CalledLeg) → (calling_with writes now came l).given ≡ l.given
-calling_with-given writes now [] l = refl
-calling_with-given writes now (octets ∷ came) l =
-    hears-given (is_over (core_of writes (calling_with writes now came l)).state) (calling_with writes now came l) now (datagram_of octets) ∙ calling_with-given writes now came l
+calling_with-given writes now came l = came_each (λ (k : CalledLeg). k.given ≡ l.given) (λ k n d e. e) writes now came l refl
 
 -- the job is that of the call
 pub caller_after-job : (setup : Setup) (writes : Writing) (job : JobValue) (rounds : List Round) → (caller_after setup writes job rounds).job ≡ job

@@ -1,7 +1,6 @@
 -- Where the gateway reports that the job was delivered, the machine that is called confirmed a page.
 use Rattle.std.proofs.Common.{◌≡◌, ℕ, max, Bool, true, false, List, [], ◌∷◌, ◌++◌, map, reverse, slice_get, Option, Some, None, option_map, Result, Ok, Err, ◌⊎◌, inl, inr, refl, sym, ◌∙◌, ap, subst, if◌then◌else◌}
 use Rattle.std.specs.Prelude.{Contains}
-use mathlib.Core.List.{reverse_aux}
 use Rattle.fax_udptl.specs.declared.fault.UdptlFault.{UdptlFault}
 use Rattle.fax_udptl.specs.Datagrams.{DatagramValue, datagram_of}
 use Rattle.fax_udptl.specs.Schedules.{ArePartOf, datagrams}
@@ -10,8 +9,8 @@ use Rattle.fax_udptl.proofs.Honest.{slots_are_a_part}
 use Rattle.fax_ifp.specs.Elements.{Slot}
 use Rattle.fax_ifp.specs.Pieces as pieces
 use Rattle.fax_ifp.specs.Pieces.{Piece}
-use Rattle.fax_ifp.specs.Schedules.{AreClosed, slots_of}
-use Rattle.fax_ifp.proofs.SentFrames.{Has, contained, contains, frames_are_sent}
+use Rattle.fax_ifp.specs.Schedules.{slots_of}
+use Rattle.fax_ifp.proofs.SentFrames.{Has, contains, frames_are_sent}
 use Rattle.fax_pagestore.specs.Pages.{PageValue}
 use Rattle.fax_jobs.specs.declared.outcome.Outcome.{Outcome}
 use Rattle.fax_jobs.specs.declared.outcome.Outcome.TheVariants as outcomes
@@ -33,24 +32,30 @@ use Rattle.fax_gateway.specs.CallingLegs.{CallingLeg, calling_after, calling_leg
 use Rattle.fax_gateway.specs.CalledLegs as called
 use Rattle.fax_gateway.specs.CalledLegs.{CalledLeg, calls, delivered_told, leg_ticked, outcome_of, report_by, told_report, with_tick}
 use Rattle.fax_gateway.specs.Driving.{events}
-use Rattle.fax_gateway.specs.Origins.{JobsAreOfTheirCalls}
 use Rattle.fax_gateway.specs.Reached.{given_on}
 use Rattle.fax_gateway.specs.Reports.{JobsHaveStates, report_list, reports_given}
 use Rattle.fax_gateway.specs.BothLegs.{book_of, both_legs, in_tick}
 use Rattle.fax_gateway.specs.Traces.{IsTrace}
+use Rattle.fax_answer.specs.Confirmation.{AreRead}
+use Rattle.fax_call.proofs.Told.{over_is_idle}
+use Rattle.fax_call.proofs.ToldFrames.{said, told_frames}
+use Rattle.fax_gateway.proofs.Chained.{turned}
+use Rattle.fax_gateway.proofs.LegsRead.{leg_is_read}
+use Rattle.fax_gateway.proofs.Replied.{IfNeat, NeatLeg, neat_of}
+use Rattle.fax_gateway.proofs.Unplaced.{begun_placed}
+use Rattle.fax_udptl.specs.Sending.{AreShort}
 use Rattle.fax_loop.specs.Exchanges.{AreRounds, Round, answerer_after, caller_after, moment_after, reported, trace_after}
 use Rattle.fax_loop.specs.Faithful.{AreCarried, ConfirmsIfDelivered, arrived_by}
 use Rattle.fax_loop.specs.Machines.{pages_on}
 use Rattle.fax_loop.proofs.AnswererTrace.{IsFollowed, answerer_followed}
-use Rattle.fax_loop.proofs.CalledHears.{HeardSo, called_heard}
-use Rattle.fax_loop.proofs.CalledSends.{caller_gives}
+use Rattle.fax_loop.proofs.CalledHears.{HasHeard, called_heard}
+use Rattle.fax_loop.proofs.EachLeg.{IfLeg}
 use Rattle.fax_loop.proofs.Faithfully.{is_job_of, one_ring}
-use Rattle.fax_loop.proofs.FramesTold.{said, told_frames}
 use Rattle.fax_loop.proofs.McfGiven.{IsNoAck, TellsNoMcf, given_of, tells_no_mcf}
-use Rattle.fax_loop.proofs.McfHeard.{HasAckFrame, acks_frame, came_pieces, delivered_acks, is_idle as is_idle_call, turned_frame}
+use Rattle.fax_loop.proofs.McfHeard.{HasAckFrame, acks_frame, came_pieces, delivered_acks, turned_frame}
 use Rattle.fax_loop.proofs.OneCall.{IsTicked, IsTurned, OnlyComes, after_is, is_turned, none_reported, trace_before}
-use Rattle.fax_loop.proofs.OnePage.{Gives, begun_is, call_begun}
-use Rattle.fax_loop.proofs.Relayed.{Carries, IfGives, called_gives, sends_of}
+use Rattle.fax_loop.proofs.OnePage.{Gives, call_begun}
+use Rattle.fax_loop.proofs.Relayed.{Carries, IfGives, called_gives, caller_gives, sends_of}
 
 -- ---- WHAT THE MACHINE THAT IS CALLED GAVE is what its call gave
 abbrev GivenSo : Option CallingLeg → Type 0
@@ -88,18 +93,16 @@ given_so : (setup : Setup) (trace : List Event) → GivenSo (calling_leg setup t
 given_so setup [] = tt
 given_so setup (e ∷ earlier) = step_given setup (calling_leg setup earlier) (clock (e ∷ earlier)) e (given_so setup earlier)
 
--- where it confirmed no page, it told no MCF
-pub none_told : (setup : Setup) (writes : Writing) (now : ℕ) (o : Option CallingLeg) → IsFollowed setup writes now o → pages_on o ≡ [] → TellsNoMcf (given_on o)
-none_told setup writes now None t e = record { packets = []; are_packets = refl; fine = tt; closed = tt; short = tt; told = tt }
+-- where it confirmed no page, it told no MCF, and its packets are short
+pub none_told : (setup : Setup) (writes : Writing) (now : ℕ) (o : Option CallingLeg) → IsFollowed setup writes now o → pages_on o ≡ [] → TellsNoMcf (given_on o) × AreShort (given_on o)
+none_told setup writes now None t e = (record { packets = []; are_packets = refl; fine = tt; closed = tt; told = tt }, tt)
 none_told setup writes now (Some l) t e =
     let given : l.given ≡ given_of (rung l.before l.begun) l.events = subst GivenSo t.1.is_leg (given_so setup t.0) in
-    subst TellsNoMcf (sym given) (tells_no_mcf l.before l.begun l.events e)
+    let right : AreRead (rung l.before l.begun) l.events = leg_is_read setup writes t.0 l t.1.is_trace t.1.is_leg in
+    let neat : NeatLeg l = subst IfNeat t.1.is_leg (neat_of setup t.0) in
+    (subst TellsNoMcf (sym given) (tells_no_mcf l.before l.begun l.events right e), neat.short)
 
 -- ---- SO NONE IS HEARD
-turned : (xs ys : List (List ℕ)) → AreClosed xs → AreClosed ys → AreClosed (reverse_aux xs ys)
-turned [] ys a b = b
-turned (x ∷ xs) ys a b = turned xs (x ∷ ys) a.1 (a.0, b)
-
 none_heard : (given : List (List ℕ)) (arrived : List DatagramValue) → TellsNoMcf given → AreCarried given arrived → HasAckFrame (pieces.pieces (newest_slots arrived)) → ⊥
 none_heard given arrived t c h =
     let packets : List (List ℕ) = reverse given in
@@ -109,7 +112,7 @@ none_heard given arrived t c h =
     let sent : Contains (pieces.pieces (slots_of packets)) (pieces.Frame h.octets) = frames_are_sent packets part.next ss part.slots (inr (turned given [] t.closed tt)) h.octets (contains (pieces.pieces ss) h.octets has) in
     let slots : slots_of packets ≡ map Some (map written t.packets) = map_back given ∙ ap (λ (ps : List (List ℕ)). let xs : List Slot = map Some ps in xs) t.are_packets in
     let of_packets : Contains (pieces.pieces_of (said t.packets)) (pieces.Frame h.octets) = subst (λ (xs : List Slot). Contains (pieces.pieces xs) (pieces.Frame h.octets)) slots sent in
-    told_frames IsNoAck t.packets h.octets t.fine t.told (contained (pieces.pieces_of (said t.packets)) h.octets of_packets.0 of_packets.1 of_packets.2) h.ack
+    told_frames IsNoAck t.packets h.octets t.fine t.told of_packets h.ack
 
 -- ---- THE CALL THAT IS REPORTED
 record CallEnd (writes : Writing) (leg : Option CalledLeg) : Type 0 where
@@ -211,23 +214,23 @@ leg_acks : (writes : Writing) (page : PageValue) (l : CalledLeg) → IsWriting w
     → HasAckFrame (came_pieces l.events)
 leg_acks writes page l w g over delivered =
     let core : CallerCore = after_events writes l.job (call_begun l) l.events in
-    let same : called.core_of writes l ≡ core = ap (λ (a : CallerCore). after_events writes l.job a l.events) (begun_is l g.placed) in
+    let same : called.core_of writes l ≡ core = ap (λ (a : CallerCore). after_events writes l.job a l.events) (begun_placed l g.placed) in
     acks_frame l.events
-    (delivered_acks writes l w g.is_job (is_idle_call core.state (subst (λ (a : CallerCore). is_over a.state ≡ true) same over)) (subst (λ (a : CallerCore). a.outcome ≡ Some outcomes.Delivered) same delivered))
+    (delivered_acks writes l w g.kept.holds.is_job (over_is_idle core.state (subst (λ (a : CallerCore). is_over a.state ≡ true) same over)) (subst (λ (a : CallerCore). a.outcome ≡ Some outcomes.Delivered) same delivered))
 
 -- ---- THE LAW
-pub confirms_if_delivered : JobsAreOfTheirCalls → JobsHaveStates → ConfirmsIfDelivered
-confirms_if_delivered law states setup writes page rounds report new w is rounds_are t h back e d none =
+pub confirms_if_delivered : JobsHaveStates → ConfirmsIfDelivered
+confirms_if_delivered states setup writes page rounds report new w is rounds_are t h back e d none =
     let caller : CalledLeg = caller_after setup writes (job_of 0 page) rounds in
     let leg : Option CalledLeg = (both_legs setup writes (trace_after rounds)).leg in
     let gives : Gives writes page caller = caller_gives setup writes page (job_of 0 page) rounds w (is_job_of page is) (refl, tt) in
     let carries : Carries setup writes caller.given (trace_after rounds) = record { is_trace = t; rings = one_ring setup writes rounds rounds_are; carried = h.to_gateway } in
-    let leg_gives : IfGives writes page leg = called_gives law setup writes (trace_after rounds) page caller.given new w (sends_of page writes caller w gives) carries in
+    let leg_gives : IfGives writes page leg = called_gives setup writes (trace_after rounds) page caller.given new w (sends_of page writes caller w gives) carries in
     let ended : CallEnd writes leg = rounds_ended states setup writes rounds report rounds_are t e d in
     let l : CalledLeg = ended.l in
     let own : Gives writes page l = subst (IfGives writes page) ended.is_leg leg_gives in
-    let heard : came_pieces l.events ≡ reverse (pieces.pieces (newest_slots l.arrived)) = subst HeardSo ended.is_leg (called_heard setup writes (trace_after rounds)) in
+    let heard : came_pieces l.events ≡ reverse (pieces.pieces (newest_slots l.arrived)) = subst (IfLeg HasHeard) ended.is_leg (called_heard setup writes (trace_after rounds) (one_ring setup writes rounds rounds_are)) in
     let frame : HasAckFrame (pieces.pieces (newest_slots l.arrived)) =
     turned_frame (pieces.pieces (newest_slots l.arrived)) (subst HasAckFrame heard (leg_acks writes page l w own ended.over ended.outcome)) in
     let carried : AreCarried (given_on (answerer_after setup rounds)) l.arrived = subst (λ (o : Option CalledLeg). AreCarried (given_on (answerer_after setup rounds)) (arrived_by o)) ended.is_leg back in
-    none_heard (given_on (answerer_after setup rounds)) l.arrived (none_told setup writes (moment_after rounds) (answerer_after setup rounds) (answerer_followed setup writes writes rounds rounds_are) none) carried frame
+    none_heard (given_on (answerer_after setup rounds)) l.arrived (none_told setup writes (moment_after rounds) (answerer_after setup rounds) (answerer_followed setup writes writes rounds rounds_are) none).0 carried frame

@@ -1,7 +1,7 @@
 -- An exchange over linked lines goes on.
 use Rattle.std.proofs.Common.{◌≡◌, ℕ, zero, suc, ◌+◌, ◌*◌, ◌<◌, ◌≤◌, ◌⊎◌, inl, inr, is_some, false, List, [], ◌∷◌, ◌++◌, length, reverse, Option, Some, None, IsSome, refl, sym, ◌∙◌, ap, subst, arith, append-nil, append_assoc, length-append}
 use Rattle.std.specs.Prelude.{All, Contains, flat_map}
-use Rattle.std.proofs.Math.Nat.{lt_of_not-le}
+use Rattle.std.proofs.Math.Nat.{eq-or-lt_of_le, lt_of_not-le}
 use Rattle.std.proofs.lemmas.List.{length-map, reverse-reverse}
 use Rattle.std.proofs.lemmas.List.Concat.{flat_map-append}
 use Rattle.std.proofs.lemmas.List.Elements.{All-append, All-cons, All-nil, All-weaker, Contains-append_right}
@@ -13,7 +13,7 @@ use Rattle.fax_gateway.specs.declared.leg.Leg.{Leg}
 use Rattle.fax_gateway.specs.declared.leg.Leg.TheVariants as legs
 use Rattle.fax_gateway.specs.Setups.{Setup}
 use Rattle.fax_gateway.specs.Events.{Event, FromCalling, FromCalled, Tick, Given}
-use Rattle.fax_gateway.specs.CallingLegs.{CallingLeg, calling_leg, question, told_calling}
+use Rattle.fax_gateway.specs.CallingLegs.{CallingLeg, question, told_calling}
 use Rattle.fax_gateway.specs.CalledLegs.{CalledLeg, calls, told_by}
 use Rattle.fax_gateway.specs.Driving.{Entry, Accepts, ReceivesNothing, FailsToReceive, Sends, AreReceives, Comes, IsSent, IsTick, IsTurn, events, events_in, failed_in_a_row, most_datagrams, most_failed, receipts, receipts_in, sent, sent_in}
 use Rattle.fax_gateway.specs.GoesOn.{TracesGoOn}
@@ -29,7 +29,8 @@ use Rattle.fax_loop.specs.Links.{AreLinked, AreLinkedBack, came_called, came_cal
 use Rattle.fax_loop.specs.Machines.{AreCame, ReadDatagram, called_turned, called_with, calling_turned, calling_with, datagrams_of, octets_of, pages_on, rung_once}
 use Rattle.fax_loop.proofs.AnswererLemmas.{called_with-given, datagrams_of-ticked}
 use Rattle.fax_loop.proofs.CallerLemmas as caller
-use Rattle.fax_loop.proofs.OneCall.{AreQuiet, after_is, quiet_both, quiet_sent, receives_quiet, sent_called, sent_calling}
+use Rattle.fax_loop.proofs.OneCall as one
+use Rattle.fax_loop.proofs.OneCall.{AreQuiet, after_is, quiet_both, quiet_sent, receives_quiet}
 
 -- ---- what was handed over stays, and each turn adds one datagram at most
 stays : (newer older some : List (List ℕ)) → All (Contains older) some → All (Contains (newer ++ older)) some
@@ -80,21 +81,7 @@ record Hands (log : List Entry) : Type 0 where
 
 tick_hands : (now : ℕ) (log : List Entry) → IsTick now log → Hands log
 tick_hands now log (inr e) = record { given = None; hands = λ earlier. ap (λ (l : List Entry). handed_called (sent l ++ earlier)) e }
-tick_hands now log (inl k) =
-    let given : Given = k.0 in
-    let tick : List Entry = Accepts (Tick now given) ∷ [] in
-    record {
-      given = given.on_called;
-      hands = λ earlier.
-          ap (λ (l : List Entry). handed_called (sent l ++ earlier)) k.5
-          ∙ ap (λ (hs : List HandedDatagram). handed_called (hs ++ earlier)) (flat_map-append sent_in k.2 (k.1 ++ tick))
-          ∙ ap handed_called (append_assoc (sent k.2) (sent (k.1 ++ tick)) earlier)
-          ∙ sent_called given.on_called k.2 (sent (k.1 ++ tick) ++ earlier) k.4
-          ∙ ap (λ (hs : List (List ℕ)). handed given.on_called ++ hs)
-          (ap (λ (hs : List HandedDatagram). handed_called (hs ++ earlier)) (flat_map-append sent_in k.1 tick)
-          ∙ ap handed_called (append_assoc (sent k.1) (sent tick) earlier)
-          ∙ sent_calling given.on_calling k.1 (sent tick ++ earlier) k.3);
-    }
+tick_hands now log (inl k) = record { given = k.0.on_called; hands = λ earlier. one.tick_hands k.0 k.1 k.2 log (Accepts (Tick now k.0)) earlier refl k.3 k.4 k.5 }
 
 turn_hands : (now : ℕ) (log : List Entry) → IsTurn now log → Hands log
 turn_hands now log turn =
@@ -134,81 +121,56 @@ came_called-append (wires.Failed at room ∷ rs) older = came_called-append rs o
 
 -- ---- A TURN in which these datagrams come
 
+-- what a log leaves, and what came as it tells
+abbrev IsLogOf : Setup → Writing → List Event → (calling called : List (List ℕ)) → List Entry → Type 0
+IsLogOf setup writes trace calling called log = IsTrace setup writes (events log ++ trace) × (came_calling (receipts log) ≡ calling) × (came_called (receipts log) ≡ called)
+
 -- those of one leg
 record ComeOn (setup : Setup) (writes : Writing) (at : Leg) (now : ℕ) (trace : List Event) (many : ℕ) (calling called : List (List ℕ)) : Type 0 where
   log : List Entry
   come : All (Comes at now) log
   many_are : length log ≡ many
-  is_trace : IsTrace setup writes (events log ++ trace)
-  calling_is : came_calling (receipts log) ≡ calling
-  called_is : came_called (receipts log) ≡ called
+  of : IsLogOf setup writes trace calling called log
+
+none_come : (setup : Setup) (writes : Writing) (at : Leg) (now : ℕ) (trace : List Event) → IsTrace setup writes trace → ComeOn setup writes at now trace 0 [] []
+none_come setup writes at now trace t = record { log = []; come = All-nil (Comes at now); many_are = refl; of = (t, refl, refl) }
+
+one_comes : (setup : Setup) (writes : Writing) (at : Leg) (now : ℕ) (trace : List Event) (many : ℕ) (calling called more others : List (List ℕ)) (r : ComeOn setup writes at now trace many calling called) (entry : Entry)
+    → Comes at now entry → IsLogOf setup writes trace more others (entry ∷ r.log) → ComeOn setup writes at now trace (suc many) more others
+one_comes setup writes at now trace many calling called more others r entry comes of =
+    record { log = entry ∷ r.log; come = All-cons (Comes at now) entry r.log comes r.come; many_are = ap (λ (n : ℕ). suc n) r.many_are; of = of }
 
 on_calling : TracesGoOn → (setup : Setup) (writes : Writing) (now : ℕ) (trace : List Event) (some : List (List ℕ)) → IsTrace setup writes trace
     → ComeOn setup writes legs.Calling now trace (length some) some []
-on_calling law setup writes now trace [] t = record { log = []; come = All-nil (Comes legs.Calling now); many_are = refl; is_trace = t; calling_is = refl; called_is = refl }
+on_calling law setup writes now trace [] t = none_come setup writes legs.Calling now trace t
 on_calling law setup writes now trace (octets ∷ some) t =
     let r : ComeOn setup writes legs.Calling now trace (length some) some [] = on_calling law setup writes now trace some t in
-    let earlier : List Event = events r.log ++ trace in
-    let next = (law setup writes earlier r.is_trace).from_calling octets now in
-    let entry : Entry = Accepts (FromCalling octets now next.0 next.1) in
-    record {
-      log = entry ∷ r.log;
-      come = All-cons (Comes legs.Calling now) entry r.log (refl, refl) r.come;
-      many_are = ap (λ (n : ℕ). suc n) r.many_are;
-      is_trace = next.2;
-      calling_is = ap (λ (xs : List (List ℕ)). octets ∷ xs) r.calling_is;
-      called_is = r.called_is;
-    }
+    let next = (law setup writes (events r.log ++ trace) r.of.0).from_calling octets now in
+    one_comes setup writes legs.Calling now trace (length some) some [] (octets ∷ some) [] r (Accepts (FromCalling octets now next.0 next.1)) (refl, refl)
+    (next.2, ap (λ (xs : List (List ℕ)). octets ∷ xs) r.of.1, r.of.2)
 
 on_called : TracesGoOn → (setup : Setup) (writes : Writing) (now : ℕ) (trace : List Event) (some : List (List ℕ)) → IsTrace setup writes trace
     → ComeOn setup writes legs.Called now trace (length some) [] some
-on_called law setup writes now trace [] t = record { log = []; come = All-nil (Comes legs.Called now); many_are = refl; is_trace = t; calling_is = refl; called_is = refl }
+on_called law setup writes now trace [] t = none_come setup writes legs.Called now trace t
 on_called law setup writes now trace (octets ∷ some) t =
     let r : ComeOn setup writes legs.Called now trace (length some) [] some = on_called law setup writes now trace some t in
-    let next = (law setup writes (events r.log ++ trace) r.is_trace).from_called octets now in
-    let entry : Entry = Accepts (FromCalled octets now next.0) in
-    record {
-      log = entry ∷ r.log;
-      come = All-cons (Comes legs.Called now) entry r.log (refl, refl) r.come;
-      many_are = ap (λ (n : ℕ). suc n) r.many_are;
-      is_trace = next.1;
-      calling_is = r.calling_is;
-      called_is = ap (λ (xs : List (List ℕ)). octets ∷ xs) r.called_is;
-    }
+    let next = (law setup writes (events r.log ++ trace) r.of.0).from_called octets now in
+    one_comes setup writes legs.Called now trace (length some) [] some [] (octets ∷ some) r (Accepts (FromCalled octets now next.0)) (refl, refl)
+    (next.1, r.of.1, ap (λ (xs : List (List ℕ)). octets ∷ xs) r.of.2)
 
 -- and then none, where there is room
 record AreReceived (setup : Setup) (writes : Writing) (at : Leg) (now : ℕ) (trace : List Event) (calling called : List (List ℕ)) : Type 0 where
   log : List Entry
   receives : AreReceives at now log
-  is_trace : IsTrace setup writes (events log ++ trace)
-  calling_is : came_calling (receipts log) ≡ calling
-  called_is : came_called (receipts log) ≡ called
+  of : IsLogOf setup writes trace calling called log
 
-at_most : (n m : ℕ) → n ≤ m → (n < m) ⊎ (n ≡ m)
-at_most zero zero h = inr refl
-at_most zero (suc m) h = inl (omega arith)
-at_most (suc n) zero h = absurd (omega (arith, h))
-at_most (suc n) (suc m) h = by (at_most n m (omega arith))
-  where
-    by : (n < m) ⊎ (n ≡ m) → (suc n < suc m) ⊎ (suc n ≡ suc m)
-    by (inl l) = inl (omega arith)
-    by (inr e) = inr (ap (λ (k : ℕ). suc k) e)
-
-received : (setup : Setup) (writes : Writing) (at : Leg) (now : ℕ) (trace : List Event) (many : ℕ) (calling called : List (List ℕ)) → ComeOn setup writes at now trace many calling called → (many < most_datagrams) ⊎ (many ≡ most_datagrams)
+received : (setup : Setup) (writes : Writing) (at : Leg) (now : ℕ) (trace : List Event) (many : ℕ) (calling called : List (List ℕ)) → ComeOn setup writes at now trace many calling called → (many ≡ most_datagrams) ⊎ (many < most_datagrams)
     → AreReceived setup writes at now trace calling called
-received setup writes at now trace many calling called c (inl low) = record {
+received setup writes at now trace many calling called c (inl full) = record { log = c.log; receives = inl (c.come, c.many_are ∙ full); of = c.of }
+received setup writes at now trace many calling called c (inr low) = record {
   log = ReceivesNothing at ∷ c.log;
   receives = inr (c.log, ReceivesNothing at, refl, c.come, subst (λ (n : ℕ). n < most_datagrams) (sym c.many_are) low, inl refl);
-  is_trace = c.is_trace;
-  calling_is = c.calling_is;
-  called_is = c.called_is;
-}
-received setup writes at now trace many calling called c (inr full) = record {
-  log = c.log;
-  receives = inl (c.come, c.many_are ∙ full);
-  is_trace = c.is_trace;
-  calling_is = c.calling_is;
-  called_is = c.called_is;
+  of = c.of;
 }
 
 -- the tick, all of whose sends succeed
@@ -222,12 +184,6 @@ hands_sent at (Some octets) = (false, refl)
 
 abbrev tick_log : ℕ → Given → List Entry
 tick_log now given = hands_at legs.Called given.on_called ++ (hands_at legs.Calling given.on_calling ++ Accepts (Tick now given) ∷ [])
-
-tick_events : (a b : Option (List ℕ)) (entry : Entry) → events (hands_at legs.Called a ++ (hands_at legs.Calling b ++ entry ∷ [])) ≡ events (entry ∷ [])
-tick_events None None entry = refl
-tick_events None (Some y) entry = refl
-tick_events (Some x) None entry = refl
-tick_events (Some x) (Some y) entry = refl
 
 tick_receipts : (a b : Option (List ℕ)) (entry : Entry) → receipts (hands_at legs.Called a ++ (hands_at legs.Calling b ++ entry ∷ [])) ≡ receipts (entry ∷ [])
 tick_receipts None None entry = refl
@@ -250,7 +206,7 @@ turns law setup writes now trace calling called first second t =
     let given : Given = next.0 in
     let tick : List Entry = tick_log now given in
     let came : List Entry = called ++ calling in
-    let told : events tick ≡ Tick now given ∷ [] = tick_events given.on_called given.on_calling (Accepts (Tick now given)) in
+    let told : events tick ≡ Tick now given ∷ [] = one.tick_event now given (hands_at legs.Calling given.on_calling) (hands_at legs.Called given.on_called) tick (hands_sent legs.Calling given.on_calling) (hands_sent legs.Called given.on_called) refl in
     let is : events (tick ++ came) ++ trace ≡ Tick now given ∷ earlier =
     ap (λ (es : List Event). es ++ trace) (flat_map-append events_in tick came ∙ ap (λ (es : List Event). es ++ events came) told ∙ ap (λ (es : List Event). Tick now given ∷ es) (flat_map-append events_in called calling))
     ∙ ap (λ (es : List Event). Tick now given ∷ es) (append_assoc (events called) (events calling) trace) in
@@ -451,32 +407,30 @@ links_begin setup writes job = is_linked setup writes job [] (begun setup writes
 record IsHearing (setup : Setup) (writes : Writing) (now : ℕ) (trace : List Event) (calling called : List (List ℕ)) : Type 0 where
   log : List Entry
   is_turn : IsTurn now log
-  is_trace : IsTrace setup writes (events log ++ trace)
-  calling_is : came_calling (receipts log) ≡ calling
-  called_is : came_called (receipts log) ≡ called
+  of : IsLogOf setup writes trace calling called log
 
 both_come : (setup : Setup) (writes : Writing) (now : ℕ) (trace : List Event) (calling called : List (List ℕ)) (first : AreReceived setup writes legs.Calling now trace calling [])
     (second : AreReceived setup writes legs.Called now (events first.log ++ trace) [] called) → Turns setup writes now trace first.log second.log → IsHearing setup writes now trace calling called
 both_come setup writes now trace calling called first second t = record {
   log = t.log;
   is_turn = t.is_turn;
-  is_trace = t.is_trace;
-  calling_is =
-      ap came_calling t.receipts_are ∙ came_calling-append (receipts second.log) (receipts first.log)
-      ∙ ap (λ (xs : List (List ℕ)). xs ++ came_calling (receipts first.log)) second.calling_is ∙ first.calling_is;
-  called_is =
-      ap came_called t.receipts_are ∙ came_called-append (receipts second.log) (receipts first.log)
-      ∙ ap (λ (xs : List (List ℕ)). came_called (receipts second.log) ++ xs) first.called_is ∙ append-nil (came_called (receipts second.log)) ∙ second.called_is;
+  of = (
+    t.is_trace,
+    ap came_calling t.receipts_are ∙ came_calling-append (receipts second.log) (receipts first.log)
+        ∙ ap (λ (xs : List (List ℕ)). xs ++ came_calling (receipts first.log)) second.of.1 ∙ first.of.1,
+    ap came_called t.receipts_are ∙ came_called-append (receipts second.log) (receipts first.log)
+        ∙ ap (λ (xs : List (List ℕ)). came_called (receipts second.log) ++ xs) first.of.2 ∙ append-nil (came_called (receipts second.log)) ∙ second.of.2,
+  );
 }
 
 on_both : TracesGoOn → (setup : Setup) (writes : Writing) (now : ℕ) (trace : List Event) (calling called : List (List ℕ)) → length calling ≤ most_datagrams → length called ≤ most_datagrams
     → IsTrace setup writes trace → IsHearing setup writes now trace calling called
 on_both law setup writes now trace calling called few_calling few_called is =
     let first : AreReceived setup writes legs.Calling now trace calling [] =
-    received setup writes legs.Calling now trace (length calling) calling [] (on_calling law setup writes now trace calling is) (at_most (length calling) most_datagrams few_calling) in
+    received setup writes legs.Calling now trace (length calling) calling [] (on_calling law setup writes now trace calling is) (eq-or-lt_of_le few_calling) in
     let second : AreReceived setup writes legs.Called now (events first.log ++ trace) [] called =
-    received setup writes legs.Called now (events first.log ++ trace) (length called) [] called (on_called law setup writes now (events first.log ++ trace) called first.is_trace) (at_most (length called) most_datagrams few_called) in
-    both_come setup writes now trace calling called first second (turns law setup writes now trace first.log second.log first.receives second.receives second.is_trace)
+    received setup writes legs.Called now (events first.log ++ trace) (length called) [] called (on_called law setup writes now (events first.log ++ trace) called first.of.0) (eq-or-lt_of_le few_called) in
+    both_come setup writes now trace calling called first second (turns law setup writes now trace first.log second.log first.receives second.receives second.of.0)
 
 -- and the round with it
 next_round : (setup : Setup) (writes : Writing) (job : JobValue) (rounds : List Round) (to_caller calling called to_answerer : List (List ℕ)) (t : IsHearing setup writes (moment_after rounds) (trace_after rounds) calling called)
@@ -490,18 +444,18 @@ next_round setup writes job rounds to_caller calling called to_answerer t h few 
   few_to_answerer = subst (λ (xs : List (List ℕ)). length xs ≤ most_datagrams) (sym h.octets_are) few_to_answerer;
   turn = t.is_turn;
   read = h.read;
-  trace = t.is_trace;
-  to_gateway = subst (λ (xs : List (List ℕ)). All (Contains (by_caller setup writes job rounds to_caller)) xs) (sym t.calling_is) c.from_caller;
+  trace = t.of.0;
+  to_gateway = subst (λ (xs : List (List ℕ)). All (Contains (by_caller setup writes job rounds to_caller)) xs) (sym t.of.1) c.from_caller;
   to_answerer = subst (λ (xs : List (List ℕ)). All (Contains (by_gateway rounds t.log)) xs) (sym h.octets_are) from_gateway;
-  from_answerer = subst (λ (xs : List (List ℕ)). All (Contains (by_answerer setup rounds)) xs) (sym t.called_is) c.from_answerer;
+  from_answerer = subst (λ (xs : List (List ℕ)). All (Contains (by_answerer setup rounds)) xs) (sym t.of.2) c.from_answerer;
 }
 
 with_round : (setup : Setup) (writes : Writing) (job : JobValue) (rounds : List Round) (to_caller calling called : List (List ℕ)) → IsHearing setup writes (moment_after rounds) (trace_after rounds) calling called
     → Stands setup writes job rounds → length rounds + 1 < most_near → (IsOver setup writes rounds → ⊥) → going.Comes setup writes job rounds to_caller calling called → GoesOn setup writes job rounds to_caller calling called
 with_round setup writes job rounds to_caller calling called t s few not_over c = record {
   turn = t.log;
-  calling_is = t.calling_is;
-  called_is = t.called_is;
+  calling_is = t.of.1;
+  called_is = t.of.2;
   round = λ to_answerer few_to_answerer from_gateway.
       let h : AreHeard setup (moment_after rounds) (answerer_after setup rounds) to_answerer = heard setup (moment_after rounds) (answerer_after setup rounds) to_answerer in
       let round : Round = record { calling = to_caller; gateway = t.log; called = h.came } in (

@@ -3,15 +3,12 @@ pub mod AnswererLemmas
 pub mod AnswererTrace
 pub mod Arrived
 pub mod CalledHears
-pub mod CalledSends
 pub mod CallerLemmas
 pub mod Delivers
+pub mod EachLeg
 pub mod ExchangeLemmas
 pub mod Faithfully
-pub mod FramesTold
 pub mod GoingOn
-pub mod LegsHear
-pub mod LegsTick
 pub mod Linked
 pub mod LinkedPages
 pub mod LoopLemmas
@@ -20,7 +17,6 @@ pub mod McfHeard
 pub mod NoEom
 pub mod OneCall
 pub mod OnePage
-pub mod ReadUnder
 pub mod Relayed
 pub mod ShortPackets
 pub mod SocketLemmas

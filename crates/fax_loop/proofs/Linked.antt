@@ -1,15 +1,15 @@
 -- Datagrams that were written of the packets that were given, and were read, are an honest schedule of these.
-use Rattle.std.proofs.Common.{◌≡◌, ℕ, zero, suc, ◌+◌, ◌≤◌, ◌<◌, ◌⊎◌, inl, inr, List, [], ◌∷◌, ◌++◌, length, reverse, take, Result, Ok, refl, sym, ◌∙◌, ap, subst, arith, length-append, slice_index_or}
+use Rattle.std.proofs.Common.{◌≡◌, ℕ, zero, suc, ◌+◌, ◌≤◌, ◌<◌, ◌⊎◌, inl, inr, List, [], ◌∷◌, ◌++◌, length, reverse, Result, Ok, refl, sym, ◌∙◌, ap, subst, arith, length-append, slice_index_or}
 use Rattle.std.specs.Prelude.{All, Contains}
 use Rattle.std.proofs.lemmas.List.Elements.{All-head, All-tail}
 use Rattle.fax_udptl.specs.declared.fault.UdptlFault.{UdptlFault}
-use Rattle.fax_udptl.specs.Datagrams.{DatagramValue, datagram_of, written_datagram}
+use Rattle.fax_udptl.specs.Datagrams.{DatagramValue, datagram_of}
 use Rattle.fax_udptl.specs.Schedules.{Arrival, IsNear, IsSentAt, greatest_place}
 use Rattle.fax_udptl.specs.Sending.{AreShort, datagram_for}
 use Rattle.fax_udptl.proofs.Honest.{senders_send_their_list}
-use Rattle.fax_udptl.proofs.WrittenLemmas.{datagram_back}
 use Rattle.fax_gateway.specs.Setups.{Setup}
 use Rattle.fax_gateway.specs.Legs.{sent}
+use Rattle.fax_gateway.proofs.Fitting.{sent_back}
 use Rattle.fax_loop.specs.Faithful.{AreCarried}
 use Rattle.fax_loop.specs.Links.{most_near}
 use Rattle.fax_loop.specs.Machines.{datagrams_of}
@@ -57,19 +57,6 @@ after_short : (later more : List (List ℕ)) → AreShort (later ++ more) → Ar
 after_short [] more s = s
 after_short (x ∷ later) more s = after_short later more s.1
 
-take_short : (n : ℕ) (packets : List (List ℕ)) → AreShort packets → AreShort (take n packets)
-take_short zero packets s = tt
-take_short (suc n) [] s = tt
-take_short (suc n) (p ∷ packets) s = (s.0, take_short n packets s.1)
-
-few_taken : (n : ℕ) (packets : List (List ℕ)) → length (take n packets) ≤ n
-few_taken zero packets = omega arith
-few_taken (suc n) [] = omega arith
-few_taken (suc n) (p ∷ packets) = let l : length (take n packets) ≤ n = few_taken n packets in omega arith
-
-countable : (n most : ℕ) (packets : List (List ℕ)) → n ≤ 8 → length (take n packets) ≤ 16383
-countable n most packets few = let l : length (take n packets) ≤ n = few_taken n packets in omega arith
-
 same_read : (r : Result DatagramValue UdptlFault) (d e : DatagramValue) → r ≡ Ok d → r ≡ Ok e → d ≡ e
 same_read r d e a b = cc
 
@@ -88,8 +75,8 @@ is_placed : (setup : Setup) (given : List (List ℕ)) (octets : List ℕ) (d : D
 is_placed setup given octets d short m read =
     let made : DatagramValue = datagram_for setup.redundancy m.older m.packet in
     let own : AreShort (m.packet ∷ m.older) = after_short m.later (m.packet ∷ m.older) (subst AreShort m.given_is short) in
-    let back : datagram_of (written_datagram made) ≡ Ok made = datagram_back made (omega arith) own.0 (take_short setup.redundancy m.older own.1) (countable setup.redundancy 0 m.older setup.few) in
-    let is : made ≡ d = same_read (datagram_of (written_datagram made)) made d back (ap datagram_of m.octets_are ∙ read) in
+    let back : datagram_of (sent setup m.older m.packet) ≡ Ok made = sent_back setup m.older m.packet own.1 own.0 in
+    let is : made ≡ d = same_read (datagram_of (sent setup m.older m.packet)) made d back (ap datagram_of m.octets_are ∙ read) in
     record {
       place = length m.older;
       sent_at =

@@ -13,7 +13,6 @@ use Rattle.fax_gateway.specs.Setups.{AreAllowed, AreSet, Setup}
 use Rattle.fax_gateway.specs.CallingLegs.{calling_leg}
 use Rattle.fax_gateway.specs.CalledLegs.{CalledLeg}
 use Rattle.fax_gateway.specs.Driving.{receipts, sent}
-use Rattle.fax_gateway.specs.Origins.{JobsAreOfTheirCalls}
 use Rattle.fax_gateway.specs.Reached.{arrived_on, given_on}
 use Rattle.fax_gateway.specs.Reports.{JobsHaveStates}
 use Rattle.fax_gateway.specs.BothLegs.{both_legs}
@@ -24,14 +23,12 @@ use Rattle.fax_loop.specs.Links.{AreLinked, AreLinkedBack, ConfirmsThePageOver, 
 use Rattle.fax_loop.specs.Machines.{datagrams_of, octets_of, pages_on}
 use Rattle.fax_loop.proofs.AnswererTrace.{answerer_followed}
 use Rattle.fax_loop.proofs.Arrived.{answerer_read, called_leg_read, gateway_read}
-use Rattle.fax_loop.proofs.CalledSends.{caller_gives}
 use Rattle.fax_loop.proofs.Delivers.{confirms_if_delivered, none_told}
 use Rattle.fax_loop.proofs.Faithfully.{confirms_the_page, in_order, is_job_of, one_ring}
 use Rattle.fax_loop.proofs.Linked.{AreIn, are_carried, are_in, datagrams_many}
-use Rattle.fax_loop.proofs.McfGiven.{TellsNoMcf}
 use Rattle.fax_loop.proofs.OneCall.{hands_what_it_gave}
 use Rattle.fax_loop.proofs.OnePage.{Gives}
-use Rattle.fax_loop.proofs.Relayed.{Carries, IfGives, called_gives, sends_of}
+use Rattle.fax_loop.proofs.Relayed.{Carries, IfGives, called_gives, caller_gives, sends_of}
 use Rattle.fax_loop.proofs.ShortPackets.{gives_short}
 
 -- what went over a line since nothing had
@@ -51,9 +48,9 @@ leg_short writes page (Some l) g = gives_short writes page l g
 few_given : (setup : Setup) (given : List (List ℕ)) → length (datagrams_of setup given) < most_near → length given < most_near
 few_given setup given h = let l : length (datagrams_of setup given) ≡ length given = datagrams_many setup given in omega arith
 
-are_honest : JobsAreOfTheirCalls → JobsHaveStates → (setup : Setup) (writes : Writing) (page : PageValue) (before after : Lines) (report : Option Report) (pages : List PageValue) → setup.restored ≡ [] → IsWriting writes → IsPage page
+are_honest : JobsHaveStates → (setup : Setup) (writes : Writing) (page : PageValue) (before after : Lines) (report : Option Report) (pages : List PageValue) → setup.restored ≡ [] → IsWriting writes → IsPage page
     → (p : IsPlayed setup writes (job_of 0 page) before after report pages) → AreLinked before after → AreHonest setup writes (job_of 0 page) p.rounds
-are_honest law states setup writes page before after report pages new w is p l =
+are_honest states setup writes page before after report pages new w is p l =
     let rounds : List Round = p.rounds in
     let caller : CalledLeg = caller_after setup writes (job_of 0 page) rounds in
     let leg : Option CalledLeg = (both_legs setup writes (trace_after rounds)).leg in
@@ -71,7 +68,7 @@ are_honest law states setup writes page before after report pages new w is p l =
     (few_given setup caller.given (subst (λ (xs : List (List ℕ)). length xs < most_near) caller_is l.few_to_gateway))
     (gateway_read setup (datagrams_of setup caller.given) (log_after rounds) came) in
     let carries : Carries setup writes caller.given (trace_after rounds) = record { is_trace = p.trace; rings = one_ring setup writes rounds p.are_rounds; carried = to_gateway } in
-    let called : IfGives writes page leg = called_gives law setup writes (trace_after rounds) page caller.given new w (sends_of page writes caller w gives) carries in
+    let called : IfGives writes page leg = called_gives setup writes (trace_after rounds) page caller.given new w (sends_of page writes caller w gives) carries in
     let hands : handed_called l.handed ≡ datagrams_of setup (given_by leg) = ap handed_called handed_are ∙ hands_what_it_gave states setup writes rounds p.are_rounds p.trace in
     let heard : AreIn (datagrams_of setup (given_by leg)) received =
     subst (λ (ys : List (List ℕ)). AreIn (datagrams_of setup (given_by leg)) ys) received_is
@@ -88,32 +85,32 @@ is_back : (setup : Setup) (writes : Writing) (job : JobValue) (before after : Li
 is_back setup writes job before after report pages p l none =
     let rounds : List Round = p.rounds in
     let given : List (List ℕ) = given_on (answerer_after setup rounds) in
-    let told : TellsNoMcf given = none_told setup writes (moment_after rounds) (answerer_after setup rounds) (answerer_followed setup writes writes rounds p.are_rounds) none in
+    let told = none_told setup writes (moment_after rounds) (answerer_after setup rounds) (answerer_followed setup writes writes rounds p.are_rounds) none in
     let sent_is : l.answerer_sent ≡ datagrams_of setup given = grown (datagrams_of setup given) l.answerer_sent before.answerer.sent after.answerer.sent l.answerer_tells.0 l.answerer_tells.1 p.carried.answerer_sent in
     let receipts_are : l.receipts ≡ receipts (log_after rounds) = grown (receipts (log_after rounds)) l.receipts before.wire.received after.wire.received l.receipts_told.0 l.receipts_told.1 p.carried.wire.received in
     let came : AreIn (datagrams_of setup given) (came_called (receipts (log_after rounds))) =
     subst (λ (rs : List Receipt). AreIn (datagrams_of setup given) (came_called rs)) receipts_are
     (subst (λ (xs : List (List ℕ)). AreIn xs (came_called l.receipts)) sent_is (are_in l.answerer_sent (came_called l.receipts) l.from_answerer)) in
-    are_carried setup given (arrived_by (both_legs setup writes (trace_after rounds)).leg) told.short
+    are_carried setup given (arrived_by (both_legs setup writes (trace_after rounds)).leg) told.1
     (few_given setup given (subst (λ (xs : List (List ℕ)). length xs < most_near) sent_is l.few_from_answerer))
-    (called_leg_read setup writes (datagrams_of setup given) (log_after rounds) came)
+    (called_leg_read setup writes (datagrams_of setup given) (log_after rounds) (one_ring setup writes rounds p.are_rounds) came)
 
 none_on : (pages newest : List PageValue) → reverse pages ≡ newest → pages ≡ [] → newest ≡ []
 none_on pages newest e none = sym e ∙ ap (λ (xs : List PageValue). reverse xs) none
 
-delivers : JobsAreOfTheirCalls → JobsHaveStates → (setup : Setup) (writes : Writing) (page : PageValue) (before after : Lines) (report : Option Report) (pages : List PageValue) → setup.restored ≡ [] → IsWriting writes → IsPage page
+delivers : JobsHaveStates → (setup : Setup) (writes : Writing) (page : PageValue) (before after : Lines) (report : Option Report) (pages : List PageValue) → setup.restored ≡ [] → IsWriting writes → IsPage page
     → (p : IsPlayed setup writes (job_of 0 page) before after report pages) → AreLinked before after → AreLinkedBack before after → (o : Option Report) → report ≡ o → IsDelivered o → pages ≡ [] → ⊥
-delivers law states setup writes page before after report pages new w is p l back None e d none = d
-delivers law states setup writes page before after report pages new w is p l back (Some r) e d none =
+delivers states setup writes page before after report pages new w is p l back None e d none = d
+delivers states setup writes page before after report pages new w is p l back (Some r) e d none =
     let empty : pages_on (answerer_after setup p.rounds) ≡ [] = none_on pages (pages_on (answerer_after setup p.rounds)) p.pages_are none in
-    confirms_if_delivered law states setup writes page p.rounds r new w is p.are_rounds p.trace (are_honest law states setup writes page before after report pages new w is p l)
+    confirms_if_delivered states setup writes page p.rounds r new w is p.are_rounds p.trace (are_honest states setup writes page before after report pages new w is p l)
     (is_back setup writes (job_of 0 page) before after report pages p back empty) (sym p.report_is ∙ e) d empty
 
-pub confirms_the_page_over : JobsAreOfTheirCalls → JobsHaveStates → ConfirmsThePageOver
-confirms_the_page_over law states setup writes page before after report pages new w is p = record {
+pub confirms_the_page_over : JobsHaveStates → ConfirmsThePageOver
+confirms_the_page_over states setup writes page before after report pages new w is p = record {
   the_page = λ l. in_order page pages (pages_on (answerer_after setup p.rounds)) p.pages_are
-      (confirms_the_page law setup writes page p.rounds new w is p.are_rounds p.trace (are_honest law states setup writes page before after report pages new w is p l));
-  delivered = λ l back d. delivers law states setup writes page before after report pages new w is p l back report refl d;
+      (confirms_the_page setup writes page p.rounds new w is p.are_rounds p.trace (are_honest states setup writes page before after report pages new w is p l));
+  delivered = λ l back d. delivers states setup writes page before after report pages new w is p l back report refl d;
 }
 
 -- so is an exchange, whose settings have a setup

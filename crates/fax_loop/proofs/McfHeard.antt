@@ -4,7 +4,6 @@ use Rattle.fax_frames.specs.declared.frame.Frame.{Frame}
 use Rattle.fax_frames.specs.declared.frame.Frame.TheVariants as frames
 use Rattle.fax_frames.specs.Frames.{frame_of}
 use Rattle.fax_ifp.specs.Elements as elements
-use Rattle.fax_ifp.specs.Elements.{Slot}
 use Rattle.fax_ifp.specs.Packets.{packet_of}
 use Rattle.fax_ifp.specs.Pieces as pieces
 use Rattle.fax_ifp.specs.Pieces.{Piece}
@@ -12,8 +11,7 @@ use Rattle.fax_ifp.proofs.SentFrames.{Has, has_onto}
 use Rattle.fax_jobs.specs.declared.outcome.Outcome.{Outcome}
 use Rattle.fax_jobs.specs.declared.outcome.Outcome.TheVariants as outcomes
 use Rattle.fax_jobs.specs.Jobs.{JobValue, IsJob}
-use Rattle.fax_call.specs.declared.state.State.{State}
-use Rattle.fax_call.specs.declared.state.State.TheVariants.{Idle, AwaitDis, AwaitCfr, AwaitMcf, Closing}
+use Rattle.fax_call.specs.declared.state.State.TheVariants.{Idle}
 use Rattle.fax_call.specs.Writings.{Writing, IsWriting}
 use Rattle.fax_call.specs.Replies.{Packet, written}
 use Rattle.fax_call.specs.Calls.{CallerCore, CallEvent, Comes, Ticks, after_events, started, ticked}
@@ -140,13 +138,6 @@ until_ack writes job old a (e ∷ before) h = by (is_over (after_events writes j
 
 same_outcome : (o : Option Outcome) (a b : Outcome) → o ≡ Some a → o ≡ Some b → a ≡ b
 same_outcome o a b e f = cc
-
-pub is_idle : (s : State) → is_over s ≡ true → s ≡ Idle
-is_idle Idle e = refl
-is_idle AwaitDis e = cc
-is_idle (AwaitCfr dis dcs) e = cc
-is_idle (AwaitMcf dis dcs) e = cc
-is_idle (Closing outcome) e = cc
 
 pub delivered_acks : (writes : Writing) (l : CalledLeg) → IsWriting writes → IsJob l.job →
     let over : CallerCore = after_events writes l.job (started l.before l.job l.begun) l.events in

@@ -1,5 +1,5 @@
 -- A call of a job whose pages all have one format gives no EOM: all DCS that are heard of it are of one kind.
-use Rattle.std.proofs.Common.{◌≡◌, ℕ, zero, suc, ◌+◌, Bool, true, false, ◌||◌, ◌&&◌, nat_le, inl, inr, List, [], ◌∷◌, length, map, take, drop, replicate, Option, Some, None, refl, ◌∙◌, ap, arith, if◌then◌else◌}
+use Rattle.std.proofs.Common.{◌≡◌, ℕ, zero, suc, ◌+◌, Bool, true, false, ◌||◌, ◌&&◌, nat_le, List, [], ◌∷◌, length, take, drop, replicate, Option, Some, None, refl, ◌∙◌, ap, if◌then◌else◌}
 use Rattle.std.specs.List.{list_any}
 use Rattle.fax_runcodes.specs.declared.format.Format.{Format}
 use Rattle.fax_frames.specs.declared.dcs.Dcs.{Dcs}
@@ -8,22 +8,17 @@ use Rattle.fax_frames.specs.declared.rate.Rate.{Rate}
 use Rattle.fax_frames.specs.declared.frame.Frame.TheVariants as frames
 use Rattle.fax_frames.specs.Capabilities.{rate_of, width_of}
 use Rattle.fax_frames.specs.FieldBits.{bit_of, bits_of_octets, code_at, octets_of}
-use Rattle.fax_frames.specs.Frames.{dcs_by, dcs_in, dcs_of, frame_of}
+use Rattle.fax_frames.specs.Frames.{dcs_by, dcs_in, dcs_of}
 use Rattle.fax_frames.specs.Rates.{kind_of}
 use Rattle.fax_frames.specs.Written.{dcs_bits, written_dcs}
-use Rattle.fax_ifp.specs.Pieces as pieces
-use Rattle.fax_ifp.specs.Pieces.{Piece}
-use Rattle.fax_ifp.proofs.SentFrames.{Has}
 use Rattle.fax_jobs.specs.Jobs.{JobValue, IsJob}
 use Rattle.fax_timers.specs.Paces.{pace_allows}
 use Rattle.fax_call.specs.Writings.{Writing, IsWriting}
-use Rattle.fax_call.specs.Replies.{Packet, Signals, Tells, Part, Due, One, Text, written, part_length, parts_of, check_length, training_check, is_last_page, turn_after, command_by, command}
+use Rattle.fax_call.specs.Replies.{Packet, Tells, Part, Due, One, Text, part_length, parts_of, check_length, training_check, is_last_page, turn_after, command_by, command}
 use Rattle.fax_call.specs.Table.{Move, Stays, Trains, Sends, AsksAgain, Turns, Closes, HangsUp}
 use Rattle.fax_call.specs.Calls.{CallerCore, formats_of, started, moved, heard, timed, text_at, TakenPart, after_giving, given_first, TickResult, ticked, CallEvent, Comes, Ticks, after_events}
-use Rattle.fax_call.specs.Given.{packets_with, packets_given, tells_eom, is_eom, is_eom_frame}
-use Rattle.fax_call.proofs.Emitted.{start_good}
-use Rattle.fax_call.proofs.FinePackets.{OneKind, given_fine, one_kind}
-use Rattle.fax_loop.proofs.FramesTold.{AreFine, EachTold, told_frames}
+use Rattle.fax_call.specs.Given.{packets_with, packets_given, tells_eom, is_eom}
+use Rattle.fax_call.proofs.FinePackets.{OneKind, one_kind_given}
 
 -- after no page the format is another
 abbrev pub IsOneFormat : List Format → Type 0
@@ -128,36 +123,18 @@ events_quiet writes job a (Comes piece now ∷ before) q = let c : CallerCore = 
 events_quiet writes job a (Ticks now ∷ before) q = (tick_quiet writes job (after_events writes job a before) now (events_quiet writes job a before q)).core
 
 -- what it gives
-abbrev IsNoEom : List ℕ → Type 0
-IsNoEom octets = is_eom (frame_of octets) ≡ false
-
-with_none : (o : Option Packet) (packets : List Packet) → GivesNone o → EachTold IsNoEom packets → EachTold IsNoEom (packets_with o packets)
+with_none : (o : Option Packet) (packets : List Packet) → GivesNone o → list_any tells_eom packets ≡ false → list_any tells_eom (packets_with o packets) ≡ false
 with_none None packets g h = h
-with_none (Some (Signals code)) packets g h = h
-with_none (Some (Tells frame)) packets g h = (g, h)
-with_none (Some (Part kind last octets)) packets g h = h
+with_none (Some packet) packets g h = ap (λ (b : Bool). b || list_any tells_eom packets) g ∙ h
 
-given_none : (writes : Writing) (job : JobValue) (a : CallerCore) (events : List CallEvent) → Quiet a → EachTold IsNoEom (packets_given writes job a events)
-given_none writes job a [] q = tt
+given_none : (writes : Writing) (job : JobValue) (a : CallerCore) (events : List CallEvent) → Quiet a → list_any tells_eom (packets_given writes job a events) ≡ false
+given_none writes job a [] q = refl
 given_none writes job a (Comes piece now ∷ before) q = given_none writes job a before q
 given_none writes job a (Ticks now ∷ before) q =
     with_none (ticked writes job (after_events writes job a before) now).given (packets_given writes job a before)
     (tick_quiet writes job (after_events writes job a before) now (events_quiet writes job a before q)).given (given_none writes job a before q)
 
-none_heard : (ps : List Piece) → ((octets : List ℕ) → Has ps octets → IsNoEom octets) → list_any is_eom_frame ps ≡ false
-none_heard [] h = refl
-none_heard (pieces.Frame octets ∷ ps) h = ap (λ (b : Bool). b || list_any is_eom_frame ps) (h octets (inl refl)) ∙ none_heard ps (λ o x. h o (inr x))
-none_heard (pieces.Start kind ∷ ps) h = none_heard ps (λ o x. h o (inr x))
-none_heard (pieces.Octets octets ∷ ps) h = none_heard ps (λ o x. h o (inr x))
-none_heard (pieces.End whole ∷ ps) h = none_heard ps (λ o x. h o (inr x))
-none_heard (pieces.Gap ∷ ps) h = none_heard ps (λ o x. h o (inr x))
-
 -- all its DCS are of one kind
 pub one_kind_of : (writes : Writing) (job : JobValue) (core : CallerCore) (start : ℕ) (events : List CallEvent) → IsWriting writes → IsJob job → IsOneFormat (formats_of job) → OneKind writes job core start events
 one_kind_of writes job core start events w is one =
-    let a : CallerCore = started core job start in
-    let packets : List Packet = packets_given writes job a events in
-    let quiet : Quiet a = record { one = one; due = (refl, tt) } in
-    let fine : AreFine packets = given_fine (record { writes = writes; are = w }) job a events is (start_good (record { writes = writes; are = w }) job [] core start is) (omega arith, tt) in
-    one_kind writes job core start events w is
-    (none_heard (pieces.pieces (map Some (map written packets))) (λ octets has. told_frames IsNoEom packets octets fine (given_none writes job a events quiet) has))
+    one_kind_given writes job core start events w is (given_none writes job (started core job start) events (record { one = one; due = (refl, tt) }))

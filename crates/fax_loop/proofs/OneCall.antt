@@ -1,25 +1,21 @@
 -- In an exchange the gateway makes one call, and the datagrams that it hands over on its called leg are those of the packets that it
 -- gives there.
-use Rattle.std.proofs.Common.{◌≡◌, ℕ, ◌-◌, max, Bool, true, false, not, ◌&&◌, List, [], ◌∷◌, ◌++◌, length, drop, slice_get, ◌⊎◌, inl, inr, is_some, Option, Some, None, option_map, Result, Ok, Err, refl, sym, ◌∙◌, ap, subst, arith, append-nil, append_assoc, length-drop, if◌then◌else◌}
+use Rattle.std.proofs.Common.{◌≡◌, ℕ, ◌-◌, max, Bool, true, false, not, ◌&&◌, List, [], ◌∷◌, ◌++◌, length, drop, slice_get, ◌⊎◌, inl, inr, is_some, Option, Some, None, option_map, refl, sym, ◌∙◌, ap, subst, arith, append-nil, append_assoc, length-drop, if◌then◌else◌}
 use Rattle.std.specs.List.{AllByRecursion}
 use Rattle.std.proofs.lemmas.List.Concat.{flat_map-append}
 use Rattle.std.proofs.lemmas.List.Elements.{recursion_from_All}
-use Rattle.fax_udptl.specs.declared.fault.UdptlFault.{UdptlFault}
-use Rattle.fax_udptl.specs.Datagrams.{DatagramValue, datagram_of}
 use Rattle.fax_jobs.specs.declared.outcome.Outcome.{Outcome}
 use Rattle.fax_jobs.specs.declared.report.Report.{Report}
 use Rattle.fax_jobs.specs.Books.{kept_reports, last_of}
 use Rattle.fax_jobs.specs.Jobs.{JobValue}
 use Rattle.fax_call.specs.Writings.{Writing}
 use Rattle.fax_call.specs.Calls.{CallerCore}
-use Rattle.fax_call.specs.Delivery.{is_over}
-use Rattle.fax_call.specs.Replies.{Packet}
 use Rattle.fax_gateway.specs.declared.leg.Leg.{Leg}
 use Rattle.fax_gateway.specs.declared.leg.Leg.TheVariants as legs
 use Rattle.fax_gateway.specs.Setups.{Setup}
 use Rattle.fax_gateway.specs.Events.{Event, Ring, FromCalling, FromCalled, Tick, Placed, Given, clock}
 use Rattle.fax_gateway.specs.CallingLegs.{calling_leg}
-use Rattle.fax_gateway.specs.CalledLegs.{CalledLeg, calls, core_left, core_of, delivered_told, hears, is_free, leg_ticked, leg_with, outcome_of, packets_given, report_by, told_by, told_called, told_report, with_tick}
+use Rattle.fax_gateway.specs.CalledLegs.{CalledLeg, calls, core_left, delivered_told, hears, is_free, leg_ticked, outcome_of, report_by, told_by, told_called, told_report, with_tick}
 use Rattle.fax_gateway.specs.Driving.{Entry, Accepts, RefusesRing, RefusesDatagram, RefusesTick, ReceivesNothing, FailsToReceive, Sends, AreReceives, GivesNoDatagram, Comes, IsSent, IsTick, IsTurn, events, events_in, sent, sent_in}
 use Rattle.fax_gateway.specs.Reports.{JobsHaveStates, report_list, reports_given}
 use Rattle.fax_gateway.specs.BothLegs.{BothLegs, begins_next, book_of, both_legs, heard_in_tick, in_tick, leg_of, sends, sends_if}
@@ -30,6 +26,9 @@ use Rattle.fax_loop.specs.Exchanges.{AreRounds, Round, log_after, moment_after, 
 use Rattle.fax_loop.specs.Faithful.{given_by}
 use Rattle.fax_loop.specs.Links.{handed_called}
 use Rattle.fax_loop.specs.Machines.{datagrams_of}
+use Rattle.fax_gateway.proofs.DrivingLemmas.{sends_no_event}
+use Rattle.fax_loop.proofs.CallerLemmas.{datagrams_of-given}
+use Rattle.fax_loop.proofs.EachLeg.{hears_each}
 
 -- ---- A CALL THAT IS OVER WAS REPORTED
 abbrev HasReport : Option CalledLeg → List Report → Type 0
@@ -78,17 +77,9 @@ sends_report setup writes now s reports h = by (begins_next setup s.leg)
     by true = placed_report true setup writes now s reports h
     by false = h
 
-with_report : (l : CalledLeg) (now : ℕ) (r : Result DatagramValue UdptlFault) (reports : List Report) → HasReport (Some l) reports → HasReport (Some (leg_with r now l)) reports
-with_report l now (Ok d) reports h = h
-with_report l now (Err f) reports h = h
-
 hears_report : (writes : Writing) (leg : Option CalledLeg) (octets : List ℕ) (now : ℕ) (reports : List Report) → HasReport leg reports → HasReport (option_map (hears writes octets now) leg) reports
 hears_report writes None octets now reports h = tt
-hears_report writes (Some l) octets now reports h = by (is_over (core_of writes l).state)
-  where
-    by : (b : Bool) → HasReport (Some (if◌then◌else◌ {A = CalledLeg} b l (leg_with (datagram_of octets) now l))) reports
-    by true = h
-    by false = with_report l now (datagram_of octets) reports h
+hears_report writes (Some l) octets now reports h = hears_each (λ (k : CalledLeg). HasReport (Some k) reports) octets (λ k n d e x. x) writes now l h
 
 has_report : (setup : Setup) (writes : Writing) (trace : List Event) → IsTrace setup writes trace → HasReport (both_legs setup writes trace).leg (reports_given trace)
 has_report setup writes [] t = tt
@@ -153,17 +144,9 @@ record IsAs (old new : Option CalledLeg) : Type 0 where
   given : given_by new ≡ given_by old
   stays : IsOpen old → IsOpen new
 
-with_as : (l : CalledLeg) (now : ℕ) (r : Result DatagramValue UdptlFault) → IsAs (Some l) (Some (leg_with r now l))
-with_as l now (Ok d) = record { given = refl; stays = λ h. h }
-with_as l now (Err f) = record { given = refl; stays = λ h. h }
-
 hears_as : (writes : Writing) (leg : Option CalledLeg) (octets : List ℕ) (now : ℕ) → IsAs leg (option_map (hears writes octets now) leg)
 hears_as writes None octets now = record { given = refl; stays = λ h. h }
-hears_as writes (Some l) octets now = by (is_over (core_of writes l).state)
-  where
-    by : (b : Bool) → IsAs (Some l) (Some (if◌then◌else◌ {A = CalledLeg} b l (leg_with (datagram_of octets) now l)))
-    by true = record { given = refl; stays = λ h. h }
-    by false = with_as l now (datagram_of octets)
+hears_as writes (Some l) octets now = hears_each (λ (k : CalledLeg). IsAs (Some l) (Some k)) octets (λ k n d e x. record { given = x.given; stays = x.stays }) writes now l (record { given = refl; stays = λ h. h })
 
 comes_as : (setup : Setup) (writes : Writing) (came trace : List Event) → OnlyComes came → IsAs (both_legs setup writes trace).leg (both_legs setup writes (came ++ trace)).leg
 comes_as setup writes [] trace c = record { given = refl; stays = λ h. h }
@@ -198,10 +181,6 @@ sends_given setup writes now s (Some l) e h = by (begins_next setup s.leg) (none
     by true f = cc
     by false f = ap given_by e
 
-packet_given : (setup : Setup) (o : Option Packet) (given : List (List ℕ)) → datagrams_of setup (packets_given o given) ≡ handed (told_by setup given o) ++ datagrams_of setup given
-packet_given setup None given = refl
-packet_given setup (Some packet) given = refl
-
 ticked_given : (setup : Setup) (writes : Writing) (leg : Option CalledLeg) (now : ℕ) → datagrams_of setup (given_by (option_map (leg_ticked writes now) leg)) ≡ handed (told_called setup writes leg now) ++ datagrams_of setup (given_by leg)
 ticked_given setup writes None now = refl
 ticked_given setup writes (Some l) now = by l.entered
@@ -209,7 +188,7 @@ ticked_given setup writes (Some l) now = by l.entered
     by : (b : Bool) → datagrams_of setup (if◌then◌else◌ {A = CalledLeg} b l (with_tick (calls writes l now) now l)).given
         ≡ handed (if◌then◌else◌ {A = Option (List ℕ)} b None (told_by setup l.given (calls writes l now).given)) ++ datagrams_of setup l.given
     by true = refl
-    by false = packet_given setup (calls writes l now).given l.given
+    by false = datagrams_of-given setup (calls writes l now).given l.given
 
 tick_given : (setup : Setup) (writes : Writing) (earlier : List Event) (at : ℕ) (given : Given) → IsTrace setup writes (Tick at given ∷ earlier) → IsOpen (both_legs setup writes earlier).leg
     → datagrams_of setup (given_by (both_legs setup writes (Tick at given ∷ earlier)).leg) ≡ handed given.on_called ++ datagrams_of setup (given_by (both_legs setup writes earlier).leg)
@@ -225,17 +204,7 @@ tick_given setup writes earlier at given t open_so =
 
 -- ---- A TURN, as its log tells
 abbrev pub IsQuiet : Entry → Type 0
-IsQuiet (Accepts (Ring at number)) = ⊥
-IsQuiet (Accepts (FromCalling octets at decided read)) = Unit {0}
-IsQuiet (Accepts (FromCalled octets at decided)) = Unit {0}
-IsQuiet (Accepts (Tick at given)) = ⊥
-IsQuiet (Accepts (Placed at connected)) = ⊥
-IsQuiet (RefusesRing fault) = Unit {0}
-IsQuiet (RefusesDatagram at octets) = Unit {0}
-IsQuiet (RefusesTick now) = Unit {0}
-IsQuiet (ReceivesNothing at) = Unit {0}
-IsQuiet (FailsToReceive at) = Unit {0}
-IsQuiet (Sends at octets fails) = ⊥
+IsQuiet entry = OnlyComes (events_in entry) × (sent_in entry ≡ [])
 
 abbrev pub AreQuiet : List Entry → Type 0
 AreQuiet [] = Unit {0}
@@ -247,15 +216,15 @@ quiet_both (entry ∷ log) more a b = (a.0, quiet_both log more a.1 b)
 
 comes_quiet : (at : Leg) (now : ℕ) (entry : Entry) → Comes at now entry → IsQuiet entry
 comes_quiet at now (Accepts (Ring moment number)) c = absurd c
-comes_quiet at now (Accepts (FromCalling octets moment decided read)) c = tt
-comes_quiet at now (Accepts (FromCalled octets moment decided)) c = tt
+comes_quiet at now (Accepts (FromCalling octets moment decided read)) c = (tt, refl)
+comes_quiet at now (Accepts (FromCalled octets moment decided)) c = (tt, refl)
 comes_quiet at now (Accepts (Tick moment given)) c = absurd c
 comes_quiet at now (Accepts (Placed moment connected)) c = absurd c
-comes_quiet at now (RefusesRing fault) c = tt
-comes_quiet at now (RefusesDatagram on octets) c = tt
-comes_quiet at now (RefusesTick moment) c = tt
-comes_quiet at now (ReceivesNothing on) c = tt
-comes_quiet at now (FailsToReceive on) c = tt
+comes_quiet at now (RefusesRing fault) c = (tt, refl)
+comes_quiet at now (RefusesDatagram on octets) c = (tt, refl)
+comes_quiet at now (RefusesTick moment) c = (tt, refl)
+comes_quiet at now (ReceivesNothing on) c = (tt, refl)
+comes_quiet at now (FailsToReceive on) c = (tt, refl)
 comes_quiet at now (Sends on octets fails) c = absurd c
 
 all_quiet : (at : Leg) (now : ℕ) (log : List Entry) → AllByRecursion (Comes at now) log → AreQuiet log
@@ -263,80 +232,68 @@ all_quiet at now [] a = tt
 all_quiet at now (entry ∷ log) a = (comes_quiet at now entry a.0, all_quiet at now log a.1)
 
 gives_quiet : (at : Leg) (entry : Entry) → GivesNoDatagram at entry → IsQuiet entry
-gives_quiet at entry (inl e) = subst IsQuiet (sym e) tt
-gives_quiet at entry (inr e) = subst IsQuiet (sym e) tt
+gives_quiet at entry (inl e) = subst IsQuiet (sym e) (tt, refl)
+gives_quiet at entry (inr e) = subst IsQuiet (sym e) (tt, refl)
 
 pub receives_quiet : (at : Leg) (now : ℕ) (log : List Entry) → AreReceives at now log → AreQuiet log
 receives_quiet at now log (inl a) = all_quiet at now log (recursion_from_All (Comes at now) log a.0)
 receives_quiet at now log (inr r) = subst AreQuiet (sym r.2) (gives_quiet at r.1 r.5, all_quiet at now r.0 (recursion_from_All (Comes at now) r.0 r.3))
 
+only_both : (xs ys : List Event) → OnlyComes xs → OnlyComes ys → OnlyComes (xs ++ ys)
+only_both [] ys a b = b
+only_both (Ring at number ∷ xs) ys a b = absurd a
+only_both (FromCalling octets at decided read ∷ xs) ys a b = only_both xs ys a b
+only_both (FromCalled octets at decided ∷ xs) ys a b = only_both xs ys a b
+only_both (Tick at given ∷ xs) ys a b = absurd a
+only_both (Placed at connected ∷ xs) ys a b = absurd a
+
 quiet_events : (log : List Entry) → AreQuiet log → OnlyComes (events log)
 quiet_events [] q = tt
-quiet_events (Accepts (Ring at number) ∷ log) q = absurd q.0
-quiet_events (Accepts (FromCalling octets at decided read) ∷ log) q = quiet_events log q.1
-quiet_events (Accepts (FromCalled octets at decided) ∷ log) q = quiet_events log q.1
-quiet_events (Accepts (Tick at given) ∷ log) q = absurd q.0
-quiet_events (Accepts (Placed at connected) ∷ log) q = absurd q.0
-quiet_events (RefusesRing fault ∷ log) q = quiet_events log q.1
-quiet_events (RefusesDatagram at octets ∷ log) q = quiet_events log q.1
-quiet_events (RefusesTick now ∷ log) q = quiet_events log q.1
-quiet_events (ReceivesNothing at ∷ log) q = quiet_events log q.1
-quiet_events (FailsToReceive at ∷ log) q = quiet_events log q.1
-quiet_events (Sends at octets fails ∷ log) q = absurd q.0
+quiet_events (entry ∷ log) q = only_both (events_in entry) (events log) q.0.0 (quiet_events log q.1)
 
 pub quiet_sent : (log : List Entry) → AreQuiet log → sent log ≡ []
 quiet_sent [] q = refl
-quiet_sent (Accepts (Ring at number) ∷ log) q = absurd q.0
-quiet_sent (Accepts (FromCalling octets at decided read) ∷ log) q = quiet_sent log q.1
-quiet_sent (Accepts (FromCalled octets at decided) ∷ log) q = quiet_sent log q.1
-quiet_sent (Accepts (Tick at given) ∷ log) q = absurd q.0
-quiet_sent (Accepts (Placed at connected) ∷ log) q = absurd q.0
-quiet_sent (RefusesRing fault ∷ log) q = quiet_sent log q.1
-quiet_sent (RefusesDatagram at octets ∷ log) q = quiet_sent log q.1
-quiet_sent (RefusesTick now ∷ log) q = quiet_sent log q.1
-quiet_sent (ReceivesNothing at ∷ log) q = quiet_sent log q.1
-quiet_sent (FailsToReceive at ∷ log) q = quiet_sent log q.1
-quiet_sent (Sends at octets fails ∷ log) q = absurd q.0
+quiet_sent (entry ∷ log) q = ap (λ (hs : List HandedDatagram). hs ++ sent log) q.0.1 ∙ quiet_sent log q.1
 
--- what the tick hands over, and which event it is
-record TickTells (setup : Setup) (writes : Writing) (log : List Entry) (trace : List Event) : Type 0 where
-  hands : (earlier : List HandedDatagram) → handed_called earlier ≡ datagrams_of setup (given_by (both_legs setup writes trace).leg)
-      → handed_called (sent log ++ earlier) ≡ datagrams_of setup (given_by (both_legs setup writes (events log ++ trace)).leg)
-
-pub sent_called : (o : Option (List ℕ)) (log : List Entry) (earlier : List HandedDatagram) → IsSent legs.Called o log → handed_called (sent log ++ earlier) ≡ handed o ++ handed_called earlier
+sent_called : (o : Option (List ℕ)) (log : List Entry) (earlier : List HandedDatagram) → IsSent legs.Called o log → handed_called (sent log ++ earlier) ≡ handed o ++ handed_called earlier
 sent_called None log earlier e = subst (λ (l : List Entry). handed_called (sent l ++ earlier) ≡ handed_called earlier) (sym e) refl
 sent_called (Some octets) log earlier e = subst (λ (l : List Entry). handed_called (sent l ++ earlier) ≡ octets ∷ handed_called earlier) (sym e.1) refl
 
-pub sent_calling : (o : Option (List ℕ)) (log : List Entry) (earlier : List HandedDatagram) → IsSent legs.Calling o log → handed_called (sent log ++ earlier) ≡ handed_called earlier
+sent_calling : (o : Option (List ℕ)) (log : List Entry) (earlier : List HandedDatagram) → IsSent legs.Calling o log → handed_called (sent log ++ earlier) ≡ handed_called earlier
 sent_calling None log earlier e = subst (λ (l : List Entry). handed_called (sent l ++ earlier) ≡ handed_called earlier) (sym e) refl
 sent_calling (Some octets) log earlier e = subst (λ (l : List Entry). handed_called (sent l ++ earlier) ≡ handed_called earlier) (sym e.1) refl
 
-sent_events : (at : Leg) (o : Option (List ℕ)) (log : List Entry) → IsSent at o log → events log ≡ []
-sent_events at None log e = ap events e
-sent_events at (Some octets) log e = ap events e.1
+-- what the tick hands over, and which event it is
+pub tick_hands : (given : Given) (calling called log : List Entry) (tick : Entry) (earlier : List HandedDatagram) → sent_in tick ≡ [] → IsSent legs.Calling given.on_calling calling → IsSent legs.Called given.on_called called
+    → log ≡ called ++ (calling ++ tick ∷ []) → handed_called (sent log ++ earlier) ≡ handed given.on_called ++ handed_called earlier
+tick_hands given calling called log tick earlier none first second is =
+    ap (λ (l : List Entry). handed_called (sent l ++ earlier)) is
+    ∙ ap (λ (hs : List HandedDatagram). handed_called (hs ++ earlier)) (flat_map-append sent_in called (calling ++ tick ∷ []))
+    ∙ ap handed_called (append_assoc (sent called) (sent (calling ++ tick ∷ [])) earlier)
+    ∙ sent_called given.on_called called (sent (calling ++ tick ∷ []) ++ earlier) second
+    ∙ ap (λ (hs : List (List ℕ)). handed given.on_called ++ hs)
+    (ap (λ (hs : List HandedDatagram). handed_called (hs ++ earlier)) (flat_map-append sent_in calling (tick ∷ []))
+    ∙ ap handed_called (append_assoc (sent calling) (sent (tick ∷ [])) earlier)
+    ∙ sent_calling given.on_calling calling (sent (tick ∷ []) ++ earlier) first
+    ∙ ap (λ (hs : List HandedDatagram). handed_called ((hs ++ []) ++ earlier)) none)
 
-tick_tells : (setup : Setup) (writes : Writing) (now : ℕ) (log : List Entry) (trace : List Event) → IsTick now log → IsTrace setup writes (events log ++ trace) → IsOpen (both_legs setup writes trace).leg → TickTells setup writes log trace
-tick_tells setup writes now log trace (inr e) t h = subst (λ (l : List Entry). TickTells setup writes l trace) (sym e) (record { hands = λ earlier x. x })
-tick_tells setup writes now log trace (inl k) t h =
-    let given : Given = k.0 in
+pub tick_event : (now : ℕ) (given : Given) (calling called log : List Entry) → IsSent legs.Calling given.on_calling calling → IsSent legs.Called given.on_called called
+    → log ≡ called ++ (calling ++ Accepts (Tick now given) ∷ []) → events log ≡ Tick now given ∷ []
+tick_event now given calling called log first second is =
     let tick : List Entry = Accepts (Tick now given) ∷ [] in
-    let is : events log ≡ Tick now given ∷ [] =
-    ap events k.5 ∙ flat_map-append events_in k.2 (k.1 ++ tick) ∙ ap (λ (es : List Event). es ++ events (k.1 ++ tick)) (sent_events legs.Called given.on_called k.2 k.4)
-    ∙ flat_map-append events_in k.1 tick ∙ ap (λ (es : List Event). es ++ events tick) (sent_events legs.Calling given.on_calling k.1 k.3) in
-    let on : IsTrace setup writes (Tick now given ∷ trace) = subst (λ (es : List Event). IsTrace setup writes (es ++ trace)) is t in
-    record {
-      hands = λ earlier x.
-          ap (λ (l : List Entry). handed_called (sent l ++ earlier)) k.5
-          ∙ ap (λ (hs : List HandedDatagram). handed_called (hs ++ earlier)) (flat_map-append sent_in k.2 (k.1 ++ tick))
-          ∙ ap handed_called (append_assoc (sent k.2) (sent (k.1 ++ tick)) earlier)
-          ∙ sent_called given.on_called k.2 (sent (k.1 ++ tick) ++ earlier) k.4
-          ∙ ap (λ (hs : List (List ℕ)). handed given.on_called ++ hs)
-          (ap (λ (hs : List HandedDatagram). handed_called (hs ++ earlier)) (flat_map-append sent_in k.1 tick)
-          ∙ ap handed_called (append_assoc (sent k.1) (sent tick) earlier)
-          ∙ sent_calling given.on_calling k.1 (sent tick ++ earlier) k.3 ∙ x)
-          ∙ sym (tick_given setup writes trace now given on h)
-          ∙ ap (λ (es : List Event). datagrams_of setup (given_by (both_legs setup writes (es ++ trace)).leg)) (sym is);
-    }
+    ap events is ∙ flat_map-append events_in called (calling ++ tick) ∙ ap (λ (es : List Event). es ++ events (calling ++ tick)) (sends_no_event legs.Called given.on_called called second)
+    ∙ flat_map-append events_in calling tick ∙ ap (λ (es : List Event). es ++ events tick) (sends_no_event legs.Calling given.on_calling calling first)
+
+tick_tells : (setup : Setup) (writes : Writing) (now : ℕ) (log : List Entry) (trace : List Event) (earlier : List HandedDatagram) → IsTick now log → IsTrace setup writes (events log ++ trace) → IsOpen (both_legs setup writes trace).leg
+    → handed_called earlier ≡ datagrams_of setup (given_by (both_legs setup writes trace).leg) → handed_called (sent log ++ earlier) ≡ datagrams_of setup (given_by (both_legs setup writes (events log ++ trace)).leg)
+tick_tells setup writes now log trace earlier (inr e) t h x =
+    ap (λ (l : List Entry). handed_called (sent l ++ earlier)) e ∙ x ∙ ap (λ (l : List Entry). datagrams_of setup (given_by (both_legs setup writes (events l ++ trace)).leg)) (sym e)
+tick_tells setup writes now log trace earlier (inl k) t h x =
+    let is : events log ≡ Tick now k.0 ∷ [] = tick_event now k.0 k.1 k.2 log k.3 k.4 k.5 in
+    tick_hands k.0 k.1 k.2 log (Accepts (Tick now k.0)) earlier refl k.3 k.4 k.5
+    ∙ ap (λ (hs : List (List ℕ)). handed k.0.on_called ++ hs) x
+    ∙ sym (tick_given setup writes trace now k.0 (subst (λ (es : List Event). IsTrace setup writes (es ++ trace)) is t) h)
+    ∙ ap (λ (es : List Event). datagrams_of setup (given_by (both_legs setup writes (es ++ trace)).leg)) (sym is)
 
 -- the trace before
 pub trace_before : (setup : Setup) (writes : Writing) (later earlier : List Event) → IsTrace setup writes (later ++ earlier) → IsTrace setup writes earlier
@@ -352,10 +309,9 @@ turn_hands setup writes now log trace earlier turn t h x =
     let is : events log ++ trace ≡ events turn.tick ++ (events came ++ trace) =
     ap (λ (l : List Entry). events l ++ trace) turn.log_is ∙ ap (λ (es : List Event). es ++ trace) (flat_map-append events_in turn.tick came) ∙ append_assoc (events turn.tick) (events came) trace in
     let on : IsTrace setup writes (events turn.tick ++ (events came ++ trace)) = subst (IsTrace setup writes) is t in
-    let k : TickTells setup writes turn.tick (events came ++ trace) = tick_tells setup writes now turn.tick (events came ++ trace) turn.ticks on (a.stays h) in
     let all : sent log ≡ sent turn.tick =
     ap sent turn.log_is ∙ flat_map-append sent_in turn.tick came ∙ ap (λ (hs : List HandedDatagram). sent turn.tick ++ hs) (quiet_sent came quiet) ∙ append-nil (sent turn.tick) in
-    ap (λ (hs : List HandedDatagram). handed_called (hs ++ earlier)) all ∙ k.hands earlier (x ∙ ap (datagrams_of setup) (sym a.given))
+    ap (λ (hs : List HandedDatagram). handed_called (hs ++ earlier)) all ∙ tick_tells setup writes now turn.tick (events came ++ trace) earlier turn.ticks on (a.stays h) (x ∙ ap (datagrams_of setup) (sym a.given))
     ∙ ap (λ (es : List Event). datagrams_of setup (given_by (both_legs setup writes es).leg)) (sym is)
 
 -- the events of a turn: what came, and then a tick, or none
@@ -371,13 +327,7 @@ pub record IsTurned (before trace : List Event) : Type 0 where
 
 tick_events : (now : ℕ) (log : List Entry) → IsTick now log → (events log ≡ []) ⊎ ((given : Given) × (events log ≡ Tick now given ∷ []))
 tick_events now log (inr e) = inl (ap events e)
-tick_events now log (inl k) =
-    let tick : List Entry = Accepts (Tick now k.0) ∷ [] in
-    inr (
-      k.0,
-      ap events k.5 ∙ flat_map-append events_in k.2 (k.1 ++ tick) ∙ ap (λ (es : List Event). es ++ events (k.1 ++ tick)) (sent_events legs.Called k.0.on_called k.2 k.4)
-          ∙ flat_map-append events_in k.1 tick ∙ ap (λ (es : List Event). es ++ events tick) (sent_events legs.Calling k.0.on_calling k.1 k.3),
-    )
+tick_events now log (inl k) = inr (k.0, tick_event now k.0 k.1 k.2 log k.3 k.4 k.5)
 
 pub is_turned : (now : ℕ) (log : List Entry) (before trace : List Event) → IsTurn now log → trace ≡ events log ++ before → IsTurned before trace
 is_turned now log before trace turn e = record { came = events came; only = quiet_events came quiet; tick = by (tick_events now turn.tick turn.ticks) }

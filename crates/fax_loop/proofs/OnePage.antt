@@ -1,5 +1,5 @@
 -- What is confirmed of a call of a job whose pages are all one page is that page.
-use Rattle.std.proofs.Common.{◌≡◌, ℕ, zero, suc, ◌+◌, Bool, true, false, ◌&&◌, List, [], ◌∷◌, map, reverse, slice_get, Option, Some, None, inl, inr, refl, sym, ◌∙◌, ap, subst, if◌then◌else◌}
+use Rattle.std.proofs.Common.{◌≡◌, ℕ, zero, suc, ◌+◌, Bool, true, false, ◌&&◌, List, [], ◌∷◌, map, reverse, slice_get, Option, Some, None, inl, inr, refl, ◌∙◌, ap, subst, if◌then◌else◌}
 use Rattle.std.specs.Prelude.{Contains, IfSome}
 use Rattle.fax_runcodes.specs.declared.Width.{Width}
 use Rattle.fax_runcodes.specs.declared.Width.TheVariants.{W1728, W2048, W2432}
@@ -10,32 +10,34 @@ use Rattle.fax_pagestore.specs.Pages.{PageValue}
 use Rattle.fax_pagestore.specs.PageTexts.{MeansPage}
 use Rattle.fax_ifp.specs.Elements.{Slot}
 use Rattle.fax_ifp.specs.Pieces as pieces
-use Rattle.fax_ifp.specs.Schedules.{AreClosed, slots_of, signal_at}
+use Rattle.fax_ifp.specs.Schedules.{slots_of, signal_at}
 use Rattle.fax_ifp.proofs.SentFrames.{Has}
-use Rattle.fax_jobs.specs.Jobs.{JobValue, IsJob}
+use Rattle.fax_jobs.specs.Jobs.{JobValue}
 use Rattle.fax_answer.specs.History.{Entry}
 use Rattle.fax_answer.specs.Sent.{pieces_heard, IsOfSignal, page_accepted, RisesBy, Rises}
 use Rattle.fax_call.specs.Writings.{Writing, IsWriting}
 use Rattle.fax_call.specs.Replies.{written, same_width, same_bool, same_format, turn_if}
-use Rattle.fax_call.specs.Calls.{CallerCore, formats_of, not_placed, started}
+use Rattle.fax_call.specs.Calls.{CallerCore, formats_of, started}
 use Rattle.fax_call.specs.Given.{IsOfKind, packets_given}
 use Rattle.fax_call.specs.GivenSignals.{IsImage}
 use Rattle.fax_call.proofs.FinePackets.{OneKind}
 use Rattle.fax_call.proofs.GivenSignals.{CheckOrImage, signal_given}
 use Rattle.fax_call.proofs.SignalsGiven.{IsEnded, map_back}
-use Rattle.fax_gateway.specs.CalledLegs.{CalledLeg, begun_core}
+use Rattle.fax_gateway.specs.CalledLegs.{CalledLeg}
+use Rattle.fax_gateway.proofs.Chained.{KeptLeg}
+use Rattle.fax_gateway.proofs.Held.{EachPage, page_at}
+use Rattle.fax_gateway.proofs.Relayed.{HasDcs, answered_in, image_kind, means_as}
+use Rattle.fax_gateway.proofs.ServedAlone.{same_page}
+use Rattle.fax_gateway.proofs.Unplaced.{from_begun}
+use Rattle.fax_gateway.proofs.Zeros.{zeros_mean_none}
 use Rattle.fax_loop.proofs.NoEom.{IsOneFormat, one_kind_of}
-use Rattle.fax_loop.proofs.ReadUnder.{HasDcs, answered_in, image_kind, same_under, zeros_mean_none}
 
 -- ---- pages that are all one
-abbrev pub AreAll : PageValue → List PageValue → Type 0
-AreAll page [] = Unit {0}
-AreAll page (p ∷ pages) = (p ≡ page) × AreAll page pages
+abbrev pub IsThe : PageValue → ℕ → PageValue → Type 0
+IsThe page call p = p ≡ page
 
-page_at : (page : PageValue) (pages : List PageValue) (n : ℕ) (p : PageValue) → AreAll page pages → slice_get pages n ≡ Some p → p ≡ page
-page_at page [] n p a e = cc
-page_at page (q ∷ pages) zero p a e = let same : q ≡ p = cc in sym same ∙ a.0
-page_at page (q ∷ pages) (suc n) p a e = page_at page pages n p a.1 e
+abbrev pub AreAll : PageValue → List PageValue → Type 0
+AreAll page pages = EachPage (IsThe page 0) pages
 
 -- have one format
 width_same : (w : Width) → same_width w w ≡ true
@@ -80,15 +82,12 @@ one_format page job a n = turn_none page.format (slice_get (formats_of job) n) (
 abbrev pub call_begun : CalledLeg → CallerCore
 call_begun l = started l.before l.job l.begun
 
-pub begun_is : (l : CalledLeg) → l.placed ≡ true → begun_core l ≡ call_begun l
-begun_is l e = subst (λ (b : Bool). (if◌then◌else◌ {A = CallerCore} b (call_begun l) (not_placed l.before l.job)) ≡ call_begun l) (sym e) refl
-
 pub record Gives (writes : Writing) (page : PageValue) (l : CalledLeg) : Type 0 where
-  pub is_job : IsJob l.job
-  pub pages : AreAll page l.job.pages
   pub placed : l.placed ≡ true
-  pub given_is : l.given ≡ map written (packets_given writes l.job (call_begun l) l.events)
-  pub closed : AreClosed l.given
+  pub kept : KeptLeg writes (IsThe page) l
+
+pub call_gave : (writes : Writing) (page : PageValue) (l : CalledLeg) → Gives writes page l → l.given ≡ map written (packets_given writes l.job (call_begun l) l.events)
+call_gave writes page l g = from_begun (λ (a : CallerCore). l.given ≡ map written (packets_given writes l.job a l.events)) l g.placed g.kept.given_is
 
 -- ---- WHO HEARS IT: each page for which MCF is decided is the one
 abbrev pub Accepts : PageValue → List Entry → Type 0
@@ -101,7 +100,7 @@ Signal writes l place octets = IsEnded (CheckOrImage writes l.job [] (call_begun
 
 signal_is : (writes : Writing) (page : PageValue) (l : CalledLeg) (place : ℕ) (octets : List ℕ) → IsWriting writes → Gives writes page l → signal_at (reverse l.given) place ≡ Some octets → Signal writes l place octets
 signal_is writes page l place octets w g h =
-    signal_given writes l.job [] l.before l.begun l.events place octets w g.is_job (subst (λ (packets : List (List ℕ)). signal_at (reverse packets) place ≡ Some octets) g.given_is h)
+    signal_given writes l.job [] l.before l.begun l.events place octets w g.kept.holds.is_job (subst (λ (packets : List (List ℕ)). signal_at (reverse packets) place ≡ Some octets) (call_gave writes page l g) h)
 
 -- each DCS that was heard is of the call's kind
 abbrev Kinds : (writes : Writing) (l : CalledLeg) → OneKind writes l.job l.before l.begun l.events → List Entry → Type 0
@@ -118,8 +117,9 @@ of_signal writes page l one h p place w g k s =
     by x (inr b) =
         let i : IsImage writes l.job [] (call_begun l) l.events s.octets = b.image in
         let own : IsOfKind l.job.format one.coding i.dcs = image_kind (IsOfKind l.job.format one.coding) writes l.job [] (call_begun l) l.events s.octets i one.given in
-        same_under l.job.format one.coding s.dcs i.dcs s.octets p i.means.page (k s.dcs (answered_in h s.dcs s.answered)) own s.means i.means.means
-        ∙ page_at page l.job.pages i.page i.means.page g.pages i.means.is_page
+        same_page l.job.format one.coding s.octets p i.means.page (means_as l.job.format one.coding s.dcs s.octets p (k s.dcs (answered_in h s.dcs s.answered)) s.means)
+        (means_as l.job.format one.coding i.dcs s.octets i.means.page own i.means.means)
+        ∙ page_at (IsThe page l.job.call) l.job.pages i.page i.means.page g.kept.holds.pages i.means.is_page
 
 rises_accept : (writes : Writing) (page : PageValue) (l : CalledLeg) (one : OneKind writes l.job l.before l.begun l.events) (h : List Entry) (bound : ℕ)
     → IsWriting writes → Gives writes page l → Kinds writes l one h → Rises (reverse l.given) h bound → Accepts page h
@@ -136,8 +136,8 @@ rises_accept writes page l one (e ∷ h) bound w g k r = by (page_accepted e.dec
 pub accepts_the_page : (writes : Writing) (page : PageValue) (l : CalledLeg) (h : List Entry) (bound : ℕ) → IsWriting writes → Gives writes page l → Rises (reverse l.given) h bound
     → ((octets : List ℕ) → Has (pieces_heard h) octets → Contains (pieces.pieces (slots_of (reverse l.given))) (pieces.Frame octets)) → Accepts page h
 accepts_the_page writes page l h bound w g r frames =
-    let one : OneKind writes l.job l.before l.begun l.events = one_kind_of writes l.job l.before l.begun l.events w g.is_job (one_format page l.job g.pages) in
+    let one : OneKind writes l.job l.before l.begun l.events = one_kind_of writes l.job l.before l.begun l.events w g.kept.holds.is_job (one_format page l.job g.kept.holds.pages) in
     let slots : slots_of (reverse l.given) ≡ map Some (map written (packets_given writes l.job (call_begun l) l.events)) =
-    map_back l.given ∙ ap (λ (packets : List (List ℕ)). let ss : List Slot = map Some packets in ss) g.given_is in
+    map_back l.given ∙ ap (λ (packets : List (List ℕ)). let ss : List Slot = map Some packets in ss) (call_gave writes page l g) in
     rises_accept writes page l one h bound w g
     (λ dcs x. one.heard x.octets dcs (subst (λ (ss : List Slot). Contains (pieces.pieces ss) (pieces.Frame x.octets)) slots (frames x.octets x.heard)) x.says) r

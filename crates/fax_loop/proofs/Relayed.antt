@@ -1,43 +1,52 @@
 -- The pages that a gateway confirms, and those of its jobs, where the datagrams of its one call are those of a caller that sends one
 -- page.
-use Rattle.std.proofs.Common.{◌≡◌, ℕ, max, Bool, true, false, List, [], ◌∷◌, ◌++◌, length, reverse, Option, Some, None, option_map, Result, Ok, Err, inr, refl, sym, ◌∙◌, subst, if◌then◌else◌}
+use Rattle.std.proofs.Common.{◌≡◌, ℕ, Bool, true, false, List, [], ◌∷◌, ◌++◌, length, reverse, Option, Some, None, Result, Ok, Err, inr, refl, sym, ◌∙◌, ap, subst, if◌then◌else◌}
 use Rattle.std.specs.Prelude.{IfSome}
-use mathlib.Core.List.{reverse_aux}
 use Rattle.fax_udptl.specs.declared.fault.UdptlFault.{UdptlFault}
 use Rattle.fax_udptl.specs.Datagrams.{DatagramValue, datagram_of}
 use Rattle.fax_udptl.specs.Schedules.{Arrival, IsHonest, datagrams}
 use Rattle.fax_ifp.specs.Pieces as pieces
-use Rattle.fax_ifp.specs.Schedules.{AreClosed}
 use Rattle.fax_ifp.proofs.SentFrames.{contains}
 use Rattle.fax_pagestore.specs.Pages.{PageValue}
-use Rattle.fax_jobs.specs.declared.outcome.Outcome.{Outcome}
 use Rattle.fax_jobs.specs.Jobs.{JobValue, IsJob}
-use Rattle.fax_jobs.specs.Pasts.{Past, Step, after_steps, as_list, ended_if, jobs_of, new_past}
 use Rattle.fax_answer.specs.Table.{Reading}
 use Rattle.fax_answer.specs.Replies.{ConfirmedPage}
 use Rattle.fax_answer.specs.History.{Decision, Entry}
 use Rattle.fax_answer.specs.Confirmation.{IsConfirmedIn}
 use Rattle.fax_answer.specs.Sent.{page_accepted, pieces_heard}
 use Rattle.fax_call.specs.Writings.{Writing, IsWriting}
-use Rattle.fax_call.specs.Calls.{CallerCore}
 use Rattle.fax_gateway.specs.Setups.{Setup}
-use Rattle.fax_gateway.specs.Events.{Event, Ring, FromCalling, FromCalled, Tick, Placed, Given, clock}
+use Rattle.fax_gateway.specs.Events.{Event, Ring, FromCalling, FromCalled, Tick, Placed, clock}
 use Rattle.fax_gateway.specs.CallingLegs.{CallingLeg, calling_after, calling_leg, core_of, is_idle, leg_with}
-use Rattle.fax_gateway.specs.CalledLegs.{CalledLeg, core_left, delivered_told, hears, leg_ticked, outcome_told}
-use Rattle.fax_gateway.specs.Forwards.{OrRestored, WasConfirmedIn}
-use Rattle.fax_gateway.specs.Origins.{AreConfirmed, AreOfTheirCalls, IsOfItsCall, JobsAreOfTheirCalls}
+use Rattle.fax_gateway.specs.CalledLegs.{CalledLeg}
+use Rattle.fax_gateway.specs.Forwards.{OrRestored, WasConfirmed, WasConfirmedIn}
 use Rattle.fax_gateway.specs.Reached.{arrived_on}
 use Rattle.fax_gateway.specs.Restored.{RestoredCall, pages_restored}
-use Rattle.fax_gateway.specs.BothLegs.{BothLegs, begins_next, book_of, both_legs, enters, heard_in_tick, in_tick, leg_of, sends, sends_if}
+use Rattle.fax_gateway.specs.BothLegs.{both_legs}
 use Rattle.fax_gateway.specs.Traces.{IsTrace}
 use Rattle.fax_gateway.proofs.SentPages.{leg_confirms_signals, leg_hears_sent_frames}
 use Rattle.fax_loop.specs.Faithful.{AreCarried}
-use Rattle.fax_loop.proofs.OnePage.{Accepts, AreAll, Gives, accepts_the_page}
-use Rattle.fax_loop.proofs.CalledSends.{begun_gives, hears_gives, ticked_gives}
+use Rattle.fax_gateway.proofs.Chained.{KeptLeg, hears_kept, kept_leg, later_kept, turned, with_tick_kept}
+use Rattle.fax_loop.specs.Exchanges.{Round, caller_after, moment_after}
+use Rattle.fax_loop.specs.Machines.{calling_with}
+use Rattle.fax_loop.proofs.EachLeg.{IfLeg, RingsFirst, any_back, came_each, leg_each}
+use Rattle.fax_loop.proofs.OnePage.{Accepts, AreAll, Gives, IsThe, accepts_the_page}
 
-turned : (xs ys : List (List ℕ)) → AreClosed xs → AreClosed ys → AreClosed (reverse_aux xs ys)
-turned [] ys a b = b
-turned (x ∷ xs) ys a b = turned xs (x ∷ ys) a.1 (a.0, b)
+-- ---- THE MACHINE THAT CALLS gives what the call of its job gives
+came_kept : (writes : Writing) (page : PageValue) (now : ℕ) (came : List (List ℕ)) (l : CalledLeg) → KeptLeg writes (IsThe page) l → KeptLeg writes (IsThe page) (calling_with writes now came l)
+came_kept writes page now [] l k = k
+came_kept writes page now (octets ∷ earlier) l k = hears_kept (IsThe page) writes (Some (calling_with writes now earlier l)) octets now (came_kept writes page now earlier l k)
+
+pub caller_gives : (setup : Setup) (writes : Writing) (page : PageValue) (job : JobValue) (rounds : List Round) → IsWriting writes → IsJob job → AreAll page job.pages → Gives writes page (caller_after setup writes job rounds)
+caller_gives setup writes page job [] w is all = record { placed = refl; kept = record { holds = record { is_job = is; pages = all }; given_is = refl; closed = tt } }
+caller_gives setup writes page job (round ∷ earlier) w is all =
+    let now : ℕ = moment_after earlier in
+    let l : CalledLeg = caller_after setup writes job earlier in
+    let g : Gives writes page l = caller_gives setup writes page job earlier w is all in
+    record {
+      placed = came_each (λ (k : CalledLeg). k.placed ≡ true) (λ k n d e. e) writes now round.calling l g.placed;
+      kept = with_tick_kept (IsThe page) writes (calling_with writes now round.calling l) now w (came_kept writes page now round.calling l g.kept);
+    }
 
 -- ---- WHAT A GATEWAY CONFIRMS in a call, where what came there is what a caller gave
 pub hears_the_page : (setup : Setup) (writes : Writing) (trace : List Event) (l : CallingLeg) (page : PageValue) (others : Writing) (caller : CalledLeg)
@@ -46,17 +55,9 @@ hears_the_page setup writes trace l page others caller t is w g c =
     let packets : List (List ℕ) = reverse caller.given in
     accepts_the_page others page caller (core_of l).history (length packets) w g
     (leg_confirms_signals setup writes trace l packets c.arrivals t is c.honest c.arrived_are)
-    (λ octets has. leg_hears_sent_frames setup writes trace l packets c.arrivals t is c.honest c.arrived_are (inr (turned caller.given [] g.closed tt)) octets (contains (pieces_heard (core_of l).history) octets has))
+    (λ octets has. leg_hears_sent_frames setup writes trace l packets c.arrivals t is c.honest c.arrived_are (inr (turned caller.given [] g.kept.closed tt)) octets (contains (pieces_heard (core_of l).history) octets has))
 
--- ---- A TRACE WITH ONE RING, its first event, in which no call is placed: a tick begins it
-abbrev pub RingsFirst : List Event → Type 0
-RingsFirst [] = Unit {0}
-RingsFirst (Ring at number ∷ earlier) = earlier ≡ []
-RingsFirst (FromCalling octets at decided read ∷ earlier) = RingsFirst earlier
-RingsFirst (FromCalled octets at decided ∷ earlier) = RingsFirst earlier
-RingsFirst (Tick at given ∷ earlier) = RingsFirst earlier
-RingsFirst (Placed at connected ∷ earlier) = ⊥
-
+-- ---- A TRACE WITH ONE RING: what came before was carried too
 abbrev IsBack : List (List ℕ) → Option CallingLeg → Option CallingLeg → Type 0
 IsBack given new old = AreCarried given (arrived_on new) → AreCarried given (arrived_on old)
 
@@ -79,42 +80,31 @@ heard_back setup given (Some l) now octets at decided read c = by (is_idle (core
     by true c = c
     by false c = with_back given l now read (datagram_of octets) c
 
-called_back : (setup : Setup) (given : List (List ℕ)) (o : Option CallingLeg) (now : ℕ) (octets : List ℕ) (at : ℕ) (decided : Bool) → IsBack given (calling_after setup o now (FromCalled octets at decided)) o
-called_back setup given None now octets at decided c = c
-called_back setup given (Some l) now octets at decided c = c
-
-tick_back : (setup : Setup) (given : List (List ℕ)) (o : Option CallingLeg) (now at : ℕ) (told : Given) → IsBack given (calling_after setup o now (Tick at told)) o
-tick_back setup given None now at told c = c
-tick_back setup given (Some l) now at told c = c
-
 -- what came in its one call is what was given at the other end
 pub record Carries (setup : Setup) (writes : Writing) (given : List (List ℕ)) (trace : List Event) : Type 0 where
   pub is_trace : IsTrace setup writes trace
   pub rings : RingsFirst trace
   pub carried : AreCarried given (arrived_on (calling_leg setup trace))
 
+earlier_rings : (e : Event) (earlier : List Event) → RingsFirst (e ∷ earlier) → RingsFirst earlier
+earlier_rings (Ring at n) earlier r = subst RingsFirst (sym r) tt
+earlier_rings (FromCalling octets at decided read) earlier r = r
+earlier_rings (FromCalled octets at decided) earlier r = r
+earlier_rings (Tick at told) earlier r = r
+earlier_rings (Placed at connected) earlier r = absurd r
+
+earlier_back : (setup : Setup) (given : List (List ℕ)) (e : Event) (earlier : List Event) (o : Option CallingLeg) → calling_leg setup earlier ≡ o → RingsFirst (e ∷ earlier) → IsBack given (calling_after setup o (clock (e ∷ earlier)) e) o
+earlier_back setup given (Ring at n) earlier o is r c = subst (λ (k : Option CallingLeg). AreCarried given (arrived_on k)) (sym (ap (calling_leg setup) r) ∙ is) (record { arrivals = []; honest = tt; arrived_are = refl })
+earlier_back setup given (FromCalling octets at decided read) earlier o is r c = heard_back setup given o (clock (FromCalling octets at decided read ∷ earlier)) octets at decided read c
+earlier_back setup given (FromCalled octets at decided) earlier None is r c = c
+earlier_back setup given (FromCalled octets at decided) earlier (Some l) is r c = c
+earlier_back setup given (Tick at told) earlier None is r c = c
+earlier_back setup given (Tick at told) earlier (Some l) is r c = c
+earlier_back setup given (Placed at connected) earlier o is r c = absurd r
+
 earlier_carries : (setup : Setup) (writes : Writing) (given : List (List ℕ)) (e : Event) (earlier : List Event) → Carries setup writes given (e ∷ earlier) → Carries setup writes given earlier
-earlier_carries setup writes given (Ring at n) earlier c = record {
-  is_trace = c.is_trace.1;
-  rings = subst RingsFirst (sym c.rings) tt;
-  carried = subst (λ (t : List Event). AreCarried given (arrived_on (calling_leg setup t))) (sym c.rings) (record { arrivals = []; honest = tt; arrived_are = refl });
-}
-earlier_carries setup writes given (FromCalling octets at decided read) earlier c = record {
-  is_trace = c.is_trace.1;
-  rings = c.rings;
-  carried = heard_back setup given (calling_leg setup earlier) (clock (FromCalling octets at decided read ∷ earlier)) octets at decided read c.carried;
-}
-earlier_carries setup writes given (FromCalled octets at decided) earlier c = record {
-  is_trace = c.is_trace.1;
-  rings = c.rings;
-  carried = called_back setup given (calling_leg setup earlier) (clock (FromCalled octets at decided ∷ earlier)) octets at decided c.carried;
-}
-earlier_carries setup writes given (Tick at told) earlier c = record {
-  is_trace = c.is_trace.1;
-  rings = c.rings;
-  carried = tick_back setup given (calling_leg setup earlier) (clock (Tick at told ∷ earlier)) at told c.carried;
-}
-earlier_carries setup writes given (Placed at connected) earlier c = absurd c.rings
+earlier_carries setup writes given e earlier c =
+    record { is_trace = c.is_trace.1; rings = earlier_rings e earlier c.rings; carried = earlier_back setup given e earlier (calling_leg setup earlier) refl c.rings c.carried }
 
 before_carries : (setup : Setup) (writes : Writing) (given : List (List ℕ)) (later earlier : List Event) → Carries setup writes given (later ++ earlier) → Carries setup writes given earlier
 before_carries setup writes given [] earlier c = c
@@ -157,88 +147,21 @@ own : (restored : List RestoredCall) (call : ℕ) (p : PageValue) (this : Type 0
 own [] call p this e w = w
 own (r ∷ restored) call p this e w = cc
 
--- ---- A JOB of the gateway has no other page
-record IsOfPage (page : PageValue) (job : JobValue) : Type 0 where
-  is_job : IsJob job
-  pages : AreAll page job.pages
-
-pages_are : (setup : Setup) (writes : Writing) (trace : List Event) (page : PageValue) (given : List (List ℕ)) (call : ℕ) (pages : List PageValue) → setup.restored ≡ [] → Sends page given → Carries setup writes given trace
-    → AreConfirmed setup trace call pages → AreAll page pages
-pages_are setup writes trace page given call [] new s c a = tt
-pages_are setup writes trace page given call (p ∷ pages) new s c a = (
-  was_the_page setup writes trace page given call p s c (own setup.restored call p (WasConfirmedIn setup trace call p) new a.0),
-  pages_are setup writes trace page given call pages new s c a.1,
-)
-
-of_page : (setup : Setup) (writes : Writing) (trace : List Event) (page : PageValue) (given : List (List ℕ)) (job : JobValue) → setup.restored ≡ [] → Sends page given → Carries setup writes given trace → IsOfItsCall setup trace job → IsOfPage page job
-of_page setup writes trace page given job new s c o = record { is_job = o.is_job; pages = pages_are setup writes trace page given job.call job.pages new s c o.confirmed }
-
--- the job that is being sent is one of those that were closed, also where it ends in that tick
-in_list : (setup : Setup) (trace : List Event) (jobs : List JobValue) (job : JobValue) (others : List JobValue) → AreOfTheirCalls setup trace (jobs ++ job ∷ others) → IsOfItsCall setup trace job
-in_list setup trace [] job others a = a.0
-in_list setup trace (j ∷ jobs) job others a = in_list setup trace jobs job others a.1
-
-in_front : (setup : Setup) (trace : List Event) (jobs others : List JobValue) → AreOfTheirCalls setup trace (jobs ++ others) → AreOfTheirCalls setup trace jobs
-in_front setup trace [] others a = tt
-in_front setup trace (j ∷ jobs) others a = (a.0, in_front setup trace jobs others a.1)
-
-while_sent : (setup : Setup) (trace : List Event) (ended : List JobValue) (o : Option JobValue) (waiting : List JobValue) → AreOfTheirCalls setup trace (ended ++ (as_list o ++ waiting)) → IfSome o (IsOfItsCall setup trace)
-while_sent setup trace ended None waiting a = tt
-while_sent setup trace ended (Some job) waiting a = in_list setup trace ended job waiting a
-
-when_ended : (setup : Setup) (trace : List Event) (o : Option JobValue) (past : Past) (outcome : Outcome) (delivered : ℕ) → AreOfTheirCalls setup trace (jobs_of (ended_if o past outcome delivered)) → IfSome o (IsOfItsCall setup trace)
-when_ended setup trace None past outcome delivered a = tt
-when_ended setup trace (Some job) past outcome delivered a = in_list setup trace past.ended job [] (in_front setup trace (past.ended ++ job ∷ []) past.book.waiting a)
-
-in_tick_sent : (setup : Setup) (trace : List Event) (delivered : ℕ) (o : Option Outcome) (steps : List Step) → AreOfTheirCalls setup trace (jobs_of (after_steps new_past (enters delivered o steps)))
-    → IfSome (after_steps new_past steps).book.sending (IsOfItsCall setup trace)
-in_tick_sent setup trace delivered None steps a = let past : Past = after_steps new_past steps in while_sent setup trace past.ended past.book.sending past.book.waiting a
-in_tick_sent setup trace delivered (Some outcome) steps a = let past : Past = after_steps new_past steps in when_ended setup trace past.book.sending past outcome delivered a
-
 -- ---- THE CALLED LEG gives what a caller gives who sends that page
 abbrev pub IfGives : Writing → PageValue → Option CalledLeg → Type 0
-IfGives writes page None = Unit {0}
-IfGives writes page (Some l) = Gives writes page l
+IfGives writes page o = IfLeg (Gives writes page) o
 
-begins : (writes : Writing) (page : PageValue) (o : Option JobValue) (leg : Option CalledLeg) (before : CallerCore) (now : ℕ) → IfSome o (IsOfPage page) → IfGives writes page leg → IfGives writes page (leg_of true o before now leg)
-begins writes page None leg before now h g = g
-begins writes page (Some job) leg before now h g = begun_gives writes page job before now h.is_job h.pages
-
-sends_gives : (setup : Setup) (writes : Writing) (page : PageValue) (now : ℕ) (s : BothLegs) → IfSome (book_of (sends_if setup writes now s)).sending (IsOfPage page) → IfGives writes page s.leg → IfGives writes page (sends_if setup writes now s).leg
-sends_gives setup writes page now s h g = by (begins_next setup s.leg) h
-  where
-    by : (b : Bool) → IfSome (book_of (if◌then◌else◌ {A = BothLegs} b (sends true setup writes now s) s)).sending (IsOfPage page) → IfGives writes page (if◌then◌else◌ {A = BothLegs} b (sends true setup writes now s) s).leg
-    by true k = begins writes page (book_of (sends true setup writes now s)).sending s.leg (core_left setup writes s.leg) now k g
-    by false k = g
-
-serves_gives : (writes : Writing) (page : PageValue) (leg : Option CalledLeg) (now : ℕ) → IsWriting writes → IfGives writes page leg → IfGives writes page (option_map (leg_ticked writes now) leg)
-serves_gives writes page None now w g = tt
-serves_gives writes page (Some l) now w g = ticked_gives writes page l now w g
-
-comes_gives : (writes : Writing) (page : PageValue) (leg : Option CalledLeg) (octets : List ℕ) (now : ℕ) → IfGives writes page leg → IfGives writes page (option_map (hears writes octets now) leg)
-comes_gives writes page None octets now g = tt
-comes_gives writes page (Some l) octets now g = hears_gives writes page l octets now g
-
-if_of_page : (P Q : JobValue → Type 0) (o : Option JobValue) → ((job : JobValue) → P job → Q job) → IfSome o P → IfSome o Q
-if_of_page P Q None f h = tt
-if_of_page P Q (Some job) f h = f job h
-
-pub called_gives : JobsAreOfTheirCalls → (setup : Setup) (writes : Writing) (trace : List Event) (page : PageValue) (given : List (List ℕ)) → setup.restored ≡ [] → IsWriting writes → Sends page given → Carries setup writes given trace
+pub called_gives : (setup : Setup) (writes : Writing) (trace : List Event) (page : PageValue) (given : List (List ℕ)) → setup.restored ≡ [] → IsWriting writes → Sends page given → Carries setup writes given trace
     → IfGives writes page (both_legs setup writes trace).leg
-called_gives law setup writes [] page given new w s c = tt
-called_gives law setup writes (e ∷ earlier) page given new w s c = by e c (called_gives law setup writes earlier page given new w s (earlier_carries setup writes given e earlier c))
+called_gives setup writes trace page given new w s c = by (both_legs setup writes trace).leg refl placed
   where
-    by : (e : Event) → Carries setup writes given (e ∷ earlier) → IfGives writes page (both_legs setup writes earlier).leg → IfGives writes page (both_legs setup writes (e ∷ earlier)).leg
-    by (Ring at n) c g = g
-    by (FromCalling octets at decided read) c g = g
-    by (FromCalled octets at decided) c g = comes_gives writes page (both_legs setup writes earlier).leg octets (clock (FromCalled octets at decided ∷ earlier)) g
-    by (Tick at told) c g =
-        let trace : List Event = Tick at told ∷ earlier in
-        let now : ℕ = max at (clock earlier) in
-        let old : BothLegs = both_legs setup writes earlier in
-        let z : BothLegs = record old { steps = heard_in_tick (calling_leg setup earlier) now old.steps } in
-        let middle : BothLegs = in_tick setup writes earlier at in
-        let sent : IfSome (book_of middle).sending (IsOfItsCall setup trace) = in_tick_sent setup trace (delivered_told writes middle.leg now) (outcome_told writes middle.leg now) middle.steps (law setup writes trace c.is_trace).0 in
-        let job : IfSome (book_of middle).sending (IsOfPage page) = if_of_page (IsOfItsCall setup trace) (IsOfPage page) (book_of middle).sending (λ job o. of_page setup writes trace page given job new s c o) sent in
-        serves_gives writes page middle.leg now w (sends_gives setup writes page now z job g)
-    by (Placed at connected) c g = absurd c.rings
+    placed : IfLeg (λ l. l.placed ≡ true) (both_legs setup writes trace).leg
+    placed =
+        leg_each (λ octets. Unit {0}) (λ (l : CalledLeg). l.placed ≡ true) writes (record { begins = λ job before now. refl; comes = λ l now octets d on r e. e; ticks = λ l now e. e }) setup trace c.rings (any_back trace)
+
+    is_the : (call : ℕ) (p : PageValue) → WasConfirmed setup trace call p → p ≡ page
+    is_the call p k = was_the_page setup writes trace page given call p s c (own setup.restored call p (WasConfirmedIn setup trace call p) new k)
+
+    by : (o : Option CalledLeg) → (both_legs setup writes trace).leg ≡ o → IfLeg (λ l. l.placed ≡ true) o → IfGives writes page o
+    by None is p = tt
+    by (Some l) is p = record { placed = p; kept = later_kept writes (WasConfirmed setup trace) (IsThe page) (Some l) is_the (kept_leg setup writes trace l w c.is_trace is) }

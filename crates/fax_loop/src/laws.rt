@@ -3,22 +3,19 @@ ghost use Rattle.fax_loop.specs.Faithful.{ConfirmsIfDelivered, ConfirmsThePage};
 ghost use Rattle.fax_loop.specs.GoesOn.{LinksArePlayed, LinksBegin, LinksGoOn};
 ghost use Rattle.fax_loop.specs.Links.{ConfirmsThePageOver};
 
-use fax_gateway::laws::{jobs_are_of_their_calls, jobs_have_states, traces_go_on};
+use fax_gateway::laws::{jobs_have_states, traces_go_on};
 
 /// In rounds over honest links, which lose, repeat, delay and reorder at will, each page that the machine that is called confirms
 /// is the page that the machine that calls was given.
 pub fn confirms_the_page()
     ensures { ConfirmsThePage }
-{
-    jobs_are_of_their_calls();
-}
+{}
 
 /// And where the gateway reports that the job was delivered, the machine that is called confirmed a page at least, if the way back
 /// from it to the gateway is honest too.
 pub fn confirms_if_delivered()
     ensures { ConfirmsIfDelivered }
 {
-    jobs_are_of_their_calls();
     jobs_have_states();
 }
 
@@ -27,7 +24,6 @@ pub fn confirms_if_delivered()
 pub fn confirms_the_page_over_links()
     ensures { ConfirmsThePageOver }
 {
-    jobs_are_of_their_calls();
     jobs_have_states();
 }
 

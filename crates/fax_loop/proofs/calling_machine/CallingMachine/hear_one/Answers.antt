@@ -1,6 +1,6 @@
 use Rattle.std.proofs.Common.{◌≡◌, Some, refl, rules}
 use Rattle.fax_call.specs.declared.state.State.TheVariants.{Idle}
-use Rattle.fax_loop.proofs.LegsHear.{hears_called}
+use Rattle.fax_gateway.proofs.Hearing.{hears_called}
 use Rattle.fax_loop.specs.Rep.{caller_of}
 use Rattle.fax_loop.proofs.CallerLemmas.{on_ok}
 use Rattle.fax_loop.proofs.calling_machine.CallingMachine.hear_one.Goals as goal

@@ -3,7 +3,7 @@ use Rattle.fax_call.specs.Calls.{new_calling}
 use Rattle.fax_call.specs.Reached.{IsReached}
 use Rattle.fax_gateway.specs.declared.called.CalledEndpoint.{CalledEndpoint}
 use Rattle.fax_gateway.specs.Reached.{IsCalled}
-use Rattle.fax_loop.proofs.LegsTick.{leg_starts}
+use Rattle.fax_gateway.proofs.Serving.{leg_starts}
 use Rattle.fax_loop.specs.Rep.{leg_of}
 use Rattle.fax_loop.proofs.calling_machine.CallingMachine.new.Goals as goal
 
