@@ -1,5 +1,5 @@
 -- PLACES: where a page stands that is handed out. (This project's profile.)
-use Rattle.std.specs.Prelude.{ℕ, ◌+◌, ◌-◌, ◌^◌, min, List, ◌++◌, Option, None, Some, codes, decimal, option_map, unwrap_or}
+use Rattle.std.specs.Prelude.{◌≡◌, ℕ, ◌+◌, ◌-◌, ◌^◌, min, List, [], ◌∷◌, ◌++◌, Option, None, Some, codes, decimal, option_map, unwrap_or}
 use Rattle.fax_pagestore.specs.Pages.{PageValue}
 use Rattle.fax_jobs.specs.Books.{Book}
 use Rattle.fax_jobs.specs.Newest.{newest_page}
@@ -40,6 +40,11 @@ confirmed_page (Some octets) kept page leg = page_of kept page leg
 abbrev pub page_if : Option Kept → Book → Option PageValue
 page_if None book = None
 page_if (Some kept) book = newest_page book
+
+-- a page that was found, where one was, comes after those that were
+abbrev pub Keeps : Option FoundPage → (old new : List FoundPage) → Type 0
+Keeps None old new = new ≡ old
+Keeps (Some found) old new = new ≡ old ++ found ∷ []
 
 -- what is told of it after its MCF
 abbrev pub confirmed_text : Kept → (page : ℕ) → List ℕ

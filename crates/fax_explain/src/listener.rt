@@ -9,8 +9,8 @@ ghost use Rattle.fax_ifp.specs.Tracked.{lost_slots};
 ghost use Rattle.fax_explain.specs.FrameEnds.{AreEnds};
 ghost use Rattle.fax_explain.specs.Heard.{AddsLine, BeginsAsOneOf, EachCounted, EachHeard, EachHearing, HasHeard, Hears, HearsOn, HearsSlots, IsHearing, Stays, StaysInLane, TellsComing};
 ghost use Rattle.fax_command.specs.Answers.{page_fault_line};
-ghost use Rattle.fax_explain.specs.Listening.{dis_after, is_command, is_heard, page_dcs, passed_text, signal_name, verdict_name, words_after};
-ghost use Rattle.fax_explain.specs.Openings.{back_openings, check_opening, datagram_openings, end_opening, frame_opening, head_openings, late_openings, line_if, lost_openings, octets_counted, packet_openings, packets_openings, piece_openings, pieces_openings, start_opening, tone_openings};
+ghost use Rattle.fax_explain.specs.Listening.{StartsWith, check_text, dis_after, is_command, is_heard, is_judged, mark_at, marked_end, marked_frame, marked_start, page_dcs, passed_text, signal_name, strange_text, unasked_text, verdict_name, words_after};
+ghost use Rattle.fax_explain.specs.Openings.{back_openings, check_opening, datagram_openings, end_opening, frame_opening, head_openings, image_text, late_openings, line_if, lost_openings, octets_counted, packet_openings, packets_openings, piece_openings, pieces_openings, start_opening, tone_openings};
 
 use crate::frame_ends::FrameEnds;
 use crate::image::Image;
@@ -388,27 +388,28 @@ impl Listener {
 
     /// What the next piece was taken as.
     fn next_mark(&mut self) -> Mark
-        ensures { self.new ≡ record self.old { taken = self.new.taken } }
+        ensures mark { result ≡ mark_at self.old }
+        ensures left { self.new ≡ record self.old { taken = self.new.taken } }
     {
         let Some(mark) = self.marks.get(self.taken) else {
             return self.usual;
         };
+        let mark = *mark;
         self.taken = self.taken.saturating_add(1);
-        *mark
+        mark
     }
 
     /// A frame comes. Where it was passed over, that is told, and nothing follows from it.
     fn hear_frame(&mut self, octets: &[u8], tale: &mut Tale) -> Result<(), NoMemory>
         ensures told { OnOk result (Hears (frame_opening octets.now (frame_of octets.now) ∷ []) self.old self.new tale.old tale.new) }
+        ensures marked { OnOk result (AddsLine self.old.lane (marked_frame (mark_at self.old) self.old.lane self.old.dis octets.now) tale.old tale.new) }
         ensures stays { OnOk result (Stays self.old self.new) }
     {
         let mark = self.next_mark();
-        let words = self.words_of(octets)?;
+        let frame = Frame::read(octets);
+        let mut words = self.words_of(octets)?;
+        words.push_str(why_passed_over(mark.passed, self.lane, frame))?;
         self.tell(words.as_str(), tale)?;
-        let Some(frame) = Frame::read(octets) else {
-            return Ok(());
-        };
-        tale.add(why_passed_over(mark.passed, self.lane, frame))?;
         self.take(frame, mark)
     }
 
@@ -430,22 +431,24 @@ impl Listener {
     }
 
     /// A frame is kept that was not passed over.
-    fn take(&mut self, frame: Frame, mark: Mark) -> Result<(), NoMemory>
+    fn take(&mut self, frame: Option<Frame>, mark: Mark) -> Result<(), NoMemory>
         ensures left { self.new ≡ record self.old { frames = self.new.frames; is_asked_again = self.new.is_asked_again } }
-        ensures frames { length self.new.frames.items ≤ length self.old.frames.items + 1 }
+        ensures frames { OnOk result (length self.new.frames.items ≤ length self.old.frames.items + 1) }
     {
-        if let Passed::Heard = mark.passed {
-            if let Frame::Dis(_) = frame {
-                self.is_asked_again = self.is_asked_again || mark.trains_again;
-            }
-            self.frames.push(frame)?;
+        let (Some(frame), Passed::Heard) = (frame, mark.passed) else {
+            return Ok(());
+        };
+        if let Frame::Dis(_) = frame {
+            self.is_asked_again = self.is_asked_again || mark.trains_again;
         }
+        self.frames.push(frame)?;
         Ok(())
     }
 
     /// An image begins, by this type of data.
     fn begin_image(&mut self, kind: u8, tale: &mut Tale) -> Result<(), NoMemory>
         ensures told { OnOk result (Hears (start_opening kind ∷ []) self.old self.new tale.old tale.new) }
+        ensures marked { OnOk result (AddsLine self.old.lane (marked_start (mark_at self.old) kind) tale.old tale.new) }
         ensures octets { self.new.image.octets ≡ 0 }
         ensures signals { self.new.signals ≡ self.old.signals }
     {
@@ -460,6 +463,7 @@ impl Listener {
     /// The image under way ends.
     fn end_image(&mut self, whole: bool, tale: &mut Tale) -> Result<(), NoMemory>
         ensures told { OnOk result (Hears (end_opening self.old.image.octets whole ∷ []) self.old self.new tale.old tale.new) }
+        ensures marked { OnOk result (AddsLine self.old.lane (marked_end (mark_at self.old) self.old.lane self.old.is_outside self.old.image.octets whole) tale.old tale.new) }
         ensures stays { OnOk result (Stays self.old self.new) }
     {
         let words = self.words_of_end(whole)?;
@@ -468,7 +472,7 @@ impl Listener {
 
     /// What the image under way was.
     fn words_of_end(&mut self, whole: bool) -> Result<String, NoMemory>
-        ensures words { IfOk result (λ words. BeginsAsOneOf (end_opening self.old.image.octets whole) (string_bytes words)) }
+        ensures words { IfOk result (λ words. StartsWith (marked_end (mark_at self.old) self.old.lane self.old.is_outside self.old.image.octets whole) (string_bytes words)) }
         ensures lane { self.new.lane ≡ self.old.lane }
         ensures receiver { self.new.receiver ≡ self.old.receiver }
         ensures frames { self.new.frames ≡ self.old.frames }
@@ -476,37 +480,36 @@ impl Listener {
     {
         let mark = self.next_mark();
         let octets = self.image.octets();
-        let meaning = match mark.signal {
-            Signal::Strange | Signal::Unasked | Signal::Outside | Signal::Ending => {
-                let why = self.why_strange(mark.signal);
-                return Ok(format!(in self.alloc; "a signal of {octets} octets{why}")?);
+        match mark.signal {
+            Signal::Check(dcs) => self.words_of_check(whole, dcs, whole && mark.is_good),
+            Signal::Page(_) => {
+                let meaning = self.end_page()?;
+                self.words_of_image(whole, meaning.as_str())
             }
-            Signal::Check(dcs) => return self.words_of_check(whole, dcs, mark.is_good),
-            Signal::Page(_) => self.end_page()?,
-            Signal::Late => String::from_str(self.alloc, "not read, since no DCS came after EOM")?,
-        };
-        let wholeness = self.image.wholeness(whole)?;
-        Ok(format!(in self.alloc; "image of {octets} octets, {wholeness}: {meaning}")?)
+            Signal::Late => self.words_of_image(whole, "not read, since no DCS came after EOM"),
+            signal => {
+                let why = why_strange(signal, self.is_outside);
+                Ok(format!(in self.alloc; "a signal of {octets} octets{why}")?)
+            }
+        }
     }
 
-    /// Why a signal is passed over, after its words.
-    fn why_strange(&self, signal: Signal) -> &'static str {
-        match signal {
-            Signal::Outside => ", passed over: no call is on",
-            Signal::Ending => ", passed over while the gateway sends",
-            Signal::Unasked => ", passed over: it answers nothing",
-            _ if self.is_outside => "",
-            _ => ", passed over: no DCS is before it, or FTT answered it",
-        }
+    /// An image, and what it means.
+    fn words_of_image(&self, whole: bool, meaning: &str) -> Result<String, NoMemory>
+        ensures { IfOk result (λ words. StartsWith (image_text self.now.image.octets whole) (string_bytes words)) }
+    {
+        let octets = self.image.octets();
+        let wholeness = self.image.wholeness(whole)?;
+        Ok(format!(in self.alloc; "image of {octets} octets, {wholeness}: {meaning}")?)
     }
 
     /// What a training check was. One of the caller's is answered by CFR or FTT: a quarter of a second of zeros at least is
     /// wanted, and that it is whole, and nothing missing since the DCS.
     fn words_of_check(&self, whole: bool, dcs: Dcs, is_good: bool) -> Result<String, NoMemory>
-        ensures words { IfOk result (λ words. BeginsAsOneOf (check_opening whole) (string_bytes words)) }
+        ensures { IfOk result (λ words. StartsWith (check_text (is_judged self.now.lane) is_good) (string_bytes words)) }
     {
         let longest = self.image.longest();
-        if self.lane != Lane::FromCaller {
+        if !is_judged(self.lane) {
             return Ok(format!(in self.alloc; "training check, {longest} zero octets in a row")?);
         }
         let wanted = dcs.rate.bits() / 8;
@@ -563,6 +566,13 @@ fn page_of(signal: Signal) -> Option<Dcs>
     }
 }
 
+/// Whether the gateway judges what comes on this way: the training checks of the caller.
+fn is_judged(lane: Lane) -> bool
+    ensures { result ≡ is_judged lane }
+{
+    matches!(lane, Lane::FromCaller)
+}
+
 /// What a training check was.
 fn verdict_of(is_good: bool) -> &'static str
     ensures { result.now ≡ verdict_name is_good }
@@ -570,19 +580,47 @@ fn verdict_of(is_good: bool) -> &'static str
     if is_good { "good" } else { "bad" }
 }
 
+/// Why a signal is passed over, after its words. Where no call is on, each line says that.
+fn why_strange(signal: Signal, is_outside: bool) -> &'static str
+    ensures { result.now ≡ strange_text signal is_outside }
+{
+    match signal {
+        Signal::Outside => ", passed over: no call is on",
+        Signal::Ending => ", passed over while the gateway sends",
+        Signal::Unasked => ", passed over: it answers nothing",
+        _ if is_outside => "",
+        _ => ", passed over: no DCS is before it, or FTT answered it",
+    }
+}
+
 /// Why a frame is passed over that came on this way, after its words. A frame that is heard in no state of a call is passed over
 /// without a word.
-fn why_passed_over(passed: Passed, lane: Lane, frame: Frame) -> &'static str
+fn why_passed_over(passed: Passed, lane: Lane, frame: Option<Frame>) -> &'static str
     ensures { result.now ≡ passed_text passed lane frame }
 {
+    let Some(frame) = frame else {
+        return "";
+    };
     match passed {
         Passed::Heard => "",
         Passed::Outside => ", passed over: no call is on",
-        _ if !is_heard(frame) => "",
-        Passed::Sending => ", passed over while the gateway sends",
-        Passed::Unasked if lane != Lane::FromCaller => ", passed over: it answers nothing",
-        Passed::Unasked if is_command(frame) => ", passed over: no page is due",
-        Passed::Unasked => ", passed over: it is no command",
+        Passed::Sending if is_heard(frame) => ", passed over while the gateway sends",
+        Passed::Unasked if is_heard(frame) => why_unasked(lane, frame),
+        Passed::Sending | Passed::Unasked => "",
+    }
+}
+
+/// Why a frame is passed over of which nothing is awaited.
+fn why_unasked(lane: Lane, frame: Frame) -> &'static str
+    ensures { result.now ≡ unasked_text lane frame }
+{
+    if lane != Lane::FromCaller {
+        return ", passed over: it answers nothing";
+    }
+    if is_command(frame) {
+        ", passed over: no page is due"
+    } else {
+        ", passed over: it is no command"
     }
 }
 

@@ -1,10 +1,10 @@
 //! A gateway on which a script is played, and what is heard on its legs.
-ghost use Rattle.std.specs.Prelude.{◌≡◌, ◌++◌, ◌∷◌, [], IfOk, MatchOption, OnOk};
+ghost use Rattle.std.specs.Prelude.{◌≡◌, ◌++◌, [], IfOk, OnOk};
 ghost use Rattle.fax_gateway.specs.Setups.{AreAllowed};
 ghost use Rattle.fax_gateway.specs.Turns.{call_if_new};
 ghost use Rattle.fax_trace.specs.declared.event.ScriptEvent.TheVariants as script;
 ghost use Rattle.fax_explain.specs.Ladders.{EndsWithReport, TellsRefusal, asked_tellings, begun_tellings};
-ghost use Rattle.fax_explain.specs.Places.{page_if};
+ghost use Rattle.fax_explain.specs.Places.{Keeps, confirmed_page, page_if};
 ghost use Rattle.fax_explain.specs.Staged.{AnswersAny, AnswersAt, AnswersEvent, AnswersTick, GoesOn, IsNew, PlaysEvent, TimersAct};
 
 use crate::called::CalledLeg;
@@ -168,6 +168,7 @@ impl Stage {
 
     /// Time goes on to a moment.
     fn tick(&mut self, moment: u64, scene: &mut Scene) -> Result<(), NoMemory>
+        requires { scene.old.tale ≡ [] }
         ensures { OnOk result
             (AnswersTick moment self.old.gateway scene.new.tale self.new.gateway) }
     {
@@ -231,15 +232,20 @@ impl Stage {
             .act(self.gateway.calling_acting(moment), state, tale)
     }
 
-    /// What a tick gives on the calling leg is told, and why it refuses a page, where it does: after the RTN.
+    /// What a tick gives on the calling leg is told, and why it refuses a page, where it does: after the RTN. The page that it
+    /// confirms is kept, where it confirms one.
     fn give_calling(&mut self, given: &Given, scene: &mut Scene) -> Result<(), NoMemory>
         ensures gateway { self.new.gateway ≡ self.old.gateway }
+        ensures goes_on { OnOk result (GoesOn scene.old.tale scene.new.tale) }
         ensures refused { OnOk result (TellsRefusal given.now.refused scene.new.tale) }
+        ensures page { OnOk result (Keeps (confirmed_page given.now.calling given.now.kept (page_if given.now.kept self.old.gateway.book) self.old.calling) scene.old.pages.items scene.new.pages.items) }
     {
+        let mut after = Tale::new(self.alloc);
         let page = self.confirmed_page(given)?;
-        let found = self.calling.give(given, page, &mut scene.tale)?;
+        let found = self.calling.give(given, page, &mut after)?;
         keep_found(&mut scene.pages, found)?;
-        tell_refusal(self.alloc, given, &mut scene.tale)
+        tell_refusal(self.alloc, given, &mut after)?;
+        scene.tale.append(after)
     }
 
     /// The page that a tick confirmed, where it did: the newest of the gateway.
@@ -355,7 +361,7 @@ fn tell_asked(
 
 /// Keeps a page that was found, where one was. An `Err` leaves the pages as they were.
 fn keep_found(pages: &mut Vec<FoundPage>, found: Option<FoundPage>) -> Result<(), NoMemory>
-    ensures { OnOk result (MatchOption found (pages.new.items ≡ pages.old.items) (λ page. pages.new.items ≡ pages.old.items ++ page ∷ [])) }
+    ensures { OnOk result (Keeps found pages.old.items pages.new.items) }
 {
     if let Some(found) = found {
         pages.push(found)?;
