@@ -6,8 +6,10 @@ use Rattle.fax_jobs.specs.declared.outcome.Outcome.{Outcome}
 use Rattle.fax_jobs.specs.declared.outcome.Outcome.TheVariants.{Delivered, NotReceiver, WidthLacking, FineLacking, RatesSpent, NoAnswer, NoReply, PageRefused, HungUp, NotPlaced}
 use Rattle.fax_answer.specs.declared.refusal.Refusal.{Refusal}
 use Rattle.fax_answer.specs.declared.refusal.Refusal.TheVariants.{Fault, NotWhole, GapAfter, SeveralImages, NoImage, Untrained}
-use Rattle.fax_descriptions.specs.declared.exchange.Exchange.{Exchange}
-use Rattle.fax_descriptions.specs.declared.exchange.Exchange.TheVariants.{Before, Awaited, Answered}
+use Rattle.fax_answer.specs.declared.state.State.{State}
+use Rattle.fax_answer.specs.declared.state.State.TheVariants.{Again}
+use Rattle.fax_answer.specs.declared.timers.ActingTimer.{ActingTimer}
+use Rattle.fax_answer.specs.declared.timers.ActingTimer.TheVariants.{T1, T2, T4}
 use Rattle.fax_descriptions.specs.declared.command.Command.{Command}
 use Rattle.fax_descriptions.specs.declared.command.Command.TheVariants.{Training, Mps, Eom, Eop}
 
@@ -20,11 +22,21 @@ refusal_text SeveralImages = codes "more than one image came since the last CFR 
 refusal_text NoImage = codes "no image came before the command"
 refusal_text Untrained = codes "an image came after EOM, and no DCS before it"
 
--- which timer gives up a call on the calling leg (ITU-T T.30, 5.4.3)
-abbrev pub given_up_text : Exchange → List ℕ
-given_up_text Before = codes "T1: no DCS in 35 s, so the call is given up"
-given_up_text Awaited = codes "T1: no DCS in 35 s, so the call is given up"
-given_up_text Answered = codes "T2: nothing heard in 6 s, so the call is given up"
+-- which timer gives up a call on the calling leg (ITU-T T.30, 5.4.3): T1, and T2 but after an EOM
+abbrev pub given_up_in : State → Option (List ℕ)
+given_up_in Again = None
+given_up_in state = Some (codes "T2: nothing heard in 6 s, so the call is given up")
+
+abbrev pub given_up_text : ActingTimer → State → Option (List ℕ)
+given_up_text T1 state = Some (codes "T1: no DCS in 35 s, so the call is given up")
+given_up_text T2 state = given_up_in state
+given_up_text T4 state = None
+
+-- and which gave our DIS again
+abbrev pub again_text : ActingTimer → List ℕ
+again_text T1 = []
+again_text T2 = codes ", again: T2, nothing heard in 6 s after EOM"
+again_text T4 = codes ", again: T4, no DCS in 3 s"
 
 -- ---- commands that are sent on, and their answers (ITU-T T.30, 5.3.6.1)
 

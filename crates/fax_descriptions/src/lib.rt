@@ -6,18 +6,18 @@
 #![tactic(auto)]
 
 mod command;
-mod exchange;
 mod lane;
 mod paragraph;
 mod reasons;
 mod tale;
+mod timers;
 mod words;
 
 pub use command::Command;
-pub use exchange::Exchange;
 pub use lane::Lane;
 pub use reasons::{why_ended, why_refused};
 pub use tale::Tale;
+pub use timers::{why_again, why_given_up};
 pub use words::{
     name_of_kind, words_of_format, words_of_frame, words_of_numbers, words_of_wholeness,
 };

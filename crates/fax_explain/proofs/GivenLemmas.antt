@@ -6,8 +6,7 @@ use Rattle.fax_udptl.specs.Datagrams.{DatagramValue, datagram_of}
 use Rattle.fax_descriptions.specs.declared.lane.Lane.{Lane}
 use Rattle.fax_descriptions.specs.Tales.{last_with}
 use Rattle.fax_descriptions.specs.Tellings.{Description}
-use Rattle.fax_descriptions.specs.declared.exchange.Exchange.{Exchange}
-use Rattle.fax_explain.specs.Given.{GoesOnInLine, TellsTimed, timer_lines}
+use Rattle.fax_explain.specs.Given.{GoesOnInLine}
 use Rattle.fax_explain.specs.Heard.{Adds, TellsDatagram}
 use Rattle.fax_explain.specs.Openings.{Opening}
 use Rattle.fax_explain.proofs.OpenedLemmas.{adds_length, adds_on}
@@ -31,16 +30,6 @@ datagram_on arrived r lane old mid new some t (more, inr on) = on_with arrived r
 pub some_frame : (frames : List Frame) (n : ℕ) (frame : Frame) → slice_get frames n ≡ Some frame → 1 ≤ length frames
 some_frame [] n frame is = absurd (cc)
 some_frame (f ∷ frames) n frame is = omega arith
-
--- what is given after a timer
-pub timed_told : (arrived : List DatagramValue) (given : Option (List ℕ)) (octets seen : List ℕ) (gave_up : Option ℕ) (exchange : Exchange) (lane : Lane) (old mid new : List Description)
-    → given ≡ Some octets → seen ≡ octets → mid ≡ old ++ timer_lines gave_up exchange → TellsDatagram arrived (datagram_of seen) lane mid new → TellsTimed arrived given gave_up lane old new
-timed_told arrived given octets seen gave_up exchange lane old mid new some same timed t =
-    subst (λ (g : Option (List ℕ)). TellsTimed arrived g gave_up lane old new) (sym some) (
-      exchange,
-      subst (λ (o : List ℕ). TellsDatagram arrived (datagram_of o) lane (old ++ timer_lines gave_up exchange) new) same
-          (subst (λ (m : List Description). TellsDatagram arrived (datagram_of seen) lane m new) timed t),
-    )
 
 -- so a line is told of it
 pub some_told : (frames : List Frame) (frame : Frame) (last : Option Frame) (old mid : List Description) → last ≡ slice_get frames (length frames - 1) → last ≡ Some frame

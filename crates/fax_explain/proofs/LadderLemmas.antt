@@ -49,6 +49,16 @@ TellsRefusal-on None old new told on = tt
 TellsRefusal-on (Some r) old new told on =
     (told.0, told.1, told.2, told.3 ++ on.0, on.1 ∙ ap (λ (o : List Description). o ++ on.0) told.4 ∙ append_assoc told.0 (with_why told.1 told.2 r ∷ told.3) on.0)
 
+-- what goes on goes on
+pub goes_on_both : (old mid new : List Description) → GoesOn old mid → GoesOn mid new → GoesOn old new
+goes_on_both old mid new p q = (p.0 ++ q.0, q.1 ∙ ap (λ (t : List Description). t ++ q.0) p.1 ∙ append_assoc old p.0 q.0)
+
+-- why a page is refused is told after what was told before
+pub TellsRefusal-after : (refused : Option RefusedPage) (old after new : List Description) → TellsRefusal refused after → new ≡ old ++ after → TellsRefusal refused new
+TellsRefusal-after None old after new told is = tt
+TellsRefusal-after (Some r) old after new told is =
+    (old ++ told.0, told.1, told.2, told.3, is ∙ ap (λ (t : List Description). old ++ t) told.4 ∙ sym (append_assoc old told.0 (with_why told.1 told.2 r ∷ told.3)))
+
 -- these words, in this lane
 abbrev in_lane : Lane → List ℕ → Description
 in_lane lane words = record { lane = lane; words = words }

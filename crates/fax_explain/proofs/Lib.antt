@@ -4,3 +4,4 @@ pub mod GivenLemmas
 pub mod LadderLemmas
 pub mod PlayLemmas
 pub mod Told
+pub mod RowLemmas

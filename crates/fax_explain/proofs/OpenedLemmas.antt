@@ -2,6 +2,7 @@
 use Rattle.std.proofs.Common.{◌≡◌, ◌&&◌, ◌+◌, ◌-◌, ◌%◌, ◌^◌, ◌<◌, ◌≤◌, ℕ, zero, suc, min, Bool, true, false, List, [], ◌∷◌, ◌++◌, Option, Some, None, Result, Ok, Err, IfOk, OnOk, nat_lt, get_or, length, drop, take, map, reverse, replicate, codes, decimal, refl, sym, ◌∙◌, ap, ap₂, subst, arith, append-nil, append_assoc, length-append, if◌then◌else◌}
 use Rattle.std.proofs.Math.Seq.{drop-append_seam}
 use Rattle.std.proofs.lemmas.List.{map-append, reverse-append, take_more}
+use Rattle.fax_frames.specs.declared.dcs.Dcs.{Dcs}
 use Rattle.fax_frames.specs.declared.dis.Dis.{Dis as Offer}
 use Rattle.fax_frames.specs.declared.frame.Frame.{Frame}
 use Rattle.fax_frames.specs.declared.frame.Frame.TheVariants.{Dis}
@@ -25,10 +26,10 @@ use Rattle.fax_descriptions.specs.declared.lane.Lane.{Lane}
 use Rattle.fax_descriptions.specs.Tales.{last_with}
 use Rattle.fax_descriptions.specs.Tellings.{Description}
 use Rattle.fax_descriptions.specs.Words.{frame_text, kind_name, numbers_text, wholeness_text}
-use Rattle.fax_explain.specs.declared.listener.Due.{Due}
-use Rattle.fax_explain.specs.declared.listener.Due.TheVariants.{Nothing, Check, Page}
 use Rattle.fax_explain.specs.declared.listener.Listener.{Listener}
-use Rattle.fax_explain.specs.Listening.{is_same, signal_name, verdict_name, words_after}
+use Rattle.fax_explain.specs.declared.mark.Signal.{Signal}
+use Rattle.fax_explain.specs.declared.mark.Signal.TheVariants.{Strange, Unasked, Outside, Ending, Check, Page, Late}
+use Rattle.fax_explain.specs.Listening.{StartsWith, check_text, end_text, is_judged, is_same, signal_name, signal_text, strange_text, verdict_name, words_after}
 use Rattle.fax_explain.specs.Openings.{Opening, back_openings, check_opening, datagram_openings, decided_openings, end_opening, frame_opening, head_openings, image_text, late_openings, line_if, lost_openings, octets_counted, packet_openings, packets_openings, piece_openings, pieces_openings, slots_openings, start_opening, tail_openings, unread_opening}
 use Rattle.fax_explain.specs.Heard.{AddsLine, Adds, AreOpened, BeginsAsOneOf, HasHeard, Hears, IsHearing, Stays, TellsDatagram, arrived_with}
 
@@ -168,49 +169,95 @@ line_told lane text old new is =
     record { more = []; is = is ∙ ap (λ (w : List ℕ). old ++ line_of lane w ∷ []) (sym (append-nil text)) }
 
 -- a signal that begins
-pub signal_begins : (due : Due) (kind : ℕ) (words : List ℕ) → words ≡ signal_name due ++ (codes " begins, " ++ kind_name kind) → BeginsAsOneOf (start_opening kind) words
-signal_begins Nothing kind words is = begins_as _ _ words is
+pub signal_begins : (signal : Signal) (kind : ℕ) (words : List ℕ) → words ≡ signal_name signal ++ (codes " begins, " ++ kind_name kind) → BeginsAsOneOf (start_opening kind) words
 signal_begins (Check dcs) kind words is = begins_later _ _ words (begins_as _ _ words is)
 signal_begins (Page dcs) kind words is = begins_later _ _ words (begins_later _ _ words (begins_as _ _ words is))
+signal_begins Late kind words is = begins_later _ _ words (begins_later _ _ words (begins_as _ _ words is))
+signal_begins Strange kind words is = begins_as _ _ words is
+signal_begins Unasked kind words is = begins_as _ _ words is
+signal_begins Outside kind words is = begins_as _ _ words is
+signal_begins Ending kind words is = begins_as _ _ words is
 
 -- a training check
-pub check_heard : (whole : Bool) (words rest : List ℕ) → words ≡ codes "training check, " ++ rest → BeginsAsOneOf (check_opening whole) words
-check_heard true words rest is = begins_first (codes "training check") [] words (codes ", " ++ rest) is
-check_heard false words rest is = begins_first (codes "training check, ") _ words rest is
+pub check_given : (judged is_good : Bool) (words rest : List ℕ) → judged ≡ false → words ≡ codes "training check, " ++ rest → StartsWith (check_text judged is_good) words
+check_given true is_good words rest other is = absurd (cc)
+check_given false is_good words rest other is = (rest, is)
 
-pub check_judged : (whole is_good rest_good : Bool) (verdict words rest : List ℕ) → is_good ≡ (whole && rest_good) → verdict ≡ verdict_name is_good
-    → words ≡ codes "training check " ++ (verdict ++ (codes ": " ++ rest)) → BeginsAsOneOf (check_opening whole) words
-check_judged true is_good rest_good verdict words rest good said is = begins_first (codes "training check") [] words (codes " " ++ (verdict ++ (codes ": " ++ rest))) is
-check_judged false is_good rest_good verdict words rest good said is =
-    begins_later _ _ words (begins_first (codes "training check bad: ") [] words rest
-    (is ∙ ap (λ (v : List ℕ). codes "training check " ++ (v ++ (codes ": " ++ rest))) (said ∙ ap verdict_name good)))
+pub check_judged : (judged is_good : Bool) (verdict words rest : List ℕ) → judged ≡ true → verdict ≡ verdict_name is_good
+    → words ≡ codes "training check " ++ (verdict ++ (codes ": " ++ rest)) → StartsWith (check_text judged is_good) words
+check_judged false is_good verdict words rest so said is = absurd (cc)
+check_judged true is_good verdict words rest so said is = (
+  rest,
+  is ∙ ap (λ (v : List ℕ). codes "training check " ++ (v ++ (codes ": " ++ rest))) said
+      ∙ ap (λ (l : List ℕ). codes "training check " ++ l) (sym (append_assoc (verdict_name is_good) (codes ": ") rest)),
+)
+
+check_ended : (judged whole is_good : Bool) (words : List ℕ) → StartsWith (check_text judged (whole && is_good)) words → BeginsAsOneOf (check_opening whole) words
+check_ended true true is_good words s =
+    begins_first (codes "training check") [] words (codes " " ++ ((verdict_name is_good ++ codes ": ") ++ s.0)) s.1
+check_ended true false is_good words s = begins_later _ _ words (begins_first (codes "training check bad: ") [] words s.0 s.1)
+check_ended false true is_good words s = begins_first (codes "training check") [] words (codes ", " ++ s.0) s.1
+check_ended false false is_good words s = begins_first (codes "training check, ") _ words s.0 s.1
 
 -- an image
 image_read : (octets : ℕ) (whole : Bool) (missing meaning words : List ℕ)
     → words ≡ codes "image of " ++ (decimal octets ++ (codes " octets, " ++ (wholeness_text whole missing ++ (codes ": " ++ meaning))))
-    → BeginsAsOneOf (image_text octets whole ∷ check_opening whole) words
+    → StartsWith (image_text octets whole) words
 image_read octets true missing meaning words is =
-    begins_first (image_text octets true) _ words meaning (is ∙ ap (λ (l : List ℕ). codes "image of " ++ l) (sym (append_assoc (decimal octets) (codes " octets, whole: ") meaning)))
+    (meaning, is ∙ ap (λ (l : List ℕ). codes "image of " ++ l) (sym (append_assoc (decimal octets) (codes " octets, whole: ") meaning)))
 image_read octets false [] meaning words is =
     let rest : List ℕ = codes "something else stands in it: " ++ meaning in
-    begins_first (image_text octets false) _ words rest (is ∙ ap (λ (l : List ℕ). codes "image of " ++ l) (sym (append_assoc (decimal octets) (codes " octets, not whole, ") rest)))
+    (rest, is ∙ ap (λ (l : List ℕ). codes "image of " ++ l) (sym (append_assoc (decimal octets) (codes " octets, not whole, ") rest)))
 image_read octets false (m ∷ missing) meaning words is =
     let rest : List ℕ = codes "missing" ++ ((m ∷ missing) ++ (codes ": " ++ meaning)) in
-    begins_first (image_text octets false) _ words rest (is ∙ ap (λ (l : List ℕ). codes "image of " ++ l) (sym (append_assoc (decimal octets) (codes " octets, not whole, ") rest)))
+    (rest, is ∙ ap (λ (l : List ℕ). codes "image of " ++ l) (sym (append_assoc (decimal octets) (codes " octets, not whole, ") rest)))
 
 pub image_heard : (n octets : ℕ) (whole : Bool) (wholeness missing meaning words : List ℕ) → n ≡ octets → wholeness ≡ wholeness_text whole missing
     → words ≡ codes "image of " ++ (decimal n ++ (codes " octets, " ++ (wholeness ++ (codes ": " ++ meaning))))
-    → BeginsAsOneOf (end_opening octets whole) words
+    → StartsWith (image_text octets whole) words
 image_heard n octets whole wholeness missing meaning words count said is =
-    begins_later _ _ words (image_read octets whole missing meaning words
+    image_read octets whole missing meaning words
     (is ∙ ap (λ (m : ℕ). codes "image of " ++ (decimal m ++ (codes " octets, " ++ (wholeness ++ (codes ": " ++ meaning))))) count
-    ∙ ap (λ (w : List ℕ). codes "image of " ++ (decimal octets ++ (codes " octets, " ++ (w ++ (codes ": " ++ meaning))))) said))
+    ∙ ap (λ (w : List ℕ). codes "image of " ++ (decimal octets ++ (codes " octets, " ++ (w ++ (codes ": " ++ meaning))))) said)
 
-pub check_ended : (octets : ℕ) (whole : Bool) (words : List ℕ) → BeginsAsOneOf (check_opening whole) words → BeginsAsOneOf (end_opening octets whole) words
-check_ended octets whole words b = begins_later _ _ words (begins_later _ _ words b)
+-- another signal
+pub signal_heard : (n octets : ℕ) (signal : Signal) (is_outside : Bool) (why words : List ℕ) → n ≡ octets → why ≡ strange_text signal is_outside
+    → words ≡ codes "a signal of " ++ (decimal n ++ (codes " octets" ++ why)) → StartsWith (signal_text octets signal is_outside) words
+signal_heard n octets signal is_outside why words count said is = (
+  [],
+  is ∙ ap₂ (λ (m : ℕ) (w : List ℕ). codes "a signal of " ++ (decimal m ++ (codes " octets" ++ w))) count said
+      ∙ sym (append-nil (signal_text octets signal is_outside)),
+)
 
-pub signal_heard : (n octets : ℕ) (whole : Bool) (words rest : List ℕ) → n ≡ octets → words ≡ codes "a signal of " ++ (decimal n ++ rest) → BeginsAsOneOf (end_opening octets whole) words
-signal_heard n octets whole words rest count is = begins_first _ _ words rest (is ∙ ap (λ (m : ℕ). codes "a signal of " ++ (decimal m ++ rest)) count)
+signal_ended : (octets : ℕ) (whole : Bool) (signal : Signal) (is_outside : Bool) (words : List ℕ) → StartsWith (signal_text octets signal is_outside) words → BeginsAsOneOf (end_opening octets whole) words
+signal_ended octets whole signal is_outside words s =
+    let why : List ℕ = codes " octets" ++ strange_text signal is_outside in
+    begins_first (codes "a signal of " ++ decimal octets) _ words (why ++ s.0) (s.1 ∙ ap (λ (l : List ℕ). codes "a signal of " ++ l) (append_assoc (decimal octets) why s.0))
+
+-- the end of a signal is told as one
+pub end_begins : (signal : Signal) (is_good : Bool) (lane : Lane) (is_outside : Bool) (octets : ℕ) (whole : Bool) (words : List ℕ)
+    → StartsWith (end_text signal is_good lane is_outside octets whole) words → BeginsAsOneOf (end_opening octets whole) words
+end_begins (Check dcs) is_good lane is_outside octets whole words s = begins_later _ _ words (begins_later _ _ words (check_ended (is_judged lane) whole is_good words s))
+end_begins (Page dcs) is_good lane is_outside octets whole words s = begins_later _ _ words (begins_first (image_text octets whole) _ words s.0 s.1)
+end_begins Late is_good lane is_outside octets whole words s = begins_later _ _ words (begins_first (image_text octets whole) _ words s.0 s.1)
+end_begins Strange is_good lane is_outside octets whole words s = signal_ended octets whole Strange is_outside words s
+end_begins Unasked is_good lane is_outside octets whole words s = signal_ended octets whole Unasked is_outside words s
+end_begins Outside is_good lane is_outside octets whole words s = signal_ended octets whole Outside is_outside words s
+end_begins Ending is_good lane is_outside octets whole words s = signal_ended octets whole Ending is_outside words s
+
+-- an image that a mark says
+pub page_marked : (signal : Signal) (dcs : Dcs) (is_good : Bool) (lane : Lane) (is_outside : Bool) (n octets : ℕ) (whole : Bool) (words : List ℕ) → signal ≡ Page dcs → n ≡ octets
+    → StartsWith (image_text n whole) words → StartsWith (end_text signal is_good lane is_outside octets whole) words
+page_marked signal dcs is_good lane is_outside n octets whole words is count s =
+    subst (λ (g : Signal). StartsWith (end_text g is_good lane is_outside octets whole) words) (sym is)
+    (subst (λ (m : ℕ). StartsWith (image_text m whole) words) count s)
+
+-- and a line of it begins so
+pub line_starts : (lane : Lane) (text words : List ℕ) (old new : List Description) → StartsWith text words → AddsLine lane words old new → AddsLine lane text old new
+line_starts lane text words old new s l = record {
+  more = s.0 ++ l.more;
+  is = l.is ∙ ap (λ (w : List ℕ). old ++ line_of lane w ∷ []) (ap (λ (w : List ℕ). w ++ l.more) s.1 ∙ append_assoc text s.0 l.more);
+}
 
 -- words that go on
 pub begins_more : (opening : Opening) (words more new : List ℕ) → BeginsAsOneOf opening words → new ≡ words ++ more → BeginsAsOneOf opening new

@@ -11,7 +11,7 @@ use Rattle.fax_trace.specs.declared.event.ScriptEvent.{ScriptEvent}
 use Rattle.fax_trace.specs.Told.{asked_lines, lines_told}
 use Rattle.fax_trace.specs.Playing.{PlayedScript, IsRefusal, call_after, newly_asked, scripted, moment_at}
 use Rattle.fax_trace.proofs.PlayLemmas.{none_new}
-use Rattle.fax_explain.specs.Ladders.{EndsWithReport, HasAnswer, TellsRefusal, asked_tellings}
+use Rattle.fax_explain.specs.Ladders.{EndsWithReport, HasAnswer, TellsRefusal, TellsTimer, asked_tellings}
 use Rattle.fax_explain.specs.Staged.{HasAnswered, PlaysOn}
 use Rattle.fax_descriptions.specs.Tales.{inside}
 use Rattle.fax_descriptions.specs.Tellings.{Description}
@@ -78,6 +78,6 @@ OnOk-both P Q (Err fault) p q = tt
 
 -- what is told of a tick
 pub tick_answer : (setup : Setup) (writes : Writing) (earlier : List Event) (now : ℕ) (given : Given) (told : List Description) (refused : Option RefusedPage)
-    → IsRefusedAt (calling_leg setup earlier) (max now (clock earlier)) refused → TellsRefusal refused told → EndsWithReport given.report told
+    → TellsTimer setup earlier now told → IsRefusedAt (calling_leg setup earlier) (max now (clock earlier)) refused → TellsRefusal refused told → EndsWithReport given.report told
     → HasAnswer setup writes earlier (Tick now given) told
-tick_answer setup writes earlier now given told refused right tells ends = ((refused, right, tells), ends)
+tick_answer setup writes earlier now given told refused timer right tells ends = (timer, (refused, right, tells), ends)

@@ -1,8 +1,9 @@
 -- GIVEN: what is told of what a tick gives on a leg. (This project's profile.)
 use Rattle.std.specs.Prelude.{◌≡◌, ◌⊎◌, ℕ, List, [], ◌∷◌, ◌++◌, Option, None, Some}
 use Rattle.fax_udptl.specs.Datagrams.{DatagramValue, datagram_of}
+use Rattle.fax_answer.specs.declared.state.State.{State}
+use Rattle.fax_answer.specs.declared.timers.ActingTimer.{ActingTimer}
 use Rattle.fax_explain.specs.Heard.{TellsDatagram, arrived_with}
-use Rattle.fax_descriptions.specs.declared.exchange.Exchange.{Exchange}
 use Rattle.fax_descriptions.specs.declared.lane.Lane.{Lane}
 use Rattle.fax_descriptions.specs.Reasons.{given_up_text}
 use Rattle.fax_descriptions.specs.Tales.{inside, last_with}
@@ -21,12 +22,11 @@ abbrev pub TellsGiven : List DatagramValue → Option (List ℕ) → Lane → (o
 TellsGiven arrived None lane old new = new ≡ old
 TellsGiven arrived (Some octets) lane old new = TellsDatagram arrived (datagram_of octets) lane old new
 
--- after the timer by which a call is given up, where it is
-abbrev pub timer_lines : Option ℕ → Exchange → List Description
-timer_lines None exchange = []
-timer_lines (Some call) exchange = inside (given_up_text exchange) ∷ []
+-- the timer that acts in this state of the calling leg, where it gives the call up
+abbrev pub line_if_some : Option (List ℕ) → List Description
+line_if_some None = []
+line_if_some (Some words) = inside words ∷ []
 
-abbrev pub TellsTimed : List DatagramValue → Option (List ℕ) → (gave_up : Option ℕ) → Lane → (old new : List Description) → Type 0
-TellsTimed arrived None gave_up lane old new = new ≡ old
-TellsTimed arrived (Some octets) gave_up lane old new =
-    (exchange : Exchange) × TellsDatagram arrived (datagram_of octets) lane (old ++ timer_lines gave_up exchange) new
+abbrev pub timer_lines : Option ActingTimer → State → List Description
+timer_lines None state = []
+timer_lines (Some timer) state = line_if_some (given_up_text timer state)

@@ -6,10 +6,11 @@ use Rattle.fax_jobs.specs.ReportTexts.{report_text}
 use Rattle.fax_call.specs.Writings.{Writing}
 use Rattle.fax_gateway.specs.Asking.{asked_after}
 use Rattle.fax_gateway.specs.declared.given.RefusedPage.{RefusedPage}
-use Rattle.fax_gateway.specs.CallingLegs.{calling_leg}
+use Rattle.fax_gateway.specs.CallingLegs.{CallingLeg, calling_leg}
 use Rattle.fax_gateway.specs.Events.{Event, Ring, FromCalling, FromCalled, Tick, Placed, clock}
 use Rattle.fax_gateway.specs.Setups.{Setup}
 use Rattle.fax_gateway.specs.Turns.{IsRefusedAt}
+use Rattle.fax_gateway.specs.Watched.{calling_acting, calling_state}
 use Rattle.fax_trace.specs.declared.event.ScriptEvent.{ScriptEvent}
 use Rattle.fax_trace.specs.Playing.{PlayedScript, Accepts, Refuses, newly_asked}
 use Rattle.fax_descriptions.specs.declared.command.Command.{Command}
@@ -19,6 +20,7 @@ use Rattle.fax_descriptions.specs.Reasons.{ended_text, refusal_text}
 use Rattle.fax_descriptions.specs.Tales.{inside, line_text}
 use Rattle.fax_descriptions.specs.Tellings.{Description}
 use Rattle.fax_descriptions.specs.Words.{format_text}
+use Rattle.fax_explain.specs.Given.{timer_lines}
 
 -- where a job ended, its report is told last, in the gateway itself, and after it why it ended so: with the command that had
 -- no answer, where one waited for it
@@ -42,6 +44,14 @@ abbrev pub SaysWhy : Setup → (earlier : List Event) → (now : ℕ) → List D
 SaysWhy setup earlier now told =
     (refused : Option RefusedPage) × IsRefusedAt (calling_leg setup earlier) (max now (clock earlier)) refused × TellsRefusal refused told
 
+-- a tick after these events: the timer that acts in it on the calling leg, where it gives the call up, is told first
+abbrev pub timers_told : Option CallingLeg → (now : ℕ) → List Description
+timers_told leg now = timer_lines (calling_acting leg now) (calling_state leg)
+
+abbrev pub TellsTimer : Setup → (earlier : List Event) → (now : ℕ) → List Description → Type 0
+TellsTimer setup earlier now told =
+    (more : List Description) × (told ≡ timers_told (calling_leg setup earlier) (max now (clock earlier)) ++ more)
+
 -- where the call of a job begins, that is told in the gateway itself: with the number of the call that its pages came in, the format
 -- of the first, and how many there are
 abbrev pub begun_text : JobValue → List ℕ
@@ -60,13 +70,13 @@ abbrev pub placed_tellings : (connected : Bool) → JobValue → List Descriptio
 placed_tellings true job = on_called (codes "the call is placed: it has answered") ∷ inside (begun_text job) ∷ []
 placed_tellings false job = on_called (codes "the call could not be placed") ∷ []
 
--- what is told of an event that is accepted after these has the gateway's answer: a ring its call's number; a tick why a page is
--- refused in it, and the report of the job that ended in it; and a call that is placed or not the job that was asked for
+-- what is told of an event that is accepted after these has the gateway's answer: a ring its call's number; a tick the timer that
+-- gives the call up in it, why a page is refused in it, and the report of the job that ended in it; and a call that is placed or not the job that was asked for
 abbrev pub HasAnswer : Setup → Writing → (earlier : List Event) → Event → List Description → Type 0
 HasAnswer setup writes earlier (Ring now number) told = told ≡ inside (codes "ring " ++ decimal number) ∷ []
 HasAnswer setup writes earlier (FromCalling octets now decided read) told = Unit {0}
 HasAnswer setup writes earlier (FromCalled octets now decided) told = Unit {0}
-HasAnswer setup writes earlier (Tick now given) told = SaysWhy setup earlier now told × EndsWithReport given.report told
+HasAnswer setup writes earlier (Tick now given) told = TellsTimer setup earlier now told × SaysWhy setup earlier now told × EndsWithReport given.report told
 HasAnswer setup writes earlier (Placed now connected) told = (job : JobValue) × (asked_after setup writes earlier ≡ Some job) × (told ≡ placed_tellings connected job)
 
 -- the call of a job is asked for

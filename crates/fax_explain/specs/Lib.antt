@@ -7,3 +7,4 @@ pub mod Places
 pub mod Ladders
 pub mod Explained
 pub mod Staged
+pub mod Marks

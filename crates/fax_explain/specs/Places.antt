@@ -1,6 +1,8 @@
 -- PLACES: where a page stands that is handed out. (This project's profile.)
-use Rattle.std.specs.Prelude.{ℕ, ◌+◌, ◌-◌, ◌^◌, min, List, ◌++◌, Option, None, Some, codes, decimal, option_map, unwrap_or}
+use Rattle.std.specs.Prelude.{◌≡◌, ℕ, ◌+◌, ◌-◌, ◌^◌, min, List, [], ◌∷◌, ◌++◌, Option, None, Some, codes, decimal, option_map, unwrap_or}
 use Rattle.fax_pagestore.specs.Pages.{PageValue}
+use Rattle.fax_jobs.specs.Books.{Book}
+use Rattle.fax_jobs.specs.Newest.{newest_page}
 use Rattle.fax_gateway.specs.declared.given.Kept.{Kept}
 use Rattle.fax_gateway.specs.declared.leg.Leg.TheVariants as legs
 use Rattle.fax_explain.specs.declared.called.CalledLeg.{CalledLeg}
@@ -25,14 +27,24 @@ confirmed_place kept leg = record { leg = legs.Calling; call = kept.call; page =
 abbrev pub found_at : Place → Option PageValue → Option FoundPage
 found_at place = option_map (λ (page : PageValue). record { place = place; page = page })
 
--- the page that a tick confirms, where it confirms one and it was read: it is handed out with the datagram
-abbrev pub page_of : Option Kept → CallingLeg → Option FoundPage
-page_of None leg = None
-page_of (Some kept) leg = found_at (confirmed_place kept leg) leg.theirs.page
+-- the page that a tick confirms, where it confirms one: it is handed out with the datagram
+abbrev pub page_of : Option Kept → Option PageValue → CallingLeg → Option FoundPage
+page_of None page leg = None
+page_of (Some kept) page leg = found_at (confirmed_place kept leg) page
 
-abbrev pub confirmed_page : (given : Option (List ℕ)) → Option Kept → CallingLeg → Option FoundPage
-confirmed_page None kept leg = None
-confirmed_page (Some octets) kept leg = page_of kept leg
+abbrev pub confirmed_page : (given : Option (List ℕ)) → Option Kept → Option PageValue → CallingLeg → Option FoundPage
+confirmed_page None kept page leg = None
+confirmed_page (Some octets) kept page leg = page_of kept page leg
+
+-- which is the newest of the gateway's book, where it confirms one (specs/Newest of fax_gateway)
+abbrev pub page_if : Option Kept → Book → Option PageValue
+page_if None book = None
+page_if (Some kept) book = newest_page book
+
+-- a page that was found, where one was, comes after those that were
+abbrev pub Keeps : Option FoundPage → (old new : List FoundPage) → Type 0
+Keeps None old new = new ≡ old
+Keeps (Some found) old new = new ≡ old ++ found ∷ []
 
 -- what is told of it after its MCF
 abbrev pub confirmed_text : Kept → (page : ℕ) → List ℕ

@@ -1,14 +1,15 @@
 -- What a stage holds of what was played.
-use Rattle.std.specs.Prelude.{◌≡◌, ℕ, ◌⊎◌, List, [], ◌∷◌, ◌++◌}
+use Rattle.std.specs.Prelude.{◌≡◌, ℕ, ◌⊎◌, max, List, [], ◌∷◌, ◌++◌}
 use Rattle.fax_call.specs.Writings.{IsWriting, Writing}
 use Rattle.fax_gateway.specs.Setups.{AreSet, Setup}
-use Rattle.fax_gateway.specs.Events.{Event, moment_of}
+use Rattle.fax_gateway.specs.CallingLegs.{calling_leg}
+use Rattle.fax_gateway.specs.Events.{Event, clock, moment_of}
 use Rattle.fax_gateway.specs.Reached.{GatewayValue, IsReachedBy}
 use Rattle.fax_trace.specs.declared.event.ScriptEvent.{ScriptEvent}
 use Rattle.fax_trace.specs.declared.event.ScriptEvent.TheVariants.{Tick}
 use Rattle.fax_trace.specs.Playing.{PlayedScript, IsRefusal, moment_at, scripted}
 use Rattle.fax_explain.specs.declared.stage.Stage.{Stage}
-use Rattle.fax_explain.specs.Ladders.{HasAnswer, TellsPlay}
+use Rattle.fax_explain.specs.Ladders.{HasAnswer, TellsPlay, timers_told}
 use Rattle.fax_descriptions.specs.Tales.{inside, paragraph_text}
 use Rattle.fax_descriptions.specs.Tellings.{Description}
 
@@ -44,6 +45,12 @@ pub record PlaysOn (setup : Setup) (writes : Writing) (old : PlayedScript) (even
 -- nothing was played
 abbrev pub IsNew : Stage → Type 0
 IsNew stage = (setup : Setup) (writes : Writing) → AreSet setup stage.gateway.settings → IsReachedBy setup writes [] stage.gateway
+
+-- the timer that acts in a tick at this moment on the calling leg gives the call up, where it does so, and that is told
+abbrev pub TimersAct : GatewayValue → (moment : ℕ) → (old new : List Description) → Type 0
+TimersAct gateway moment old new =
+    (setup : Setup) (writes : Writing) (trace : List Event) → IsReachedBy setup writes trace gateway
+    → new ≡ old ++ timers_told (calling_leg setup trace) (max moment (clock trace))
 
 -- ---- over whatever was played
 

@@ -6,13 +6,24 @@ ghost use Rattle.fax_explain.specs.Heard.{EachHearing, HearsOn, IsHearing, Stays
 ghost use Rattle.fax_explain.specs.Places.{found_at, sent_place};
 
 use crate::listener::Listener;
+use crate::mark::{Mark, given_signal};
 use crate::stage::FoundPage;
 use crate::store::Place;
 use fax_bits::NoMemory;
+use fax_call::{ActingTimer, State};
 use fax_descriptions::{Command, Lane, Tale};
 use fax_frames::Frame;
 use fax_gateway::{Given, Leg};
 use std::alloc::Global;
+
+/// What gives a command again.
+#[derive(Clone, Copy)]
+enum Again {
+    /// DIS came in place of an answer.
+    Dis,
+    /// T4 acted.
+    Timer,
+}
 
 /// What is heard on the called leg.
 #[derive(Drop)]
@@ -20,11 +31,10 @@ pub(crate) struct CalledLeg {
     alloc: Global,
     theirs: Listener,
     ours: Listener,
-    /// The command that waits for its answer.
+    /// The command that was given last, where T1 has not acted since.
     asked: Option<Command>,
-    /// Whether a DIS was heard since the packet that was given last, and since the one before that up to it.
-    has_dis: bool,
-    had_dis: bool,
+    /// What gives it again, where it was not given again since that.
+    again: Option<Again>,
     /// The call whose pages were sent last, and how many of them went out in jobs that have ended.
     call: Option<u32>,
     before: u32,
@@ -45,8 +55,7 @@ impl CalledLeg {
             theirs: Listener::new(alloc, Lane::FromCalled),
             ours: Listener::new(alloc, Lane::ToCalled),
             asked: None,
-            has_dis: false,
-            had_dis: false,
+            again: None,
             call: None,
             before: 0,
             delivered: 0,
@@ -64,8 +73,7 @@ impl CalledLeg {
         self.theirs = Listener::new(self.alloc, Lane::FromCalled);
         self.ours = Listener::new(self.alloc, Lane::ToCalled);
         self.asked = None;
-        self.has_dis = false;
-        self.had_dis = false;
+        self.again = None;
         self.delivered = 0;
         if self.call != Some(call) {
             self.call = Some(call);
@@ -92,15 +100,20 @@ impl CalledLeg {
         self.before = self.before.saturating_add(pages);
     }
 
-    /// The command that has no answer, where one waits for it.
+    /// The command that has no answer, where the call ended for want of one: none where T1 ended it.
     pub(crate) fn unanswered(&self) -> Option<Command>
         ensures { result ≡ self.now.asked }
     {
         self.asked
     }
 
-    /// The octets of a datagram come from the called machine: what it brings is told.
-    pub(crate) fn hear(&mut self, octets: &[u8], tale: &mut Tale) -> Result<(), NoMemory>
+    /// The octets of a datagram come from the called machine, whose pieces were taken as these: what it brings is told.
+    pub(crate) fn hear(
+        &mut self,
+        octets: &[u8],
+        marks: Vec<Mark>,
+        tale: &mut Tale,
+    ) -> Result<(), NoMemory>
         ensures told { OnOk result
             (TellsComing self.old.theirs (datagram_of octets.now) tale.old tale.new) }
         ensures hearing { OnOk result
@@ -109,22 +122,14 @@ impl CalledLeg {
         ensures call { self.new.call ≡ self.old.call }
         ensures before { self.new.before ≡ self.old.before }
     {
+        self.theirs.mark(marks);
         self.theirs.hear(octets, tale)?;
+        if self.theirs.is_asked_again() {
+            self.again = Some(Again::Dis);
+        }
         for frame in self.theirs.frames() {
-            if let Frame::Dis(_) = frame {
-                self.has_dis = true;
-            }
-            let Some(command) = self.asked else {
-                continue;
-            };
-            if !command.is_answered_by(*frame) {
-                continue;
-            }
-            self.asked = None;
-            match frame {
-                Frame::Cfr => self.ours.confirm_training(),
-                Frame::Mcf | Frame::Rtp => self.delivered = self.delivered.saturating_add(1),
-                _ => {}
+            if let Frame::Mcf | Frame::Rtp = frame {
+                self.delivered = self.delivered.saturating_add(1);
             }
         }
         Ok(())
@@ -143,8 +148,24 @@ impl CalledLeg {
         self.theirs.hear(octets, tale)
     }
 
-    /// What a tick gives on this leg is told.
-    pub(crate) fn give(&mut self, given: &Given, tale: &mut Tale) -> Result<(), NoMemory>
+    /// A timer acts in a tick, where one does.
+    pub(crate) fn act(&mut self, timer: Option<ActingTimer>)
+        ensures { self.new ≡ record self.old { asked = self.new.asked; again = self.new.again } }
+    {
+        match timer {
+            None => {}
+            Some(ActingTimer::T1) => self.asked = None,
+            Some(ActingTimer::T4) => self.again = Some(Again::Timer),
+        }
+    }
+
+    /// What a tick gives on this leg is told: signals are what they are in this state of the call.
+    pub(crate) fn give(
+        &mut self,
+        given: &Given,
+        state: State,
+        tale: &mut Tale,
+    ) -> Result<(), NoMemory>
         ensures told { OnOk result (EachHearing self.old.ours (λ arrived.
             TellsGiven arrived given.now.called self.old.ours.lane tale.old tale.new)) }
         ensures hearing { OnOk result (EachHearing self.old.ours (λ arrived.
@@ -155,6 +176,7 @@ impl CalledLeg {
         let Some(octets) = &given.called else {
             return Ok(());
         };
+        self.ours.give(given_signal(state));
         self.give_datagram(octets.as_slice(), tale)
     }
 
@@ -168,14 +190,9 @@ impl CalledLeg {
         ensures place { sent_place self.new ≡ sent_place self.old }
     {
         self.ours.hear(octets, tale)?;
-        self.theirs.attend(!self.ours.rests());
         match self.ours.last_frame() {
             Some(frame) => self.ask(Command::of(frame), tale),
-            None => {
-                self.had_dis = self.has_dis;
-                self.has_dis = false;
-                Ok(())
-            }
+            None => Ok(()),
         }
     }
 
@@ -192,22 +209,19 @@ impl CalledLeg {
         Some(FoundPage { place, page })
     }
 
-    /// A command was given, where there is one. Where the same one has no answer, that is told, with what gave it again.
+    /// A command was given, where there is one. Where it was given again, what did that is told.
     fn ask(&mut self, command: Option<Command>, tale: &mut Tale) -> Result<(), NoMemory>
         ensures told { OnOk result (GoesOnInLine tale.old tale.new) }
-        ensures left { self.new ≡ record self.old { asked = self.new.asked } }
+        ensures left { self.new ≡ record self.old { asked = self.new.asked; again = self.new.again } }
     {
         if command.is_none() {
             return Ok(());
         }
-        if self.asked == command {
-            tale.add(if self.had_dis {
-                ", again: DIS came, and no answer"
-            } else {
-                ", again: T4, no answer in 3 s"
-            })?;
-        }
         self.asked = command;
-        Ok(())
+        match self.again.take() {
+            Some(Again::Dis) => tale.add(", again: DIS came, and no answer"),
+            Some(Again::Timer) => tale.add(", again: T4, no answer in 3 s"),
+            None => Ok(()),
+        }
     }
 }

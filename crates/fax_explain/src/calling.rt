@@ -2,17 +2,20 @@
 ghost use Rattle.std.specs.Prelude.{◌≡◌, ◌++◌, IfOk, OnOk};
 ghost use Rattle.fax_udptl.specs.Datagrams.{datagram_of};
 ghost use Rattle.fax_descriptions.specs.Tales.{last_with};
-ghost use Rattle.fax_explain.specs.Given.{GoesOnInLine, TellsTimed, arrived_after, timer_lines};
+ghost use Rattle.fax_explain.specs.Given.{GoesOnInLine, TellsGiven, arrived_after, timer_lines};
 ghost use Rattle.fax_explain.specs.Heard.{EachHearing, HearsOn, IsHearing, StaysInLane, TellsComing};
 ghost use Rattle.fax_explain.specs.Places.{confirmed_page, confirmed_text, next_number, page_of};
 
 use crate::listener::Listener;
+use crate::mark::Mark;
 use crate::stage::FoundPage;
 use crate::store::Place;
+use fax_answer::{ActingTimer, State};
 use fax_bits::NoMemory;
-use fax_descriptions::{Exchange, Lane, Tale, words_of_format};
+use fax_descriptions::{Lane, Tale, why_again, why_given_up, words_of_format};
 use fax_frames::Frame;
 use fax_gateway::{Given, Kept, Leg};
+use fax_pagestore::{PackedRows, Page};
 use std::alloc::Global;
 
 /// What is heard on the calling leg in one call.
@@ -21,30 +24,33 @@ pub(crate) struct CallingLeg {
     alloc: Global,
     theirs: Listener,
     ours: Listener,
-    exchange: Exchange,
+    /// The timer that gives our DIS again, where it was not given again since that acted.
+    again: Option<ActingTimer>,
     /// How many pages were confirmed.
     pages: u32,
 }
 
 impl CallingLeg {
-    /// A leg on which nothing came or was given: our DIS waits.
+    /// A leg on which nothing came or was given.
     pub(crate) fn new(alloc: Global) -> Self
-        ensures exchange { result.exchange ≡ Exchange.Before }
         ensures pages { result.pages ≡ 0 }
     {
-        let mut theirs = Listener::new(alloc, Lane::FromCaller);
-        theirs.attend(true);
         CallingLeg {
             alloc,
-            theirs,
+            theirs: Listener::new(alloc, Lane::FromCaller),
             ours: Listener::new(alloc, Lane::ToCaller),
-            exchange: Exchange::Before,
+            again: None,
             pages: 0,
         }
     }
 
-    /// The octets of a datagram come from the caller: what it brings is told.
-    pub(crate) fn hear(&mut self, octets: &[u8], tale: &mut Tale) -> Result<(), NoMemory>
+    /// The octets of a datagram come from the caller, whose pieces were taken as these: what it brings is told.
+    pub(crate) fn hear(
+        &mut self,
+        octets: &[u8],
+        marks: Vec<Mark>,
+        tale: &mut Tale,
+    ) -> Result<(), NoMemory>
         ensures told { OnOk result
             (TellsComing self.old.theirs (datagram_of octets.now) tale.old tale.new) }
         ensures hearing { OnOk result
@@ -52,13 +58,8 @@ impl CallingLeg {
         ensures lane { OnOk result (StaysInLane self.old.theirs self.new.theirs) }
         ensures pages { self.new.pages ≡ self.old.pages }
     {
-        self.theirs.hear(octets, tale)?;
-        for frame in self.theirs.frames() {
-            if let Frame::Dcs(_) = frame {
-                self.exchange = Exchange::Answered;
-            }
-        }
-        Ok(())
+        self.theirs.mark(marks);
+        self.theirs.hear(octets, tale)
     }
 
     /// The octets of a datagram come from the caller while no call is on.
@@ -74,37 +75,47 @@ impl CallingLeg {
         self.theirs.hear(octets, tale)
     }
 
-    /// What a tick gives on this leg is told, after the timer by which the call is given up, where it is. It answers the page
-    /// that it confirms.
+    /// A timer acts in a tick, where one does: that it gives the call up is told, or it gives our DIS again.
+    pub(crate) fn act(
+        &mut self,
+        timer: Option<ActingTimer>,
+        state: State,
+        tale: &mut Tale,
+    ) -> Result<(), NoMemory>
+        ensures told { OnOk result (tale.new ≡ tale.old ++ timer_lines timer state) }
+        ensures left { self.new ≡ record self.old { again = self.new.again } }
+    {
+        let Some(timer) = timer else {
+            return Ok(());
+        };
+        match why_given_up(timer, state) {
+            Some(words) => tale.tell(Lane::Inside, words),
+            None => {
+                self.again = Some(timer);
+                Ok(())
+            }
+        }
+    }
+
+    /// What a tick gives on this leg is told. It answers the page that it confirms, which is this one.
     pub(crate) fn give(
         &mut self,
         given: &Given,
+        page: Option<Page<PackedRows>>,
         tale: &mut Tale,
     ) -> Result<Option<FoundPage>, NoMemory>
         ensures told { OnOk result (EachHearing self.old.ours (λ arrived.
-            TellsTimed arrived given.now.calling given.now.gave_up self.old.ours.lane
-            tale.old tale.new)) }
+            TellsGiven arrived given.now.calling self.old.ours.lane tale.old tale.new)) }
         ensures hearing { OnOk result (EachHearing self.old.ours (λ arrived.
             IsHearing (arrived_after arrived given.now.calling) self.new.ours)) }
         ensures lane { OnOk result (StaysInLane self.old.ours self.new.ours) }
-        ensures found { IfOk result (λ found. found ≡ confirmed_page given.now.calling given.now.kept self.old) }
+        ensures found { IfOk result (λ found. found ≡ confirmed_page given.now.calling given.now.kept page self.old) }
     {
         let Some(octets) = &given.calling else {
             return Ok(None);
         };
-        self.tell_timer(given.gave_up, tale)?;
         self.give_datagram(octets.as_slice(), given.kept, tale)?;
-        Ok(self.confirm(given.kept))
-    }
-
-    /// The timer is told by which a call is given up, where one is.
-    fn tell_timer(&self, gave_up: Option<u32>, tale: &mut Tale) -> Result<(), NoMemory>
-        ensures { OnOk result (tale.new ≡ tale.old ++ timer_lines gave_up self.now.exchange) }
-    {
-        match gave_up {
-            Some(_) => tale.tell(Lane::Inside, self.exchange.why_given_up()),
-            None => Ok(()),
-        }
+        Ok(self.confirm(given.kept, page))
     }
 
     /// A datagram is given, which confirms this page, where it confirms one: what it brings is told.
@@ -120,12 +131,9 @@ impl CallingLeg {
             (HearsOn self.old.ours (datagram_of octets.now) self.new.ours) }
         ensures lane { OnOk result (StaysInLane self.old.ours self.new.ours) }
         ensures pages { self.new.pages ≡ self.old.pages }
-        ensures page { self.new.theirs.page ≡ self.old.theirs.page }
     {
         self.ours.hear(octets, tale)?;
-        let frame = self.ours.last_frame();
-        self.theirs.attend(frame.is_none());
-        match frame {
+        match self.ours.last_frame() {
             Some(frame) => self.go_on(frame, kept, tale),
             None => Ok(()),
         }
@@ -134,7 +142,7 @@ impl CallingLeg {
     /// A frame was given, which confirms this page, where it confirms one: its line goes on.
     fn go_on(&mut self, frame: Frame, kept: Option<Kept>, tale: &mut Tale) -> Result<(), NoMemory>
         ensures told { OnOk result (GoesOnInLine tale.old tale.new) }
-        ensures left { self.new ≡ record self.old { exchange = self.new.exchange } }
+        ensures left { self.new ≡ record self.old { again = self.new.again } }
     {
         match (frame, kept) {
             (Frame::Dis(_), _) => self.identify(tale),
@@ -147,15 +155,12 @@ impl CallingLeg {
     /// Our DIS was given. Where it was given before, the timer that gave it again is told.
     fn identify(&mut self, tale: &mut Tale) -> Result<(), NoMemory>
         ensures told { OnOk result (GoesOnInLine tale.old tale.new) }
-        ensures left { self.new ≡ record self.old { exchange = self.new.exchange } }
+        ensures left { self.new ≡ record self.old { again = self.new.again } }
     {
-        match self.exchange {
-            Exchange::Before => {}
-            Exchange::Awaited => tale.add(", again: T4, no DCS in 3 s")?,
-            Exchange::Answered => tale.add(", again: T2, nothing heard in 6 s after EOM")?,
+        match self.again.take() {
+            Some(timer) => tale.add(why_again(timer)),
+            None => Ok(()),
         }
-        self.exchange = Exchange::Awaited;
-        Ok(())
     }
 
     /// The page that MCF confirms is told after it.
@@ -168,14 +173,14 @@ impl CallingLeg {
         tale.add(words.as_str())
     }
 
-    /// A page is confirmed, where one is: it is counted, and handed out as it was read.
-    fn confirm(&mut self, kept: Option<Kept>) -> Option<FoundPage>
-        ensures found { result ≡ page_of kept self.old }
+    /// A page is confirmed, where one is: it is counted, and handed out.
+    fn confirm(&mut self, kept: Option<Kept>, page: Option<Page<PackedRows>>) -> Option<FoundPage>
+        ensures found { result ≡ page_of kept page self.old }
         ensures ours { self.new.ours ≡ self.old.ours }
     {
         let call = kept?.call;
         self.pages = self.pages.saturating_add(1);
-        let page = self.theirs.take_page()?;
+        let page = page?;
         let place = Place {
             leg: Leg::Calling,
             call,

@@ -7,9 +7,11 @@
 mod answer;
 mod called;
 mod calling;
+mod copies;
 mod frame_ends;
 mod image;
 mod listener;
+mod mark;
 mod run;
 mod stage;
 mod store;

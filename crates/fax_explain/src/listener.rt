@@ -1,5 +1,5 @@
 //! What is read of the datagrams of one direction of a leg.
-ghost use Rattle.std.specs.Prelude.{◌≡◌, ◌<◌, ◌+◌, ◌-◌, ◌≤◌, ◌++◌, ◌∷◌, [], Some, codes, decimal, length, map, nat_lt, nat_le, not, ◌&&◌, reverse, slice_get, IfOk, OnOk, string_bytes};
+ghost use Rattle.std.specs.Prelude.{◌≡◌, ◌<◌, ◌+◌, ◌-◌, ◌≤◌, ◌++◌, ◌∷◌, [], Some, codes, decimal, length, map, nat_lt, reverse, slice_get, IfOk, OnOk, string_bytes};
 ghost use Rattle.fax_frames.specs.Frames.{frame_of};
 ghost use Rattle.fax_udptl.specs.Datagrams.{datagram_of};
 ghost use Rattle.fax_udptl.specs.Taking.{slots_in};
@@ -8,11 +8,13 @@ ghost use Rattle.fax_ifp.specs.Shown.{piece_of, pieces_shown};
 ghost use Rattle.fax_ifp.specs.Tracked.{lost_slots};
 ghost use Rattle.fax_explain.specs.FrameEnds.{AreEnds};
 ghost use Rattle.fax_explain.specs.Heard.{AddsLine, BeginsAsOneOf, EachCounted, EachHeard, EachHearing, HasHeard, Hears, HearsOn, HearsSlots, IsHearing, Stays, StaysInLane, TellsComing};
-ghost use Rattle.fax_explain.specs.Listening.{attention_while, dis_after, due_after_cfr, is_command, is_heard, is_page_due, signal_name, verdict_name, words_after};
-ghost use Rattle.fax_explain.specs.Openings.{back_openings, check_opening, datagram_openings, end_opening, frame_opening, head_openings, late_openings, line_if, lost_openings, octets_counted, packet_openings, packets_openings, piece_openings, pieces_openings, start_opening, tone_openings};
+ghost use Rattle.fax_command.specs.Answers.{page_fault_line};
+ghost use Rattle.fax_explain.specs.Listening.{StartsWith, check_text, dis_after, is_command, is_heard, is_judged, mark_at, marked_end, marked_frame, marked_start, page_dcs, passed_text, signal_name, strange_text, unasked_text, verdict_name, words_after};
+ghost use Rattle.fax_explain.specs.Openings.{back_openings, check_opening, datagram_openings, end_opening, frame_opening, head_openings, image_text, late_openings, line_if, lost_openings, octets_counted, packet_openings, packets_openings, piece_openings, pieces_openings, start_opening, tone_openings};
 
 use crate::frame_ends::FrameEnds;
 use crate::image::Image;
+use crate::mark::{Mark, Passed, Signal};
 use fax_bits::NoMemory;
 use fax_descriptions::{Lane, Tale, name_of_kind, words_of_frame, words_of_numbers};
 use fax_frames::{Dcs, Dis, Frame};
@@ -21,48 +23,6 @@ use fax_pagestore::{PackedRows, Page, PageFault, RowStore};
 use fax_udptl::{Decided, Packets, Receiver, read};
 use std::alloc::Global;
 
-/// Which image is due on a direction (ITU-T T.30, 5.3.6).
-#[derive(Clone, Copy)]
-enum Due {
-    /// None: no DCS came.
-    Nothing,
-    /// The training check after a DCS.
-    Check(Dcs),
-    /// A page under this DCS, after CFR.
-    Page(Dcs),
-}
-
-impl Due {
-    /// What the signal is called that is due.
-    fn name(self) -> &'static str
-        ensures { result.now ≡ signal_name self }
-    {
-        match self {
-            Due::Nothing => "a signal",
-            Due::Check(_) => "training check",
-            Due::Page(_) => "image",
-        }
-    }
-
-    /// The DCS of the page that is due, where one is.
-    fn page(self) -> Option<Dcs> {
-        match self {
-            Due::Nothing | Due::Check(_) => None,
-            Due::Page(dcs) => Some(dcs),
-        }
-    }
-}
-
-/// What the gateway makes of the frames that come.
-#[derive(Clone, Copy, PartialEq, Eq)]
-enum Attention {
-    Hears,
-    /// A packet of its own waits, and frames are passed over.
-    Waits,
-    /// No call is on, and everything is passed over.
-    NoCall,
-}
-
 /// What is read of the datagrams of one direction of a leg, in one call.
 #[derive(Drop)]
 pub(crate) struct Listener {
@@ -70,20 +30,23 @@ pub(crate) struct Listener {
     lane: Lane,
     receiver: Receiver,
     signals: Signals,
-    attention: Attention,
-    due: Due,
-    /// Whether something is missing since the DCS.
-    is_missing: bool,
+    /// Whether no call is on, and everything is passed over.
+    is_outside: bool,
+    /// What each piece of the datagram that comes was taken as, and how many of these came.
+    marks: Vec<Mark>,
+    taken: usize,
+    /// What a piece is taken as of which nothing is told.
+    usual: Mark,
     /// The image that began last.
     image: Image,
     /// The last page that was read.
     page: Option<Page<PackedRows>>,
     /// The last DIS.
     dis: Option<Dis>,
-    /// The frames of the last datagram that were heard.
+    /// The frames of the last datagram that were not passed over.
     frames: Vec<Frame>,
-    /// Whether nothing more belongs to what the last datagram told: a tone, a frame other than DCS, a training check.
-    rests: bool,
+    /// Whether a DIS of the last datagram gave a training again.
+    is_asked_again: bool,
 }
 
 impl Listener {
@@ -98,18 +61,19 @@ impl Listener {
             lane,
             receiver: Receiver::new(),
             signals: Signals::new(alloc),
-            attention: Attention::Hears,
-            due: Due::Nothing,
-            is_missing: false,
+            is_outside: false,
+            marks: Vec::new(alloc),
+            taken: 0,
+            usual: Mark::given(Signal::Strange),
             image: Image::new(alloc, None),
             page: None,
             dis: None,
             frames: Vec::new(alloc),
-            rests: false,
+            is_asked_again: false,
         }
     }
 
-    /// The octets of a datagram come: what it brings is told, a line for each thing.
+    /// The octets of a datagram come: what it brings is told, a line for each thing, by what the pieces of it were taken as.
     pub(crate) fn hear(&mut self, octets: &[u8], tale: &mut Tale) -> Result<(), NoMemory>
         ensures told { OnOk result
             (TellsComing self.old (datagram_of octets.now) tale.old tale.new) }
@@ -119,7 +83,7 @@ impl Listener {
             length self.new.frames.items + length tale.old ≤ length tale.new)) }
     {
         self.frames.clear();
-        self.rests = false;
+        self.is_asked_again = false;
         let number = match read(octets) {
             Ok(datagram) => datagram.number(),
             Err(fault) => {
@@ -180,7 +144,7 @@ impl Listener {
         Ok(())
     }
 
-    /// The frames of the last datagram that were heard.
+    /// The frames of the last datagram that were not passed over.
     pub(crate) fn frames(&self) -> &[Frame]
         ensures { result.now ≡ self.now.frames.items }
     {
@@ -194,38 +158,33 @@ impl Listener {
         self.frames.as_slice().last().copied()
     }
 
-    /// Whether nothing more belongs to what the last datagram told: a tone, a frame other than DCS, a training check.
-    pub(crate) fn rests(&self) -> bool
-        ensures { result ≡ self.now.rests }
+    /// Whether a DIS of the last datagram gave a training again.
+    pub(crate) fn is_asked_again(&self) -> bool
+        ensures { result ≡ self.now.is_asked_again }
     {
-        self.rests
+        self.is_asked_again
     }
 
-    /// From now on the gateway passes frames over, since a packet of its own waits, or it does not.
-    pub(crate) fn attend(&mut self, waits: bool)
-        ensures { self.new ≡ record self.old { attention = attention_while waits } }
+    /// A datagram comes next whose pieces were taken as these.
+    pub(crate) fn mark(&mut self, marks: Vec<Mark>)
+        ensures { self.new ≡ record self.old { marks = marks; taken = 0 } }
     {
-        self.attention = if waits {
-            Attention::Waits
-        } else {
-            Attention::Hears
-        };
+        self.marks = marks;
+        self.taken = 0;
+    }
+
+    /// From now on a piece of which nothing is told is taken as one that is given, as this signal.
+    pub(crate) fn give(&mut self, signal: Signal)
+        ensures { self.new ≡ record self.old { usual = record { signal = signal; passed = Passed.Heard; is_good = Rattle.std.specs.Prelude.false; trains_again = Rattle.std.specs.Prelude.false } } }
+    {
+        self.usual = Mark::given(signal);
     }
 
     /// The call is over: everything is passed over.
     pub(crate) fn end_call(&mut self)
-        ensures { self.new ≡ record self.old { attention = Attention.NoCall } }
+        ensures { self.new ≡ record self.old { is_outside = Rattle.std.specs.Prelude.true } }
     {
-        self.attention = Attention::NoCall;
-    }
-
-    /// CFR was given: what follows is a page.
-    pub(crate) fn confirm_training(&mut self)
-        ensures { self.new ≡ record self.old { due = due_after_cfr self.old.due } }
-    {
-        if let Due::Check(dcs) = self.due {
-            self.due = Due::Page(dcs);
-        }
+        self.is_outside = true;
     }
 
     /// The last page that was read, where none took it.
@@ -241,10 +200,10 @@ impl Listener {
         ensures { OnOk result (AddsLine self.now.lane words.now tale.old tale.new) }
     {
         tale.tell(self.lane, words)?;
-        match self.attention {
-            Attention::NoCall => tale.add(", passed over: no call is on"),
-            Attention::Hears | Attention::Waits => Ok(()),
+        if self.is_outside {
+            tale.add(", passed over: no call is on")?;
         }
+        Ok(())
     }
 
     /// Something happened on this direction, where that holds.
@@ -297,10 +256,9 @@ impl Listener {
 
     /// Datagrams of these numbers are missing.
     fn miss(&mut self, numbers: &str) -> Result<(), NoMemory>
-        ensures left { self.new ≡ record self.old { is_missing = self.new.is_missing; image = self.new.image } }
+        ensures left { self.new ≡ record self.old { image = self.new.image } }
         ensures octets { self.new.image.octets ≡ self.old.image.octets }
     {
-        self.is_missing = true;
         self.image.miss(numbers)
     }
 
@@ -392,7 +350,6 @@ impl Listener {
             Some(Indicator::Ced) => "CED",
             _ => return Ok(()),
         };
-        self.rests = true;
         self.tell(name, tale)
     }
 
@@ -429,22 +386,31 @@ impl Listener {
         }
     }
 
-    /// A frame comes. Where it is passed over, that is told, and nothing follows from it.
+    /// What the next piece was taken as.
+    fn next_mark(&mut self) -> Mark
+        ensures mark { result ≡ mark_at self.old }
+        ensures left { self.new ≡ record self.old { taken = self.new.taken } }
+    {
+        let Some(mark) = self.marks.get(self.taken) else {
+            return self.usual;
+        };
+        let mark = *mark;
+        self.taken = self.taken.saturating_add(1);
+        mark
+    }
+
+    /// A frame comes. Where it was passed over, that is told, and nothing follows from it.
     fn hear_frame(&mut self, octets: &[u8], tale: &mut Tale) -> Result<(), NoMemory>
         ensures told { OnOk result (Hears (frame_opening octets.now (frame_of octets.now) ∷ []) self.old self.new tale.old tale.new) }
+        ensures marked { OnOk result (AddsLine self.old.lane (marked_frame (mark_at self.old) self.old.lane self.old.dis octets.now) tale.old tale.new) }
         ensures stays { OnOk result (Stays self.old self.new) }
     {
-        let words = self.words_of(octets)?;
+        let mark = self.next_mark();
+        let frame = Frame::read(octets);
+        let mut words = self.words_of(octets)?;
+        words.push_str(why_passed_over(mark.passed, self.lane, frame))?;
         self.tell(words.as_str(), tale)?;
-        let Some(frame) = Frame::read(octets) else {
-            return Ok(());
-        };
-        if let Some(why) = self.why_passed_over(frame) {
-            return tale.add(why);
-        }
-        self.frames.push(frame)?;
-        self.take(frame);
-        Ok(())
+        self.take(frame, mark)
     }
 
     /// What a frame says. A DIS like the one before is not told again.
@@ -464,62 +430,31 @@ impl Listener {
         }
     }
 
-    /// Why a frame is passed over, where it is one that else would be heard.
-    fn why_passed_over(&self, frame: Frame) -> Option<&'static str> {
-        match self.attention {
-            Attention::NoCall => None,
-            Attention::Waits if is_heard(frame) => Some(", passed over while the gateway sends"),
-            Attention::Hears | Attention::Waits => {
-                if self.lane == Lane::FromCaller && is_command(frame) && !self.awaits_page() {
-                    Some(", passed over: no page is due")
-                } else {
-                    None
-                }
-            }
-        }
-    }
-
-    /// Whether a page is due.
-    fn awaits_page(&self) -> bool
-        ensures { result ≡ is_page_due self.now.due }
+    /// A frame is kept that was not passed over.
+    fn take(&mut self, frame: Option<Frame>, mark: Mark) -> Result<(), NoMemory>
+        ensures left { self.new ≡ record self.old { frames = self.new.frames; is_asked_again = self.new.is_asked_again } }
+        ensures frames { OnOk result (length self.new.frames.items ≤ length self.old.frames.items + 1) }
     {
-        match self.due {
-            Due::Page(_) => true,
-            Due::Nothing | Due::Check(_) => false,
+        let (Some(frame), Passed::Heard) = (frame, mark.passed) else {
+            return Ok(());
+        };
+        if let Frame::Dis(_) = frame {
+            self.is_asked_again = self.is_asked_again || mark.trains_again;
         }
-    }
-
-    /// A frame is heard: a DCS says what follows, and a command of the caller is answered.
-    fn take(&mut self, frame: Frame)
-        ensures { self.new ≡ record self.old { attention = self.new.attention; due = self.new.due; is_missing = self.new.is_missing; rests = self.new.rests } }
-    {
-        self.rests = true;
-        if let Frame::Dcs(dcs) = frame {
-            self.rests = false;
-            self.due = Due::Check(dcs);
-            self.is_missing = false;
-        } else if self.lane == Lane::FromCaller && is_command(frame) {
-            self.await_answer();
-        }
-    }
-
-    /// The gateway answers: until that is given, frames are passed over.
-    fn await_answer(&mut self)
-        ensures { self.new ≡ record self.old { attention = self.new.attention } }
-    {
-        if self.attention == Attention::Hears {
-            self.attention = Attention::Waits;
-        }
+        self.frames.push(frame)?;
+        Ok(())
     }
 
     /// An image begins, by this type of data.
     fn begin_image(&mut self, kind: u8, tale: &mut Tale) -> Result<(), NoMemory>
         ensures told { OnOk result (Hears (start_opening kind ∷ []) self.old self.new tale.old tale.new) }
+        ensures marked { OnOk result (AddsLine self.old.lane (marked_start (mark_at self.old) kind) tale.old tale.new) }
         ensures octets { self.new.image.octets ≡ 0 }
         ensures signals { self.new.signals ≡ self.old.signals }
     {
-        self.image = Image::new(self.alloc, self.due.page());
-        let signal = self.due.name();
+        let signal = self.next_mark().signal;
+        self.image = Image::new(self.alloc, page_of(signal));
+        let signal = name_of_signal(signal);
         let name = name_of_kind(kind);
         let words = format!(in self.alloc; "{signal} begins, {name}")?;
         self.tell(words.as_str(), tale)
@@ -528,6 +463,7 @@ impl Listener {
     /// The image under way ends.
     fn end_image(&mut self, whole: bool, tale: &mut Tale) -> Result<(), NoMemory>
         ensures told { OnOk result (Hears (end_opening self.old.image.octets whole ∷ []) self.old self.new tale.old tale.new) }
+        ensures marked { OnOk result (AddsLine self.old.lane (marked_end (mark_at self.old) self.old.lane self.old.is_outside self.old.image.octets whole) tale.old tale.new) }
         ensures stays { OnOk result (Stays self.old self.new) }
     {
         let words = self.words_of_end(whole)?;
@@ -536,69 +472,57 @@ impl Listener {
 
     /// What the image under way was.
     fn words_of_end(&mut self, whole: bool) -> Result<String, NoMemory>
-        ensures words { IfOk result (λ words. BeginsAsOneOf (end_opening self.old.image.octets whole) (string_bytes words)) }
+        ensures words { IfOk result (λ words. StartsWith (marked_end (mark_at self.old) self.old.lane self.old.is_outside self.old.image.octets whole) (string_bytes words)) }
         ensures lane { self.new.lane ≡ self.old.lane }
         ensures receiver { self.new.receiver ≡ self.old.receiver }
         ensures frames { self.new.frames ≡ self.old.frames }
         ensures stays { Stays self.old self.new }
     {
+        let mark = self.next_mark();
         let octets = self.image.octets();
-        match self.due {
-            Due::Nothing => Ok(format!(in self.alloc;
-                "a signal of {octets} octets, passed over: no DCS is before it, or FTT answered it"
-            )?),
-            Due::Check(dcs) => self.end_check(whole, dcs),
-            Due::Page(_) => {
-                let wholeness = self.image.wholeness(whole)?;
+        match mark.signal {
+            Signal::Check(dcs) => self.words_of_check(whole, dcs, whole && mark.is_good),
+            Signal::Page(_) => {
                 let meaning = self.end_page()?;
-                Ok(format!(in self.alloc; "image of {octets} octets, {wholeness}: {meaning}")?)
+                self.words_of_image(whole, meaning.as_str())
+            }
+            Signal::Late => self.words_of_image(whole, "not read, since no DCS came after EOM"),
+            signal => {
+                let why = why_strange(signal, self.is_outside);
+                Ok(format!(in self.alloc; "a signal of {octets} octets{why}")?)
             }
         }
     }
 
-    /// A training check ends. One of the caller's is a quarter of a second of zeros at least, and whole, or it is bad; it is
-    /// answered by CFR or FTT. It answers what it was.
-    fn end_check(&mut self, whole: bool, dcs: Dcs) -> Result<String, NoMemory>
-        ensures words { IfOk result (λ words. BeginsAsOneOf (check_opening whole) (string_bytes words)) }
-        ensures left { self.new ≡ record self.old { attention = self.new.attention; due = self.new.due; rests = self.new.rests } }
+    /// An image, and what it means.
+    fn words_of_image(&self, whole: bool, meaning: &str) -> Result<String, NoMemory>
+        ensures { IfOk result (λ words. StartsWith (image_text self.now.image.octets whole) (string_bytes words)) }
     {
-        self.rests = true;
+        let octets = self.image.octets();
+        let wholeness = self.image.wholeness(whole)?;
+        Ok(format!(in self.alloc; "image of {octets} octets, {wholeness}: {meaning}")?)
+    }
+
+    /// What a training check was. One of the caller's is answered by CFR or FTT: a quarter of a second of zeros at least is
+    /// wanted, and that it is whole, and nothing missing since the DCS.
+    fn words_of_check(&self, whole: bool, dcs: Dcs, is_good: bool) -> Result<String, NoMemory>
+        ensures { IfOk result (λ words. StartsWith (check_text (is_judged self.now.lane) is_good) (string_bytes words)) }
+    {
         let longest = self.image.longest();
-        if self.lane != Lane::FromCaller {
+        if !is_judged(self.lane) {
             return Ok(format!(in self.alloc; "training check, {longest} zero octets in a row")?);
         }
         let wanted = dcs.rate.bits() / 8;
         let wholeness = self.image.wholeness(whole)?;
-        let is_good = self.is_check(whole, longest, wanted);
         let verdict = verdict_of(is_good);
-        let after = if whole && self.is_missing {
+        let after = if whole && !is_good && longest >= u64::from(wanted) {
             ", something missing since the DCS"
         } else {
             ""
         };
-        self.judge_check(is_good, dcs);
         Ok(format!(in self.alloc;
             "training check {verdict}: {longest} zero octets in a row of {wanted} wanted, {wholeness}{after}"
         )?)
-    }
-
-    /// Whether a check is whole, nothing is missing since the DCS, and so many zero octets in a row are enough.
-    fn is_check(&self, whole: bool, longest: u64, wanted: u16) -> bool
-        ensures { result ≡ (whole && (not self.now.is_missing && nat_le wanted longest)) }
-    {
-        whole && !self.is_missing && longest >= u64::from(wanted)
-    }
-
-    /// After a good training check pages are due, after a bad one another DCS.
-    fn judge_check(&mut self, is_good: bool, dcs: Dcs)
-        ensures { self.new ≡ record self.old { attention = self.new.attention; due = self.new.due } }
-    {
-        self.due = if is_good {
-            Due::Page(dcs)
-        } else {
-            Due::Nothing
-        };
-        self.await_answer();
     }
 
     /// An image ends that is a page, or should be. It answers what it means.
@@ -612,11 +536,41 @@ impl Listener {
                 self.page = Some(page);
                 Ok(format!(in self.alloc; "a page, rows: {rows}")?)
             }
-            Some(Err(PageFault::NoMemory)) => Err(NoMemory),
-            Some(Err(fault)) => Ok(format!(in self.alloc; "no page, {fault}")?),
+            Some(Err(fault)) => {
+                let fault = words_of_fault(self.alloc, fault)?;
+                Ok(format!(in self.alloc; "no page, {fault}")?)
+            }
             None => Ok(String::from_str(self.alloc, "no page, it began before CFR")?),
         }
     }
+}
+
+/// What a signal is called.
+fn name_of_signal(signal: Signal) -> &'static str
+    ensures { result.now ≡ signal_name signal }
+{
+    match signal {
+        Signal::Strange | Signal::Unasked | Signal::Outside | Signal::Ending => "a signal",
+        Signal::Check(_) => "training check",
+        Signal::Page(_) | Signal::Late => "image",
+    }
+}
+
+/// The DCS under which a signal is read as a page, where it is.
+fn page_of(signal: Signal) -> Option<Dcs>
+    ensures { result ≡ page_dcs signal }
+{
+    match signal {
+        Signal::Page(dcs) => Some(dcs),
+        _ => None,
+    }
+}
+
+/// Whether the gateway judges what comes on this way: the training checks of the caller.
+fn is_judged(lane: Lane) -> bool
+    ensures { result ≡ is_judged lane }
+{
+    matches!(lane, Lane::FromCaller)
 }
 
 /// What a training check was.
@@ -624,6 +578,65 @@ fn verdict_of(is_good: bool) -> &'static str
     ensures { result.now ≡ verdict_name is_good }
 {
     if is_good { "good" } else { "bad" }
+}
+
+/// Why a signal is passed over, after its words. Where no call is on, each line says that.
+fn why_strange(signal: Signal, is_outside: bool) -> &'static str
+    ensures { result.now ≡ strange_text signal is_outside }
+{
+    match signal {
+        Signal::Outside => ", passed over: no call is on",
+        Signal::Ending => ", passed over while the gateway sends",
+        Signal::Unasked => ", passed over: it answers nothing",
+        _ if is_outside => "",
+        _ => ", passed over: no DCS is before it, or FTT answered it",
+    }
+}
+
+/// Why a frame is passed over that came on this way, after its words. A frame that is heard in no state of a call is passed over
+/// without a word.
+fn why_passed_over(passed: Passed, lane: Lane, frame: Option<Frame>) -> &'static str
+    ensures { result.now ≡ passed_text passed lane frame }
+{
+    let Some(frame) = frame else {
+        return "";
+    };
+    match passed {
+        Passed::Heard => "",
+        Passed::Outside => ", passed over: no call is on",
+        Passed::Sending if is_heard(frame) => ", passed over while the gateway sends",
+        Passed::Unasked if is_heard(frame) => why_unasked(lane, frame),
+        Passed::Sending | Passed::Unasked => "",
+    }
+}
+
+/// Why a frame is passed over of which nothing is awaited.
+fn why_unasked(lane: Lane, frame: Frame) -> &'static str
+    ensures { result.now ≡ unasked_text lane frame }
+{
+    if lane != Lane::FromCaller {
+        return ", passed over: it answers nothing";
+    }
+    if is_command(frame) {
+        ", passed over: no page is due"
+    } else {
+        ", passed over: it is no command"
+    }
+}
+
+/// The fault of a page, as `faxgate page` tells it.
+fn words_of_fault(alloc: Global, fault: PageFault) -> Result<String, NoMemory>
+    ensures { IfOk result (λ words. string_bytes words ++ 10 ∷ [] ≡ page_fault_line fault) }
+{
+    let words = match fault {
+        PageFault::NoEol => "fault 1 NoEol",
+        PageFault::BadLine(number) => return Ok(format!(in alloc; "fault 2 BadLine {number}")?),
+        PageFault::NoRtc => "fault 3 NoRtc",
+        PageFault::Empty => "fault 4 Empty",
+        PageFault::TooManyRows => "fault 5 TooManyRows",
+        PageFault::NoMemory => return Err(NoMemory),
+    };
+    Ok(String::from_str(alloc, words)?)
 }
 
 /// Whether a frame is a command after a page.

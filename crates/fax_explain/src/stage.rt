@@ -1,17 +1,22 @@
 //! A gateway on which a script is played, and what is heard on its legs.
-ghost use Rattle.std.specs.Prelude.{◌≡◌, ◌++◌, ◌∷◌, [], IfOk, MatchOption, OnOk};
+ghost use Rattle.std.specs.Prelude.{◌≡◌, ◌++◌, [], IfOk, OnOk};
 ghost use Rattle.fax_gateway.specs.Setups.{AreAllowed};
 ghost use Rattle.fax_gateway.specs.Turns.{call_if_new};
 ghost use Rattle.fax_trace.specs.declared.event.ScriptEvent.TheVariants as script;
 ghost use Rattle.fax_explain.specs.Ladders.{EndsWithReport, TellsRefusal, asked_tellings, begun_tellings};
-ghost use Rattle.fax_explain.specs.Staged.{AnswersAny, AnswersAt, AnswersEvent, AnswersTick, GoesOn, IsNew, PlaysEvent};
+ghost use Rattle.fax_explain.specs.Places.{Keeps, confirmed_page, page_if};
+ghost use Rattle.fax_explain.specs.Staged.{AnswersAny, AnswersAt, AnswersEvent, AnswersTick, GoesOn, IsNew, PlaysEvent, TimersAct};
 
 use crate::called::CalledLeg;
 use crate::calling::CallingLeg;
+use crate::copies::copy_of;
+use crate::mark::{marks_of_answer, marks_of_call};
 use crate::store::Place;
 use fax_bits::NoMemory;
+use fax_call::State;
 use fax_descriptions::{Lane, Tale, why_ended, why_refused, words_of_format};
 use fax_gateway::{Gateway, Given, PlaceFault, RingFault, Settings};
+use fax_notes::{AnswerNotes, CallNotes};
 use fax_pagestore::{PackedRows, Page};
 use fax_trace::ScriptEvent;
 use std::alloc::Global;
@@ -74,13 +79,18 @@ impl Stage {
     {
         let was_asked = self.gateway.asked();
         let mut scene = Scene::new(self.alloc);
-        self.act(event, moment, &mut scene)?;
+        self.answer(event, moment, &mut scene)?;
         tell_asked(self.alloc, was_asked, self.gateway.asked(), &mut scene.tale)?;
         Ok(scene)
     }
 
     /// Hands an event at a moment to the gateway, of which nothing was told, and tells what it answers.
-    fn act(&mut self, event: &ScriptEvent, moment: u64, scene: &mut Scene) -> Result<(), NoMemory>
+    fn answer(
+        &mut self,
+        event: &ScriptEvent,
+        moment: u64,
+        scene: &mut Scene,
+    ) -> Result<(), NoMemory>
         requires { scene.old.tale ≡ [] }
         ensures { OnOk result
             (AnswersAny event.now moment self.old.gateway scene.new.tale self.new.gateway) }
@@ -123,11 +133,17 @@ impl Stage {
             (script.FromCalling octets.now) tale.new self.new.gateway) }
     {
         let call = self.gateway.call();
-        self.gateway.from_calling(octets, moment)?;
+        let mut notes = AnswerNotes::new(self.alloc);
+        self.gateway
+            .from_calling_watched(octets, moment, &mut notes)?;
+        if notes.is_lacking() {
+            return Err(NoMemory);
+        }
         let Some(call) = call else {
             return self.calling.hear_outside(octets, tale);
         };
-        self.calling.hear(octets, tale)?;
+        let marks = marks_of_answer(self.alloc, notes.as_slice())?;
+        self.calling.hear(octets, marks, tale)?;
         self.tell_over(Some(call), tale)
     }
 
@@ -136,22 +152,29 @@ impl Stage {
         ensures { OnOk result (AnswersAt moment self.old.gateway
             (script.FromCalled octets.now) tale.new self.new.gateway) }
     {
-        let is_on = self.gateway.sending().is_some();
-        self.gateway.from_called(octets, moment)?;
-        if is_on {
-            self.called.hear(octets, tale)
-        } else {
-            self.called.hear_outside(octets, tale)
+        let state = self.gateway.called_state();
+        let mut notes = CallNotes::new(self.alloc);
+        self.gateway
+            .from_called_watched(octets, moment, &mut notes)?;
+        if notes.is_lacking() {
+            return Err(NoMemory);
         }
+        if let State::Idle = state {
+            return self.called.hear_outside(octets, tale);
+        }
+        let marks = marks_of_call(self.alloc, notes.as_slice())?;
+        self.called.hear(octets, marks, tale)
     }
 
     /// Time goes on to a moment.
     fn tick(&mut self, moment: u64, scene: &mut Scene) -> Result<(), NoMemory>
+        requires { scene.old.tale ≡ [] }
         ensures { OnOk result
             (AnswersTick moment self.old.gateway scene.new.tale self.new.gateway) }
     {
         let call = self.gateway.call();
         let was_sending = self.gateway.sending().is_some();
+        self.act(moment, &mut scene.tale)?;
         let given = self.gateway.tick(moment)?;
         self.give_calling(&given, scene)?;
         self.tell_over(call, &mut scene.tale)?;
@@ -198,14 +221,44 @@ impl Stage {
         }
     }
 
-    /// What a tick gives on the calling leg is told, and why it refuses a page, where it does: after the RTN.
+    /// The timers act in a tick at this moment that does: what they do is told, or told of what they give again.
+    fn act(&mut self, moment: u64, tale: &mut Tale) -> Result<(), NoMemory>
+        ensures gateway { self.new.gateway ≡ self.old.gateway }
+        ensures told { OnOk result (TimersAct self.old.gateway moment tale.old tale.new) }
+    {
+        self.called.act(self.gateway.called_acting(moment));
+        let state = self.gateway.calling_state();
+        self.calling
+            .act(self.gateway.calling_acting(moment), state, tale)
+    }
+
+    /// What a tick gives on the calling leg is told, and why it refuses a page, where it does: after the RTN. The page that it
+    /// confirms is kept, where it confirms one.
     fn give_calling(&mut self, given: &Given, scene: &mut Scene) -> Result<(), NoMemory>
         ensures gateway { self.new.gateway ≡ self.old.gateway }
+        ensures goes_on { OnOk result (GoesOn scene.old.tale scene.new.tale) }
         ensures refused { OnOk result (TellsRefusal given.now.refused scene.new.tale) }
+        ensures page { OnOk result (Keeps (confirmed_page given.now.calling given.now.kept (page_if given.now.kept self.old.gateway.book) self.old.calling) scene.old.pages.items scene.new.pages.items) }
     {
-        let found = self.calling.give(given, &mut scene.tale)?;
+        let mut after = Tale::new(self.alloc);
+        let page = self.confirmed_page(given)?;
+        let found = self.calling.give(given, page, &mut after)?;
         keep_found(&mut scene.pages, found)?;
-        tell_refusal(self.alloc, given, &mut scene.tale)
+        tell_refusal(self.alloc, given, &mut after)?;
+        scene.tale.append(after)
+    }
+
+    /// The page that a tick confirmed, where it did: the newest of the gateway.
+    fn confirmed_page(&self, given: &Given) -> Result<Option<Page<PackedRows>>, NoMemory>
+        ensures { IfOk result (λ page. page ≡ page_if given.now.kept self.now.gateway.book) }
+    {
+        if given.kept.is_none() {
+            return Ok(None);
+        }
+        match self.gateway.newest_page() {
+            Some(page) => Ok(Some(copy_of(self.alloc, page)?)),
+            None => Ok(None),
+        }
     }
 
     /// What a tick gives on the called leg is told.
@@ -214,7 +267,8 @@ impl Stage {
         ensures goes_on { OnOk result (GoesOn scene.old.tale scene.new.tale) }
     {
         let mut after = Tale::new(self.alloc);
-        self.called.give(given, &mut after)?;
+        self.called
+            .give(given, self.gateway.called_state(), &mut after)?;
         keep_found(&mut scene.pages, self.called.take_page())?;
         scene.tale.append(after)
     }
@@ -307,7 +361,7 @@ fn tell_asked(
 
 /// Keeps a page that was found, where one was. An `Err` leaves the pages as they were.
 fn keep_found(pages: &mut Vec<FoundPage>, found: Option<FoundPage>) -> Result<(), NoMemory>
-    ensures { OnOk result (MatchOption found (pages.new.items ≡ pages.old.items) (λ page. pages.new.items ≡ pages.old.items ++ page ∷ [])) }
+    ensures { OnOk result (Keeps found pages.old.items pages.new.items) }
 {
     if let Some(found) = found {
         pages.push(found)?;

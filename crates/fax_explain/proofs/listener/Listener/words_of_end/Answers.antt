@@ -1,12 +1,15 @@
-use Rattle.fax_explain.proofs.OpenedLemmas.{check_ended, each_ok, image_heard, signal_heard}
+use Rattle.std.proofs.Common.{ap, sym, ◌∙◌}
+use Rattle.fax_explain.specs.Listening.{mark_at}
+use Rattle.fax_explain.specs.declared.listener.Listener.{Listener}
+use Rattle.fax_explain.specs.declared.mark.Mark.{Mark}
+use Rattle.fax_explain.proofs.OpenedLemmas.{each_ok, page_marked}
 use Rattle.fax_explain.proofs.listener.Listener.words_of_end.Goals as goal
 
-pub returns-in_ok-format-in-Nothing-clause-words : goal.returns-in_ok-format-in-Nothing-clause-words
-returns-in_ok-format-in-Nothing-clause-words c = signal_heard c.octets-octets.result c.args.self.now.image.octets c.args.whole _ _ c.octets-octets.ensures c.in_ok-format-in-Nothing.ensures.ok
-
-pub returns-in-Check-clause-words : goal.returns-in-Check-clause-words
-returns-in-Check-clause-words c = each_ok c.end_check.result c.end_check.ensures.words (λ words begins. check_ended c.args.self.now.image.octets c.args.whole _ begins)
-
-pub returns-in_ok-format-in-Page-clause-words : goal.returns-in_ok-format-in-Page-clause-words
-returns-in_ok-format-in-Page-clause-words c =
-    image_heard c.octets-octets.result c.args.self.now.image.octets c.args.whole _ _ _ _ c.octets-octets.ensures c.in_ok-wholeness-in-Page.ensures c.in_ok-format-in-Page.ensures.ok
+pub returns-in_ok-meaning-in-Page-clause-words : goal.returns-in_ok-meaning-in-Page-clause-words
+returns-in_ok-meaning-in-Page-clause-words c =
+    let old = c.args.self.now in
+    let mark = mark_at old in
+    each_ok c.words_of_image.result c.words_of_image.ensures (λ words starts.
+    page_marked mark.signal c.in-Page.field-0 mark.is_good old.lane old.is_outside c.end_page.new.self.image.octets old.image.octets c.args.whole _
+    (sym (ap (λ (m : Mark). m.signal) c.next_mark-mark.ensures.mark) ∙ c.in-Page.is)
+    (c.in_ok-meaning-in-Page.ensures.octets ∙ ap (λ (l : Listener). l.image.octets) c.next_mark-mark.ensures.left) starts)

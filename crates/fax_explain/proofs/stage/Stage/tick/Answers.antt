@@ -1,10 +1,13 @@
-use Rattle.std.proofs.Common.{◌∷◌, refl, sym, ◌∙◌, subst}
+use Rattle.std.proofs.Common.{List, ◌∷◌, ◌++◌, refl, sym, ◌∙◌, ap, max, subst}
 use Rattle.fax_command.proofs.PutLemmas.{OnOk-then}
-use Rattle.fax_gateway.specs.Events.{Tick}
+use Rattle.fax_gateway.specs.CallingLegs.{calling_leg}
+use Rattle.fax_gateway.specs.Events.{Tick, clock}
 use Rattle.fax_gateway.specs.Reached.{GatewayValue, IsReachedBy, given_shown}
 use Rattle.fax_trace.specs.declared.event.ScriptEvent.TheVariants as script
+use Rattle.fax_descriptions.specs.Tellings.{Description}
+use Rattle.fax_explain.specs.Ladders.{timers_told}
 use Rattle.fax_explain.proofs.PlayLemmas.{OnOk-both, accepted_on, tick_answer}
-use Rattle.fax_explain.proofs.LadderLemmas.{TellsRefusal-on}
+use Rattle.fax_explain.proofs.LadderLemmas.{TellsRefusal-on, goes_on_both}
 use Rattle.fax_explain.proofs.stage.Stage.tick.Goals as goal
 
 pub returns : goal.returns
@@ -14,9 +17,16 @@ returns c = OnOk-then c.end_job.result (OnOk-both _ _ c.end_job.result c.end_job
     let over = TellsRefusal-on given.refused _ _ c.in_ok-give_calling.ensures.refused c.in_ok-tell_over.ensures in
     let begun = TellsRefusal-on given.refused _ _ over c.in_ok-begin_job.ensures.goes_on in
     let sent = TellsRefusal-on given.refused _ _ begun c.in_ok-give_called.ensures.goes_on in
-    let right = c.in_ok-given.ensures.refused setup writes old.trace reached in
-    let answer = tick_answer setup writes old.trace c.args.moment (given_shown given) _ given.refused right (TellsRefusal-on given.refused _ _ sent told.1) told.0 in
+    let acted = c.in_ok-act.ensures.told setup writes old.trace reached in
+    let on =
+    goes_on_both _ _ _ (goes_on_both _ _ _ (goes_on_both _ _ _ (goes_on_both _ _ _ c.in_ok-give_calling.ensures.goes_on c.in_ok-tell_over.ensures) c.in_ok-begin_job.ensures.goes_on)
+    c.in_ok-give_called.ensures.goes_on) told.1 in
+    let timers = timers_told (calling_leg setup old.trace) (max c.args.moment (clock old.trace)) in
+    let first = on.1 ∙ ap (λ (t : List Description). t ++ on.0) (acted ∙ ap (λ (t : List Description). t ++ timers) c.requires) in
+    let here = subst (λ (g : GatewayValue). IsReachedBy setup writes old.trace g) (sym c.in_ok-act.ensures.gateway) reached in
+    let right = c.in_ok-given.ensures.refused setup writes old.trace here in
+    let answer = tick_answer setup writes old.trace c.args.moment (given_shown given) _ given.refused (on.0, first) right (TellsRefusal-on given.refused _ _ sent told.1) told.0 in
     accepted_on setup writes old (script.Tick c.args.moment) _ _ ticked refl refl answer
     (subst (λ (g : GatewayValue). IsReachedBy setup writes (ticked ∷ old.trace) g)
     (sym (c.end_job.ensures.gateway ∙ c.in_ok-give_called.ensures.gateway ∙ c.in_ok-begin_job.ensures.gateway ∙ c.in_ok-give_calling.ensures.gateway))
-    (c.in_ok-given.ensures.ticked setup writes old.trace written reached)))
+    (c.in_ok-given.ensures.ticked setup writes old.trace written here)))
