@@ -25,3 +25,4 @@ pub mod DueLemmas
 mod InTime
 mod Silence
 mod Silences
+mod OctetsLemmas
