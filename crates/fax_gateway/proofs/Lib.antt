@@ -39,3 +39,4 @@ mod Relayed
 pub mod SentPages
 mod Zeros
 mod Resting
+mod OctetsLemmas
