@@ -1,4 +1,4 @@
-use Rattle.std.proofs.Common.{◌≡◌, ◌≤◌, ℕ, List, Option, None, take, refl, sym, ◌∙◌, ap, subst, arith}
+use Rattle.std.proofs.Common.{◌≡◌, List, Option, None, take, refl, sym, ◌∙◌, ap, subst, arith}
 use Rattle.fax_pagestore.specs.Readers.{ReaderValue}
 use Rattle.fax_answer.specs.declared.image.Accepted.{Accepted}
 use Rattle.fax_answer.specs.Images.{ImageValue, Confirms}
