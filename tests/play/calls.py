@@ -31,6 +31,11 @@ def image(text):
     return "c201f0" + f"{len(octets) - 1:04x}" + text
 
 
+def image_part(octets):
+    """The packet of these octets of an image that goes on."""
+    return f"c201e0{len(octets) - 1:04x}{octets.hex()}"
+
+
 def length_octets(length):
     """A length as a datagram has it: one octet below 128, else two (X.691, 10.9)."""
     return bytes([length]) if length < 128 else bytes([0x80 | length >> 8, length & 0xFF])

@@ -8,7 +8,8 @@ import subprocess
 import termios
 import time
 
-from calls import CALLER_DCN, CALLER_EOP, FINE_DCS, FINE_DIS, MCF, PAGE, PREAMBLE, RTN, TRAINING, Called, Caller, image
+import t4
+from calls import CALLER_DCN, CALLER_EOP, FINE_DCS, FINE_DIS, MCF, PAGE, PREAMBLE, RTN, TRAINING, Called, Caller, image, image_part
 from server import Play, Server, event_line, on_time, until
 
 # The most lines that wait for a client, beside the one that is being written.
@@ -135,9 +136,9 @@ FAULTS = [
 class Kinds(Play):
     """What each event says, octet for octet but for its moment."""
 
-    def begin(self, tag="x"):
-        """A line whose call was rung, its caller, and a client that is told events."""
-        line = self.line()
+    def begin(self, tag="x", **settings):
+        """A line with these settings whose call was rung, its caller, and a client that is told events."""
+        line = self.line(**settings)
         self.server = self.serve(line)
         self.caller = Caller(self.peer(line, "calling"))
         self.called = Called(self.peer(line, "called"))
@@ -187,6 +188,26 @@ class Kinds(Play):
         self.assertEqual(self.server.metrics()["faxgate_pages_refused_total"], 5)
         self.caller.send(PREAMBLE, CALLER_DCN)
         self.assert_told("ended", '"call":0,"tag":"x","how":"Done"')
+
+    def test_a_line_that_is_full(self):
+        """Of a page of more octets than its line may hold the rest is refused, which is told once in a call; the next page is taken."""
+        self.begin(line_memory=1 << 20)
+        self.caller.train()
+        self.caller.send(TRAINING)
+        # a row holds 16 octets, and 2 for each of its 1,728 changes
+        page = t4.text([[1] * 1728] * 400)
+        for at in range(0, len(page), 8000):
+            self.caller.send(image_part(page[at : at + 8000]))
+            time.sleep(0.05)
+        self.caller.send(image(page[-8:].hex()), PREAMBLE, CALLER_EOP)
+        self.caller.wait_for(RTN)
+        self.assert_told("full", '"call":0')
+        self.events.event("refused_page", call=0)
+        self.assertGreater(self.server.metrics()["faxgate_datagrams_refused_total"], 1)
+        self.caller.check()
+        self.assertEqual(self.caller.send_page(), MCF)
+        self.events.event("page", call=0, number=1)
+        self.assert_no_more()
 
     def test_ends_of_calls(self):
         """A caller says DCN, is gone, or says nothing for 6 s where a training was begun."""

@@ -20,8 +20,15 @@ fn a_page_goes_through_the_gateway(rt: HostRuntime) -> Result<(), Fail> {
     Ok(())
 }
 
+/// Where nothing is held yet, an octet is room enough for a datagram.
+#[test]
+fn a_page_into_the_last_octet(rt: HostRuntime) {
+    let (played, _) = play_call(rt.alloc(), Change::Memory(1));
+    assert!(rt; is_whole_call(&played));
+}
+
 /// Whether the reason is told where in place of the page an EOL, a white row, an EOL and what no code word begins with come,
-/// and where the page's datagram is lost.
+/// where the page's datagram is lost, and where it is refused, since nothing may be held.
 #[test]
 fn a_page_that_is_refused(rt: HostRuntime) {
     let bad = b"\x00\x04\x0c\xc2\x01\xf0\x00\x06\x00\x14\xd9\xa8\x00\x80\x40\x00\x00";
@@ -31,6 +38,7 @@ fn a_page_that_is_refused(rt: HostRuntime) {
             Refusal::Fault(PageFault::BadLine(1)),
         ),
         (Change::Without(4), Refusal::NoImage),
+        (Change::Memory(0), Refusal::NoImage),
     ] {
         let (played, _) = play_call(rt.alloc(), change);
         assert!(rt;

@@ -88,16 +88,30 @@ fn book_of(alloc: Global, events: &[Event]) -> Option<Jobs<PlainRows>> {
     Some(jobs)
 }
 
+/// How many octets the pages of a book hold.
+fn held_by<S: RowStore>(jobs: &Jobs<S>) -> u128 {
+    jobs.held()
+}
+
+/// How many octets the pages of jobs hold, of a white row each: 16.
+fn held_of(jobs: &[Told]) -> u128 {
+    let mut pages: u32 = 0;
+    for (_, _, count) in jobs {
+        pages = pages.saturating_add(*count);
+    }
+    16 * u128::from(pages)
+}
+
 /// Whether just these jobs wait in a book, in their order, and no job is open.
 fn has_jobs<S: RowStore>(jobs: &mut Jobs<S>, wanted: &[Told]) -> bool {
     let (_, open, waiting) = shown(jobs);
-    let mut all = open.is_none() && waiting == wanted.len();
+    let mut all = open.is_none() && waiting == wanted.len() && held_by(jobs) == held_of(wanted);
     for told in wanted {
         let (next, _, _) = shown(jobs);
         let (call, _, _) = *told;
         all = all && next == Some(call) && send_one(jobs) == Some(*told);
     }
-    all && shown(jobs) == (None, None, 0)
+    all && shown(jobs) == (None, None, 0) && held_by(jobs) == 0
 }
 
 /// What is reported of the first job, where it is the only one.

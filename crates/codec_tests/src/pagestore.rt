@@ -91,6 +91,22 @@ fn of_a_line_of_many_empty_runs_few_octets_are_kept(rt: HostRuntime) -> Result<(
     Ok(())
 }
 
+/// How many octets a reader holds after the page in pieces, and how many the page holds.
+fn held_of_page(alloc: Global) -> Result<(u64, u64), PageFault> {
+    let mut reader: PageReader<PackedRows> = PageReader::new(alloc, STANDARD, Coding::Mh);
+    for piece in FILLED {
+        reader.feed(piece)?;
+    }
+    let held = reader.held();
+    Ok((held, reader.finish()?.held()))
+}
+
+#[test]
+fn a_white_row_holds_its_entry_alone(rt: HostRuntime) -> Result<(), Fail> {
+    assert!(rt; held_of_page(rt.alloc())? == (16, 16));
+    Ok(())
+}
+
 /// Adds a marked row that is lent, and a black one.
 fn add_rows<S: RowStore>(alloc: Global, rows: &mut S) -> Result<bool, RowFault> {
     rows.push_lent(&row_of(alloc, &[4, 1, 1723])?.lend())?;
@@ -106,6 +122,11 @@ fn has_row<S: RowStore>(rows: &S, i: u32, changes: &[u16]) -> Result<bool, NoMem
     Ok(row.changes() == changes && rows.lend(i).changes() == changes)
 }
 
+/// How many octets rows hold.
+fn held_by<S: RowStore>(rows: &S) -> u64 {
+    rows.held()
+}
+
 /// Keeps the first row at most.
 fn cut<S: RowStore>(rows: &mut S) {
     rows.cut(rows.len().min(1));
@@ -114,9 +135,9 @@ fn cut<S: RowStore>(rows: &mut S) {
 /// Whether a store keeps rows, and those alone that are not cut.
 fn keeps_rows<S: RowStore>(alloc: Global, rows: S) -> Result<bool, RowFault> {
     let mut rows = rows;
-    let are_kept = add_rows(alloc, &mut rows)? && has_row(&rows, 1, &[0])?;
+    let are_kept = add_rows(alloc, &mut rows)? && has_row(&rows, 1, &[0])? && held_by(&rows) == 38;
     cut(&mut rows);
-    Ok(are_kept && rows.len() == 1 && has_row(&rows, 0, &[4, 5])?)
+    Ok(are_kept && rows.len() == 1 && has_row(&rows, 0, &[4, 5])? && held_by(&rows) == 20)
 }
 
 #[test]

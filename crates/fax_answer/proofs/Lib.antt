@@ -26,3 +26,4 @@ pub mod DueLemmas
 mod InTime
 pub mod Silence
 mod Silences
+mod OctetsLemmas

@@ -27,7 +27,7 @@ use Rattle.fax_answer.specs.History.{Entry, PassesOver, since_answer, images, oc
 use Rattle.fax_answer.specs.Table.{is_one_image}
 use Rattle.fax_answer.specs.Replies.{ConfirmedPage, is_waiting}
 use Rattle.fax_answer.specs.Calls.{AnswererCore, decided, came, timers_after}
-use Rattle.fax_answer.specs.Watching.{Telling, TellsNothing, CameTold, telling, telling_with, tellings}
+use Rattle.fax_answer.specs.Watching.{Telling, TellsNothing, CameTold, telling, telling_with}
 use Rattle.fax_answer.specs.Rep.{seen}
 use Rattle.fax_answer.specs.Images.{ImageValue, HasOpen, HasEnded, MeansAt, Confirms}
 use Rattle.fax_answer.specs.Following.{Rests, Follows, readers_wanted}

@@ -2,18 +2,17 @@
 use Rattle.std.proofs.Common.{◌≡◌, ℕ, Bool, true, false, List, [], ◌∷◌, ◌++◌, Option, Some, None, refl, sym, ◌∙◌, ap, subst, if◌then◌else◌}
 use Rattle.fax_timers.specs.Moments.{is_due}
 use Rattle.fax_ifp.specs.Pieces.{Piece, Frame, Start, Octets, End, Gap}
-use Rattle.fax_answer.specs.declared.decision.Decision as code
 use Rattle.fax_answer.specs.declared.state.State.{State}
 use Rattle.fax_answer.specs.declared.state.State.TheVariants.{Idle, Identify, Listen, Train, Page, Again, Closing}
 use Rattle.fax_answer.specs.declared.timers.ActingTimer.{ActingTimer}
 use Rattle.fax_answer.specs.declared.timers.ActingTimer.TheVariants.{T1, T2, T4}
-use Rattle.fax_answer.specs.History.{Decision, Entry}
+use Rattle.fax_answer.specs.History.{Decision}
 use Rattle.fax_answer.specs.Table.{Reading, Question, decision}
-use Rattle.fax_answer.specs.Replies.{WaitingPacket, is_waiting, reply_to}
-use Rattle.fax_answer.specs.Calls.{AnswererCore, asked, came, came_all, first_asked, or_else, timed, timed_in, says_goodbye, identifies_again, identifies_anew}
+use Rattle.fax_answer.specs.Replies.{is_waiting, reply_to}
+use Rattle.fax_answer.specs.Calls.{AnswererCore, asked, came, came_all, first_asked, or_else, timed_in, says_goodbye, identifies_again, identifies_anew}
 use Rattle.fax_answer.specs.Confirmation.{IfAsked, IsRead}
 use Rattle.fax_answer.specs.Rep.{verdict_of}
-use Rattle.fax_answer.specs.Watching.{Telling, telling, telling_with, tellings, Watches, CameTold, Shown, shown_with, shown_of, told_after, TellsTheHistory, acting, acting_in, acts_by_t2, acted_by, TellsWhatActs}
+use Rattle.fax_answer.specs.Watching.{Telling, telling, telling_with, tellings, Watches, CameTold, Shown, shown_with, shown_of, told_after, TellsTheHistory, acting_in, acts_by_t2, acted_by, TellsWhatActs}
 use Rattle.fax_answer.proofs.Readings.{decision_same, came_same, waiting_asks, wait_more, wait_after, asked_waits}
 
 -- A WATCHER

@@ -22,3 +22,4 @@ pub mod InPage
 pub mod Due
 pub mod InTime
 pub mod Silence
+pub mod Octets

@@ -1,10 +1,11 @@
 //! The answerer.
-ghost use Rattle.std.specs.Prelude.{◌≡◌, ◌≤◌, List, [], None, IsSome, IfSome, IfOk, OnOk, OnErr, length, if◌then◌else◌};
+ghost use Rattle.std.specs.Prelude.{◌≡◌, ◌<◌, ◌≤◌, ◌^◌, List, [], None, IsSome, IfSome, IfOk, OnOk, OnErr, length, if◌then◌else◌};
 ghost use Rattle.fax_answer.specs.Calls.{new_answering, rung, ticked};
 ghost use Rattle.fax_answer.specs.Due.{due_at};
 ghost use Rattle.fax_answer.specs.EachCall.{EachCall};
+ghost use Rattle.fax_answer.specs.Octets.{octets_confirmed, octets_of_answerer};
 ghost use Rattle.fax_answer.specs.Reached.{IsReached};
-ghost use Rattle.fax_answer.specs.Shown.{IsStep};
+ghost use Rattle.fax_answer.specs.Shown.{IsStep, confirmed_shown};
 ghost use Rattle.fax_answer.specs.Watching.{acting};
 
 use crate::State;
@@ -99,6 +100,15 @@ impl<S: RowStore> Answerer<S> {
         self.procedure.acting(now)
     }
 
+    /// How many octets it holds in memory of pages, as far as their lengths say: what the images in Page came to, and the page
+    /// of the MCF that waits. It takes no memory.
+    pub fn held(&self) -> u128
+        ensures octets { result ≡ octets_of_answerer self.now }
+        ensures few { result < 2 ^ 94 }
+    {
+        self.image.held() + held_by(&self.confirmed)
+    }
+
     /// Reserves memory, where none is reserved: after an `Ok` the next tick takes none. An `Err` changes nothing.
     pub fn reserve(&mut self) -> Result<(), NoMemory>
         ensures room { OnOk result (1 ≤ self.new.spare) }
@@ -154,6 +164,17 @@ impl<S: RowStore> Answerer<S> {
             Pending::Frame(Reply::Plain(Plain::Rtn)) => self.refused,
             _ => None,
         }
+    }
+}
+
+/// How many octets the page of the MCF that waits holds.
+fn held_by<S: RowStore>(confirmed: &Option<Confirmed<S>>) -> u128
+    ensures octets { result ≡ octets_confirmed (confirmed_shown confirmed.now) }
+    ensures few { result < 2 ^ 29 }
+{
+    match confirmed {
+        None => 0,
+        Some(found) => u128::from(found.page.held()),
     }
 }
 

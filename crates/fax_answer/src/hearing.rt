@@ -1,11 +1,12 @@
 //! What the answerer makes of the slots that come.
-ghost use Rattle.std.specs.Prelude.{◌≡◌, ◌↔◌, List, [], ◌∷◌, None, IsTrue, IsOk, IfOk, OnOk, OnErr, is_some, if◌then◌else◌};
+ghost use Rattle.std.specs.Prelude.{◌≡◌, ◌<◌, ◌≤◌, ◌↔◌, List, [], ◌∷◌, None, IsTrue, IsOk, IfOk, OnOk, OnErr, is_some, if◌then◌else◌};
 ghost use Rattle.fax_ifp.specs.Pieces.{Frame as FrameShown, Octets as OctetsShown};
 ghost use Rattle.fax_ifp.specs.Shown.{piece_of, pieces_shown};
 ghost use Rattle.fax_ifp.specs.Tracked.{lost_slots, with_octets};
 ghost use Rattle.fax_udptl.specs.Taking.{slots_in};
 ghost use Rattle.fax_answer.specs.EachCall.{EachCall, EachCore};
 ghost use Rattle.fax_answer.specs.Images.{GoesOn, TakesIn, begun};
+ghost use Rattle.fax_answer.specs.Octets.{octets_of_answerer};
 ghost use Rattle.fax_answer.specs.Reached.{Stands, Takes, TakesAll, Hears, HearsSo, HearsTold};
 ghost use Rattle.fax_answer.specs.Watching.{TellsNothing, Watches};
 
@@ -48,26 +49,51 @@ impl<S: RowStore> Answerer<S> {
         ensures no_packet { decided.now.packets ≡ [] → IsOk result }
         ensures spare { self.new.spare ≡ self.old.spare }
     {
-        self.hear_whole(decided, now, watcher)?;
+        self.slots_within(decided, now, u128::MAX, watcher)
+    }
+
+    /// The same where no more than so many octets of memory are to be held, as [`Answerer::held`] says it: slots that would add to
+    /// what is held where more is held already are refused as for want of memory. So what adds nothing, as a command after a
+    /// page, is heard however much is held.
+    pub fn slots_within<W: Watcher>(
+        &mut self,
+        decided: &Decided<'_>,
+        now: u64,
+        most: u128,
+        watcher: &mut W,
+    ) -> Result<bool, NoMemory>
+        ensures heard { OnOk result (EachCall self.old (λ heard core. HearsTold (Watches W.tells watcher.old watcher.new) (slots_in decided.now) now heard core self.new)) }
+        ensures ended { IfOk result (λ ended. IsTrue ended ↔ (self.new.procedure.state ≡ State.Idle)) }
+        ensures err { OnErr result (self.new ≡ self.old) }
+        ensures no_packet { decided.now.packets ≡ [] → IsOk result }
+        ensures spare { self.new.spare ≡ self.old.spare }
+        ensures within { OnOk result (most ≤ octets_of_answerer self.old → octets_of_answerer self.new ≤ octets_of_answerer self.old) }
+    {
+        self.hear_whole(decided, now, most, watcher)?;
         self.settle();
         Ok(self.procedure.state == State::Idle)
     }
 
-    /// Hears the slots, all of them or none. An `Err` changes nothing.
+    /// Hears the slots, all of them or none, and adds nothing where more than so many octets are held. An `Err` changes nothing.
     fn hear_whole<W: Watcher>(
         &mut self,
         decided: &Decided<'_>,
         now: u64,
+        most: u128,
         watcher: &mut W,
     ) -> Result<(), NoMemory>
         ensures heard { OnOk result (EachCall self.old (λ heard core. HearsSo (Watches W.tells watcher.old watcher.new) (slots_in decided.now) now heard core self.new)) }
         ensures err { OnErr result (self.new ≡ self.old) }
         ensures no_packet { decided.now.packets ≡ [] → IsOk result }
         ensures spare { self.new.spare ≡ self.old.spare }
+        ensures within { OnOk result (most ≤ octets_of_answerer self.old → octets_of_answerer self.new ≤ octets_of_answerer self.old) }
     {
-        if let Some(packet) = decided.only() {
-            if let Some(octets) = self.signals.octets_in(packet) {
-                return self.hear_alone(octets, now, watcher);
+        let held = self.held();
+        if held < most {
+            if let Some(packet) = decided.only() {
+                if let Some(octets) = self.signals.octets_in(packet) {
+                    return self.hear_alone(octets, now, watcher);
+                }
             }
         }
         if decided.is_empty() || decided.packets().next().is_none() {
@@ -78,7 +104,8 @@ impl<S: RowStore> Answerer<S> {
         let procedure = self.procedure;
         let refused = self.refused;
         let mark = self.image.mark()?;
-        if self.hear_slots(decided, now, watcher).is_err() {
+        let heard = self.hear_slots(decided, now, watcher);
+        if heard.is_err() || held >= most && self.held() > held {
             self.signals = signals;
             self.procedure = procedure;
             self.refused = refused;
@@ -272,6 +299,7 @@ impl<S: RowStore> Answerer<S> {
         ensures procedure { self.new.procedure ≡ self.old.procedure }
         ensures tracked { self.new.tracked ≡ self.old.tracked }
         ensures spare { self.new.spare ≡ self.old.spare }
+        ensures held { octets_of_answerer self.new ≤ octets_of_answerer self.old }
     {
         let found = self.image.finish();
         keep(&mut self.confirmed, found);

@@ -1,5 +1,5 @@
 //! The images of a call: what is read of them, and their zero octets.
-ghost use Rattle.std.specs.Prelude.{◌≡◌, ◌+◌, ◌-◌, ◌++◌, ◌∷◌, ◌<◌, ◌≤◌, ℕ, List, [], Some, None, take, drop, get_or, length, IfOk, IfErr, OnOk, OnErr, IsTrue, is_some, if◌then◌else◌};
+ghost use Rattle.std.specs.Prelude.{◌≡◌, ◌+◌, ◌-◌, ◌^◌, ◌++◌, ◌∷◌, ◌<◌, ◌≤◌, ℕ, List, [], Some, None, take, drop, get_or, length, IfOk, IfErr, OnOk, OnErr, IsTrue, is_some, if◌then◌else◌};
 ghost use Rattle.fax_runcodes.specs.Widths.{elements_of};
 ghost use Rattle.fax_frames.specs.Capabilities.{format_of, coding_of};
 ghost use Rattle.fax_pagestore.specs.Pages.{PageValue};
@@ -7,6 +7,7 @@ ghost use Rattle.fax_pagestore.specs.PageTexts.{MeansPage};
 ghost use Rattle.fax_pagestore.specs.PageFaults.{FailsPage};
 ghost use Rattle.fax_pagestore.specs.Readers.{new_reader};
 ghost use Rattle.fax_answer.specs.Images.{ImageValue, HasEnded, MeansAt, Feeds, GoesOn, IsMarkOf, longest_after, run_after, run_with};
+ghost use Rattle.fax_answer.specs.Octets.{octets_confirmed, octets_of_readers};
 ghost use Rattle.fax_answer.specs.Shown.{confirmed_shown};
 
 use crate::step::Confirmed;
@@ -160,6 +161,7 @@ impl<S: RowStore> Image<S> {
         ensures settled { self.new.accepted ≡ None }
         ensures run { self.new.run ≡ self.old.run }
         ensures longest { self.new.longest ≡ self.old.longest }
+        ensures held { octets_of_readers self.new.readers + octets_confirmed (confirmed_shown result) ≤ octets_of_readers self.old.readers }
     {
         let Some(accepted) = self.accepted.take() else {
             return None;
@@ -184,6 +186,19 @@ impl<S: RowStore> Image<S> {
         let surplus = self.readers.len().saturating_sub(count);
         // What is drained is not wanted any more.
         let _ = self.readers.drain(..surplus);
+    }
+
+    /// How many octets its readers hold in memory, as [`PageReader::held`] says it. It goes over the readers, of which a
+    /// datagram leaves two at most.
+    pub fn held(&self) -> u128
+        ensures octets { result ≡ octets_of_readers self.now.readers }
+        ensures few { result < 2 ^ 93 }
+    {
+        let mut held = 0;
+        for reader in &self.readers {
+            held += u128::from(reader.held());
+        }
+        held
     }
 
     /// Where the images stand.

@@ -21,6 +21,8 @@ pub record IsInRange (line : LineConfig) : Type 0 where
   pub most_preamble : line.preamble_ms ≤ 2000
   pub least_dial : 1 ≤ line.dial_seconds
   pub most_dial : line.dial_seconds ≤ 3600
+  pub least_memory : 1048576 ≤ line.line_memory
+  pub most_memory : line.line_memory ≤ 1073741824
 
 -- no two in the list are alike
 abbrev pub AreUnlike : {X : Type 0} → List X → Type 0
@@ -72,6 +74,7 @@ pub record IsLine (members : Members) (line : LineConfig) : Type 0 where
   pub preamble_ms : IsNumberAt (codes "preamble_ms") members 40 line.preamble_ms
   pub repeat : IsRepeatAt members line.repeat
   pub dial_seconds : IsNumberAt (codes "dial_seconds") members 180 line.dial_seconds
+  pub line_memory : IsNumberAt (codes "line_memory") members 16777216 line.line_memory
   pub in_range : IsInRange line
 
 abbrev pub IsLineOf : Data → LineConfig → Type 0

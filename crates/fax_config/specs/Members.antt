@@ -13,7 +13,7 @@ use Rattle.fax_config.specs.declared.keys.Level.TheVariants as levels
 abbrev pub known_keys : Level → List (List ℕ)
 known_keys levels.Top =
     codes "control" ∷ codes "spool" ∷ codes "http" ∷ codes "stop_seconds" ∷ codes "lines" ∷ codes "retry" ∷ codes "redial" ∷ codes "sip" ∷ codes "trunks" ∷ codes "routes" ∷ []
-known_keys levels.Line = codes "name" ∷ codes "calling" ∷ codes "called" ∷ codes "redundancy" ∷ codes "preamble_ms" ∷ codes "repeat" ∷ codes "dial_seconds" ∷ []
+known_keys levels.Line = codes "name" ∷ codes "calling" ∷ codes "called" ∷ codes "redundancy" ∷ codes "preamble_ms" ∷ codes "repeat" ∷ codes "dial_seconds" ∷ codes "line_memory" ∷ []
 known_keys levels.Leg = codes "local" ∷ codes "peer" ∷ []
 known_keys levels.Retry = codes "after_seconds" ∷ []
 known_keys levels.Redial = codes "name" ∷ codes "called" ∷ []

@@ -21,6 +21,13 @@ pub const LEAST_DIAL_SECONDS: u32 = 1;
 
 pub const MOST_DIAL_SECONDS: u32 = 3_600;
 
+/// The least, the usual and the most octets that a line may hold of pages: 1 MiB, 16 MiB and 1 GiB.
+pub const LEAST_LINE_MEMORY: u32 = 1_048_576;
+
+pub const USUAL_LINE_MEMORY: u32 = 16_777_216;
+
+pub const MOST_LINE_MEMORY: u32 = 1_073_741_824;
+
 /// The longest stop, in seconds: a day.
 pub const MOST_STOP_SECONDS: u32 = 86_400;
 
@@ -63,6 +70,8 @@ pub struct LineConfig {
     pub repeat: Repeat,
     /// How long an answer is waited for where the call of a job is asked for, 1 to 3,600 seconds.
     pub dial_seconds: u32,
+    /// How many octets its call and its jobs may hold of pages, 1,048,576 to 1,073,741,824.
+    pub line_memory: u32,
 }
 
 /// A redial line: a line without a calling leg, over which jobs that could not be delivered are tried again.

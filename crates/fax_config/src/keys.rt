@@ -51,6 +51,7 @@ impl Level {
                 "preamble_ms",
                 "repeat",
                 "dial_seconds",
+                "line_memory",
             ]
             .contains(&key),
             Level::Leg => ["local", "peer"].contains(&key),

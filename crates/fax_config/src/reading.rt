@@ -10,8 +10,9 @@ ghost use Rattle.fax_config.specs.SipConfigurations.{IsSipAt};
 ghost use Rattle.fax_config.specs.Faults.{HasFlaw, HasMisfit, IsFaultOf, IsMisfitOf, IsToldAs, line_number};
 
 use crate::config::{
-    Config, LEAST_DIAL_SECONDS, LEAST_PREAMBLE_MS, LegConfig, LineConfig, MOST_DIAL_SECONDS,
-    MOST_LINES, MOST_PREAMBLE_MS, MOST_REDUNDANCY, MOST_STOP_SECONDS, RedialConfig,
+    Config, LEAST_DIAL_SECONDS, LEAST_LINE_MEMORY, LEAST_PREAMBLE_MS, LegConfig, LineConfig,
+    MOST_DIAL_SECONDS, MOST_LINE_MEMORY, MOST_LINES, MOST_PREAMBLE_MS, MOST_REDUNDANCY,
+    MOST_STOP_SECONDS, RedialConfig, USUAL_LINE_MEMORY,
 };
 use crate::fault::{ConfigFault, Flaw, LineName, Misfit, Trouble};
 use crate::keys::{Level, only_known_keys};
@@ -241,6 +242,13 @@ fn settings_of(
         LEAST_DIAL_SECONDS,
         MOST_DIAL_SECONDS,
     )?;
+    let line_memory = number_at(
+        table,
+        "line_memory",
+        USUAL_LINE_MEMORY,
+        LEAST_LINE_MEMORY,
+        MOST_LINE_MEMORY,
+    )?;
     Ok(LineConfig {
         name: String::from_str(alloc, name)?,
         calling,
@@ -249,6 +257,7 @@ fn settings_of(
         preamble_ms: preamble_ms as u16,
         repeat,
         dial_seconds,
+        line_memory,
     })
 }
 

@@ -34,6 +34,7 @@ wire_counts counters =
     ++ count_text (codes "faxgate_datagrams_sent_total") Counter counters.datagrams_sent
     ++ count_text (codes "faxgate_receive_failures_total") Counter counters.receive_failures
     ++ count_text (codes "faxgate_send_failures_total") Counter counters.send_failures
+    ++ count_text (codes "faxgate_datagrams_refused_total") Counter counters.datagrams_refused
     ++ count_text (codes "faxgate_turns_late_total") Counter counters.turns_late
     ++ count_text (codes "faxgate_skipped_milliseconds_total") Counter counters.skipped_ms
 

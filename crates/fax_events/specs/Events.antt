@@ -20,7 +20,7 @@ use Rattle.fax_events.specs.declared.event.Ending.TheVariants.{Done, HungUp, Giv
 use Rattle.fax_events.specs.declared.event.WhyAside.{WhyAside}
 use Rattle.fax_events.specs.declared.event.WhyAside.TheVariants.{NoPage, TornCall, NoLine}
 use Rattle.fax_events.specs.declared.event.What.{What}
-use Rattle.fax_events.specs.declared.event.What.TheVariants.{Rung, Page, RefusedPage, Ended, Dial, Asked, Connected, Job, Undelivered, Discarded, Wire, Late, SetAside, Damaged, SpoolFailed}
+use Rattle.fax_events.specs.declared.event.What.TheVariants.{Rung, Page, RefusedPage, Ended, Dial, Asked, Connected, Job, Undelivered, Discarded, Wire, Late, Full, SetAside, Damaged, SpoolFailed}
 use Rattle.fax_events.specs.declared.event.What.TheVariants as what
 use Rattle.fax_events.specs.declared.event.Event.{Event}
 
@@ -68,6 +68,7 @@ event_name (Undelivered job tag cause) = codes "undelivered"
 event_name (Discarded life call tag) = codes "discarded"
 event_name (Wire leg direction count) = codes "wire"
 event_name (Late span) = codes "late"
+event_name (Full call) = codes "full"
 event_name (what.NotStored call tag) = codes "not_stored"
 event_name (SetAside aside tag) = codes "set_aside"
 event_name (Damaged records octets) = codes "damaged"
@@ -144,6 +145,7 @@ what_members (Discarded life call tag) =
 what_members (Wire leg direction count) =
     text_member (codes "leg") (leg_text leg) ++ (text_member (codes "direction") (direction_name direction) ++ number_member (codes "failures") count)
 what_members (Late span) = number_member (codes "ms") span
+what_members (Full call) = number_member (codes "call") call
 what_members (what.NotStored call tag) = number_member (codes "call") call ++ tag_member (option_map (λ text. text.now) tag)
 what_members (SetAside aside tag) =
     number_member (codes "life") aside.life ++ (number_member (codes "call") aside.call ++ (tag_member (option_map (λ text. text.now) tag)

@@ -27,6 +27,8 @@ pub struct Counters {
     pub receive_failures: u64,
     /// Sends that failed.
     pub send_failures: u64,
+    /// Datagrams that were refused for want of memory, of which each line has only so much.
+    pub datagrams_refused: u64,
     /// Turns that came more than 100 ms late.
     pub turns_late: u64,
     /// Moments by which lines were set on, where turns came more than 1 s late, in milliseconds.

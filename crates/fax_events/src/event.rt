@@ -161,6 +161,9 @@ pub enum What<'a> {
     Wire(Leg, Direction, u64),
     /// The line was turned so many milliseconds late.
     Late(u64),
+    /// A datagram was refused for want of memory, of which a line has only so much, in the call of this number: it is told once in a
+    /// call.
+    Full(u32),
     /// A page was confirmed and could not be kept on the disk: the number of its call, and the tag of that. Nothing is said on
     /// the call's leg any more.
     NotStored(u32, Option<&'a str>),
@@ -190,6 +193,7 @@ impl<'a> What<'a> {
             What::Discarded(_, _, _) => "discarded",
             What::Wire(_, _, _) => "wire",
             What::Late(_) => "late",
+            What::Full(_) => "full",
             What::NotStored(_, _) => "not_stored",
             What::SetAside(_, _) => "set_aside",
             What::Damaged(_, _) => "damaged",

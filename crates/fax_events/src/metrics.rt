@@ -134,6 +134,12 @@ fn put_wire_counts(text: &mut String, counters: &Counters) -> Result<(), AllocEr
     )?;
     put(
         text,
+        "faxgate_datagrams_refused_total",
+        Kind::Counter,
+        counters.datagrams_refused,
+    )?;
+    put(
+        text,
         "faxgate_turns_late_total",
         Kind::Counter,
         counters.turns_late,

@@ -315,6 +315,7 @@ fn put_what(writer: &mut Writer, what: &What<'_>) -> Result<(), AllocError>
         What::Discarded(life, call, tag) => put_discarded(writer, life, call, tag),
         What::Wire(leg, direction, count) => put_wire(writer, leg, direction, count),
         What::Late(span) => put_number(writer, "ms", span),
+        What::Full(call) => put_number(writer, "call", u64::from(call)),
         What::SetAside(page, tag) => put_aside(writer, page, tag),
         What::Damaged(records, octets) => {
             put_number(writer, "records", records)?;

@@ -39,3 +39,4 @@ pub mod Relayed
 pub mod SentPages
 pub mod Zeros
 mod Resting
+mod OctetsLemmas

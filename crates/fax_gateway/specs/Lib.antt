@@ -15,6 +15,7 @@ pub mod Lacking
 pub mod LegNames
 pub mod Legs
 pub mod Newest
+pub mod Octets
 pub mod Lives
 pub mod FaultNumbers
 pub mod Origins

@@ -5,6 +5,7 @@ ghost use Rattle.fax_gateway.specs.Setups.{AreAllowed, HasSettings, Setup};
 ghost use Rattle.fax_gateway.specs.CallingLegs.{CallingLeg, decided_calling, idle_after, rung_leg};
 ghost use Rattle.fax_gateway.specs.Due.{calling_due};
 ghost use Rattle.fax_gateway.specs.EachTrace.{EachCallingLeg};
+ghost use Rattle.fax_answer.specs.Octets.{octets_of_answerer};
 ghost use Rattle.fax_answer.specs.Watching.{Watches};
 ghost use Rattle.fax_gateway.specs.Watched.{HearsCallingTold, calling_acting, calling_state};
 ghost use Rattle.fax_gateway.specs.Reached.{IsCalling, CallingHasRoom, TellsTick, answering_of, calling_alone, ticked_on};
@@ -102,18 +103,21 @@ impl<S: RowStore> CallingEndpoint<S> {
         self.answerer.acting(now)
     }
 
-    /// A datagram came: the octets of it. It answers whether it decided a slot, and it takes memory only where it did. A watcher
-    /// is told of each piece that it brings. An `Err` changes nothing, but that the watcher may have been told of some.
+    /// A datagram came: the octets of it. It answers whether it decided a slot, and it takes memory only where it did: where so many
+    /// octets are held, or more, none is added. A watcher is told of each piece that it brings. An `Err` changes nothing, but that
+    /// the watcher may have been told of some.
     pub fn hear<W: Watcher>(
         &mut self,
         octets: &[u8],
         now: u64,
+        most: u128,
         watcher: &mut W,
     ) -> Result<bool, NoMemory>
         ensures heard { OnOk result (EachCallingLeg self.old (λ setup leg. HearsCallingTold (Watches W.tells watcher.old watcher.new) setup leg now octets.now self.new)) }
         ensures decided { IfOk result (λ decided. EachCallingLeg self.old (λ setup leg. decided ≡ decided_calling leg octets.now)) }
         ensures memory { OnErr result (EachCallingLeg self.old (λ setup leg. decided_calling leg octets.now ≡ true)) }
         ensures err { OnErr result (self.new ≡ self.old) }
+        ensures within { OnOk result (most ≤ octets_of_answerer self.old.kept → octets_of_answerer self.new.kept ≤ octets_of_answerer self.old.kept) }
     {
         if self.is_idle() {
             return Ok(false);
@@ -122,7 +126,7 @@ impl<S: RowStore> CallingEndpoint<S> {
         let Ok(decided) = receiver.take(octets) else {
             return Ok(false);
         };
-        self.answerer.slots_watched(&decided, now, watcher)?;
+        self.answerer.slots_within(&decided, now, most, watcher)?;
         self.leg.receiver = receiver;
         Ok(!decided.is_empty())
     }

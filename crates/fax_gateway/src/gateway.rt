@@ -14,6 +14,7 @@ ghost use Rattle.fax_gateway.specs.Events.{Event, Ring, FromCalled, Tick, Placed
 ghost use Rattle.fax_gateway.specs.CallingLegs.{CallingLeg, calling_leg, decided_calling, idle_after, told_calling};
 ghost use Rattle.fax_gateway.specs.CalledLegs.{decided_called};
 ghost use Rattle.fax_gateway.specs.BothLegs.{book_of, both_legs, job_asked};
+ghost use Rattle.fax_gateway.specs.Octets.{octets_of_gateway};
 ghost use Rattle.fax_gateway.specs.Due.{called_due, due_at, job_due, nothing_given};
 ghost use Rattle.fax_gateway.specs.Reached.{CallingHasRoom, HasRoom, IsCalling, IsLeg, IsReachedBy, IsServed, alone, closed_if, confirmed_if, confirmed_on, ended_if, ended_on, given_shown, most_octets, outcome_of_rep, refusals_if, refusing, report_if, ticked_on};
 ghost use Rattle.fax_answer.specs.Watching as answer_watching;
@@ -70,7 +71,7 @@ impl<S: RowStore> Gateway<S> {
     /// legs and for the reports of jobs.
     pub fn new(alloc: Global, redundancy: u8) -> Result<Self, NoMemory>
         requires { redundancy ≤ most_redundancy }
-        ensures { IfOk result (λ gateway. (setup : Setup) (writes : Writing) → AreSet setup (record { redundancy = redundancy; preamble_ms = 40; asks = false }) → IsReachedBy setup writes [] gateway) }
+        ensures { IfOk result (λ gateway. (setup : Setup) (writes : Writing) → AreSet setup (record { redundancy = redundancy; preamble_ms = 40; asks = false; memory = 18446744073709551615 }) → IsReachedBy setup writes [] gateway) }
     {
         Gateway::with_settings(
             alloc,
@@ -78,6 +79,7 @@ impl<S: RowStore> Gateway<S> {
                 redundancy,
                 preamble_ms: PREAMBLE_MS,
                 asks: false,
+                memory: u64::MAX,
             },
         )
     }
@@ -142,13 +144,14 @@ impl<S: RowStore> Gateway<S> {
     }
 
     /// A datagram came on the calling leg: the octets of it. It answers whether it decided a slot, which it does not where
-    /// no call is on, where it cannot be read and where it is late. It takes memory only where it did. An `Err` changes
-    /// nothing, and is counted.
+    /// no call is on, where it cannot be read and where it is late. It takes memory only where it did, and where as much is held as
+    /// may be, none for pages. An `Err` changes nothing, and is counted.
     pub fn from_calling(&mut self, octets: &[u8], now: u64) -> Result<bool, NoMemory>
         ensures heard { IfOk result (λ decided. AdvancesByHearing self.old octets.now now decided self.new) }
         ensures memory { EachTrace self.old (λ setup writes trace. decided_calling (calling_leg setup trace) octets.now ≡ false → result ≡ Ok false) }
         ensures err { OnErr result (self.new ≡ refusing self.old) }
         ensures refusals { self.new.refusals ≡ refusals_if (is_err result) self.old.refusals }
+        ensures within { OnOk result (self.old.settings.memory ≤ octets_of_gateway self.old → octets_of_gateway self.new ≤ octets_of_gateway self.old) }
     {
         self.from_calling_watched(octets, now, &mut fax_answer::Unwatched)
     }
@@ -165,11 +168,13 @@ impl<S: RowStore> Gateway<S> {
         ensures memory { EachTrace self.old (λ setup writes trace. decided_calling (calling_leg setup trace) octets.now ≡ false → result ≡ Ok false) }
         ensures err { OnErr result (self.new ≡ refusing self.old) }
         ensures refusals { self.new.refusals ≡ refusals_if (is_err result) self.old.refusals }
+        ensures within { OnOk result (self.old.settings.memory ≤ octets_of_gateway self.old → octets_of_gateway self.new ≤ octets_of_gateway self.old) }
     {
         let mut clock = self.clock;
         let now = clock.read(now);
         let was_idle = self.calling.is_idle();
-        let Ok(decided) = self.calling.hear(octets, now, watcher) else {
+        let most = u128::from(self.settings.memory).saturating_sub(self.jobs.held());
+        let Ok(decided) = self.calling.hear(octets, now, most, watcher) else {
             return Err(self.refuse());
         };
         self.clock = clock;

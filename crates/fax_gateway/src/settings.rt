@@ -14,18 +14,22 @@ pub struct Settings {
     pub preamble_ms: u16,
     /// Whether the call of a job is asked for, and begins when it is placed. Where not, a tick begins it by itself.
     pub asks: bool,
+    /// How many octets the calling leg and the jobs may hold of pages, as [`Gateway::held`](crate::Gateway::held) says it. Where they
+    /// hold so many, or more, a datagram of the calling leg that would add to them is refused as for want of memory.
+    pub memory: u64,
 }
 
 impl Default for Settings {
     ghost use Rattle.std.specs.Prelude.{◌≡◌, false};
 
-    ghost is_default = { λ settings. settings ≡ record { redundancy = 3; preamble_ms = 40; asks = false } };
+    ghost is_default = { λ settings. settings ≡ record { redundancy = 3; preamble_ms = 40; asks = false; memory = 18446744073709551615 } };
 
     fn default() -> Self {
         Settings {
             redundancy: 3,
             preamble_ms: PREAMBLE_MS,
             asks: false,
+            memory: u64::MAX,
         }
     }
 }

@@ -1,9 +1,8 @@
 -- Cuts of confirmations, and one confirmation more.
 use Rattle.std.proofs.Common.{◌≡◌, ℕ, ◌+◌, ◌<◌, ◌≤◌, ◌⊎◌, inl, inr, Bool, true, false, List, [], ◌∷◌, ◌++◌, length, Option, Some, None, refl, sym, ◌∙◌, ap, subst, arith, append_assoc, length-append}
 use Rattle.std.proofs.lemmas.List.{append-nil}
-use Rattle.fax_runcodes.specs.declared.format.Format.{Format}
 use Rattle.fax_pagestore.specs.Pages.{PageValue}
-use Rattle.fax_jobs.specs.Jobs.{JobValue, most_pages, IsOfFirst}
+use Rattle.fax_jobs.specs.Jobs.{JobValue, most_pages}
 use Rattle.fax_jobs.specs.Books.{job_of, longer, takes_page}
 use Rattle.fax_jobs.specs.Cuts.{Confirmation, pages_by, NoneButLast, EndsByEop, IsJobOf, IsCutOf, IsKnown, IsRest, IsCutSoFar}
 use Rattle.fax_jobs.proofs.FirstFormat.{first_stays}

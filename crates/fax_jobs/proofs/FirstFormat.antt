@@ -1,9 +1,9 @@
 -- The format of a job's first page stays where a page joins.
-use Rattle.std.proofs.Common.{◌≡◌, ℕ, ◌+◌, ◌<◌, ◌≤◌, List, [], ◌∷◌, ◌++◌, length, All, Result, Ok, Err, OnOk, OnErr, sym, subst, arith, length-append}
+use Rattle.std.proofs.Common.{◌≡◌, ℕ, ◌+◌, ◌<◌, List, [], ◌∷◌, ◌++◌, length, Result, Ok, Err, OnOk, OnErr, sym, subst, arith, length-append}
 use Rattle.std.proofs.lemmas.List.Elements.{All-push}
 use Rattle.fax_runcodes.specs.declared.format.Format.{Format}
 use Rattle.fax_pagestore.specs.Pages.{PageValue, IsPage}
-use Rattle.fax_jobs.specs.Jobs.{JobValue, most_pages, IsOfFirst, IsJob}
+use Rattle.fax_jobs.specs.Jobs.{most_pages, IsOfFirst, IsJob}
 
 pub first_stays : (format : Format) (pages : List PageValue) (page : PageValue) → IsOfFirst format pages → IsOfFirst format (pages ++ page ∷ [])
 first_stays format [] page f = absurd f

@@ -1,10 +1,9 @@
 -- The newest page of a book: the page that is confirmed is it, and no step takes it away but the end of its own job.
-use Rattle.std.proofs.Common.{◌≡◌, ℕ, suc, ◌+◌, ◌-◌, Bool, true, false, List, [], ◌∷◌, ◌++◌, length, drop, slice_get, Option, Some, None, refl, sym, ◌∙◌, ap, subst, arith, length-append, if◌then◌else◌}
+use Rattle.std.proofs.Common.{◌≡◌, ℕ, suc, ◌-◌, Bool, true, false, List, [], ◌∷◌, ◌++◌, length, drop, slice_get, Option, Some, None, refl, sym, ◌∙◌, ap, arith, length-append, if◌then◌else◌}
 use Rattle.fax_pagestore.specs.Pages.{PageValue}
-use Rattle.fax_jobs.specs.declared.outcome.Outcome.{Outcome}
 use Rattle.fax_jobs.specs.Jobs.{JobValue}
-use Rattle.fax_jobs.specs.Books.{Book, first_of, joins, longer, joined, added, opened, after, closed, taken, ended, with_page, confirmed}
-use Rattle.fax_jobs.specs.Newest.{or_else, closed_last, newest_job, last_page, newest_page}
+use Rattle.fax_jobs.specs.Books.{Book, first_of, joins, joined, opened, after, closed, taken, with_page, confirmed}
+use Rattle.fax_jobs.specs.Newest.{or_else, closed_last, last_page, newest_page}
 
 -- the last of a list after which one more stands
 pub last_after : {A : Type 0} (xs : List A) (x : A) → slice_get (xs ++ x ∷ []) (length (xs ++ x ∷ []) - 1) ≡ Some x

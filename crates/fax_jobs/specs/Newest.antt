@@ -1,5 +1,5 @@
 -- The page that joined a book last, for as long as the book has its job. (This project's profile.)
-use Rattle.std.specs.Prelude.{ℕ, ◌-◌, List, length, Option, Some, None, slice_get}
+use Rattle.std.specs.Prelude.{◌-◌, List, length, Option, Some, None, slice_get}
 use Rattle.fax_pagestore.specs.Pages.{PageValue}
 use Rattle.fax_jobs.specs.Jobs.{JobValue}
 use Rattle.fax_jobs.specs.Books.{Book}

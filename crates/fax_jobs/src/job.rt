@@ -1,7 +1,8 @@
 //! A job: pages that go out in one call.
-ghost use Rattle.std.specs.Prelude.{◌≡◌, ◌<◌, length, vec_len, vec_capacity, OnOk, OnErr, IfOk, IfErr};
+ghost use Rattle.std.specs.Prelude.{◌≡◌, ◌<◌, ◌^◌, length, vec_len, vec_capacity, OnOk, OnErr, IfOk, IfErr};
 ghost use Rattle.fax_jobs.specs.Jobs.{IsJob, most_pages};
 ghost use Rattle.fax_jobs.specs.Books.{job_of, longer};
+ghost use Rattle.fax_jobs.specs.Octets.{octets_of_job};
 
 use crate::Pages;
 use fax_pagestore::{Format, Page, RowStore};
@@ -15,16 +16,20 @@ pub struct Job<S: RowStore> {
     call: u32,
     format: Format,
     pages: Pages<S>,
+    /// How many octets its pages hold in memory.
+    held: u64,
 }
 
 impl<S: RowStore> Model for Job<S> {
+    ghost use Rattle.std.specs.Prelude.{◌≡◌};
     ghost use Rattle.fax_jobs.specs.Jobs.{JobValue, IsJob};
+    ghost use Rattle.fax_jobs.specs.Octets.{octets_of_pages};
 
     ghost Value = { JobValue };
 
     ghost view = { λ job. record { call = job.call; format = job.format; pages = job.pages } };
 
-    ghost invariant = { λ job. IsJob (record { call = job.call; format = job.format; pages = job.pages }) };
+    ghost invariant = { λ job. IsJob (record { call = job.call; format = job.format; pages = job.pages }) × (job.held ≡ octets_of_pages job.pages) };
 }
 
 impl<S: RowStore> Job<S> {
@@ -43,7 +48,7 @@ impl<S: RowStore> Job<S> {
         ensures back { IfErr result (λ back. back ≡ page) }
         ensures memory { OnErr result (vec_capacity list ≡ 0) }
     {
-        let format = page.format();
+        let (format, held) = (page.format(), page.held());
         // what it ensures of the page's rows makes this a job
         let _ = page.rows();
         let mut list = list;
@@ -52,6 +57,7 @@ impl<S: RowStore> Job<S> {
             call,
             format,
             pages: Pages::from_vec(list),
+            held,
         })
     }
 
@@ -64,7 +70,10 @@ impl<S: RowStore> Job<S> {
     {
         // what it ensures of the page's rows keeps this a job
         let _ = page.rows();
-        self.pages.push(page)
+        let held = self.held + page.held();
+        self.pages.push(page)?;
+        self.held = held;
+        Ok(())
     }
 
     /// Adds a page after the others, which move into a larger list where theirs is full: it takes no memory.
@@ -77,6 +86,7 @@ impl<S: RowStore> Job<S> {
     {
         // what it ensures of the page's rows keeps this a job
         let _ = page.rows();
+        self.held += page.held();
         self.pages.push_within(larger, page);
     }
 
@@ -107,5 +117,14 @@ impl<S: RowStore> Job<S> {
         ensures { result ≡ length self.now.pages }
     {
         self.pages.as_slice().len() as u32
+    }
+
+    /// How many octets its pages hold in memory, as [`Page::held`] says it. It takes no memory, and as long however many
+    /// there are.
+    pub fn held(&self) -> u64
+        ensures octets { result ≡ octets_of_job self.now }
+        ensures few { result < 2 ^ 39 }
+    {
+        self.held
     }
 }

@@ -1,7 +1,8 @@
 //! The book of jobs.
-ghost use Rattle.std.specs.Prelude.{◌≡◌, ◌≤◌, None, length, slice_get, option_copied, IfOk, IfErr, OnOk, OnErr, IsSome};
+ghost use Rattle.std.specs.Prelude.{◌≡◌, ◌<◌, ◌≤◌, ◌^◌, None, length, slice_get, option_copied, IfOk, IfErr, OnOk, OnErr, IsSome};
 ghost use Rattle.fax_jobs.specs.Books.{new_book, next_job, opened, added, closed, taken, ended, confirmed, joins, TakesPage};
 ghost use Rattle.fax_jobs.specs.Newest.{newest_job, newest_page};
+ghost use Rattle.fax_jobs.specs.Octets.{octets_of_book};
 
 use crate::{Job, Outcome, Report};
 use circular_buffer::HeapCircularBuffer;
@@ -28,6 +29,8 @@ pub struct Jobs<S: RowStore> {
     /// The first to be closed in front. While a job is open there is room for it.
     waiting: VecDeque<Job<S>>,
     sending: Option<Job<S>>,
+    /// How many octets the pages of all of these jobs hold in memory.
+    held: u128,
     /// The oldest in front.
     reports: HeapCircularBuffer<Report>,
     /// Empty: room for the first page of the next job.
@@ -42,6 +45,7 @@ impl<S: RowStore> Model for Jobs<S> {
     ghost use Rattle.std.specs.Prelude.{◌≡◌, ◌<◌, IsSome, vec_len, vec_capacity};
     ghost use Rattle.std.specs.VecDeque.{deque_len, deque_capacity};
     ghost use Rattle.fax_jobs.specs.Books.{JobsValue, HasRoom, kept_reports};
+    ghost use Rattle.fax_jobs.specs.Octets.{IsCounted};
 
     ghost Value = { JobsValue };
 
@@ -52,7 +56,8 @@ impl<S: RowStore> Model for Jobs<S> {
 
     ghost invariant = { λ jobs. (jobs.reports.capacity ≡ kept_reports) × (IsSome jobs.open_job → deque_len jobs.waiting < deque_capacity jobs.waiting)
         × (vec_len jobs.first ≡ 0) × (vec_len jobs.larger ≡ 0)
-        × (0 < jobs.spare → HasRoom jobs.open_job (deque_len jobs.waiting) (deque_capacity jobs.waiting) (vec_capacity jobs.first) (vec_capacity jobs.larger)) };
+        × (0 < jobs.spare → HasRoom jobs.open_job (deque_len jobs.waiting) (deque_capacity jobs.waiting) (vec_capacity jobs.first) (vec_capacity jobs.larger))
+        × IsCounted jobs.open_job jobs.waiting.items jobs.sending jobs.held };
 }
 
 impl<S: RowStore> Jobs<S> {
@@ -66,6 +71,7 @@ impl<S: RowStore> Jobs<S> {
             open_job: None,
             waiting: VecDeque::new(alloc),
             sending: None,
+            held: 0,
             reports,
             first: Vec::new(alloc),
             larger: Vec::new(alloc),
@@ -115,11 +121,20 @@ impl<S: RowStore> Jobs<S> {
         match &mut self.open_job {
             None => unreachable!(),
             Some(job) => {
+                // as many jobs as can wait
+                let _ = self.waiting.len();
+                let held = self.held + u128::from(page.held());
                 if self.spare == 0 {
-                    return job.add_page(page);
+                    job.add_page(page)?;
+                    // what it ensures bounds what a job holds
+                    let _ = job.held();
+                    self.held = held;
+                    return Ok(());
                 }
                 self.spare = 0;
                 job.add_within(&mut self.larger, page);
+                let _ = job.held();
+                self.held = held;
                 Ok(())
             }
         }
@@ -193,6 +208,7 @@ impl<S: RowStore> Jobs<S> {
                     delivered,
                     outcome,
                 };
+                self.held -= u128::from(job.held());
                 self.reports.push_back(report);
             }
         }
@@ -232,6 +248,17 @@ impl<S: RowStore> Jobs<S> {
     {
         let job = self.newest_job()?;
         job.pages().as_slice().last()
+    }
+
+    /// How many octets the pages of all of its jobs hold in memory, as [`Page::held`] says it. It takes no memory, and as long
+    /// however many there are.
+    pub fn held(&self) -> u128
+        ensures octets { result ≡ octets_of_book self.now.book }
+        ensures few { result < 2 ^ 104 }
+    {
+        // as many jobs as can wait
+        let _ = self.waiting.len();
+        self.held
     }
 
     /// Report i of those that are kept, counted from 0, the oldest.
@@ -276,9 +303,13 @@ impl<S: RowStore> Jobs<S> {
         if self.waiting.reserve(places).is_err() {
             return Err(page);
         }
+        // as many jobs as can wait
+        let _ = self.waiting.len();
+        let held = self.held + u128::from(page.held());
         let list = mem::replace(&mut self.first, Vec::new(self.alloc));
         let job = Job::in_list(list, call, page)?;
         self.spare = 0;
+        self.held = held;
         if let Some(last) = self.open_job.replace(job) {
             self.waiting.push_back_reserved(last);
         }

@@ -459,6 +459,13 @@ impl<W: LineWire + Drop> Line<W> {
         self.gateway.waiting()
     }
 
+    /// How many datagrams and ticks were refused for want of memory; the count stops at the greatest.
+    pub fn refusals(&self) -> u64
+        ensures { result ≡ self.now.gateway.refusals }
+    {
+        self.gateway.refusals()
+    }
+
     /// What is known of the peer of a leg.
     pub fn leg_state(&self, leg: Leg) -> LegState
         ensures { result ≡ state_of (peer_on leg self.now.peers) }

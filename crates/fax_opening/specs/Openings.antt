@@ -17,9 +17,9 @@ abbrev pub asks_by : LineConfig → Bool
 asks_by config = not (is_some config.called.peer)
 
 -- What is set for its gateway: a datagram has as many packets before its own as any call may have (its leg sends those that the call
--- has), and the packet after a preamble waits as long as the configuration says, between 40 and 2,000 ms.
+-- has), the packet after a preamble waits as long as the configuration says, between 40 and 2,000 ms, and as many octets are held.
 abbrev pub settings_by : LineConfig → Settings
-settings_by config = record { redundancy = 8; preamble_ms = min (max config.preamble_ms 40) 2000; asks = asks_by config }
+settings_by config = record { redundancy = 8; preamble_ms = min (max config.preamble_ms 40) 2000; asks = asks_by config; memory = config.line_memory }
 
 -- A LINE BEGINS WITH THE CALLS OF ITS OWN of these pages: of those that have its name; and so does its queue. Its wire holds nothing back.
 pub record IsRestored (pages : List spool.PageValue) (config : LineConfig) (place : PlaceValue) (queue : QueueValue) : Type 0 where

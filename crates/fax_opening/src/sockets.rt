@@ -242,5 +242,6 @@ fn settings_of(config: &LineConfig) -> Settings
             .max(LEAST_PREAMBLE_MS)
             .min(MOST_PREAMBLE_MS),
         asks: config.called.peer.is_none(),
+        memory: u64::from(config.line_memory),
     }
 }

@@ -293,6 +293,7 @@ fn add_line<S: SeenLines>(sums: &mut Counters, i: usize, seen: &S) {
     let under_way = if seen.is_sending(i) { 1 } else { 0 };
     let waiting = (seen.waiting(i) as u64).saturating_add(under_way);
     sums.jobs_waiting = sums.jobs_waiting.saturating_add(waiting);
+    sums.datagrams_refused = sums.datagrams_refused.saturating_add(seen.refusals(i));
     add_leg(sums, seen.counts(i, Leg::Calling));
     add_leg(sums, seen.counts(i, Leg::Called));
 }

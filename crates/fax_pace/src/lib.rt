@@ -12,6 +12,7 @@ mod calls_on;
 mod failures;
 mod pace;
 mod redial_side;
+mod refusals;
 mod retries;
 mod rounds;
 mod schedule;

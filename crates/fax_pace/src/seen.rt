@@ -52,6 +52,9 @@ pub trait SeenLines: View {
     /// Report k of those that are kept of it, the oldest first.
     fn report(&self, i: usize, k: usize) -> Option<Report>;
 
+    /// How many datagrams and ticks of it were refused for want of memory.
+    fn refusals(&self, i: usize) -> u64;
+
     /// What went over a leg of it.
     fn counts(&self, i: usize, leg: Leg) -> LegCounts;
 

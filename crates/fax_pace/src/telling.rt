@@ -1,6 +1,7 @@
 //! What is told of lines.
 use crate::answers::{answer_text, failures_of};
 use crate::failures::Failures;
+use crate::refusals::Refusals;
 use crate::rounds::Rounds;
 use crate::seen::SeenLines;
 use crate::undelivered::{event_of, shown_text};
@@ -33,6 +34,8 @@ pub(crate) struct Teller<I: Read + Drop, O: Write + Drop> {
     aside: Vec<Vec<u8>>,
     /// How many failures of each line were told.
     failures: Vec<Failures>,
+    /// What each line has refused for want of memory.
+    refusals: Vec<Refusals>,
     /// The jobs that ended last, the newest first.
     jobs: Vec<EndedJob>,
     /// What happened on the line that was told of last, where SIP is to hear it.
@@ -50,6 +53,8 @@ impl<I: Read + Drop, O: Write + Drop> Teller<I, O> {
     ) -> Result<Self, AllocError> {
         let mut failures = Vec::new(alloc);
         failures.resize(lines, Failures::default())?;
+        let mut refusals = Vec::new(alloc);
+        refusals.resize(lines, Refusals::default())?;
         Ok(Teller {
             alloc,
             clients,
@@ -61,6 +66,7 @@ impl<I: Read + Drop, O: Write + Drop> Teller<I, O> {
             lost: 0,
             aside: Vec::new(alloc),
             failures,
+            refusals,
             jobs: Vec::with_capacity(alloc, MOST_JOBS)?,
             news: if keeps_news {
                 Some(Vec::with_capacity(alloc, MOST_NEWS)?)
@@ -310,6 +316,16 @@ impl<I: Read + Drop, O: Write + Drop> Teller<I, O> {
         };
         told.tell(leg, direction, count);
         self.tell_event(Some(name), at, What::Wire(leg, direction, count));
+    }
+
+    /// Tells that line i, of this name, refused a datagram for want of memory: once in a call.
+    pub(crate) fn tell_refusals<S: SeenLines>(&mut self, i: usize, name: &str, seen: &S, at: u64) {
+        let Some(told) = self.refusals.get_mut(i) else {
+            return;
+        };
+        if let Some(call) = told.news(seen.refusals(i), seen.call(i)) {
+            self.tell_event(Some(name), at, What::Full(call));
+        }
     }
 }
 

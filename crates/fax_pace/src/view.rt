@@ -122,6 +122,13 @@ impl<'a, W: SocketLegs + Drop, D: Disk, U: Disk> SeenLines for Seen<'a, W, D, U>
         }
     }
 
+    fn refusals(&self, i: usize) -> u64 {
+        match self.lines.line(i) {
+            Some(line) => line.refusals(),
+            None => 0,
+        }
+    }
+
     fn report(&self, i: usize, k: usize) -> Option<Report> {
         match self.lines.line(i) {
             Some(line) => line.report(k),

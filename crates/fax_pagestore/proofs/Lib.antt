@@ -8,6 +8,7 @@ pub mod FirstEolLemmas
 pub mod FrontLemmas
 pub mod LineLemmas
 pub mod LinePages
+pub mod OctetsLemmas
 pub mod PackedLemmas
 pub mod PageLaws
 pub mod PageReading

@@ -2,6 +2,7 @@ pub mod Ends
 pub mod FaultNumbers
 pub mod Fill
 pub mod LinesUnderWay
+pub mod Octets
 pub mod PageFaults
 pub mod PageLaws
 pub mod PageRows

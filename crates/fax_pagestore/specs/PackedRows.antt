@@ -1,5 +1,5 @@
 -- Rows that share one list of changing places.
-use Rattle.std.specs.Prelude.{ℕ, ◌+◌, ◌<◌, ◌≤◌, List, length, take, drop, slice_index_or}
+use Rattle.std.specs.Prelude.{◌≡◌, ℕ, ◌+◌, ◌<◌, ◌≤◌, List, [], ◌∷◌, length, take, drop, slice_index_or}
 use Rattle.fax_runcodes.specs.declared.Colour.TheVariants.{White}
 use Rattle.fax_runcodes.specs.Rows.{Elements, IsWidth}
 use Rattle.fax_runcodes.specs.Painted.{painted, AreRising}
@@ -23,3 +23,8 @@ pub record HasRowAt (places : List ℕ) (start count width : ℕ) : Type 0 where
 abbrev pub AreInOrder : List Extent → Type 0
 AreInOrder extents = (j k : ℕ) (e : Extent) → j < k → k < length extents
     → (slice_index_or extents j e).start + (slice_index_or extents j e).count ≤ (slice_index_or extents k e).start
+
+-- The places of each extent begin where those of the one before it end, and the last end here: none are spare.
+abbrev pub AreSideBySide : (from : ℕ) → List Extent → (end : ℕ) → Type 0
+AreSideBySide from [] end = end ≡ from
+AreSideBySide from (e ∷ extents) end = (e.start ≡ from) × AreSideBySide (from + e.count) extents end

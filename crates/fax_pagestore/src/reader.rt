@@ -1,10 +1,11 @@
 //! Pages read as their octets come.
-ghost use Rattle.std.specs.Prelude.{ℕ, List, [], ◌≡◌, ◌<◌, ◌≤◌, ◌+◌, ◌*◌, ◌/◌, ◌++◌, drop, take, length, replicate, is_some, IfOk, IfErr, OnOk, OnErr, IsSome, IsNone, IsOk, Ok, Err};
+ghost use Rattle.std.specs.Prelude.{ℕ, List, [], ◌≡◌, ◌<◌, ◌≤◌, ◌+◌, ◌*◌, ◌/◌, ◌^◌, ◌++◌, drop, take, length, replicate, is_some, IfOk, IfErr, OnOk, OnErr, IsSome, IsNone, IsOk, Ok, Err};
 ghost use Rattle.fax_runcodes.specs.Rows.{Elements};
 ghost use Rattle.fax_runcodes.specs.Widths.{elements_of};
 ghost use Rattle.fax_pagestore.specs.Pages.{PageValue};
 ghost use Rattle.fax_pagestore.specs.PageTexts.{MeansRows, MeansPage};
 ghost use Rattle.fax_pagestore.specs.PageFaults.{FailsPage};
+ghost use Rattle.fax_pagestore.specs.Octets.{octets_of_reader};
 ghost use Rattle.fax_pagestore.specs.Readers.{AreJudged};
 
 mod fill;
@@ -153,6 +154,15 @@ impl<S: RowStore> PageReader<S> {
         self.octets.len()
     }
 
+    /// How many octets it holds in memory: those of its rows, as [`RowStore::held`] says it, and those that are kept beside
+    /// them, as far as their lengths say. It takes no memory.
+    pub fn held(&self) -> u64
+        ensures octets { result ≡ octets_of_reader self.now }
+        ensures few { result < 2 ^ 29 }
+    {
+        self.rows.held() + self.pending() as u64
+    }
+
     /// Why the octets so far are no page, if they are none. It takes no memory.
     fn fault(&self) -> Option<PageFault>
         ensures judged { (octets : List ℕ) → HasRead octets self.now → AreJudged self.now.coding (elements_of self.now.format.width) octets self.now.rows result }
@@ -192,6 +202,7 @@ impl<S: RowStore> PageReader<S> {
         ensures ok { IfOk result (λ page. (octets : List ℕ) → HasRead octets self.old → MeansPage self.old.format self.old.coding octets page) }
         ensures fault { IfErr result (λ fault. (octets : List ℕ) → HasRead octets self.old → FailsPage (elements_of self.old.format.width) self.old.coding octets fault) }
         ensures new { self.new ≡ new_reader self.old.format self.old.coding }
+        ensures rows { IfOk result (λ page. page.rows ≡ self.old.rows) }
 
         // So octets that mean a page are read, and a fault comes wherever it is met.
         ensures reads { (octets : List ℕ) (page : PageValue) → HasRead octets self.old → MeansPage self.old.format self.old.coding octets page → result ≡ Ok page }

@@ -2,6 +2,7 @@
 ghost use Rattle.std.specs.Prelude.{List, [], ◌≡◌, ◌<◌, ◌≤◌, ◌^◌, ◌++◌, ◌∷◌, length, take, vec_len, slice_get, Some, OnOk, OnErr, IfErr, IfOk};
 ghost use Rattle.fax_runcodes.specs.Rows.{Elements};
 ghost use Rattle.fax_runcodes.specs.Widths.{elements_of};
+ghost use Rattle.fax_pagestore.specs.Octets.{octets_of_page, octets_of_row};
 ghost use Rattle.fax_pagestore.specs.PageRows.{AreRows};
 
 mod packed;
@@ -13,10 +14,17 @@ pub use packed::PackedRows;
 use std::alloc::Global;
 use std::marker::Model;
 
+/// How many octets the entry of a row takes.
+const ENTRY: u64 = 16;
+
+/// How many octets a changing place takes.
+const PLACE: u64 = 2;
+
 /// Rows in order, fewer than 2^32 of them.
 pub trait RowStore: Drop + Sized {
     ghost use Rattle.std.specs.Prelude.{List, [], ◌≡◌, ◌<◌, ◌≤◌, ◌^◌, ◌++◌, ◌∷◌, length, take, vec_len, slice_get, Some, OnOk, OnErr, IfErr, IfOk};
     ghost use Rattle.fax_runcodes.specs.Rows.{Elements};
+    ghost use Rattle.fax_pagestore.specs.Octets.{octets_of_rows};
 
     /// The rows that it has.
     ghost rows: { Self → List Elements };
@@ -55,6 +63,11 @@ pub trait RowStore: Drop + Sized {
     fn cut(&mut self, n: u32)
         requires { n ≤ length (rows self.old) }
         ensures { rows self.new ≡ take n (rows self.old) };
+
+    /// How many octets its rows take in memory where they stand side by side, as far as their lengths say: 16 each, and 2
+    /// for each changing place. It takes no memory.
+    fn held(&self) -> u64
+        ensures { result ≡ octets_of_rows (rows self.now) };
 }
 
 /// A store of rows one by one.
@@ -100,6 +113,25 @@ impl RowStore for PlainRows {
     fn cut(&mut self, n: u32) {
         self.rows.truncate(n as usize);
     }
+
+    /// It goes over all rows.
+    fn held(&self) -> u64 {
+        let mut held = 0;
+        for row in &self.rows {
+            held += held_by_row(&row.lend());
+        }
+        held
+    }
+}
+
+/// How many octets a row takes where it stands beside others.
+fn held_by_row(row: &RowRef<'_>) -> u64
+    ensures octets { result ≡ octets_of_row row.now }
+    ensures few { result ≤ 4880 }
+{
+    // what it ensures bounds the number of changing places
+    let _ = row.width();
+    ENTRY + PLACE * row.changes().len() as u64
 }
 
 /// A page: a format, and 1 to 65,535 rows of its width. Seen as these, whatever the store.
@@ -143,5 +175,13 @@ impl<S: RowStore> Page<S> {
         ensures are_rows { AreRows (elements_of self.now.format.width) self.now.rows }
     {
         &self.rows
+    }
+
+    /// How many octets it holds in memory, as [`RowStore::held`] says it. It takes no memory.
+    pub fn held(&self) -> u64
+        ensures octets { result ≡ octets_of_page self.now }
+        ensures few { result < 2 ^ 29 }
+    {
+        self.rows.held()
     }
 }

@@ -58,11 +58,12 @@ pub record IsFormatOf (given : List Row) (format : Format) : Type 0 where
   pub width : format.width ≡ width_named (first_of (codes "width") given)
   pub fine : IsFlagOf (one_of (codes "fine") given) format.fine
 
--- the settings of both legs: a job's call begins by itself
+-- the settings of both legs: a job's call begins by itself, and what is held is not bounded
 pub record AreSettingsOf (given : List Row) (settings : Settings) : Type 0 where
   pub redundancy : IsNumberOf (one_of (codes "redundancy") given) 0 most_redundancy 3 settings.redundancy
   pub preamble : IsNumberOf (one_of (codes "preamble") given) pace longest_pause 40 settings.preamble_ms
   pub asks : settings.asks ≡ false
+  pub memory : settings.memory ≡ 18446744073709551615
 
 -- those of a gateway on which a script is played: a job's call is asked for where --asks is given
 pub record AreScriptSettingsOf (given : List Row) (settings : Settings) : Type 0 where

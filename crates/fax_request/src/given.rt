@@ -106,6 +106,7 @@ pub(crate) fn settings_of(given: &ArgMatches<'_>) -> Settings
         redundancy,
         preamble_ms,
         asks,
+        memory,
     } = Settings::default();
     let most = u64::from(MOST_REDUNDANCY);
     let shortest = u64::from(LEAST_PREAMBLE_MS);
@@ -114,6 +115,7 @@ pub(crate) fn settings_of(given: &ArgMatches<'_>) -> Settings
         redundancy: number_of(given, "redundancy", 0, most, u64::from(redundancy)) as u8,
         preamble_ms: number_of(given, "preamble", shortest, longest, u64::from(preamble_ms)) as u16,
         asks,
+        memory,
     }
 }
 

@@ -360,5 +360,6 @@ fn settings_of(config: &RedialConfig) -> Settings
         redundancy: MOST_REDUNDANCY,
         preamble_ms: PREAMBLE_MS,
         asks: config.called.peer.is_none(),
+        ..Settings::default()
     }
 }

@@ -3,7 +3,7 @@ ghost use Rattle.std.specs.Prelude.{◌≤◌, length};
 
 use fax_answer::Refusal;
 use fax_bits::{NoMemory, Octets};
-use fax_gateway::{Gateway, Given, Kept, Leg};
+use fax_gateway::{Gateway, Given, Kept, Leg, Settings};
 use fax_jobs::{Outcome, Report};
 use fax_pagestore::{Format, PlainRows, RowStore};
 use fax_runcodes::Width;
@@ -201,6 +201,8 @@ pub(super) enum Change {
     WithoutTick(u32),
     /// These octets come in place of one.
     Instead(usize, &'static [u8]),
+    /// The gateway may hold so many octets of pages.
+    Memory(u64),
 }
 
 /// What came of a call.
@@ -252,7 +254,7 @@ pub(super) fn play_call(alloc: Global, change: Change) -> (Played, u64) {
         is_at_rest: false,
         counts_refusals: false,
     };
-    if let Some(mut gateway) = new_gateway(alloc, &mut refused) {
+    if let Some(mut gateway) = new_gateway(alloc, change, &mut refused) {
         if ring(&mut gateway, &mut refused) {
             let before = refused;
             for turn in 0..TURNS {
@@ -267,9 +269,13 @@ pub(super) fn play_call(alloc: Global, change: Change) -> (Played, u64) {
 }
 
 /// A gateway, asked for again where it is refused.
-fn new_gateway(alloc: Global, refused: &mut u64) -> Option<Gateway<PlainRows>> {
+fn new_gateway(alloc: Global, change: Change, refused: &mut u64) -> Option<Gateway<PlainRows>> {
+    let mut settings = Settings::default();
+    if let Change::Memory(most) = change {
+        settings.memory = most;
+    }
     for _ in 0..2 {
-        if let Ok(gateway) = Gateway::new(alloc, 3) {
+        if let Ok(gateway) = Gateway::with_settings(alloc, settings) {
             return Some(gateway);
         }
         *refused = refused.saturating_add(1);

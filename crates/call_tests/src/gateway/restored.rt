@@ -21,6 +21,7 @@ const ASKS: Settings = Settings {
     redundancy: 3,
     preamble_ms: 40,
     asks: true,
+    memory: u64::MAX,
 };
 
 /// What is told of the older call's job where its call could not be placed.

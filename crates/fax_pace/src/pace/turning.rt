@@ -63,6 +63,7 @@ impl<
         tell_sip(&mut self.sip, &mut self.teller, now, i);
         if let Some(name) = self.desk.name(i) {
             self.teller.tell_failures(i, name, seen, now);
+            self.teller.tell_refusals(i, name, seen, now);
         }
     }
 }

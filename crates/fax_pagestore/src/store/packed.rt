@@ -1,7 +1,7 @@
 //! Rows kept side by side, in two vectors for all of them.
 ghost use Rattle.std.specs.Prelude.{◌≡◌, ◌++◌, OnOk, OnErr};
 
-use super::RowStore;
+use super::{ENTRY, PLACE, RowStore};
 use fax_bits::NoMemory;
 use fax_runcodes::{Row, RowRef};
 use std::alloc::{AllocError, Global};
@@ -25,15 +25,16 @@ struct Extent {
 }
 
 impl Model for PackedRows {
-    ghost use Rattle.std.specs.Prelude.{List, ◌<◌, ◌^◌, All, map, vec_len};
+    ghost use Rattle.std.specs.Prelude.{List, ◌<◌, ◌^◌, All, length, map, vec_len};
     ghost use Rattle.fax_runcodes.specs.Rows.{Elements};
-    ghost use Rattle.fax_pagestore.specs.PackedRows.{row_at, HasRowAt, AreInOrder};
+    ghost use Rattle.fax_pagestore.specs.PackedRows.{row_at, HasRowAt, AreInOrder, AreSideBySide};
 
     ghost Value = { List Elements };
 
     ghost view = { λ r. map (λ e. row_at r.places.items e.start e.count e.width) r.extents.items };
 
-    ghost invariant = { λ r. All (λ e. HasRowAt r.places.items e.start e.count e.width) r.extents.items × AreInOrder r.extents.items × (vec_len r.extents < 2 ^ 32) };
+    ghost invariant = { λ r. All (λ e. HasRowAt r.places.items e.start e.count e.width) r.extents.items × AreInOrder r.extents.items × (vec_len r.extents < 2 ^ 32)
+        × AreSideBySide 0 r.extents.items (length r.places.items) };
 }
 
 impl RowStore for PackedRows {
@@ -95,6 +96,10 @@ impl RowStore for PackedRows {
             self.places.truncate(start);
             self.extents.truncate(n);
         }
+    }
+
+    fn held(&self) -> u64 {
+        ENTRY * self.extents.len() as u64 + PLACE * self.places.len() as u64
     }
 }
 

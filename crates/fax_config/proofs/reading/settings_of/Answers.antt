@@ -16,3 +16,6 @@ returns-in_err-repeat-clause-fault c = let here = c.in_err-repeat.ensures.fault 
 
 pub returns-in_err-dial_seconds-clause-fault : goal.returns-in_err-dial_seconds-clause-fault
 returns-in_err-dial_seconds-clause-fault c = let here = c.in_err-dial_seconds.ensures.fault levels.Line in search rules
+
+pub returns-in_err-line_memory-clause-fault : goal.returns-in_err-line_memory-clause-fault
+returns-in_err-line_memory-clause-fault c = let here = c.in_err-line_memory.ensures.fault levels.Line in search rules

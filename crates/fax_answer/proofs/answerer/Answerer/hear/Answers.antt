@@ -1,5 +1,5 @@
 use Rattle.std.proofs.Common.{rules, ◌≡◌, refl, sym, ◌∙◌, ap, subst}
-use Rattle.fax_ifp.specs.Pieces.{Piece, Frame, Start, Octets, End, Gap}
+use Rattle.fax_ifp.specs.Pieces.{Piece, Frame, Start, End, Gap}
 use Rattle.fax_ifp.specs.Shown.{piece_of}
 use Rattle.fax_answer.specs.declared.decision.Decision.TheVariants.{PassOver}
 use Rattle.fax_answer.specs.History.{PassesOver}

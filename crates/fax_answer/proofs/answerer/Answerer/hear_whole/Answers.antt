@@ -13,7 +13,7 @@ use Rattle.fax_answer.proofs.answerer.Answerer.hear_whole.Goals as goal
 pub returns-clause-heard : goal.returns-clause-heard
 returns-clause-heard g c =
     let off : c.is_err.result ≡ false = search rules in
-    if_right c.hear_slots.result _ (sym c.is_err.ensures.value ∙ off) c.hear_slots.ensures.heard
+    if_right c.hear_slots-heard.result _ (sym c.is_err.ensures.value ∙ off) c.hear_slots-heard.ensures.heard
 
 pub returns-in-Some-octets_in-clause-heard : goal.returns-in-Some-octets_in-clause-heard
 returns-in-Some-octets_in-clause-heard g c =

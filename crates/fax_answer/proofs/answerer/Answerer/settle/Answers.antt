@@ -1,9 +1,11 @@
-use Rattle.std.proofs.Common.{◌≡◌, List, Option, None, refl, sym, ◌∙◌, ap, subst}
+use Rattle.std.proofs.Common.{◌≡◌, List, Option, None, take, refl, sym, ◌∙◌, ap, subst, arith}
 use Rattle.fax_pagestore.specs.Readers.{ReaderValue}
 use Rattle.fax_answer.specs.declared.image.Accepted.{Accepted}
 use Rattle.fax_answer.specs.Images.{ImageValue, Confirms}
 use Rattle.fax_answer.specs.Reached.{Rep, Stands}
 use Rattle.fax_answer.specs.Shown.{confirmed_shown}
+use Rattle.fax_answer.specs.Octets.{octets_of_answerer, octets_of_readers}
+use Rattle.fax_answer.proofs.OctetsLemmas.{octets_kept, octets_of_readers-take}
 use Rattle.fax_answer.proofs.SlotsLemmas.{finish_left, holds_settled}
 use Rattle.fax_answer.proofs.answerer.Answerer.settle.Goals as goal
 
@@ -21,3 +23,13 @@ returns-clause-stands g c core s =
       holds = holds_settled core.state core.history c.self.inside.image c.keep-2.new.self left c.readers_wanted.result both.0 (c.readers_wanted.ensures core k.confirmed k.follows)
           (ap (λ (i : ImageValue). i.readers) c.keep-2.ensures) accepted (ap (λ (i : ImageValue). i.run) c.keep-2.ensures ∙ c.finish-found.ensures.run) (ap (λ (i : ImageValue). i.longest) c.keep-2.ensures ∙ c.finish-found.ensures.longest) k.holds;
     }
+
+pub returns-clause-held : goal.returns-clause-held
+returns-clause-held g c =
+    let found = c.finish-found.ensures.held in
+    let confirmed = octets_kept c.finish-found.result c.self.inside.confirmed c.keep.new.kept c.keep.ensures in
+    let fewer = octets_of_readers-take c.readers_wanted.result c.finish-found.new.self.readers in
+    let kept : octets_of_readers c.keep-2.new.self.readers ≡ octets_of_readers (take c.readers_wanted.result c.finish-found.new.self.readers) =
+    ap (λ (i : ImageValue). octets_of_readers i.readers) c.keep-2.ensures in
+    let old = ap (λ (k : Rep). octets_of_answerer k) c.self.view_is in
+    omega arith

@@ -1,9 +1,10 @@
-use Rattle.std.proofs.Common.{◌≡◌, ◌+◌, ◌++◌, ℕ, get_or, take, drop, Some, sym, ap, ◌∙◌, subst}
+use Rattle.std.proofs.Common.{◌≡◌, ◌<◌, ◌+◌, ◌++◌, ℕ, length, get_or, take, drop, Some, sym, ap, ◌∙◌, subst, arith, rules}
 use Rattle.fax_pagestore.specs.Pages.{PageValue}
 use Rattle.fax_answer.specs.declared.image.Accepted.{Accepted}
 use Rattle.fax_answer.specs.Replies.{ConfirmedPage}
 use Rattle.fax_answer.specs.Images.{ImageValue}
 use Rattle.fax_answer.proofs.Places.{accepted_reader, accepted_left, same_found, same_page, no_fault}
+use Rattle.fax_answer.proofs.OctetsLemmas.{octets_finished, octets_let_go}
 use Rattle.fax_answer.proofs.image.Image.finish.Goals as goal
 
 pub returns-in-Ok-clause-page : goal.returns-in-Ok-clause-page
@@ -27,3 +28,18 @@ returns-clause-page g c accepted page e at =
     let value = subst (λ (n : ℕ). c.remove-reader.result ≡ get_or c.self.inside.readers.items n c.remove-reader.result) place c.remove-reader.ensures.value in
     let r = accepted_reader c.self.inside.readers.items c.args.self.now.readers accepted.place page c.remove-reader.result readers at value in
     absurd (no_fault c.in-Err.field-0 page (c.in-Err.ensures.reads at.octets page r.0 r.1))
+
+pub returns-in-Ok-clause-held : goal.returns-in-Ok-clause-held
+returns-in-Ok-clause-held g c =
+    let readers = ap (λ (i : ImageValue). i.readers) c.self.view_is in
+    let inside : c.in-Some.accepted.place < length c.self.inside.readers.items = search rules in
+    octets_finished c.self.inside.readers.items c.remove-reader.new.self.items c.args.self.now.readers c.in-Some.accepted.place c.remove-reader.result c.in-Ok.page inside
+    c.remove-reader.ensures.value c.remove-reader.ensures.by_index.2 readers c.in-Ok.ensures.rows
+
+pub returns-clause-held : goal.returns-clause-held
+returns-clause-held g c =
+    let readers = ap (λ (i : ImageValue). i.readers) c.self.view_is in
+    let inside : c.in-Some.accepted.place < length c.self.inside.readers.items = search rules in
+    let all = octets_let_go c.self.inside.readers.items c.remove-reader.new.self.items c.args.self.now.readers c.in-Some.accepted.place c.remove-reader.result inside
+    c.remove-reader.ensures.value c.remove-reader.ensures.by_index.2 readers in
+    omega arith

@@ -1,6 +1,7 @@
 use Rattle.std.proofs.Common.{◌<◌, length, refl, arith}
 use Rattle.std.proofs.lemmas.Option.{get_or_from_slice_get, slice_get_read}
 use Rattle.fax_pagestore.proofs.PackedLemmas.{IsNext, HasExtents-cut, AreInOrder-cut, rows_of-cut}
+use Rattle.fax_pagestore.proofs.OctetsLemmas.{AreSideBySide-next}
 use Rattle.fax_pagestore.proofs.store.packed.PackedRowsRowStore.cut.Goals as goal
 use Rattle.fax_pagestore.proofs.store.packed.PackedRowsRowStore.cut.Goals.{After-truncate-then-n-len}
 
@@ -22,6 +23,7 @@ invariant_of-self c =
       HasExtents-cut c.self.inside.places.items c.self.inside.extents.items c.args.n c.index.result.now next,
       AreInOrder-cut c.self.inside.extents.items c.args.n next.inside next.order,
       omega (arith, c.truncate-then-n-len.ensures.len, c.self.invariant.2),
+      AreSideBySide-next c.self.inside.places.items c.self.inside.extents.items c.args.n c.index.result.now next c.self.invariant.3,
     )
 
 pub returns-then-n-len : goal.returns-then-n-len

@@ -1,6 +1,7 @@
-use Rattle.std.proofs.Common.{◌<◌, length, vec_len, refl, ◌∙◌, arith}
+use Rattle.std.proofs.Common.{◌<◌, ◌++◌, length, vec_len, refl, ◌∙◌, arith, length-append}
 use Rattle.fax_runcodes.proofs.PaintedLemmas.{rising_count}
 use Rattle.fax_pagestore.specs.declared.store.packed.Extent.{Extent}
+use Rattle.fax_pagestore.proofs.OctetsLemmas.{AreSideBySide-push}
 use Rattle.fax_pagestore.proofs.PackedLemmas.{IsNewExtent, HasExtents-push, AreInOrder-push, rows_of-push}
 use Rattle.fax_pagestore.proofs.store.packed.PackedRowsRowStore.push_lent.Goals as goal
 use Rattle.fax_pagestore.proofs.store.packed.PackedRowsRowStore.push_lent.Goals.{After-push_reserved}
@@ -28,6 +29,8 @@ invariant_of-self-2 c =
           c.changes-changes.ensures.rising (rw (← c.width-width.ensures.len) c.width-width.ensures.is_width) c.self.invariant.0,
       AreInOrder-push c.self.inside.places.items c.self.inside.extents.items (extent at) (is_new at).start c.self.invariant.0 c.self.invariant.1,
       few,
+      AreSideBySide-push 0 c.self.inside.extents.items (length c.self.inside.places.items) (extent at) (length (c.self.inside.places.items ++ c.changes-changes.result.now))
+          c.self.invariant.3 (is_new at).start (length-append c.self.inside.places.items c.changes-changes.result.now),
     )
 
 pub returns-clause-pushed : goal.returns-clause-pushed

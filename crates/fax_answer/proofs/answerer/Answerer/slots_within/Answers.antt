@@ -1,7 +1,7 @@
 use Rattle.fax_udptl.specs.Taking.{slots_in}
 use Rattle.fax_answer.specs.Watching.{Watches}
 use Rattle.fax_answer.proofs.SlotsLemmas.{hears_joined}
-use Rattle.fax_answer.proofs.answerer.Answerer.slots_watched.Goals as goal
+use Rattle.fax_answer.proofs.answerer.Answerer.slots_within.Goals as goal
 
 pub returns-clause-heard : goal.returns-clause-heard
 returns-clause-heard g c heard core r =
