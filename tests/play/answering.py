@@ -344,7 +344,7 @@ class Refused(Answered):
             leg.page_comes("0014d9a8008040")
             leg.takes(PREAMBLE, CALLER_EOP)
             leg.at(200, PREAMBLE)
-            leg.refuses(240, NO_PAGE, "whole: no page, line 1 cannot be read")
+            leg.refuses(240, NO_PAGE, "whole: no page, fault 2 BadLine 1")
             leg.takes_as(7, CALLER_EOP)
             leg.at(280, PREAMBLE)
             leg.refuses(320, NO_PAGE)
@@ -356,7 +356,7 @@ class Refused(Answered):
             leg.takes(PREAMBLE, CALLER_EOP)
 
     def test_a_page_that_is_cut_inside_a_line(self):
-        with self.refused(NO_PAGE, "whole: no page, line 0 cannot be read") as leg:
+        with self.refused(NO_PAGE, "whole: no page, fault 2 BadLine 0") as leg:
             leg.page_comes("00143f")
             leg.takes(PREAMBLE, CALLER_EOP)
 
@@ -400,12 +400,12 @@ class WhatMakesNoSense(Answered):
             leg.at(3120, GATEWAY_DIS)
 
     def test_an_image_of_2_mib_of_zeros_through_which_no_eol_comes(self):
-        with self.refused(NO_PAGE, f"image of {128 * 16_378} octets, whole: no page, no EOL") as leg:
+        with self.refused(NO_PAGE, f"image of {128 * 16_378} octets, whole: no page, fault 1 NoEol") as leg:
             leg.takes(TRAINING, *(128 * [part("00")]), IMAGE_END, PREAMBLE, CALLER_EOP)
 
     def test_an_image_of_64_kib_of_ones(self):
         """Each of them is looked at."""
-        with self.refused(NO_PAGE, "image of 65512 octets, whole: no page, no EOL") as leg:
+        with self.refused(NO_PAGE, "image of 65512 octets, whole: no page, fault 1 NoEol") as leg:
             leg.takes(TRAINING, *(4 * [part("ff")]), IMAGE_END, PREAMBLE, CALLER_EOP)
 
 

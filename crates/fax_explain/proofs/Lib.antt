@@ -5,3 +5,4 @@ pub mod LadderLemmas
 pub mod PlayLemmas
 pub mod Told
 pub mod RowLemmas
+pub mod PictureLemmas

@@ -27,14 +27,10 @@ confirmed_place kept leg = record { leg = legs.Calling; call = kept.call; page =
 abbrev pub found_at : Place → Option PageValue → Option FoundPage
 found_at place = option_map (λ (page : PageValue). record { place = place; page = page })
 
--- the page that a tick confirms, where it confirms one: it is handed out with the datagram
+-- the page that a tick confirms, where it confirms one
 abbrev pub page_of : Option Kept → Option PageValue → CallingLeg → Option FoundPage
 page_of None page leg = None
 page_of (Some kept) page leg = found_at (confirmed_place kept leg) page
-
-abbrev pub confirmed_page : (given : Option (List ℕ)) → Option Kept → Option PageValue → CallingLeg → Option FoundPage
-confirmed_page None kept page leg = None
-confirmed_page (Some octets) kept page leg = page_of kept page leg
 
 -- which is the newest of the gateway's book, where it confirms one (specs/Newest of fax_gateway)
 abbrev pub page_if : Option Kept → Book → Option PageValue
@@ -45,6 +41,15 @@ page_if (Some kept) book = newest_page book
 abbrev pub Keeps : Option FoundPage → (old new : List FoundPage) → Type 0
 Keeps None old new = new ≡ old
 Keeps (Some found) old new = new ≡ old ++ found ∷ []
+
+-- others may come after those that were
+abbrev pub Grows : (old new : List FoundPage) → Type 0
+Grows old new = (more : List FoundPage) × (new ≡ old ++ more)
+
+-- a picture of this page comes after those that were, in the place of one that was confirmed
+abbrev pub HasPicture : PageValue → (old new : List FoundPage) → Type 0
+HasPicture page old new =
+    (place : Place) × (more : List FoundPage) × (place.leg ≡ legs.Calling) × (new ≡ old ++ record { place = place; page = page } ∷ more)
 
 -- what is told of it after its MCF
 abbrev pub confirmed_text : Kept → (page : ℕ) → List ℕ

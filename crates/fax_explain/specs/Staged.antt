@@ -1,15 +1,19 @@
 -- What a stage holds of what was played.
-use Rattle.std.specs.Prelude.{◌≡◌, ℕ, ◌⊎◌, max, List, [], ◌∷◌, ◌++◌}
+use Rattle.std.specs.Prelude.{◌≡◌, ℕ, ◌⊎◌, max, List, [], ◌∷◌, ◌++◌, Some}
 use Rattle.fax_call.specs.Writings.{IsWriting, Writing}
 use Rattle.fax_gateway.specs.Setups.{AreSet, Setup}
+use Rattle.fax_answer.specs.Replies.{ConfirmedPage}
 use Rattle.fax_gateway.specs.CallingLegs.{calling_leg}
+use Rattle.fax_gateway.specs.Cuts.{confirmed_at}
 use Rattle.fax_gateway.specs.Events.{Event, clock, moment_of}
 use Rattle.fax_gateway.specs.Reached.{GatewayValue, IsReachedBy}
 use Rattle.fax_trace.specs.declared.event.ScriptEvent.{ScriptEvent}
 use Rattle.fax_trace.specs.declared.event.ScriptEvent.TheVariants.{Tick}
 use Rattle.fax_trace.specs.Playing.{PlayedScript, IsRefusal, moment_at, scripted}
+use Rattle.fax_explain.specs.declared.stage.FoundPage.{FoundPage}
 use Rattle.fax_explain.specs.declared.stage.Stage.{Stage}
 use Rattle.fax_explain.specs.Ladders.{HasAnswer, TellsPlay, timers_told}
+use Rattle.fax_explain.specs.Places.{HasPicture}
 use Rattle.fax_descriptions.specs.Tales.{inside, paragraph_text}
 use Rattle.fax_descriptions.specs.Tellings.{Description}
 
@@ -51,6 +55,12 @@ abbrev pub TimersAct : GatewayValue → (moment : ℕ) → (old new : List Descr
 TimersAct gateway moment old new =
     (setup : Setup) (writes : Writing) (trace : List Event) → IsReachedBy setup writes trace gateway
     → new ≡ old ++ timers_told (calling_leg setup trace) (max moment (clock trace))
+
+-- after a tick at this moment: where the trace confirms a page in it, that page has its picture
+abbrev pub Pictures : GatewayValue → (moment : ℕ) → (old new : List FoundPage) → Type 0
+Pictures gateway moment old new =
+    (setup : Setup) (writes : Writing) (trace : List Event) → IsWriting writes → IsReachedBy setup writes trace gateway → (confirmed : ConfirmedPage)
+    → confirmed_at (calling_leg setup trace) (max moment (clock trace)) ≡ Some confirmed → HasPicture confirmed.page old new
 
 -- ---- over whatever was played
 

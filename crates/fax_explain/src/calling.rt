@@ -4,7 +4,7 @@ ghost use Rattle.fax_udptl.specs.Datagrams.{datagram_of};
 ghost use Rattle.fax_descriptions.specs.Tales.{last_with};
 ghost use Rattle.fax_explain.specs.Given.{GoesOnInLine, TellsGiven, arrived_after, timer_lines};
 ghost use Rattle.fax_explain.specs.Heard.{EachHearing, HearsOn, IsHearing, StaysInLane, TellsComing};
-ghost use Rattle.fax_explain.specs.Places.{confirmed_page, confirmed_text, next_number, page_of};
+ghost use Rattle.fax_explain.specs.Places.{confirmed_text, next_number, page_of};
 
 use crate::listener::Listener;
 use crate::mark::Mark;
@@ -109,10 +109,10 @@ impl CallingLeg {
         ensures hearing { OnOk result (EachHearing self.old.ours (λ arrived.
             IsHearing (arrived_after arrived given.now.calling) self.new.ours)) }
         ensures lane { OnOk result (StaysInLane self.old.ours self.new.ours) }
-        ensures found { IfOk result (λ found. found ≡ confirmed_page given.now.calling given.now.kept page self.old) }
+        ensures found { IfOk result (λ found. found ≡ page_of given.now.kept page self.old) }
     {
         let Some(octets) = &given.calling else {
-            return Ok(None);
+            return Ok(self.confirm(given.kept, page));
         };
         self.give_datagram(octets.as_slice(), given.kept, tale)?;
         Ok(self.confirm(given.kept, page))

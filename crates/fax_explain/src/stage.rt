@@ -4,8 +4,8 @@ ghost use Rattle.fax_gateway.specs.Setups.{AreAllowed};
 ghost use Rattle.fax_gateway.specs.Turns.{call_if_new};
 ghost use Rattle.fax_trace.specs.declared.event.ScriptEvent.TheVariants as script;
 ghost use Rattle.fax_explain.specs.Ladders.{EndsWithReport, TellsRefusal, asked_tellings, begun_tellings};
-ghost use Rattle.fax_explain.specs.Places.{Keeps, confirmed_page, page_if};
-ghost use Rattle.fax_explain.specs.Staged.{AnswersAny, AnswersAt, AnswersEvent, AnswersTick, GoesOn, IsNew, PlaysEvent, TimersAct};
+ghost use Rattle.fax_explain.specs.Places.{Grows, Keeps, page_if, page_of};
+ghost use Rattle.fax_explain.specs.Staged.{AnswersAny, AnswersAt, AnswersEvent, AnswersTick, GoesOn, IsNew, Pictures, PlaysEvent, TimersAct};
 
 use crate::called::CalledLeg;
 use crate::calling::CallingLeg;
@@ -15,6 +15,7 @@ use crate::store::Place;
 use fax_bits::NoMemory;
 use fax_call::State;
 use fax_descriptions::{Lane, Tale, why_ended, why_refused, words_of_format};
+use fax_gateway::laws::confirms_the_newest;
 use fax_gateway::{Gateway, Given, PlaceFault, RingFault, Settings};
 use fax_notes::{AnswerNotes, CallNotes};
 use fax_pagestore::{PackedRows, Page};
@@ -166,12 +167,15 @@ impl Stage {
         self.called.hear(octets, marks, tale)
     }
 
-    /// Time goes on to a moment.
+    /// Time goes on to a moment. The page that is confirmed is kept.
     fn tick(&mut self, moment: u64, scene: &mut Scene) -> Result<(), NoMemory>
         requires { scene.old.tale ≡ [] }
-        ensures { OnOk result
+        ensures answers { OnOk result
             (AnswersTick moment self.old.gateway scene.new.tale self.new.gateway) }
+        ensures pictures { OnOk result
+            (Pictures self.old.gateway moment scene.old.pages.items scene.new.pages.items) }
     {
+        confirms_the_newest();
         let call = self.gateway.call();
         let was_sending = self.gateway.sending().is_some();
         self.act(moment, &mut scene.tale)?;
@@ -238,7 +242,7 @@ impl Stage {
         ensures gateway { self.new.gateway ≡ self.old.gateway }
         ensures goes_on { OnOk result (GoesOn scene.old.tale scene.new.tale) }
         ensures refused { OnOk result (TellsRefusal given.now.refused scene.new.tale) }
-        ensures page { OnOk result (Keeps (confirmed_page given.now.calling given.now.kept (page_if given.now.kept self.old.gateway.book) self.old.calling) scene.old.pages.items scene.new.pages.items) }
+        ensures page { OnOk result (Keeps (page_of given.now.kept (page_if given.now.kept self.old.gateway.book) self.old.calling) scene.old.pages.items scene.new.pages.items) }
     {
         let mut after = Tale::new(self.alloc);
         let page = self.confirmed_page(given)?;
@@ -265,6 +269,7 @@ impl Stage {
     fn give_called(&mut self, given: &Given, scene: &mut Scene) -> Result<(), NoMemory>
         ensures gateway { self.new.gateway ≡ self.old.gateway }
         ensures goes_on { OnOk result (GoesOn scene.old.tale scene.new.tale) }
+        ensures pages { OnOk result (Grows scene.old.pages.items scene.new.pages.items) }
     {
         let mut after = Tale::new(self.alloc);
         self.called

@@ -6,12 +6,13 @@ use Rattle.fax_gateway.specs.Reached.{GatewayValue, IsReachedBy, given_shown}
 use Rattle.fax_trace.specs.declared.event.ScriptEvent.TheVariants as script
 use Rattle.fax_descriptions.specs.Tellings.{Description}
 use Rattle.fax_explain.specs.Ladders.{timers_told}
-use Rattle.fax_explain.proofs.PlayLemmas.{OnOk-both, accepted_on, tick_answer}
+use Rattle.fax_explain.proofs.PictureLemmas.{picture_found}
+use Rattle.fax_explain.proofs.PlayLemmas.{OnOk-both, accepted_on, always, tick_answer}
 use Rattle.fax_explain.proofs.LadderLemmas.{TellsRefusal-on, goes_on_both}
 use Rattle.fax_explain.proofs.stage.Stage.tick.Goals as goal
 
-pub returns : goal.returns
-returns c = OnOk-then c.end_job.result (OnOk-both _ _ c.end_job.result c.end_job.ensures.told c.end_job.ensures.goes_on) (λ told setup writes old written reached.
+pub returns-clause-answers : goal.returns-clause-answers
+returns-clause-answers c = OnOk-then c.end_job.result (OnOk-both _ _ c.end_job.result c.end_job.ensures.told c.end_job.ensures.goes_on) (λ told setup writes old written reached.
     let given = c.in_ok-given.given in
     let ticked = Tick c.args.moment (given_shown given) in
     let over = TellsRefusal-on given.refused _ _ c.in_ok-give_calling.ensures.refused c.in_ok-tell_over.ensures in
@@ -30,3 +31,10 @@ returns c = OnOk-then c.end_job.result (OnOk-both _ _ c.end_job.result c.end_job
     (subst (λ (g : GatewayValue). IsReachedBy setup writes (ticked ∷ old.trace) g)
     (sym (c.end_job.ensures.gateway ∙ c.in_ok-give_called.ensures.gateway ∙ c.in_ok-begin_job.ensures.gateway ∙ c.in_ok-give_calling.ensures.gateway))
     (c.in_ok-given.ensures.ticked setup writes old.trace written here)))
+
+pub returns-clause-pictures : goal.returns-clause-pictures
+returns-clause-pictures c = always c.end_job.result (λ setup writes trace written reached confirmed is.
+    let given = c.in_ok-given.given in
+    let here = subst (λ (g : GatewayValue). IsReachedBy setup writes trace g) (sym c.in_ok-act.ensures.gateway) reached in
+    picture_found setup writes trace c.args.moment (given_shown given) _ confirmed given.kept _ _ _ _ c.confirms_the_newest.ensures
+    (c.in_ok-given.ensures.ticked setup writes trace written here) is (c.in_ok-given.ensures.confirmed setup writes trace here) c.in_ok-give_calling.ensures.page c.in_ok-give_called.ensures.pages)
