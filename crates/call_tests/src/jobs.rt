@@ -99,7 +99,7 @@ fn held_of(jobs: &[Told]) -> u128 {
     for (_, _, count) in jobs {
         pages = pages.saturating_add(*count);
     }
-    16 * u128::from(pages)
+    u128::from(pages).saturating_mul(16)
 }
 
 /// Whether just these jobs wait in a book, in their order, and no job is open.
