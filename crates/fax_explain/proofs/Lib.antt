@@ -6,3 +6,4 @@ pub mod PlayLemmas
 pub mod Told
 pub mod RowLemmas
 pub mod PictureLemmas
+pub mod StagedLemmas
