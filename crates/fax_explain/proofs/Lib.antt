@@ -7,3 +7,4 @@ pub mod Told
 pub mod RowLemmas
 pub mod PictureLemmas
 pub mod StagedLemmas
+pub mod CalledLemmas

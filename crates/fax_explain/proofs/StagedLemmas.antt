@@ -1,11 +1,11 @@
 -- What was heard on a stage, as a trace goes on.
-use Rattle.std.proofs.Common.{◌≡◌, ℕ, Bool, true, false, List, [], ◌∷◌, ◌++◌, Option, Some, None, Result, Ok, Err, refl, sym, ◌∙◌, ap, subst, if◌then◌else◌}
+use Rattle.std.proofs.Common.{◌≡◌, ℕ, Bool, true, false, List, [], ◌++◌, Option, Some, None, Result, Ok, Err, refl, sym, ◌∙◌, ap, subst, if◌then◌else◌}
 use Rattle.fax_udptl.specs.declared.fault.UdptlFault.{UdptlFault}
 use Rattle.fax_udptl.specs.Datagrams.{DatagramValue, datagram_of}
 use Rattle.fax_answer.specs.Calls.{TickResult}
 use Rattle.fax_answer.specs.Table.{Reading}
 use Rattle.fax_gateway.specs.Setups.{Setup}
-use Rattle.fax_gateway.specs.Events.{Event, Given, Ring, FromCalling, FromCalled, Tick, Placed}
+use Rattle.fax_gateway.specs.Events.{Given, Ring, FromCalling, FromCalled, Tick, Placed}
 use Rattle.fax_gateway.specs.CallingLegs.{CallingLeg, calling_after, core_of, is_idle, leg_ticked, leg_with}
 use Rattle.fax_gateway.specs.Turns.{call_on}
 use Rattle.fax_gateway.proofs.IdleLegs.{IfRests, idle_tick}

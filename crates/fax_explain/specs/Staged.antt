@@ -1,9 +1,14 @@
 -- What a stage holds of what was played.
-use Rattle.std.specs.Prelude.{◌≡◌, ℕ, ◌⊎◌, max, false, List, [], ◌∷◌, ◌++◌, Option, Some, None}
+use Rattle.std.specs.Prelude.{◌≡◌, ℕ, ◌⊎◌, max, Bool, true, false, List, [], ◌∷◌, ◌++◌, Option, Some, None}
+use Rattle.fax_jobs.specs.Jobs.{JobValue}
+use Rattle.fax_call.specs.Delivery.{is_over}
 use Rattle.fax_call.specs.Writings.{IsWriting, Writing}
 use Rattle.fax_gateway.specs.Setups.{AreSet, Setup}
 use Rattle.fax_answer.specs.Replies.{ConfirmedPage}
 use Rattle.fax_gateway.specs.CallingLegs.{CallingLeg, calling_leg, core_of, is_idle}
+use Rattle.fax_gateway.specs.CalledLegs as called_legs
+use Rattle.fax_gateway.specs.CalledLegs.{CalledLeg}
+use Rattle.fax_gateway.specs.BothLegs.{both_legs}
 use Rattle.fax_gateway.specs.Cuts.{confirmed_at}
 use Rattle.fax_gateway.specs.Events.{Event, clock, moment_of}
 use Rattle.fax_gateway.specs.Reached.{GatewayValue, IsReachedBy}
@@ -16,7 +21,7 @@ use Rattle.fax_explain.specs.declared.listener.Listener.{Listener}
 use Rattle.fax_explain.specs.Heard.{IsHearing}
 use Rattle.fax_explain.specs.Ladders.{HasAnswer, TellsPlay, timers_told}
 use Rattle.fax_explain.specs.Places.{HasPicture}
-use Rattle.fax_descriptions.specs.declared.lane.Lane.TheVariants.{FromCaller}
+use Rattle.fax_descriptions.specs.declared.lane.Lane.TheVariants.{FromCaller, FromCalled}
 use Rattle.fax_descriptions.specs.Tales.{inside, paragraph_text}
 use Rattle.fax_descriptions.specs.Tellings.{Description}
 
@@ -29,10 +34,26 @@ abbrev pub HearsCall : Option CallingLeg → Listener → Type 0
 HearsCall None listener = Unit {0}
 HearsCall (Some leg) listener = is_idle (core_of leg).state ≡ false → (listener.lane ≡ FromCaller) × IsHearing leg.arrived listener
 
+-- and the one to the called machine, while its job is sent and its call is not over
+abbrev pub HearsJob : Writing → Option CalledLeg → Listener → Type 0
+HearsJob writes None listener = Unit {0}
+HearsJob writes (Some leg) listener =
+    leg.entered ≡ false → is_over (called_legs.core_of writes leg).state ≡ false → (listener.lane ≡ FromCalled) × IsHearing leg.arrived listener
+
+-- where a job is sent, the listener to the called machine is a new one; and where none was sent before
+abbrev pub BeginsWith : Option JobValue → (old new : Listener) → Type 0
+BeginsWith None old new = new ≡ old
+BeginsWith (Some job) old new = (new.lane ≡ FromCalled) × IsHearing [] new
+
+abbrev pub BeginsIf : (was_sending : Bool) → Option JobValue → (old new : Listener) → Type 0
+BeginsIf true sending old new = new ≡ old
+BeginsIf false sending old new = BeginsWith sending old new
+
 -- the trace led to a stage, where this function gives the texts of pages: to its gateway, and to what was heard
 pub record IsStagedBy (setup : Setup) (writes : Writing) (trace : List Event) (stage : Stage) : Type 0 where
   pub reached : IsReachedBy setup writes trace stage.gateway
   pub hears : HearsCall (calling_leg setup trace) stage.calling.theirs
+  pub hears_job : HearsJob writes (both_legs setup writes trace).leg stage.called.theirs
 
 -- A gateway accepted one event more, and this is told of its answer.
 pub record HasAccepted (setup : Setup) (writes : Writing) (old : PlayedScript) (event : ScriptEvent) (told : List Description) (stage : Stage) : Type 0 where

@@ -7,7 +7,7 @@ ghost use Rattle.fax_gateway.specs.Turns.{call_if_new, call_on};
 ghost use Rattle.fax_trace.specs.declared.event.ScriptEvent.TheVariants as script;
 ghost use Rattle.fax_explain.specs.Ladders.{EndsWithReport, TellsRefusal, asked_tellings, begun_tellings, over_tellings};
 ghost use Rattle.fax_explain.specs.Places.{Grows, Keeps, page_if, page_of};
-ghost use Rattle.fax_explain.specs.Staged.{AnswersAny, AnswersAt, AnswersEvent, AnswersTick, GoesOn, IsNew, Pictures, PlaysEvent, TimersAct};
+ghost use Rattle.fax_explain.specs.Staged.{AnswersAny, AnswersAt, AnswersEvent, AnswersTick, BeginsIf, BeginsWith, GoesOn, IsNew, Pictures, PlaysEvent, TimersAct};
 
 use crate::called::CalledLeg;
 use crate::calling::CallingLeg;
@@ -17,7 +17,7 @@ use crate::store::Place;
 use fax_bits::NoMemory;
 use fax_call::State;
 use fax_descriptions::{Lane, Tale, why_ended, why_refused, words_of_format};
-use fax_gateway::laws::confirms_the_newest;
+use fax_gateway::laws::{confirms_the_newest, jobs_have_states};
 use fax_gateway::{Gateway, Given, PlaceFault, RingFault, Settings};
 use fax_notes::{AnswerNotes, CallNotes};
 use fax_pagestore::{PackedRows, Page};
@@ -153,6 +153,7 @@ impl Stage {
 
     /// A datagram comes on the called leg.
     fn hear_called(&mut self, octets: &[u8], moment: u64, tale: &mut Tale) -> Result<(), NoMemory>
+        requires { tale.old ≡ [] }
         ensures { OnOk result
             (AnswersAt moment self.old (script.FromCalled octets.now) tale.new self.new) }
     {
@@ -179,6 +180,7 @@ impl Stage {
             (Pictures self.old.gateway moment scene.old.pages.items scene.new.pages.items) }
     {
         confirms_the_newest();
+        jobs_have_states();
         let call = self.gateway.call();
         let was_sending = self.gateway.sending().is_some();
         self.act(moment, &mut scene.tale)?;
@@ -232,6 +234,7 @@ impl Stage {
     fn act(&mut self, moment: u64, tale: &mut Tale) -> Result<(), NoMemory>
         ensures gateway { self.new.gateway ≡ self.old.gateway }
         ensures theirs { self.new.calling.theirs ≡ self.old.calling.theirs }
+        ensures called { self.new.called.theirs ≡ self.old.called.theirs }
         ensures told { OnOk result (TimersAct self.old.gateway moment tale.old tale.new) }
     {
         self.called.act(self.gateway.called_acting(moment));
@@ -245,6 +248,7 @@ impl Stage {
     fn give_calling(&mut self, given: &Given, scene: &mut Scene) -> Result<(), NoMemory>
         ensures gateway { self.new.gateway ≡ self.old.gateway }
         ensures theirs { self.new.calling.theirs ≡ self.old.calling.theirs }
+        ensures called { self.new.called.theirs ≡ self.old.called.theirs }
         ensures goes_on { OnOk result (GoesOn scene.old.tale scene.new.tale) }
         ensures refused { OnOk result (TellsRefusal given.now.refused scene.new.tale) }
         ensures page { OnOk result (Keeps (page_of given.now.kept (page_if given.now.kept self.old.gateway.book) self.old.calling) scene.old.pages.items scene.new.pages.items) }
@@ -274,6 +278,7 @@ impl Stage {
     fn give_called(&mut self, given: &Given, scene: &mut Scene) -> Result<(), NoMemory>
         ensures gateway { self.new.gateway ≡ self.old.gateway }
         ensures theirs { self.new.calling.theirs ≡ self.old.calling.theirs }
+        ensures called { self.new.called.theirs ≡ self.old.called.theirs }
         ensures goes_on { OnOk result (GoesOn scene.old.tale scene.new.tale) }
         ensures pages { OnOk result (Grows scene.old.pages.items scene.new.pages.items) }
     {
@@ -304,6 +309,7 @@ impl Stage {
     fn begin_job(&mut self, was_sending: bool, tale: &mut Tale) -> Result<(), NoMemory>
         ensures gateway { self.new.gateway ≡ self.old.gateway }
         ensures theirs { self.new.calling.theirs ≡ self.old.calling.theirs }
+        ensures called { BeginsIf was_sending self.old.gateway.book.sending self.old.called.theirs self.new.called.theirs }
         ensures goes_on { OnOk result (GoesOn tale.old tale.new) }
     {
         if was_sending {
@@ -316,6 +322,7 @@ impl Stage {
     fn begin_call(&mut self, tale: &mut Tale) -> Result<(), NoMemory>
         ensures gateway { self.new.gateway ≡ self.old.gateway }
         ensures theirs { self.new.calling.theirs ≡ self.old.calling.theirs }
+        ensures called { BeginsWith self.old.gateway.book.sending self.old.called.theirs self.new.called.theirs }
         ensures told { OnOk result (tale.new ≡ tale.old ++ begun_tellings self.old.gateway.book.sending) }
     {
         let Some(job) = self.gateway.sending() else {
@@ -335,6 +342,7 @@ impl Stage {
     fn fail_call(&mut self)
         ensures gateway { self.new.gateway ≡ self.old.gateway }
         ensures theirs { self.new.calling.theirs ≡ self.old.calling.theirs }
+        ensures called { BeginsWith self.old.gateway.book.sending self.old.called.theirs self.new.called.theirs }
     {
         if let Some(job) = self.gateway.sending() {
             self.called.fail(job.call());
@@ -345,6 +353,7 @@ impl Stage {
     fn end_job(&mut self, given: &Given, tale: &mut Tale) -> Result<(), NoMemory>
         ensures gateway { self.new.gateway ≡ self.old.gateway }
         ensures theirs { self.new.calling.theirs ≡ self.old.calling.theirs }
+        ensures called { self.new.called.theirs ≡ self.old.called.theirs }
         ensures told { OnOk result (EndsWithReport given.now.report tale.new) }
         ensures goes_on { OnOk result (GoesOn tale.old tale.new) }
     {

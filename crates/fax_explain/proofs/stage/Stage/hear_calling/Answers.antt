@@ -21,6 +21,7 @@ returns-in_default c = always c.hear_outside.result (λ setup writes old at reac
     (record {
       reached = heard.reached;
       hears = hears_outside setup leg (clock (event ∷ old.trace)) octets c.args.moment decided heard.read c.hear_outside.new.self.theirs none;
+      hears_job = reached.hears_job;
     }))
 
 pub returns : goal.returns
@@ -39,4 +40,5 @@ returns c = OnOk-then c.tell_over.result c.tell_over.ensures.told (λ over setup
       reached = heard.reached;
       hears = hears_more setup leg (clock (event ∷ old.trace)) octets c.args.moment decided heard.read theirs c.hear.new.self.theirs
           reached.hears c.in_ok-hear.ensures.hearing c.in_ok-hear.ensures.lane;
+      hears_job = reached.hears_job;
     }))
