@@ -1,5 +1,5 @@
 -- REASONS: why a page is refused and why a job ended so, as a ladder tells it. (This project's profile.)
-use Rattle.std.specs.Prelude.{Bool, true, false, ℕ, List, [], ◌++◌, Option, Some, None, codes}
+use Rattle.std.specs.Prelude.{ℕ, List, [], ◌++◌, Option, Some, None, codes}
 use Rattle.fax_frames.specs.declared.frame.Frame.{Frame}
 use Rattle.fax_frames.specs.declared.frame.Frame.TheVariants as frames
 use Rattle.fax_jobs.specs.declared.outcome.Outcome.{Outcome}
@@ -38,7 +38,7 @@ again_text T1 = []
 again_text T2 = codes ", again: T2, nothing heard in 6 s after EOM"
 again_text T4 = codes ", again: T4, no DCS in 3 s"
 
--- ---- commands that are sent on, and their answers (ITU-T T.30, 5.3.6.1)
+-- ---- commands that are sent on (ITU-T T.30, 5.3.6.1)
 
 -- the command that a frame is: DCS has the training check after it
 abbrev pub command_of : Frame → Option Command
@@ -53,26 +53,6 @@ command_name Training = codes "DCS"
 command_name Mps = codes "MPS"
 command_name Eom = codes "EOM"
 command_name Eop = codes "EOP"
-
--- the frames that answer a training, and those that answer a command after a page (5.3.6.1.3 and 5.3.6.1.7); DCN ends the call
-abbrev pub answers_training : Frame → Bool
-answers_training frames.Cfr = true
-answers_training frames.Ftt = true
-answers_training frames.Dcn = true
-answers_training frame = false
-
-abbrev pub answers_page : Frame → Bool
-answers_page frames.Mcf = true
-answers_page frames.Rtp = true
-answers_page frames.Rtn = true
-answers_page frames.Dcn = true
-answers_page frame = false
-
-abbrev pub is_answer : Command → Frame → Bool
-is_answer Training frame = answers_training frame
-is_answer Mps frame = answers_page frame
-is_answer Eom frame = answers_page frame
-is_answer Eop frame = answers_page frame
 
 -- ---- why a job ended so, after its report: with the command that had no answer, where one waited for it
 

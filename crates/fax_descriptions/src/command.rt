@@ -1,6 +1,6 @@
 //! A command that is sent on.
 ghost use Rattle.std.specs.Prelude.{◌≡◌};
-ghost use Rattle.fax_descriptions.specs.Reasons.{command_name, command_of, is_answer};
+ghost use Rattle.fax_descriptions.specs.Reasons.{command_name, command_of};
 
 use fax_frames::Frame;
 
@@ -37,18 +37,6 @@ impl Command {
             Command::Mps => "MPS",
             Command::Eom => "EOM",
             Command::Eop => "EOP",
-        }
-    }
-
-    /// Whether a frame answers it (ITU-T T.30, 5.3.6.1.7).
-    pub fn is_answered_by(self, frame: Frame) -> bool
-        ensures { result ≡ is_answer self frame }
-    {
-        match self {
-            Command::Training => matches!(frame, Frame::Cfr | Frame::Ftt | Frame::Dcn),
-            Command::Mps | Command::Eom | Command::Eop => {
-                matches!(frame, Frame::Mcf | Frame::Rtp | Frame::Rtn | Frame::Dcn)
-            }
         }
     }
 }

@@ -1,8 +1,8 @@
 -- Lines of what a tick gives, that go on.
-use Rattle.std.proofs.Common.{◌≡◌, ◌+◌, ◌-◌, ◌≤◌, ℕ, List, [], ◌∷◌, ◌++◌, Option, Some, Result, Ok, Err, inl, inr, length, slice_get, sym, ◌∙◌, subst, arith}
+use Rattle.std.proofs.Common.{◌≡◌, ◌+◌, ◌-◌, ◌≤◌, ℕ, List, [], ◌∷◌, Option, Some, Result, Ok, Err, inl, inr, length, slice_get, sym, ◌∙◌, subst, arith}
 use Rattle.fax_frames.specs.declared.frame.Frame.{Frame}
 use Rattle.fax_udptl.specs.declared.fault.UdptlFault.{UdptlFault}
-use Rattle.fax_udptl.specs.Datagrams.{DatagramValue, datagram_of}
+use Rattle.fax_udptl.specs.Datagrams.{DatagramValue}
 use Rattle.fax_descriptions.specs.declared.lane.Lane.{Lane}
 use Rattle.fax_descriptions.specs.Tales.{last_with}
 use Rattle.fax_descriptions.specs.Tellings.{Description}

@@ -6,3 +6,5 @@ pub mod PlayLemmas
 pub mod Told
 pub mod RowLemmas
 pub mod PictureLemmas
+pub mod StagedLemmas
+pub mod CalledLemmas

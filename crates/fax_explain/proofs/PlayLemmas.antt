@@ -4,7 +4,6 @@ use Rattle.fax_call.specs.Writings.{Writing}
 use Rattle.fax_gateway.specs.declared.given.RefusedPage.{RefusedPage}
 use Rattle.fax_gateway.specs.CallingLegs.{calling_leg}
 use Rattle.fax_gateway.specs.Events.{Event, Given, Tick, clock, moment_of}
-use Rattle.fax_gateway.specs.Reached.{GatewayValue, IsReachedBy}
 use Rattle.fax_gateway.specs.Setups.{Setup}
 use Rattle.fax_gateway.specs.Turns.{IsRefusedAt, call_if_new}
 use Rattle.fax_trace.specs.declared.event.ScriptEvent.{ScriptEvent}
@@ -12,28 +11,29 @@ use Rattle.fax_trace.specs.Told.{asked_lines, lines_told}
 use Rattle.fax_trace.specs.Playing.{PlayedScript, IsRefusal, call_after, newly_asked, scripted, moment_at}
 use Rattle.fax_trace.proofs.PlayLemmas.{none_new}
 use Rattle.fax_explain.specs.Ladders.{EndsWithReport, HasAnswer, TellsRefusal, TellsTimer, asked_tellings}
-use Rattle.fax_explain.specs.Staged.{HasAnswered, PlaysOn}
+use Rattle.fax_explain.specs.declared.stage.Stage.{Stage}
+use Rattle.fax_explain.specs.Staged.{HasAnswered, IsStagedBy, PlaysOn}
 use Rattle.fax_descriptions.specs.Tales.{inside}
 use Rattle.fax_descriptions.specs.Tellings.{Description}
 
 -- it is accepted, and the answer told
-pub accepted_on : (setup : Setup) (writes : Writing) (old : PlayedScript) (event : ScriptEvent) (told : List Description) (gateway : GatewayValue) (accepted : Event)
+pub accepted_on : (setup : Setup) (writes : Writing) (old : PlayedScript) (event : ScriptEvent) (told : List Description) (stage : Stage) (accepted : Event)
     → scripted accepted ≡ event → moment_of accepted ≡ moment_at event old.moment → HasAnswer setup writes old.trace accepted told
-    → IsReachedBy setup writes (accepted ∷ old.trace) gateway → HasAnswered setup writes old event told gateway
-accepted_on setup writes old event told gateway accepted is at answer reached =
+    → IsStagedBy setup writes (accepted ∷ old.trace) stage → HasAnswered setup writes old event told stage
+accepted_on setup writes old event told stage accepted is at answer reached =
     inl (record { accepted = accepted; event_is = is; at = at; answer = answer; reached = reached })
 
 -- or it is refused, and why
-pub refused_on : (setup : Setup) (writes : Writing) (old : PlayedScript) (event : ScriptEvent) (told : List Description) (gateway : GatewayValue) (line why : List ℕ)
-    → IsRefusal setup writes old.trace event line → told ≡ inside (line ++ why) ∷ [] → IsReachedBy setup writes old.trace gateway
-    → HasAnswered setup writes old event told gateway
-refused_on setup writes old event told gateway line why cause is reached = inr (record { line = line; cause = cause; why = why; told_is = is; reached = reached })
+pub refused_on : (setup : Setup) (writes : Writing) (old : PlayedScript) (event : ScriptEvent) (told : List Description) (stage : Stage) (line why : List ℕ)
+    → IsRefusal setup writes old.trace event line → told ≡ inside (line ++ why) ∷ [] → IsStagedBy setup writes old.trace stage
+    → HasAnswered setup writes old event told stage
+refused_on setup writes old event told stage line why cause is reached = inr (record { line = line; cause = cause; why = why; told_is = is; reached = reached })
 
 -- its answer is told, and after it the call that is newly asked for: it is played
-pub plays_on : (setup : Setup) (writes : Writing) (old : PlayedScript) (event : ScriptEvent) (own told : List Description) (gateway : GatewayValue) (was is : Option ℕ)
-    → HasAnswered setup writes old event own gateway → told ≡ own ++ asked_tellings (call_if_new was is) → was ≡ call_after setup writes old.trace
-    → ((trace : List Event) → IsReachedBy setup writes trace gateway → is ≡ call_after setup writes trace) → PlaysOn setup writes old event told gateway
-plays_on setup writes old event own told gateway was is (inl a) tells was_is is_is =
+pub plays_on : (setup : Setup) (writes : Writing) (old : PlayedScript) (event : ScriptEvent) (own told : List Description) (stage : Stage) (was is : Option ℕ)
+    → HasAnswered setup writes old event own stage → told ≡ own ++ asked_tellings (call_if_new was is) → was ≡ call_after setup writes old.trace
+    → ((trace : List Event) → IsStagedBy setup writes trace stage → is ≡ call_after setup writes trace) → PlaysOn setup writes old event told stage
+plays_on setup writes old event own told stage was is (inl a) tells was_is is_is =
     let asked : call_if_new was is ≡ newly_asked setup writes old.trace a.accepted = ap₂ call_if_new was_is (is_is (a.accepted ∷ old.trace) a.reached) in
     record {
       new = record {
@@ -49,7 +49,7 @@ plays_on setup writes old event own told gateway was is (inl a) tells was_is is_
       });
       reached = a.reached;
     }
-plays_on setup writes old event own told gateway was is (inr r) tells was_is is_is =
+plays_on setup writes old event own told stage was is (inr r) tells was_is is_is =
     let asked : call_if_new was is ≡ None = ap₂ call_if_new was_is (is_is old.trace r.reached) ∙ none_new (call_after setup writes old.trace) in
     record {
       new = record { trace = old.trace; moment = moment_at event old.moment; lines = old.lines ++ r.line ∷ [] };

@@ -2,30 +2,30 @@
 use Rattle.std.proofs.Common.{◌≡◌, ℕ, List, ◌∷◌, [], ◌++◌, map, sym, ◌∙◌, ap, subst}
 use Rattle.fax_call.specs.Writings.{Writing}
 use Rattle.fax_gateway.specs.Setups.{Setup}
-use Rattle.fax_gateway.specs.Reached.{GatewayValue, IsReachedBy}
 use Rattle.fax_trace.specs.declared.event.ScriptEvent.{ScriptEvent}
 use Rattle.fax_trace.specs.Playing.{PlayedScript, nothing_played, moment_at}
 use Rattle.fax_explain.specs.Ladders.{TellAll}
 use Rattle.fax_explain.specs.Explained.{AreExplained}
-use Rattle.fax_explain.specs.Staged.{PlaysOn}
+use Rattle.fax_explain.specs.declared.stage.Stage.{Stage}
+use Rattle.fax_explain.specs.Staged.{IsStagedBy, PlaysOn}
 use Rattle.fax_explain.proofs.LadderLemmas.{TellAll-push, moment_after}
 use Rattle.fax_descriptions.specs.Tales.{line_text}
 use Rattle.fax_descriptions.specs.Tellings.{Description}
 
 -- events were played on a gateway, up to this moment, and lines tell them
-pub record IsTold (setup : Setup) (writes : Writing) (events : List ScriptEvent) (lines : List (List ℕ)) (moment : ℕ) (gateway : GatewayValue) : Type 0 where
+pub record IsTold (setup : Setup) (writes : Writing) (events : List ScriptEvent) (lines : List (List ℕ)) (moment : ℕ) (stage : Stage) : Type 0 where
   pub played : PlayedScript
   pub told : TellAll setup writes nothing_played events played lines
   pub at : moment ≡ played.moment
-  pub reached : IsReachedBy setup writes played.trace gateway
+  pub reached : IsStagedBy setup writes played.trace stage
 
-pub explained : (setup : Setup) (writes : Writing) (events : List ScriptEvent) (lines : List (List ℕ)) (moment : ℕ) (gateway : GatewayValue)
-    → IsTold setup writes events lines moment gateway → AreExplained setup writes events lines
-explained setup writes events lines moment gateway t = record { played = t.played; told = t.told; is_trace = t.reached.is_trace }
+pub explained : (setup : Setup) (writes : Writing) (events : List ScriptEvent) (lines : List (List ℕ)) (moment : ℕ) (stage : Stage)
+    → IsTold setup writes events lines moment stage → AreExplained setup writes events lines
+explained setup writes events lines moment stage t = record { played = t.played; told = t.told; is_trace = t.reached.reached.is_trace }
 
 -- one event more
 pub IsTold-push : (setup : Setup) (writes : Writing) (events : List ScriptEvent) (event : ScriptEvent) (lines : List (List ℕ)) (told : List Description)
-    (last moment : ℕ) (old new : GatewayValue) → (t : IsTold setup writes events lines last old) → moment ≡ moment_at event last
+    (last moment : ℕ) (old new : Stage) → (t : IsTold setup writes events lines last old) → moment ≡ moment_at event last
     → (moment ≡ moment_at event t.played.moment → PlaysOn setup writes t.played event told new)
     → IsTold setup writes (events ++ event ∷ []) (lines ++ map (line_text moment) told) moment new
 IsTold-push setup writes events event lines told last moment old new t is plays =

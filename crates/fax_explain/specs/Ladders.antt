@@ -1,26 +1,32 @@
 -- LADDERS: the lines that `faxgate explain` prints: what is told of each event, at its moment. (This project's profile.)
 use Rattle.std.specs.Prelude.{◌≡◌, ℕ, ◌⊎◌, max, Bool, true, false, List, [], ◌∷◌, ◌++◌, length, Option, Some, None, codes, decimal, map}
+use Rattle.fax_udptl.specs.Datagrams.{DatagramValue, datagram_of}
 use Rattle.fax_jobs.specs.declared.report.Report.{Report}
 use Rattle.fax_jobs.specs.Jobs.{JobValue}
 use Rattle.fax_jobs.specs.ReportTexts.{report_text}
+use Rattle.fax_call.specs.Delivery.{is_over}
 use Rattle.fax_call.specs.Writings.{Writing}
 use Rattle.fax_gateway.specs.Asking.{asked_after}
 use Rattle.fax_gateway.specs.declared.given.RefusedPage.{RefusedPage}
-use Rattle.fax_gateway.specs.CallingLegs.{CallingLeg, calling_leg}
+use Rattle.fax_gateway.specs.CallingLegs.{CallingLeg, calling_leg, core_of, is_idle}
+use Rattle.fax_gateway.specs.CalledLegs as called_legs
+use Rattle.fax_gateway.specs.CalledLegs.{CalledLeg}
+use Rattle.fax_gateway.specs.BothLegs.{both_legs}
 use Rattle.fax_gateway.specs.Events.{Event, Ring, FromCalling, FromCalled, Tick, Placed, clock}
 use Rattle.fax_gateway.specs.Setups.{Setup}
-use Rattle.fax_gateway.specs.Turns.{IsRefusedAt}
+use Rattle.fax_gateway.specs.Turns.{IsRefusedAt, call_on}
 use Rattle.fax_gateway.specs.Watched.{calling_acting, calling_state}
 use Rattle.fax_trace.specs.declared.event.ScriptEvent.{ScriptEvent}
 use Rattle.fax_trace.specs.Playing.{PlayedScript, Accepts, Refuses, newly_asked}
 use Rattle.fax_descriptions.specs.declared.command.Command.{Command}
 use Rattle.fax_descriptions.specs.declared.lane.Lane.{Lane}
-use Rattle.fax_descriptions.specs.declared.lane.Lane.TheVariants.{ToCalled}
+use Rattle.fax_descriptions.specs.declared.lane.Lane.TheVariants.{FromCaller, FromCalled, ToCalled}
 use Rattle.fax_descriptions.specs.Reasons.{ended_text, refusal_text}
 use Rattle.fax_descriptions.specs.Tales.{inside, line_text}
 use Rattle.fax_descriptions.specs.Tellings.{Description}
 use Rattle.fax_descriptions.specs.Words.{format_text}
 use Rattle.fax_explain.specs.Given.{timer_lines}
+use Rattle.fax_explain.specs.Heard.{TellsDatagram}
 
 -- where a job ended, its report is told last, in the gateway itself, and after it why it ended so: with the command that had
 -- no answer, where one waited for it
@@ -70,12 +76,41 @@ abbrev pub placed_tellings : (connected : Bool) → JobValue → List Descriptio
 placed_tellings true job = on_called (codes "the call is placed: it has answered") ∷ inside (begun_text job) ∷ []
 placed_tellings false job = on_called (codes "the call could not be placed") ∷ []
 
--- what is told of an event that is accepted after these has the gateway's answer: a ring its call's number; a tick the timer that
--- gives the call up in it, why a page is refused in it, and the report of the job that ended in it; and a call that is placed or not the job that was asked for
+-- the end of a call is told, where it ends
+abbrev pub over_tellings : (before after : Option ℕ) → List Description
+over_tellings (Some call) None = inside (codes "call " ++ (decimal call ++ codes " is over")) ∷ []
+over_tellings before after = []
+
+-- A datagram comes from the caller in a call: after those that arrived in this call, a line for each thing that it brings, and no
+-- others; and last that the call is over, where it ends.
+pub record TellsInCall (arrived : List DatagramValue) (octets : List ℕ) (over told : List Description) : Type 0 where
+  pub own : List Description
+  pub brought : TellsDatagram arrived (datagram_of octets) FromCaller [] own
+  pub told_is : told ≡ own ++ over
+
+abbrev pub InCall : (is_over : Bool) → Type 0 → Type 0
+InCall true IsSo = Unit {0}
+InCall false IsSo = IsSo
+
+abbrev pub TellsFromCaller : (before after : Option CallingLeg) → (octets : List ℕ) → List Description → Type 0
+TellsFromCaller None after octets told = Unit {0}
+TellsFromCaller (Some leg) after octets told =
+    InCall (is_idle (core_of leg).state) (TellsInCall leg.arrived octets (over_tellings (Some leg.number) (call_on after)) told)
+
+-- the same of one that comes from the called machine while its job is sent; the end of that call is told by its report
+abbrev pub TellsFromCalled : Writing → Option CalledLeg → (octets : List ℕ) → List Description → Type 0
+TellsFromCalled writes None octets told = Unit {0}
+TellsFromCalled writes (Some leg) octets told =
+    InCall leg.entered (InCall (is_over (called_legs.core_of writes leg).state) (TellsDatagram leg.arrived (datagram_of octets) FromCalled [] told))
+
+-- what is told of an event that is accepted after these has the gateway's answer: a ring its call's number; a datagram in a call
+-- what it brings; a tick the timer that gives the call up in it, why a page is refused in it, and the report of the job that ended in it;
+-- and a call that is placed or not the job that was asked for
 abbrev pub HasAnswer : Setup → Writing → (earlier : List Event) → Event → List Description → Type 0
 HasAnswer setup writes earlier (Ring now number) told = told ≡ inside (codes "ring " ++ decimal number) ∷ []
-HasAnswer setup writes earlier (FromCalling octets now decided read) told = Unit {0}
-HasAnswer setup writes earlier (FromCalled octets now decided) told = Unit {0}
+HasAnswer setup writes earlier (FromCalling octets now decided read) told =
+    TellsFromCaller (calling_leg setup earlier) (calling_leg setup (FromCalling octets now decided read ∷ earlier)) octets told
+HasAnswer setup writes earlier (FromCalled octets now decided) told = TellsFromCalled writes (both_legs setup writes earlier).leg octets told
 HasAnswer setup writes earlier (Tick now given) told = TellsTimer setup earlier now told × SaysWhy setup earlier now told × EndsWithReport given.report told
 HasAnswer setup writes earlier (Placed now connected) told = (job : JobValue) × (asked_after setup writes earlier ≡ Some job) × (told ≡ placed_tellings connected job)
 

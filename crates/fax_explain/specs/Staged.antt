@@ -1,9 +1,14 @@
 -- What a stage holds of what was played.
-use Rattle.std.specs.Prelude.{◌≡◌, ℕ, ◌⊎◌, max, List, [], ◌∷◌, ◌++◌, Some}
+use Rattle.std.specs.Prelude.{◌≡◌, ℕ, ◌⊎◌, max, Bool, true, false, List, [], ◌∷◌, ◌++◌, Option, Some, None}
+use Rattle.fax_jobs.specs.Jobs.{JobValue}
+use Rattle.fax_call.specs.Delivery.{is_over}
 use Rattle.fax_call.specs.Writings.{IsWriting, Writing}
 use Rattle.fax_gateway.specs.Setups.{AreSet, Setup}
 use Rattle.fax_answer.specs.Replies.{ConfirmedPage}
-use Rattle.fax_gateway.specs.CallingLegs.{calling_leg}
+use Rattle.fax_gateway.specs.CallingLegs.{CallingLeg, calling_leg, core_of, is_idle}
+use Rattle.fax_gateway.specs.CalledLegs as called_legs
+use Rattle.fax_gateway.specs.CalledLegs.{CalledLeg}
+use Rattle.fax_gateway.specs.BothLegs.{both_legs}
 use Rattle.fax_gateway.specs.Cuts.{confirmed_at}
 use Rattle.fax_gateway.specs.Events.{Event, clock, moment_of}
 use Rattle.fax_gateway.specs.Reached.{GatewayValue, IsReachedBy}
@@ -12,8 +17,11 @@ use Rattle.fax_trace.specs.declared.event.ScriptEvent.TheVariants.{Tick}
 use Rattle.fax_trace.specs.Playing.{PlayedScript, IsRefusal, moment_at, scripted}
 use Rattle.fax_explain.specs.declared.stage.FoundPage.{FoundPage}
 use Rattle.fax_explain.specs.declared.stage.Stage.{Stage}
+use Rattle.fax_explain.specs.declared.listener.Listener.{Listener}
+use Rattle.fax_explain.specs.Heard.{IsHearing}
 use Rattle.fax_explain.specs.Ladders.{HasAnswer, TellsPlay, timers_told}
 use Rattle.fax_explain.specs.Places.{HasPicture}
+use Rattle.fax_descriptions.specs.declared.lane.Lane.TheVariants.{FromCaller, FromCalled}
 use Rattle.fax_descriptions.specs.Tales.{inside, paragraph_text}
 use Rattle.fax_descriptions.specs.Tellings.{Description}
 
@@ -21,34 +29,60 @@ use Rattle.fax_descriptions.specs.Tellings.{Description}
 abbrev pub GoesOn : (old new : List Description) → Type 0
 GoesOn old new = (more : List Description) × (new ≡ old ++ more)
 
+-- the listener to the caller has heard what arrived in the call that is on
+abbrev pub HearsCall : Option CallingLeg → Listener → Type 0
+HearsCall None listener = Unit {0}
+HearsCall (Some leg) listener = is_idle (core_of leg).state ≡ false → (listener.lane ≡ FromCaller) × IsHearing leg.arrived listener
+
+-- and the one to the called machine, while its job is sent and its call is not over
+abbrev pub HearsJob : Writing → Option CalledLeg → Listener → Type 0
+HearsJob writes None listener = Unit {0}
+HearsJob writes (Some leg) listener =
+    leg.entered ≡ false → is_over (called_legs.core_of writes leg).state ≡ false → (listener.lane ≡ FromCalled) × IsHearing leg.arrived listener
+
+-- where a job is sent, the listener to the called machine is a new one; and where none was sent before
+abbrev pub BeginsWith : Option JobValue → (old new : Listener) → Type 0
+BeginsWith None old new = new ≡ old
+BeginsWith (Some job) old new = (new.lane ≡ FromCalled) × IsHearing [] new
+
+abbrev pub BeginsIf : (was_sending : Bool) → Option JobValue → (old new : Listener) → Type 0
+BeginsIf true sending old new = new ≡ old
+BeginsIf false sending old new = BeginsWith sending old new
+
+-- the trace led to a stage, where this function gives the texts of pages: to its gateway, and to what was heard
+pub record IsStagedBy (setup : Setup) (writes : Writing) (trace : List Event) (stage : Stage) : Type 0 where
+  pub reached : IsReachedBy setup writes trace stage.gateway
+  pub hears : HearsCall (calling_leg setup trace) stage.calling.theirs
+  pub hears_job : HearsJob writes (both_legs setup writes trace).leg stage.called.theirs
+
 -- A gateway accepted one event more, and this is told of its answer.
-pub record HasAccepted (setup : Setup) (writes : Writing) (old : PlayedScript) (event : ScriptEvent) (told : List Description) (gateway : GatewayValue) : Type 0 where
+pub record HasAccepted (setup : Setup) (writes : Writing) (old : PlayedScript) (event : ScriptEvent) (told : List Description) (stage : Stage) : Type 0 where
   pub accepted : Event
   pub event_is : scripted accepted ≡ event
   pub at : moment_of accepted ≡ moment_at event old.moment
   pub answer : HasAnswer setup writes old.trace accepted told
-  pub reached : IsReachedBy setup writes (accepted ∷ old.trace) gateway
+  pub reached : IsStagedBy setup writes (accepted ∷ old.trace) stage
 
 -- or it refused it, and this is told of why
-pub record HasRefused (setup : Setup) (writes : Writing) (old : PlayedScript) (event : ScriptEvent) (told : List Description) (gateway : GatewayValue) : Type 0 where
+pub record HasRefused (setup : Setup) (writes : Writing) (old : PlayedScript) (event : ScriptEvent) (told : List Description) (stage : Stage) : Type 0 where
   pub line : List ℕ
   pub cause : IsRefusal setup writes old.trace event line
   pub why : List ℕ
   pub told_is : told ≡ inside (line ++ why) ∷ []
-  pub reached : IsReachedBy setup writes old.trace gateway
+  pub reached : IsStagedBy setup writes old.trace stage
 
-abbrev pub HasAnswered : Setup → Writing → PlayedScript → ScriptEvent → List Description → GatewayValue → Type 0
-HasAnswered setup writes old event told gateway = HasAccepted setup writes old event told gateway ⊎ HasRefused setup writes old event told gateway
+abbrev pub HasAnswered : Setup → Writing → PlayedScript → ScriptEvent → List Description → Stage → Type 0
+HasAnswered setup writes old event told stage = HasAccepted setup writes old event told stage ⊎ HasRefused setup writes old event told stage
 
 -- one event more was played on a gateway, and this is told of it
-pub record PlaysOn (setup : Setup) (writes : Writing) (old : PlayedScript) (event : ScriptEvent) (told : List Description) (gateway : GatewayValue) : Type 0 where
+pub record PlaysOn (setup : Setup) (writes : Writing) (old : PlayedScript) (event : ScriptEvent) (told : List Description) (stage : Stage) : Type 0 where
   pub new : PlayedScript
   pub tells : TellsPlay setup writes old event new told
-  pub reached : IsReachedBy setup writes new.trace gateway
+  pub reached : IsStagedBy setup writes new.trace stage
 
 -- nothing was played
 abbrev pub IsNew : Stage → Type 0
-IsNew stage = (setup : Setup) (writes : Writing) → AreSet setup stage.gateway.settings → IsReachedBy setup writes [] stage.gateway
+IsNew stage = (setup : Setup) (writes : Writing) → AreSet setup stage.gateway.settings → IsStagedBy setup writes [] stage
 
 -- the timer that acts in a tick at this moment on the calling leg gives the call up, where it does so, and that is told
 abbrev pub TimersAct : GatewayValue → (moment : ℕ) → (old new : List Description) → Type 0
@@ -64,64 +98,64 @@ Pictures gateway moment old new =
 
 -- ---- over whatever was played
 
--- this is so of each setup, writing and script that led to a gateway
-abbrev pub EachScript : GatewayValue → (Setup → Writing → PlayedScript → Type 0) → Type 0
-EachScript gateway IsSo =
+-- this is so of each setup, writing and script that led to a stage
+abbrev pub EachScript : Stage → (Setup → Writing → PlayedScript → Type 0) → Type 0
+EachScript stage IsSo =
     (setup : Setup) (writes : Writing) (played : PlayedScript)
-    → IsReachedBy setup writes played.trace gateway → IsSo setup writes played
+    → IsStagedBy setup writes played.trace stage → IsSo setup writes played
 
 -- the same of those that told this moment last
-abbrev pub EachScriptTo : (moment : ℕ) → GatewayValue → (Setup → Writing → PlayedScript → Type 0)
+abbrev pub EachScriptTo : (moment : ℕ) → Stage → (Setup → Writing → PlayedScript → Type 0)
     → Type 0
-EachScriptTo moment gateway IsSo =
+EachScriptTo moment stage IsSo =
     (setup : Setup) (writes : Writing) (played : PlayedScript) → moment ≡ played.moment
-    → IsReachedBy setup writes played.trace gateway → IsSo setup writes played
+    → IsStagedBy setup writes played.trace stage → IsSo setup writes played
 
 -- the same of those after which an event comes at this moment, where pages are written as a right
 -- writing has them
-abbrev pub EachScriptBefore : ScriptEvent → (moment : ℕ) → GatewayValue
+abbrev pub EachScriptBefore : ScriptEvent → (moment : ℕ) → Stage
     → (Setup → Writing → PlayedScript → Type 0) → Type 0
-EachScriptBefore event moment gateway IsSo =
+EachScriptBefore event moment stage IsSo =
     (setup : Setup) (writes : Writing) (played : PlayedScript) → IsWriting writes
     → moment ≡ moment_at event played.moment
-    → IsReachedBy setup writes played.trace gateway → IsSo setup writes played
+    → IsStagedBy setup writes played.trace stage → IsSo setup writes played
 
--- AN EVENT WAS ANSWERED: after each script that led to the old gateway this is told of the answer,
+-- AN EVENT WAS ANSWERED: after each script that led to the old stage this is told of the answer,
 -- and the new one has taken it
-abbrev pub AnswersEvent : (old : GatewayValue) → ScriptEvent → (told : List Description)
-    → (new : GatewayValue) → Type 0
+abbrev pub AnswersEvent : (old : Stage) → ScriptEvent → (told : List Description)
+    → (new : Stage) → Type 0
 AnswersEvent old event told new =
     EachScript old (λ setup writes played. HasAnswered setup writes played event told new)
 
 -- the same of an event that comes at the moment that was told last
-abbrev pub AnswersAt : (moment : ℕ) → (old : GatewayValue) → ScriptEvent → (told : List Description)
-    → (new : GatewayValue) → Type 0
+abbrev pub AnswersAt : (moment : ℕ) → (old : Stage) → ScriptEvent → (told : List Description)
+    → (new : Stage) → Type 0
 AnswersAt moment old event told new =
     EachScriptTo moment old (λ setup writes played. HasAnswered setup writes played event told new)
 
 -- the same of a tick, where pages are written as a right writing has them
-abbrev pub AnswersTick : (moment : ℕ) → (old : GatewayValue) → (told : List Description)
-    → (new : GatewayValue) → Type 0
+abbrev pub AnswersTick : (moment : ℕ) → (old : Stage) → (told : List Description)
+    → (new : Stage) → Type 0
 AnswersTick moment old told new =
     (setup : Setup) (writes : Writing) (played : PlayedScript) → IsWriting writes
-    → IsReachedBy setup writes played.trace old
+    → IsStagedBy setup writes played.trace old
     → HasAnswered setup writes played (Tick moment) told new
 
 -- the same of any event, at its moment
-abbrev pub AnswersAny : ScriptEvent → (moment : ℕ) → (old : GatewayValue)
-    → (told : List Description) → (new : GatewayValue) → Type 0
+abbrev pub AnswersAny : ScriptEvent → (moment : ℕ) → (old : Stage)
+    → (told : List Description) → (new : Stage) → Type 0
 AnswersAny event moment old told new =
     EachScriptBefore event moment old (λ setup writes played. HasAnswered setup writes played event told new)
 
 -- AN EVENT WAS PLAYED at its moment: this is told of it, and of the call that is asked for from
 -- then on
-abbrev pub PlaysEvent : ScriptEvent → (moment : ℕ) → (old : GatewayValue)
-    → (told : List Description) → (new : GatewayValue) → Type 0
+abbrev pub PlaysEvent : ScriptEvent → (moment : ℕ) → (old : Stage)
+    → (told : List Description) → (new : Stage) → Type 0
 PlaysEvent event moment old told new =
     EachScriptBefore event moment old (λ setup writes played. PlaysOn setup writes played event told new)
 
 -- one event more is played on a gateway, and a text tells it, all at this moment
-pub record TellsOn (event : ScriptEvent) (moment : ℕ) (text : List ℕ) (before after : GatewayValue) : Type 0 where
+pub record TellsOn (event : ScriptEvent) (moment : ℕ) (text : List ℕ) (before after : Stage) : Type 0 where
   pub told : List Description
   pub text_is : text ≡ paragraph_text moment told
   pub plays : PlaysEvent event moment before told after

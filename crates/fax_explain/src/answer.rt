@@ -121,7 +121,7 @@ fn explain_event(
     moment: u64,
     pages: &mut Vec<FoundPage>,
 ) -> Result<Vec<u8>, NoMemory>
-    ensures { IfOk result (λ own. TellsOn event.now moment own.items stage.old.gateway stage.new.gateway) }
+    ensures { IfOk result (λ own. TellsOn event.now moment own.items stage.old stage.new) }
 {
     let scene = stage.play(event, moment)?;
     for found in scene.pages {

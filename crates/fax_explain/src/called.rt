@@ -1,6 +1,7 @@
 //! What is heard on the called leg.
-ghost use Rattle.std.specs.Prelude.{◌≡◌, ◌≢◌, ◌+◌, ◌-◌, ◌^◌, min, None, Some, OnOk};
+ghost use Rattle.std.specs.Prelude.{◌≡◌, ◌≢◌, ◌+◌, ◌-◌, ◌^◌, min, [], None, Some, OnOk};
 ghost use Rattle.fax_udptl.specs.Datagrams.{datagram_of};
+ghost use Rattle.fax_descriptions.specs.declared.lane.Lane.TheVariants.{FromCalled};
 ghost use Rattle.fax_explain.specs.Given.{GoesOnInLine, TellsGiven, arrived_after};
 ghost use Rattle.fax_explain.specs.Heard.{EachHearing, HearsOn, IsHearing, StaysInLane, TellsComing};
 ghost use Rattle.fax_explain.specs.Places.{found_at, sent_place};
@@ -49,6 +50,8 @@ impl CalledLeg {
         ensures call { result.call ≡ None }
         ensures before { result.before ≡ 0 }
         ensures delivered { result.delivered ≡ 0 }
+        ensures lane { result.theirs.lane ≡ FromCalled }
+        ensures hearing { IsHearing [] result.theirs }
     {
         CalledLeg {
             alloc,
@@ -69,6 +72,8 @@ impl CalledLeg {
         ensures delivered { self.new.delivered ≡ 0 }
         ensures before { self.old.call ≡ Some call → self.new.before ≡ self.old.before }
         ensures first { self.old.call ≢ Some call → self.new.before ≡ 0 }
+        ensures lane { self.new.theirs.lane ≡ FromCalled }
+        ensures hearing { IsHearing [] self.new.theirs }
     {
         self.theirs = Listener::new(self.alloc, Lane::FromCalled);
         self.ours = Listener::new(self.alloc, Lane::ToCalled);
@@ -88,6 +93,8 @@ impl CalledLeg {
         ensures delivered { self.new.delivered ≡ 0 }
         ensures before { self.old.call ≡ Some call → self.new.before ≡ self.old.before }
         ensures first { self.old.call ≢ Some call → self.new.before ≡ 0 }
+        ensures lane { self.new.theirs.lane ≡ FromCalled }
+        ensures hearing { IsHearing [] self.new.theirs }
     {
         self.begin(call);
         self.theirs.end_call();
@@ -172,6 +179,7 @@ impl CalledLeg {
             IsHearing (arrived_after arrived given.now.called) self.new.ours)) }
         ensures lane { OnOk result (StaysInLane self.old.ours self.new.ours) }
         ensures place { sent_place self.new ≡ sent_place self.old }
+        ensures theirs { self.new.theirs ≡ self.old.theirs }
     {
         let Some(octets) = &given.called else {
             return Ok(());
@@ -188,6 +196,7 @@ impl CalledLeg {
             (HearsOn self.old.ours (datagram_of octets.now) self.new.ours) }
         ensures lane { OnOk result (StaysInLane self.old.ours self.new.ours) }
         ensures place { sent_place self.new ≡ sent_place self.old }
+        ensures theirs { self.new.theirs ≡ self.old.theirs }
     {
         self.ours.hear(octets, tale)?;
         match self.ours.last_frame() {
@@ -198,7 +207,8 @@ impl CalledLeg {
 
     /// The page that was sent, where the last of it was given and none took it.
     pub(crate) fn take_page(&mut self) -> Option<FoundPage>
-        ensures { result ≡ found_at (sent_place self.old) self.old.ours.page }
+        ensures found { result ≡ found_at (sent_place self.old) self.old.ours.page }
+        ensures theirs { self.new.theirs ≡ self.old.theirs }
     {
         let page = self.ours.take_page()?;
         let place = Place {

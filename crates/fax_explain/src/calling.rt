@@ -1,6 +1,7 @@
 //! What is heard on the calling leg.
-ghost use Rattle.std.specs.Prelude.{◌≡◌, ◌++◌, IfOk, OnOk};
+ghost use Rattle.std.specs.Prelude.{◌≡◌, ◌++◌, [], IfOk, OnOk};
 ghost use Rattle.fax_udptl.specs.Datagrams.{datagram_of};
+ghost use Rattle.fax_descriptions.specs.declared.lane.Lane.TheVariants.{FromCaller};
 ghost use Rattle.fax_descriptions.specs.Tales.{last_with};
 ghost use Rattle.fax_explain.specs.Given.{GoesOnInLine, TellsGiven, arrived_after, timer_lines};
 ghost use Rattle.fax_explain.specs.Heard.{EachHearing, HearsOn, IsHearing, StaysInLane, TellsComing};
@@ -34,6 +35,8 @@ impl CallingLeg {
     /// A leg on which nothing came or was given.
     pub(crate) fn new(alloc: Global) -> Self
         ensures pages { result.pages ≡ 0 }
+        ensures lane { result.theirs.lane ≡ FromCaller }
+        ensures hearing { IsHearing [] result.theirs }
     {
         CallingLeg {
             alloc,
@@ -109,6 +112,7 @@ impl CallingLeg {
         ensures hearing { OnOk result (EachHearing self.old.ours (λ arrived.
             IsHearing (arrived_after arrived given.now.calling) self.new.ours)) }
         ensures lane { OnOk result (StaysInLane self.old.ours self.new.ours) }
+        ensures theirs { self.new.theirs ≡ self.old.theirs }
         ensures found { IfOk result (λ found. found ≡ page_of given.now.kept page self.old) }
     {
         let Some(octets) = &given.calling else {
@@ -130,6 +134,7 @@ impl CallingLeg {
         ensures hearing { OnOk result
             (HearsOn self.old.ours (datagram_of octets.now) self.new.ours) }
         ensures lane { OnOk result (StaysInLane self.old.ours self.new.ours) }
+        ensures theirs { self.new.theirs ≡ self.old.theirs }
         ensures pages { self.new.pages ≡ self.old.pages }
     {
         self.ours.hear(octets, tale)?;
@@ -177,6 +182,7 @@ impl CallingLeg {
     fn confirm(&mut self, kept: Option<Kept>, page: Option<Page<PackedRows>>) -> Option<FoundPage>
         ensures found { result ≡ page_of kept page self.old }
         ensures ours { self.new.ours ≡ self.old.ours }
+        ensures theirs { self.new.theirs ≡ self.old.theirs }
     {
         let call = kept?.call;
         self.pages = self.pages.saturating_add(1);

@@ -1,11 +1,13 @@
 //! A gateway on which a script is played, and what is heard on its legs.
 ghost use Rattle.std.specs.Prelude.{◌≡◌, ◌++◌, [], IfOk, OnOk};
 ghost use Rattle.fax_gateway.specs.Setups.{AreAllowed};
-ghost use Rattle.fax_gateway.specs.Turns.{call_if_new};
+ghost use Rattle.fax_gateway.specs.CallingLegs.{calling_leg};
+ghost use Rattle.fax_gateway.specs.EachTrace.{EachTrace};
+ghost use Rattle.fax_gateway.specs.Turns.{call_if_new, call_on};
 ghost use Rattle.fax_trace.specs.declared.event.ScriptEvent.TheVariants as script;
-ghost use Rattle.fax_explain.specs.Ladders.{EndsWithReport, TellsRefusal, asked_tellings, begun_tellings};
+ghost use Rattle.fax_explain.specs.Ladders.{EndsWithReport, TellsRefusal, asked_tellings, begun_tellings, over_tellings};
 ghost use Rattle.fax_explain.specs.Places.{Grows, Keeps, page_if, page_of};
-ghost use Rattle.fax_explain.specs.Staged.{AnswersAny, AnswersAt, AnswersEvent, AnswersTick, GoesOn, IsNew, Pictures, PlaysEvent, TimersAct};
+ghost use Rattle.fax_explain.specs.Staged.{AnswersAny, AnswersAt, AnswersEvent, AnswersTick, BeginsIf, BeginsWith, GoesOn, IsNew, Pictures, PlaysEvent, TimersAct};
 
 use crate::called::CalledLeg;
 use crate::calling::CallingLeg;
@@ -15,7 +17,7 @@ use crate::store::Place;
 use fax_bits::NoMemory;
 use fax_call::State;
 use fax_descriptions::{Lane, Tale, why_ended, why_refused, words_of_format};
-use fax_gateway::laws::confirms_the_newest;
+use fax_gateway::laws::{confirms_the_newest, jobs_have_states};
 use fax_gateway::{Gateway, Given, PlaceFault, RingFault, Settings};
 use fax_notes::{AnswerNotes, CallNotes};
 use fax_pagestore::{PackedRows, Page};
@@ -76,7 +78,7 @@ impl Stage {
     /// Plays an event at a moment, and tells what happened.
     pub(crate) fn play(&mut self, event: &ScriptEvent, moment: u64) -> Result<Scene, NoMemory>
         ensures { IfOk result (λ scene.
-            PlaysEvent event.now moment self.old.gateway scene.tale self.new.gateway) }
+            PlaysEvent event.now moment self.old scene.tale self.new) }
     {
         let was_asked = self.gateway.asked();
         let mut scene = Scene::new(self.alloc);
@@ -94,7 +96,7 @@ impl Stage {
     ) -> Result<(), NoMemory>
         requires { scene.old.tale ≡ [] }
         ensures { OnOk result
-            (AnswersAny event.now moment self.old.gateway scene.new.tale self.new.gateway) }
+            (AnswersAny event.now moment self.old scene.new.tale self.new) }
     {
         match event {
             ScriptEvent::Ring => self.ring(moment, &mut scene.tale),
@@ -114,7 +116,7 @@ impl Stage {
     fn ring(&mut self, moment: u64, tale: &mut Tale) -> Result<(), NoMemory>
         requires { tale.old ≡ [] }
         ensures { OnOk result
-            (AnswersAt moment self.old.gateway script.Ring tale.new self.new.gateway) }
+            (AnswersAt moment self.old script.Ring tale.new self.new) }
     {
         match self.gateway.ring(moment) {
             Ok(call) => {
@@ -130,8 +132,9 @@ impl Stage {
 
     /// A datagram comes on the calling leg.
     fn hear_calling(&mut self, octets: &[u8], moment: u64, tale: &mut Tale) -> Result<(), NoMemory>
-        ensures { OnOk result (AnswersAt moment self.old.gateway
-            (script.FromCalling octets.now) tale.new self.new.gateway) }
+        requires { tale.old ≡ [] }
+        ensures { OnOk result
+            (AnswersAt moment self.old (script.FromCalling octets.now) tale.new self.new) }
     {
         let call = self.gateway.call();
         let mut notes = AnswerNotes::new(self.alloc);
@@ -150,8 +153,9 @@ impl Stage {
 
     /// A datagram comes on the called leg.
     fn hear_called(&mut self, octets: &[u8], moment: u64, tale: &mut Tale) -> Result<(), NoMemory>
-        ensures { OnOk result (AnswersAt moment self.old.gateway
-            (script.FromCalled octets.now) tale.new self.new.gateway) }
+        requires { tale.old ≡ [] }
+        ensures { OnOk result
+            (AnswersAt moment self.old (script.FromCalled octets.now) tale.new self.new) }
     {
         let state = self.gateway.called_state();
         let mut notes = CallNotes::new(self.alloc);
@@ -171,11 +175,12 @@ impl Stage {
     fn tick(&mut self, moment: u64, scene: &mut Scene) -> Result<(), NoMemory>
         requires { scene.old.tale ≡ [] }
         ensures answers { OnOk result
-            (AnswersTick moment self.old.gateway scene.new.tale self.new.gateway) }
+            (AnswersTick moment self.old scene.new.tale self.new) }
         ensures pictures { OnOk result
             (Pictures self.old.gateway moment scene.old.pages.items scene.new.pages.items) }
     {
         confirms_the_newest();
+        jobs_have_states();
         let call = self.gateway.call();
         let was_sending = self.gateway.sending().is_some();
         self.act(moment, &mut scene.tale)?;
@@ -191,7 +196,7 @@ impl Stage {
     fn connect(&mut self, moment: u64, tale: &mut Tale) -> Result<(), NoMemory>
         requires { tale.old ≡ [] }
         ensures { OnOk result
-            (AnswersEvent self.old.gateway (script.Connected moment) tale.new self.new.gateway) }
+            (AnswersEvent self.old (script.Connected moment) tale.new self.new) }
     {
         match self.gateway.connect(moment) {
             Ok(()) => {
@@ -210,7 +215,7 @@ impl Stage {
     fn not_connected(&mut self, moment: u64, tale: &mut Tale) -> Result<(), NoMemory>
         requires { tale.old ≡ [] }
         ensures { OnOk result
-            (AnswersEvent self.old.gateway (script.NotConnected moment) tale.new self.new.gateway) }
+            (AnswersEvent self.old (script.NotConnected moment) tale.new self.new) }
     {
         match self.gateway.not_connected(moment) {
             Ok(()) => {
@@ -228,6 +233,8 @@ impl Stage {
     /// The timers act in a tick at this moment that does: what they do is told, or told of what they give again.
     fn act(&mut self, moment: u64, tale: &mut Tale) -> Result<(), NoMemory>
         ensures gateway { self.new.gateway ≡ self.old.gateway }
+        ensures theirs { self.new.calling.theirs ≡ self.old.calling.theirs }
+        ensures called { self.new.called.theirs ≡ self.old.called.theirs }
         ensures told { OnOk result (TimersAct self.old.gateway moment tale.old tale.new) }
     {
         self.called.act(self.gateway.called_acting(moment));
@@ -240,6 +247,8 @@ impl Stage {
     /// confirms is kept, where it confirms one.
     fn give_calling(&mut self, given: &Given, scene: &mut Scene) -> Result<(), NoMemory>
         ensures gateway { self.new.gateway ≡ self.old.gateway }
+        ensures theirs { self.new.calling.theirs ≡ self.old.calling.theirs }
+        ensures called { self.new.called.theirs ≡ self.old.called.theirs }
         ensures goes_on { OnOk result (GoesOn scene.old.tale scene.new.tale) }
         ensures refused { OnOk result (TellsRefusal given.now.refused scene.new.tale) }
         ensures page { OnOk result (Keeps (page_of given.now.kept (page_if given.now.kept self.old.gateway.book) self.old.calling) scene.old.pages.items scene.new.pages.items) }
@@ -268,6 +277,8 @@ impl Stage {
     /// What a tick gives on the called leg is told.
     fn give_called(&mut self, given: &Given, scene: &mut Scene) -> Result<(), NoMemory>
         ensures gateway { self.new.gateway ≡ self.old.gateway }
+        ensures theirs { self.new.calling.theirs ≡ self.old.calling.theirs }
+        ensures called { self.new.called.theirs ≡ self.old.called.theirs }
         ensures goes_on { OnOk result (GoesOn scene.old.tale scene.new.tale) }
         ensures pages { OnOk result (Grows scene.old.pages.items scene.new.pages.items) }
     {
@@ -280,7 +291,9 @@ impl Stage {
 
     /// The end of this call of the calling leg is told, where one was on and is over.
     fn tell_over(&self, call: Option<u32>, tale: &mut Tale) -> Result<(), NoMemory>
-        ensures { OnOk result (GoesOn tale.old tale.new) }
+        ensures told { OnOk result (EachTrace self.now.gateway (λ setup writes trace.
+            tale.new ≡ tale.old ++ over_tellings call (call_on (calling_leg setup trace)))) }
+        ensures goes_on { OnOk result (GoesOn tale.old tale.new) }
     {
         let Some(call) = call else {
             return Ok(());
@@ -295,6 +308,8 @@ impl Stage {
     /// Where a job is sent and none was before the tick, its call begins.
     fn begin_job(&mut self, was_sending: bool, tale: &mut Tale) -> Result<(), NoMemory>
         ensures gateway { self.new.gateway ≡ self.old.gateway }
+        ensures theirs { self.new.calling.theirs ≡ self.old.calling.theirs }
+        ensures called { BeginsIf was_sending self.old.gateway.book.sending self.old.called.theirs self.new.called.theirs }
         ensures goes_on { OnOk result (GoesOn tale.old tale.new) }
     {
         if was_sending {
@@ -306,6 +321,8 @@ impl Stage {
     /// The call of the job that is sent begins, where there is one.
     fn begin_call(&mut self, tale: &mut Tale) -> Result<(), NoMemory>
         ensures gateway { self.new.gateway ≡ self.old.gateway }
+        ensures theirs { self.new.calling.theirs ≡ self.old.calling.theirs }
+        ensures called { BeginsWith self.old.gateway.book.sending self.old.called.theirs self.new.called.theirs }
         ensures told { OnOk result (tale.new ≡ tale.old ++ begun_tellings self.old.gateway.book.sending) }
     {
         let Some(job) = self.gateway.sending() else {
@@ -323,7 +340,9 @@ impl Stage {
 
     /// The call of the job that is sent could not be placed, where there is one: it is over as it begins.
     fn fail_call(&mut self)
-        ensures { self.new.gateway ≡ self.old.gateway }
+        ensures gateway { self.new.gateway ≡ self.old.gateway }
+        ensures theirs { self.new.calling.theirs ≡ self.old.calling.theirs }
+        ensures called { BeginsWith self.old.gateway.book.sending self.old.called.theirs self.new.called.theirs }
     {
         if let Some(job) = self.gateway.sending() {
             self.called.fail(job.call());
@@ -333,6 +352,8 @@ impl Stage {
     /// The job that ended is told last, by the line that `faxgate trace` prints, with why it ended so.
     fn end_job(&mut self, given: &Given, tale: &mut Tale) -> Result<(), NoMemory>
         ensures gateway { self.new.gateway ≡ self.old.gateway }
+        ensures theirs { self.new.calling.theirs ≡ self.old.calling.theirs }
+        ensures called { self.new.called.theirs ≡ self.old.called.theirs }
         ensures told { OnOk result (EndsWithReport given.now.report tale.new) }
         ensures goes_on { OnOk result (GoesOn tale.old tale.new) }
     {

@@ -18,7 +18,7 @@ invariant-loop-line l =
       events : List ScriptEvent;
       tell : TellEvents before events;
       lines : List (List ℕ);
-      told : (setup : Setup) (writes : Writing) → AreSet setup l.fn.stage.gateway.settings → IsWriting writes → IsTold setup writes events lines l.moment l.stage.gateway;
+      told : (setup : Setup) (writes : Writing) → AreSet setup l.fn.stage.gateway.settings → IsWriting writes → IsTold setup writes events lines l.moment l.stage;
       text_is : l.text.items ≡ text_of_lines lines;
     }
 

@@ -6,7 +6,7 @@ use Rattle.fax_descriptions.specs.declared.lane.Lane.{Lane}
 use Rattle.fax_explain.specs.declared.listener.Listener.{Listener}
 use Rattle.fax_explain.specs.declared.mark.Mark.{Mark}
 use Rattle.fax_explain.specs.Heard.{AddsLine}
-use Rattle.fax_explain.specs.Listening.{mark_at, marked_frame, passed_text, words_after}
+use Rattle.fax_explain.specs.Listening.{passed_text, words_after}
 use Rattle.fax_explain.specs.Openings.{frame_opening}
 use Rattle.fax_explain.proofs.OpenedLemmas.{always, begins_more, frame_heard, hears_line, ok_then}
 use Rattle.fax_explain.proofs.listener.Listener.hear_frame.Goals as goal
