@@ -15,7 +15,7 @@ Content-Security-Policy: default-src 'none'; style-src 'unsafe-inline'; img-src 
 \r\n";
 
 /// How a request went (RFC 9110, 15; RFC 6585, 5).
-#[derive(Clone, Copy, PartialEq, Eq, Debug)]
+#[derive(Clone, Copy)]
 pub enum Status {
     /// 200: what was asked for is told.
     Good,
@@ -58,7 +58,7 @@ impl Status {
 }
 
 /// What a body is.
-#[derive(Clone, Copy, PartialEq, Eq, Debug)]
+#[derive(Clone, Copy)]
 pub enum Content {
     /// A page in HTML.
     Html,

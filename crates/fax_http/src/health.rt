@@ -6,7 +6,7 @@ use crate::answer::Status;
 use std::alloc::{AllocError, Global};
 
 /// How a server is.
-#[derive(Clone, Copy, PartialEq, Eq, Debug)]
+#[derive(Clone, Copy)]
 pub struct Health {
     /// It was told to stop.
     pub is_stopping: bool,

@@ -1,7 +1,7 @@
 //! What a request asks for.
 
 /// What a server tells.
-#[derive(Clone, Copy, PartialEq, Eq, Debug)]
+#[derive(Clone, Copy, PartialEq, Eq)]
 pub enum Resource {
     /// `/`: a page for an operator.
     Page,
@@ -14,7 +14,7 @@ pub enum Resource {
 }
 
 /// Why a request is refused.
-#[derive(Clone, Copy, PartialEq, Eq, Debug)]
+#[derive(Clone, Copy, PartialEq, Eq)]
 pub enum Refusal {
     /// It cannot be read.
     Unreadable,
@@ -27,7 +27,7 @@ pub enum Refusal {
 }
 
 /// What is told, or why nothing is.
-#[derive(Clone, Copy, PartialEq, Eq, Debug)]
+#[derive(Clone, Copy, PartialEq, Eq)]
 pub enum Wanted {
     /// This.
     Tell(Resource),
@@ -36,7 +36,7 @@ pub enum Wanted {
 }
 
 /// What a request asks for.
-#[derive(Clone, Copy, PartialEq, Eq, Debug)]
+#[derive(Clone, Copy, PartialEq, Eq)]
 pub struct Question {
     pub wanted: Wanted,
     /// Whether the answer has a body: that to HEAD has none.

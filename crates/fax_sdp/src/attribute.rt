@@ -3,11 +3,11 @@ ghost use Rattle.std.specs.Prelude.{◌≡◌};
 ghost use Rattle.fax_sdp.specs.Texts.{number};
 ghost use Rattle.fax_sdp.specs.Attributes.{attribute, bound, correction, flag, management, valued};
 
-use crate::lines::{cut, number_of, same_word};
+use crate::lines::{cut, is_either, number_of, same_word};
 use crate::medium::{Direction, ErrorCorrection, RateManagement};
 
 /// What an `a=` line says, as far as it concerns a fax.
-#[derive(Clone, Copy, PartialEq, Eq, Debug)]
+#[derive(Clone, Copy)]
 pub enum Attribute {
     /// Which way media go.
     Goes(Direction),
@@ -107,11 +107,11 @@ fn bound_of(name: &str, value: &str) -> Attribute
     let Some(number) = number_of(value) else {
         return Attribute::Other;
     };
-    if same_word(name, "T38FaxMaxDatagram") || same_word(name, "T38MaxDatagram") {
+    if is_either(name, "T38FaxMaxDatagram", "T38MaxDatagram") {
         Attribute::MaxDatagram(number)
     } else if same_word(name, "T38FaxMaxBuffer") {
         Attribute::MaxBuffer(number)
-    } else if same_word(name, "T38MaxBitRate") || same_word(name, "T38FaxMaxRate") {
+    } else if is_either(name, "T38MaxBitRate", "T38FaxMaxRate") {
         Attribute::BitRate(number)
     } else {
         Attribute::Other

@@ -1,7 +1,7 @@
 //! Why octets are no session description.
 
 /// Why octets are no session description, or none that is read.
-#[derive(Clone, Copy, PartialEq, Eq, Debug)]
+#[derive(Clone, Copy, PartialEq, Eq)]
 pub enum SdpFault {
     /// More than 65,535 octets.
     TooLong,

@@ -1,5 +1,5 @@
 //! Lines of a text, words and numbers.
-ghost use Rattle.std.specs.Prelude.{◌≡◌, ◌<◌, [], ◌∷◌, length, option_map, IfSome, IfNone};
+ghost use Rattle.std.specs.Prelude.{◌≡◌, ◌||◌, ◌<◌, [], ◌∷◌, length, option_map, IfSome, IfNone};
 ghost use Rattle.std.specs.Char.{is_ascii_digit};
 ghost use Rattle.std.specs.List.{list_all};
 ghost use Rattle.fax_sdp.specs.Texts.{cut_at, has_word as has_word_of, is_word, lines_of, number, without_return};
@@ -43,6 +43,13 @@ pub fn same_word(text: &str, word: &str) -> bool
     ensures { result ≡ is_word text.now word.now }
 {
     text.eq_ignore_ascii_case(word)
+}
+
+/// Whether a word is one of these two, but for the case of its letters.
+pub fn is_either(text: &str, word: &str, other: &str) -> bool
+    ensures { result ≡ is_word text.now word.now || is_word text.now other.now }
+{
+    same_word(text, word) || same_word(text, other)
 }
 
 /// The number that digits write.

@@ -8,7 +8,7 @@ use crate::lines::{has_word, same_word};
 use std::net::{IpAddr, SocketAddr};
 
 /// Which way a medium goes, as its sender sees it.
-#[derive(Clone, Copy, PartialEq, Eq, Debug, Default)]
+#[derive(Clone, Copy, Default)]
 pub enum Direction {
     /// `sendrecv`, or nothing said.
     #[default]
@@ -22,7 +22,7 @@ pub enum Direction {
 }
 
 /// Who makes the training check (TCF).
-#[derive(Clone, Copy, PartialEq, Eq, Debug)]
+#[derive(Clone, Copy, PartialEq, Eq)]
 pub enum RateManagement {
     /// `localTCF`.
     Local,
@@ -31,7 +31,7 @@ pub enum RateManagement {
 }
 
 /// How lost packets are made good.
-#[derive(Clone, Copy, PartialEq, Eq, Debug)]
+#[derive(Clone, Copy, PartialEq, Eq)]
 pub enum ErrorCorrection {
     /// `t38UDPRedundancy`.
     Redundancy,
@@ -42,7 +42,7 @@ pub enum ErrorCorrection {
 }
 
 /// What is said of T.38 (T.38, annex D); none where nothing is said.
-#[derive(Clone, Copy, PartialEq, Eq, Debug, Default)]
+#[derive(Clone, Copy, Default)]
 pub struct Terms {
     /// `T38FaxVersion`.
     pub version: Option<u32>,
@@ -59,7 +59,7 @@ pub struct Terms {
 }
 
 /// An `m=` line, and what holds of it.
-#[derive(Clone, Copy, PartialEq, Eq, Debug, Default)]
+#[derive(Clone, Copy, Default)]
 pub struct Medium<'a> {
     /// What it is: `image`, `audio`.
     pub name: &'a str,

@@ -9,7 +9,7 @@ ghost use Rattle.fax_sdp.specs.Texts.{cut_at, lines_of};
 
 use crate::attribute::{Attribute, attribute_of};
 use crate::fault::SdpFault;
-use crate::lines::{cut, first_line, number_of, same_word};
+use crate::lines::{cut, first_line, is_either, number_of, same_word};
 use crate::medium::{Direction, Medium, Terms};
 use arrayvec::ArrayVec;
 
@@ -20,7 +20,7 @@ pub const MOST_MEDIA: usize = 8;
 pub const MOST_OCTETS: usize = 65_535;
 
 /// The media that a description describes, in their order: so many `m=` lines has its answer.
-#[derive(Debug, Drop)]
+#[derive(Drop)]
 pub struct Session<'a> {
     /// The media.
     pub media: ArrayVec<Medium<'a>, MOST_MEDIA>,
@@ -347,7 +347,7 @@ fn connection_of(text: &str) -> Option<&str>
 {
     let (net, rest) = cut(text, ' ')?;
     let (kind, address) = cut(rest, ' ')?;
-    if same_word(net, "IN") && (same_word(kind, "IP4") || same_word(kind, "IP6")) {
+    if same_word(net, "IN") && is_either(kind, "IP4", "IP6") {
         Some(before_slash(address))
     } else {
         None

@@ -10,7 +10,7 @@ use std::alloc::{AllocError, Global};
 use std::net::IpAddr;
 
 /// Whose description it is, and which of its session: our host hears all its media.
-#[derive(Clone, Copy, Debug)]
+#[derive(Clone, Copy)]
 pub struct Origin {
     /// The number of the session, the same in all descriptions of a call.
     pub session: u64,
@@ -21,7 +21,7 @@ pub struct Origin {
 }
 
 /// T.38 over UDPTL that is open: version 0, 14,400 bits a second at most, the TCF transferred, redundancy.
-#[derive(Clone, Copy, Debug)]
+#[derive(Clone, Copy)]
 pub struct FaxSection {
     /// The port at which it is heard.
     pub port: u16,
@@ -32,7 +32,7 @@ pub struct FaxSection {
 }
 
 /// The formats of audio that a call has before it is a fax's.
-#[derive(Clone, Copy, Debug)]
+#[derive(Clone, Copy)]
 pub enum AudioFormats {
     /// PCMU alone, whose number is 0.
     Pcmu,
@@ -43,7 +43,7 @@ pub enum AudioFormats {
 }
 
 /// Audio over RTP that is open.
-#[derive(Clone, Copy, Debug)]
+#[derive(Clone, Copy)]
 pub struct AudioSection {
     /// The port at which it is heard.
     pub port: u16,
@@ -52,7 +52,7 @@ pub struct AudioSection {
 }
 
 /// What is told of one medium.
-#[derive(Clone, Copy, Debug)]
+#[derive(Clone, Copy)]
 pub enum Section<'a> {
     /// T.38 over UDPTL.
     Fax(FaxSection),
