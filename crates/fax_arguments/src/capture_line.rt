@@ -2,50 +2,46 @@
 ghost use Rattle.std.specs.Prelude.{◌≡◌, ◌⊎◌, IfErr, IfOk};
 ghost use Rattle.clap.specs.Words.{kind_of};
 
-use crate::building::{command, option};
+use crate::building::{Argument, CommandLine, Need, Shape, command_of};
 use clap::builder::ValueParser;
 use clap::error::ErrorKind;
-use clap::{Arg, Command, Error};
+use clap::{Command, Error};
 use std::alloc::{AllocError, Global};
 
 /// The command line of `faxgate capture`.
-pub(crate) fn capture_command<'a>(alloc: Global) -> Result<Command<'a>, AllocError> {
-    command(alloc, "capture", ABOUT, LINES_AND_STATUSES)
-        .arg(caller_option(alloc))?
-        .arg(called_option(alloc))?
-        .arg(call_option(alloc))
-}
+pub(crate) const CAPTURE: CommandLine = CommandLine {
+    name: "capture",
+    about: ABOUT,
+    after: LINES_AND_STATUSES,
+    arguments: &[CALLER, CALLED, CALL],
+};
 
 /// The option of the calling machine.
-fn caller_option<'a>(alloc: Global) -> Arg<'a> {
-    option(
-        alloc,
-        "caller",
-        "ADDRESS",
-        "Where the calling machine sends from: 192.0.2.10, 192.0.2.10:6000, 2001:db8::1 or [2001:db8::1]:6000; ::ffff:192.0.2.10 is 192.0.2.10 [default: who sends the first CNG, or is sent the first CED]",
-    )
-}
+const CALLER: Argument = Argument {
+    name: "caller",
+    shape: Shape::Option("ADDRESS"),
+    help: "Where the calling machine sends from: 192.0.2.10, 192.0.2.10:6000, 2001:db8::1 or [2001:db8::1]:6000; ::ffff:192.0.2.10 is 192.0.2.10 [default: who sends the first CNG, or is sent the first CED]",
+    values: None,
+    need: Need::Free,
+};
 
 /// The option of the called machine.
-fn called_option<'a>(alloc: Global) -> Arg<'a> {
-    option(
-        alloc,
-        "called",
-        "ADDRESS",
-        "Where the called machine sends from [default: whom the caller's gateway calls first]",
-    )
-}
+const CALLED: Argument = Argument {
+    name: "called",
+    shape: Shape::Option("ADDRESS"),
+    help: "Where the called machine sends from [default: whom the caller's gateway calls first]",
+    values: None,
+    need: Need::Free,
+};
 
 /// The option of one call.
-fn call_option<'a>(alloc: Global) -> Arg<'a> {
-    option(
-        alloc,
-        "call",
-        "N",
-        "Only this call of the caller, counted from 1 [default: all]",
-    )
-    .value_parser(ValueParser::Unsigned(1, u64::MAX))
-}
+const CALL: Argument = Argument {
+    name: "call",
+    shape: Shape::Option("N"),
+    help: "Only this call of the caller, counted from 1 [default: all]",
+    values: Some(ValueParser::Unsigned(1, u64::MAX)),
+    need: Need::Free,
+};
 
 /// The error of a text after this option of `faxgate capture` that says no address.
 pub fn refused_address(alloc: Global, option: &str, text: &str) -> Error
@@ -64,44 +60,39 @@ fn address_error(alloc: Global, option: &str, text: &str) -> Result<Error, Error
     let message = format!(in alloc;
         "invalid value '{text}' for '--{option} <ADDRESS>': no address of a host, with a port or without"
     )?;
-    let mut command = capture_command(alloc)?.bin_name("faxgate capture")?;
-    Ok(command.error(ErrorKind::ValueValidation, message.as_str())?)
+    capture_error(alloc, ErrorKind::ValueValidation, message.as_str())
 }
 
 /// The error of addresses of `faxgate capture` of which both mean one endpoint.
 pub fn refused_machines(alloc: Global) -> Error
     ensures { (kind_of result ≡ ErrorKind.ValueValidation) ⊎ (kind_of result ≡ ErrorKind.OutOfMemory) }
 {
-    match machines_error(alloc) {
+    match capture_error(alloc, ErrorKind::ValueValidation, ONE_MACHINE) {
         Ok(error) | Err(error) => error,
     }
-}
-
-/// That error. An `Err` says that memory was wanted.
-fn machines_error(alloc: Global) -> Result<Error, Error>
-    ensures ok { IfOk result (λ error. kind_of error ≡ ErrorKind.ValueValidation) }
-    ensures err { IfErr result (λ error. kind_of error ≡ ErrorKind.OutOfMemory) }
-{
-    let mut command = capture_command(alloc)?.bin_name("faxgate capture")?;
-    Ok(command.error(ErrorKind::ValueValidation, ONE_MACHINE)?)
 }
 
 /// The error of one address of `faxgate capture` without the other one.
 pub fn refused_half(alloc: Global) -> Error
     ensures { (kind_of result ≡ ErrorKind.ValueValidation) ⊎ (kind_of result ≡ ErrorKind.OutOfMemory) }
 {
-    match half_error(alloc) {
+    match capture_error(alloc, ErrorKind::ValueValidation, HALF) {
         Ok(error) | Err(error) => error,
     }
 }
 
-/// That error. An `Err` says that memory was wanted.
-fn half_error(alloc: Global) -> Result<Error, Error>
-    ensures ok { IfOk result (λ error. kind_of error ≡ ErrorKind.ValueValidation) }
+/// An error of this kind, with this message. An `Err` says that memory was wanted.
+fn capture_error(alloc: Global, kind: ErrorKind, message: &str) -> Result<Error, Error>
+    ensures ok { IfOk result (λ error. kind_of error ≡ kind) }
     ensures err { IfErr result (λ error. kind_of error ≡ ErrorKind.OutOfMemory) }
 {
-    let mut command = capture_command(alloc)?.bin_name("faxgate capture")?;
-    Ok(command.error(ErrorKind::ValueValidation, HALF)?)
+    let mut command = named_command(alloc)?;
+    Ok(command.error(kind, message)?)
+}
+
+/// The command with the name that its errors show.
+fn named_command<'a>(alloc: Global) -> Result<Command<'a>, AllocError> {
+    command_of(alloc, &CAPTURE)?.bin_name("faxgate capture")
 }
 
 const HALF: &str = "say both '--caller <ADDRESS>' and '--called <ADDRESS>', or neither";

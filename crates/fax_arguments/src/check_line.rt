@@ -1,30 +1,22 @@
 //! The command line of `faxgate check`.
-use crate::building::{command, option};
-use clap::{Arg, ArgAction, Command};
-use std::alloc::{AllocError, Global};
+use crate::building::{Argument, CommandLine, Need, Shape};
 
 /// The command line of `faxgate check`.
-pub(crate) fn check_command<'a>(alloc: Global) -> Result<Command<'a>, AllocError> {
-    command(
-        alloc,
-        "check",
-        "Read a configuration as faxgate serve does, and say what its server wants of the system; nothing is opened",
-        ANSWER_AND_STATUSES,
-    )
-    .arg(config_option(alloc))
-}
+pub(crate) const CHECK: CommandLine = CommandLine {
+    name: "check",
+    about: "Read a configuration as faxgate serve does, and say what its server wants of the system; nothing is opened",
+    after: ANSWER_AND_STATUSES,
+    arguments: &[CONFIG],
+};
 
 /// The option of the configuration.
-fn config_option<'a>(alloc: Global) -> Arg<'a> {
-    option(
-        alloc,
-        "config",
-        "FILE",
-        "The configuration, a TOML document: the lines, and the control socket if there is one",
-    )
-    .required(true)
-    .action(ArgAction::Set)
-}
+const CONFIG: Argument = Argument {
+    name: "config",
+    shape: Shape::Option("FILE"),
+    help: "The configuration, a TOML document: the lines, and the control socket if there is one",
+    values: None,
+    need: Need::Required,
+};
 
 const ANSWER_AND_STATUSES: &str = "\
 Prints:

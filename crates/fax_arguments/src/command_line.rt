@@ -2,17 +2,18 @@
 ghost use Rattle.std.specs.Prelude.{◌≡◌, ◌⊎◌, IfErr, IfOk};
 ghost use Rattle.clap.specs.Words.{kind_of};
 
-use crate::capture_line::capture_command;
-use crate::check_line::check_command;
-use crate::explain_line::explain_command;
-use crate::loop_line::loop_command;
-use crate::page_line::page_command;
-use crate::receive_line::receive_command;
-use crate::say_line::say_command;
-use crate::send_line::send_command;
-use crate::serve_line::serve_command;
-use crate::spool_line::spool_command;
-use crate::trace_line::trace_command;
+use crate::building::{CommandLine, command_of};
+use crate::capture_line::CAPTURE;
+use crate::check_line::CHECK;
+use crate::explain_line::EXPLAIN;
+use crate::loop_line::LOOP;
+use crate::page_line::PAGE;
+use crate::receive_line::RECEIVE;
+use crate::say_line::SAY;
+use crate::send_line::SEND;
+use crate::serve_line::SERVE;
+use crate::spool_line::SPOOL;
+use crate::trace_line::TRACE;
 use clap::error::ErrorKind;
 use clap::{Command, Error};
 use std::alloc::{AllocError, Global};
@@ -20,37 +21,32 @@ use std::alloc::{AllocError, Global};
 /// What `faxgate --version` prints after the name.
 const VERSION: &str = "0.1.0";
 
+/// What its help says first.
+const ABOUT: &str =
+    "Serves the lines of a fax gateway, lists what waits in its spool, reads and writes its pages, plays what came to one, from a capture too, sends a page through one, and sends and receives pages as a machine does";
+
+/// The commands, in the order of the help: those that answer an input, and those that call and are called.
+const COMMANDS: [&CommandLine; 11] = [
+    &PAGE, &TRACE, &EXPLAIN, &CAPTURE, &LOOP, &SERVE, &CHECK, &SAY, &SPOOL, &SEND, &RECEIVE,
+];
+
 /// The command line of the program.
 pub fn faxgate_command<'a>(alloc: Global) -> Result<Command<'a>, AllocError> {
-    let command = Command::new(alloc, "faxgate")
-        .bin_name("faxgate")?
+    let mut faxgate = bare_command(alloc)?;
+    for line in COMMANDS {
+        let command = command_of(alloc, line)?;
+        faxgate = faxgate.subcommand(command)?;
+    }
+    Ok(faxgate)
+}
+
+/// The same without its commands.
+fn bare_command<'a>(alloc: Global) -> Result<Command<'a>, AllocError> {
+    Command::new(alloc, "faxgate")
         .version(VERSION)
-        .about(
-            "Serves the lines of a fax gateway, lists what waits in its spool, reads and writes its pages, plays what came to one, from a capture too, sends a page through one, and sends and receives pages as a machine does",
-        )
-        .subcommand_required(true);
-    with_calls(alloc, with_inputs(alloc, command)?)
-}
-
-/// Adds the commands that answer an input.
-fn with_inputs<'a>(alloc: Global, command: Command<'a>) -> Result<Command<'a>, AllocError> {
-    command
-        .subcommand(page_command(alloc)?)?
-        .subcommand(trace_command(alloc)?)?
-        .subcommand(explain_command(alloc)?)?
-        .subcommand(capture_command(alloc)?)
-}
-
-/// Adds the commands that call and are called.
-fn with_calls<'a>(alloc: Global, command: Command<'a>) -> Result<Command<'a>, AllocError> {
-    command
-        .subcommand(loop_command(alloc)?)?
-        .subcommand(serve_command(alloc)?)?
-        .subcommand(check_command(alloc)?)?
-        .subcommand(say_command(alloc)?)?
-        .subcommand(spool_command(alloc)?)?
-        .subcommand(send_command(alloc)?)?
-        .subcommand(receive_command(alloc)?)
+        .about(ABOUT)
+        .subcommand_required(true)
+        .bin_name("faxgate")
 }
 
 /// The error of words that name no command.

@@ -1,32 +1,23 @@
 //! The command line of `faxgate explain`.
-use crate::building::{command, option};
-use crate::options::{asks_option, preamble_option, redundancy_option};
-use clap::{Arg, Command};
-use std::alloc::{AllocError, Global};
+use crate::building::{Argument, CommandLine, Need, Shape};
+use crate::options::{ASKS, PREAMBLE, REDUNDANCY};
 
 /// The command line of `faxgate explain`.
-pub(crate) fn explain_command<'a>(alloc: Global) -> Result<Command<'a>, AllocError> {
-    command(
-        alloc,
-        "explain",
-        "Read a script as faxgate trace does, and print its call as a ladder: a line for each thing that happened, with its moment in milliseconds, from whom to whom, and what it means in T.30's terms",
-        LINES_AND_STATUSES,
-    )
-    .arg(redundancy_option(alloc))?
-    .arg(preamble_option(alloc))?
-    .arg(asks_option(alloc))?
-    .arg(pages_option(alloc))
-}
+pub(crate) const EXPLAIN: CommandLine = CommandLine {
+    name: "explain",
+    about: "Read a script as faxgate trace does, and print its call as a ladder: a line for each thing that happened, with its moment in milliseconds, from whom to whom, and what it means in T.30's terms",
+    after: LINES_AND_STATUSES,
+    arguments: &[REDUNDANCY, PREAMBLE, ASKS, PAGES],
+};
 
 /// The option of pictures.
-fn pages_option<'a>(alloc: Global) -> Arg<'a> {
-    option(
-        alloc,
-        "pages",
-        "PREFIX",
-        "Write each page as a picture: PREFIX-CALL-PAGE.pbm where it was confirmed, PREFIX-CALL-PAGE-sent.pbm where it was sent on; a file that is there is written over",
-    )
-}
+const PAGES: Argument = Argument {
+    name: "pages",
+    shape: Shape::Option("PREFIX"),
+    help: "Write each page as a picture: PREFIX-CALL-PAGE.pbm where it was confirmed, PREFIX-CALL-PAGE-sent.pbm where it was sent on; a file that is there is written over",
+    values: None,
+    need: Need::Free,
+};
 
 const LINES_AND_STATUSES: &str = "\
 Reads:

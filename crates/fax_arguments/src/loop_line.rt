@@ -1,20 +1,14 @@
 //! The command line of `faxgate loop`.
-use crate::building::command;
-use crate::options::{preamble_option, redundancy_option};
-use clap::Command;
-use std::alloc::{AllocError, Global};
+use crate::building::CommandLine;
+use crate::options::{PREAMBLE, REDUNDANCY};
 
 /// The command line of `faxgate loop`.
-pub(crate) fn loop_command<'a>(alloc: Global) -> Result<Command<'a>, AllocError> {
-    command(
-        alloc,
-        "loop",
-        "Send a page from one machine through a gateway to another, over UDP on this host: read its octets as hex text, and print how the job ended and the rows that were confirmed",
-        LINES_AND_STATUSES,
-    )
-    .arg(redundancy_option(alloc))?
-    .arg(preamble_option(alloc))
-}
+pub(crate) const LOOP: CommandLine = CommandLine {
+    name: "loop",
+    about: "Send a page from one machine through a gateway to another, over UDP on this host: read its octets as hex text, and print how the job ended and the rows that were confirmed",
+    after: LINES_AND_STATUSES,
+    arguments: &[REDUNDANCY, PREAMBLE],
+};
 
 const LINES_AND_STATUSES: &str = "\
 Reads:

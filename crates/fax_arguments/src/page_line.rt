@@ -1,60 +1,51 @@
 //! The command line of `faxgate page`.
-use crate::building::{command, flag, option};
-use crate::options::{coding_option, width_option};
+use crate::building::{Argument, CommandLine, Need, Shape};
+use crate::options::{CODING, WIDTH};
 use clap::builder::ValueParser;
-use clap::{Arg, Command};
-use std::alloc::{AllocError, Global};
 
 /// The command line of `faxgate page`.
-pub(crate) fn page_command<'a>(alloc: Global) -> Result<Command<'a>, AllocError> {
-    command(
-        alloc,
-        "page",
-        "Read the octets of a page as hex text, and print each row as a line of run lengths, white first",
-        LINES_AND_STATUSES,
-    )
-    .arg(width_option(alloc))?
-    .arg(coding_option(alloc))?
-    .arg(fine_option(alloc))?
-    .arg(least_option(alloc))?
-    .arg(back_option(alloc))?
-    .arg(picture_option(alloc)?)
-}
+pub(crate) const PAGE: CommandLine = CommandLine {
+    name: "page",
+    about: "Read the octets of a page as hex text, and print each row as a line of run lengths, white first",
+    after: LINES_AND_STATUSES,
+    arguments: &[WIDTH, CODING, FINE, LEAST, BACK, PICTURE],
+};
 
 /// The option of the resolution.
-fn fine_option<'a>(alloc: Global) -> Arg<'a> {
-    flag(
-        alloc,
-        "fine",
-        "The fine resolution: with --back and mr, one line of 4 is one-dimensional, in place of one of 2",
-    )
-}
+const FINE: Argument = Argument {
+    name: "fine",
+    shape: Shape::Flag,
+    help: "The fine resolution: with --back and mr, one line of 4 is one-dimensional, in place of one of 2",
+    values: None,
+    need: Need::Free,
+};
 
 /// The option of the least bits of a line.
-fn least_option<'a>(alloc: Global) -> Arg<'a> {
-    option(
-        alloc,
-        "least",
-        "BITS",
-        "With --back, the least bits of a line, its fill and EOL included",
-    )
-    .value_parser(ValueParser::Unsigned(0, 65_535))
-    .default_value("0")
-}
+const LEAST: Argument = Argument {
+    name: "least",
+    shape: Shape::Option("BITS"),
+    help: "With --back, the least bits of a line, its fill and EOL included",
+    values: Some(ValueParser::Unsigned(0, 65_535)),
+    need: Need::Default("0"),
+};
 
 /// The option of the way back.
-fn back_option<'a>(alloc: Global) -> Arg<'a> {
-    flag(
-        alloc,
-        "back",
-        "Read lines of run lengths, and print the octets of their page as hex text",
-    )
-}
+const BACK: Argument = Argument {
+    name: "back",
+    shape: Shape::Flag,
+    help: "Read lines of run lengths, and print the octets of their page as hex text",
+    values: None,
+    need: Need::Free,
+};
 
 /// The option of pictures.
-fn picture_option<'a>(alloc: Global) -> Result<Arg<'a>, AllocError> {
-    flag(alloc, "pbm", "Write the page as a picture, a PBM").conflicts_with("back")
-}
+const PICTURE: Argument = Argument {
+    name: "pbm",
+    shape: Shape::Flag,
+    help: "Write the page as a picture, a PBM",
+    values: None,
+    need: Need::Without("back"),
+};
 
 const LINES_AND_STATUSES: &str = "\
 Reads:

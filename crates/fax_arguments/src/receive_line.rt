@@ -1,68 +1,51 @@
 //! The command line of `faxgate receive`.
-use crate::building::{command, flag, option};
-use crate::options::{preamble_option, redundancy_option, repeat_option};
+use crate::building::{Argument, CommandLine, Need, Shape};
+use crate::options::{PREAMBLE, REDUNDANCY, REPEAT};
 use clap::builder::ValueParser;
-use clap::{Arg, Command};
-use std::alloc::{AllocError, Global};
 
 /// The command line of `faxgate receive`.
-pub(crate) fn receive_command<'a>(alloc: Global) -> Result<Command<'a>, AllocError> {
-    command(
-        alloc,
-        "receive",
-        "Answer calls of T.38 machines over UDP, one after another, as a machine does, and write each page that is confirmed as a picture (PBM) or as a TIFF, into a file that was not there",
-        LINES_AND_STATUSES,
-    )
-    .arg(local_option(alloc))?
-    .arg(pages_option(alloc))?
-    .arg(tiff_option(alloc))?
-    .arg(calls_option(alloc))?
-    .arg(redundancy_option(alloc))?
-    .arg(preamble_option(alloc))?
-    .arg(repeat_option(alloc))
-}
+pub(crate) const RECEIVE: CommandLine = CommandLine {
+    name: "receive",
+    about: "Answer calls of T.38 machines over UDP, one after another, as a machine does, and write each page that is confirmed as a picture (PBM) or as a TIFF, into a file that was not there",
+    after: LINES_AND_STATUSES,
+    arguments: &[LOCAL, PAGES, TIFF, CALLS, REDUNDANCY, PREAMBLE, REPEAT],
+};
 
 /// The option of the address at which calls come.
-fn local_option<'a>(alloc: Global) -> Arg<'a> {
-    option(
-        alloc,
-        "on",
-        "ADDRESS",
-        "The address at which calls come, as 0.0.0.0:6000",
-    )
-    .required(true)
-}
+const LOCAL: Argument = Argument {
+    name: "on",
+    shape: Shape::Option("ADDRESS"),
+    help: "The address at which calls come, as 0.0.0.0:6000",
+    values: None,
+    need: Need::Required,
+};
 
 /// The option of the names of files.
-fn pages_option<'a>(alloc: Global) -> Arg<'a> {
-    option(
-        alloc,
-        "pages",
-        "PREFIX",
-        "How the names of files begin: PREFIX-CALL-PAGE.pbm, calls from 0 on, pages from 1 on",
-    )
-    .default_value("page")
-}
+const PAGES: Argument = Argument {
+    name: "pages",
+    shape: Shape::Option("PREFIX"),
+    help: "How the names of files begin: PREFIX-CALL-PAGE.pbm, calls from 0 on, pages from 1 on",
+    values: None,
+    need: Need::Default("page"),
+};
 
 /// The option of TIFFs.
-fn tiff_option<'a>(alloc: Global) -> Arg<'a> {
-    flag(
-        alloc,
-        "tiff",
-        "Write TIFFs of class F, PREFIX-CALL-PAGE.tif, each of one page, in place of pictures",
-    )
-}
+const TIFF: Argument = Argument {
+    name: "tiff",
+    shape: Shape::Flag,
+    help: "Write TIFFs of class F, PREFIX-CALL-PAGE.tif, each of one page, in place of pictures",
+    values: None,
+    need: Need::Free,
+};
 
 /// The option of how many calls are answered.
-fn calls_option<'a>(alloc: Global) -> Arg<'a> {
-    option(
-        alloc,
-        "calls",
-        "N",
-        "How many calls are answered [default: all]",
-    )
-    .value_parser(ValueParser::Unsigned(1, u64::MAX))
-}
+const CALLS: Argument = Argument {
+    name: "calls",
+    shape: Shape::Option("N"),
+    help: "How many calls are answered [default: all]",
+    values: Some(ValueParser::Unsigned(1, u64::MAX)),
+    need: Need::Free,
+};
 
 const LINES_AND_STATUSES: &str = "\
 Reads:

@@ -2,39 +2,36 @@
 ghost use Rattle.std.specs.Prelude.{◌≡◌, ◌⊎◌, IfErr, IfOk};
 ghost use Rattle.clap.specs.Words.{kind_of};
 
-use crate::building::command;
+use crate::building::{Argument, CommandLine, Need, Shape, command_of};
 use clap::error::ErrorKind;
-use clap::{Arg, Command, Error};
+use clap::{Command, Error};
 use std::alloc::{AllocError, Global};
 
 /// The command line of `faxgate say`.
-pub(crate) fn say_command<'a>(alloc: Global) -> Result<Command<'a>, AllocError> {
-    command(
-        alloc,
-        "say",
-        "Say one control word to a running faxgate serve, over its control socket, and print the answer",
-        ANSWERS_AND_STATUSES,
-    )
-    .arg(socket_word(alloc))?
-    .arg(control_words(alloc))
-}
+pub(crate) const SAY: CommandLine = CommandLine {
+    name: "say",
+    about: "Say one control word to a running faxgate serve, over its control socket, and print the answer",
+    after: ANSWERS_AND_STATUSES,
+    arguments: &[SOCKET, CONTROL_WORDS],
+};
 
 /// The word that names the socket.
-fn socket_word<'a>(alloc: Global) -> Arg<'a> {
-    Arg::new(alloc, "socket")
-        .value_name("SOCKET")
-        .required(true)
-        .help("The path of the control socket, as the configuration of the server has it")
-}
+const SOCKET: Argument = Argument {
+    name: "socket",
+    shape: Shape::Word("SOCKET"),
+    help: "The path of the control socket, as the configuration of the server has it",
+    values: None,
+    need: Need::Required,
+};
 
 /// The words that are said.
-fn control_words<'a>(alloc: Global) -> Arg<'a> {
-    Arg::new(alloc, "word")
-        .value_name("WORD")
-        .required(true)
-        .num_args(1..)
-        .help("The control word and what belongs to it, as in: ring a1 call-7")
-}
+const CONTROL_WORDS: Argument = Argument {
+    name: "word",
+    shape: Shape::Words("WORD"),
+    help: "The control word and what belongs to it, as in: ring a1 call-7",
+    values: None,
+    need: Need::Required,
+};
 
 /// The error of words that `faxgate say` cannot say.
 pub fn refused_words(alloc: Global, why: &str) -> Error
@@ -51,8 +48,13 @@ fn words_error(alloc: Global, why: &str) -> Result<Error, Error>
     ensures err { IfErr result (λ error. kind_of error ≡ ErrorKind.OutOfMemory) }
 {
     let message = format!(in alloc; "invalid value for '<WORD>...': {why}")?;
-    let mut command = say_command(alloc)?.bin_name("faxgate say")?;
+    let mut command = named_command(alloc)?;
     Ok(command.error(ErrorKind::ValueValidation, message.as_str())?)
+}
+
+/// The command with the name that its errors show.
+fn named_command<'a>(alloc: Global) -> Result<Command<'a>, AllocError> {
+    command_of(alloc, &SAY)?.bin_name("faxgate say")
 }
 
 const ANSWERS_AND_STATUSES: &str = "\

@@ -1,70 +1,52 @@
 //! The command line of `faxgate send`.
-use crate::building::{command, flag, option};
-use crate::options::{
-    coding_option, preamble_option, redundancy_option, repeat_option, width_option,
-};
-use clap::{Arg, Command};
-use std::alloc::{AllocError, Global};
+use crate::building::{Argument, CommandLine, Need, Shape};
+use crate::options::{CODING, PREAMBLE, REDUNDANCY, REPEAT, WIDTH};
 
 /// The command line of `faxgate send`.
-pub(crate) fn send_command<'a>(alloc: Global) -> Result<Command<'a>, AllocError> {
-    command(
-        alloc,
-        "send",
-        "Call a T.38 machine over UDP and send it the pages in files, as a machine does, and print how the call ended: job, call, width, resolution, pages, pages delivered, outcome",
-        LINES_AND_STATUSES,
-    )
-    .arg(called_option(alloc))?
-    .arg(local_option(alloc))?
-    .arg(width_option(alloc))?
-    .arg(coding_option(alloc))?
-    .arg(fine_option(alloc))?
-    .arg(redundancy_option(alloc))?
-    .arg(preamble_option(alloc))?
-    .arg(repeat_option(alloc))?
-    .arg(file_word(alloc))
-}
+pub(crate) const SEND: CommandLine = CommandLine {
+    name: "send",
+    about: "Call a T.38 machine over UDP and send it the pages in files, as a machine does, and print how the call ended: job, call, width, resolution, pages, pages delivered, outcome",
+    after: LINES_AND_STATUSES,
+    arguments: &[
+        CALLED, LOCAL, WIDTH, CODING, FINE, REDUNDANCY, PREAMBLE, REPEAT, FILE,
+    ],
+};
 
 /// The option of the machine that is called.
-fn called_option<'a>(alloc: Global) -> Arg<'a> {
-    option(
-        alloc,
-        "to",
-        "ADDRESS",
-        "The machine that is called, as 192.0.2.10:6000",
-    )
-    .required(true)
-}
+const CALLED: Argument = Argument {
+    name: "to",
+    shape: Shape::Option("ADDRESS"),
+    help: "The machine that is called, as 192.0.2.10:6000",
+    values: None,
+    need: Need::Required,
+};
 
 /// The option of the address from which it is called.
-fn local_option<'a>(alloc: Global) -> Arg<'a> {
-    option(
-        alloc,
-        "on",
-        "ADDRESS",
-        "The address from which it is called [default: any]",
-    )
-}
+const LOCAL: Argument = Argument {
+    name: "on",
+    shape: Shape::Option("ADDRESS"),
+    help: "The address from which it is called [default: any]",
+    values: None,
+    need: Need::Free,
+};
 
 /// The option of the resolution.
-fn fine_option<'a>(alloc: Global) -> Arg<'a> {
-    flag(
-        alloc,
-        "fine",
-        "The fine resolution, of pictures too; a TIFF says its own",
-    )
-}
+const FINE: Argument = Argument {
+    name: "fine",
+    shape: Shape::Flag,
+    help: "The fine resolution, of pictures too; a TIFF says its own",
+    values: None,
+    need: Need::Free,
+};
 
 /// The words that name files.
-fn file_word<'a>(alloc: Global) -> Arg<'a> {
-    Arg::new(alloc, "file")
-        .value_name("FILE")
-        .required(true)
-        .num_args(1..)
-        .help(
-            "Pages: a TIFF of class F, of one or many; or a picture (PBM) of 1728, 2048 or 2432 elements a row; or the octets of a page as hex text, of that width and coding",
-        )
-}
+const FILE: Argument = Argument {
+    name: "file",
+    shape: Shape::Words("FILE"),
+    help: "Pages: a TIFF of class F, of one or many; or a picture (PBM) of 1728, 2048 or 2432 elements a row; or the octets of a page as hex text, of that width and coding",
+    values: None,
+    need: Need::Required,
+};
 
 const LINES_AND_STATUSES: &str = "\
 Reads:

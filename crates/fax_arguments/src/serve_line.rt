@@ -1,30 +1,22 @@
 //! The command line of `faxgate serve`.
-use crate::building::{command, option};
-use clap::{Arg, ArgAction, Command};
-use std::alloc::{AllocError, Global};
+use crate::building::{Argument, CommandLine, Need, Shape};
 
 /// The command line of `faxgate serve`.
-pub(crate) fn serve_command<'a>(alloc: Global) -> Result<Command<'a>, AllocError> {
-    command(
-        alloc,
-        "serve",
-        "Serve the lines of a configuration in real time, over UDP, by words on a control socket or on the standard input, and tell what happens as lines of JSON",
-        WORDS_AND_STATUSES,
-    )
-    .arg(config_option(alloc))
-}
+pub(crate) const SERVE: CommandLine = CommandLine {
+    name: "serve",
+    about: "Serve the lines of a configuration in real time, over UDP, by words on a control socket or on the standard input, and tell what happens as lines of JSON",
+    after: WORDS_AND_STATUSES,
+    arguments: &[CONFIG],
+};
 
 /// The option of the configuration.
-fn config_option<'a>(alloc: Global) -> Arg<'a> {
-    option(
-        alloc,
-        "config",
-        "FILE",
-        "The configuration, a TOML document: the lines, and the control socket if there is one",
-    )
-    .required(true)
-    .action(ArgAction::Set)
-}
+const CONFIG: Argument = Argument {
+    name: "config",
+    shape: Shape::Option("FILE"),
+    help: "The configuration, a TOML document: the lines, and the control socket if there is one",
+    values: None,
+    need: Need::Required,
+};
 
 const WORDS_AND_STATUSES: &str = "\
 Reads:

@@ -1,77 +1,71 @@
 //! The command line of `faxgate spool`.
-use crate::building::{command, option};
+use crate::building::{Argument, CommandLine, Need, Shape};
 use clap::builder::ValueParser;
-use clap::{Arg, Command};
-use std::alloc::{AllocError, Global};
 
 /// The greatest number of a life or a call.
 const MOST: u64 = 0xffff_ffff;
 
 /// The command line of `faxgate spool`.
-pub(crate) fn spool_command<'a>(alloc: Global) -> Result<Command<'a>, AllocError> {
-    command(
-        alloc,
-        "spool",
-        "List the jobs whose pages wait in the spool of a faxgate serve, beside it, and write pages that wait as pictures, or as one TIFF; nothing in the folder is changed",
-        LINES_AND_STATUSES,
-    )
-    .arg(pages_option(alloc))?
-    .arg(tiff_option(alloc)?)?
-    .arg(folder_word(alloc))?
-    .arg(line_word(alloc)?)?
-    .arg(number_word(
-        alloc,
-        "life",
-        "LIFE",
-        "The life of the process in which it came",
-    ))?
-    .arg(number_word(alloc, "call", "CALL", "The number of its call in that life"))
-}
+pub(crate) const SPOOL: CommandLine = CommandLine {
+    name: "spool",
+    about: "List the jobs whose pages wait in the spool of a faxgate serve, beside it, and write pages that wait as pictures, or as one TIFF; nothing in the folder is changed",
+    after: LINES_AND_STATUSES,
+    arguments: &[PAGES, TIFF, FOLDER, LINE, LIFE, CALL],
+};
 
 /// The option of pictures.
-fn pages_option<'a>(alloc: Global) -> Arg<'a> {
-    option(
-        alloc,
-        "pages",
-        "PREFIX",
-        "Write each page as a picture, PREFIX-LINE-LIFE-CALL-NUMBER.pbm, into a file that was not there",
-    )
-}
+const PAGES: Argument = Argument {
+    name: "pages",
+    shape: Shape::Option("PREFIX"),
+    help: "Write each page as a picture, PREFIX-LINE-LIFE-CALL-NUMBER.pbm, into a file that was not there",
+    values: None,
+    need: Need::Free,
+};
 
 /// The option of one TIFF.
-fn tiff_option<'a>(alloc: Global) -> Result<Arg<'a>, AllocError> {
-    option(
-        alloc,
-        "tiff",
-        "FILE",
-        "Write the pages as one TIFF of class F, into a file that was not there",
-    )
-    .conflicts_with("pages")
-}
+const TIFF: Argument = Argument {
+    name: "tiff",
+    shape: Shape::Option("FILE"),
+    help: "Write the pages as one TIFF of class F, into a file that was not there",
+    values: None,
+    need: Need::Without("pages"),
+};
 
 /// The word that names the folder.
-fn folder_word<'a>(alloc: Global) -> Arg<'a> {
-    Arg::new(alloc, "folder")
-        .value_name("FOLDER")
-        .required(true)
-        .help("The folder of the spool, as the configuration of the server has it")
-}
+const FOLDER: Argument = Argument {
+    name: "folder",
+    shape: Shape::Word("FOLDER"),
+    help: "The folder of the spool, as the configuration of the server has it",
+    values: None,
+    need: Need::Required,
+};
 
 /// The word that names the line of a job.
-fn line_word<'a>(alloc: Global) -> Result<Arg<'a>, AllocError> {
-    Arg::new(alloc, "line")
-        .value_name("LINE")
-        .help("This job alone: the name of its line")
-        .requires_arg("call")
-}
+const LINE: Argument = Argument {
+    name: "line",
+    shape: Shape::Word("LINE"),
+    help: "This job alone: the name of its line",
+    values: None,
+    need: Need::With("call"),
+};
 
-/// A word that is a number of a job.
-fn number_word<'a>(alloc: Global, name: &'a str, value_name: &'a str, help: &'a str) -> Arg<'a> {
-    Arg::new(alloc, name)
-        .value_name(value_name)
-        .value_parser(ValueParser::Unsigned(0, MOST))
-        .help(help)
-}
+/// The word that is the life of a job.
+const LIFE: Argument = Argument {
+    name: "life",
+    shape: Shape::Word("LIFE"),
+    help: "The life of the process in which it came",
+    values: Some(ValueParser::Unsigned(0, MOST)),
+    need: Need::Free,
+};
+
+/// The word that is its call.
+const CALL: Argument = Argument {
+    name: "call",
+    shape: Shape::Word("CALL"),
+    help: "The number of its call in that life",
+    values: Some(ValueParser::Unsigned(0, MOST)),
+    need: Need::Free,
+};
 
 const LINES_AND_STATUSES: &str = "\
 Reads:

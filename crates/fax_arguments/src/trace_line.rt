@@ -1,21 +1,14 @@
 //! The command line of `faxgate trace`.
-use crate::building::command;
-use crate::options::{asks_option, preamble_option, redundancy_option};
-use clap::Command;
-use std::alloc::{AllocError, Global};
+use crate::building::CommandLine;
+use crate::options::{ASKS, PREAMBLE, REDUNDANCY};
 
 /// The command line of `faxgate trace`.
-pub(crate) fn trace_command<'a>(alloc: Global) -> Result<Command<'a>, AllocError> {
-    command(
-        alloc,
-        "trace",
-        "Play a script on a new gateway, and print what it answers. Lines of a script: R (it rings), A HEX and B HEX (a datagram came on the calling or on the called leg), T MS (time goes on to a moment), C MS and N MS (the call of a job was placed, or could not be)",
-        LINES_AND_STATUSES,
-    )
-    .arg(redundancy_option(alloc))?
-    .arg(preamble_option(alloc))?
-    .arg(asks_option(alloc))
-}
+pub(crate) const TRACE: CommandLine = CommandLine {
+    name: "trace",
+    about: "Play a script on a new gateway, and print what it answers. Lines of a script: R (it rings), A HEX and B HEX (a datagram came on the calling or on the called leg), T MS (time goes on to a moment), C MS and N MS (the call of a job was placed, or could not be)",
+    after: LINES_AND_STATUSES,
+    arguments: &[REDUNDANCY, PREAMBLE, ASKS],
+};
 
 const LINES_AND_STATUSES: &str = "\
 Reads:

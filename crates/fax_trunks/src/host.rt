@@ -5,7 +5,7 @@ ghost use Rattle.fax_trunks.specs.Hosts.{host_of, is_same as same, of_six};
 use std::net::IpAddr;
 
 /// The family of an address.
-#[derive(Clone, Copy, PartialEq, Eq, Debug, Default)]
+#[derive(Clone, Copy, Default)]
 pub enum Family {
     /// IPv4: 32 bits.
     #[default]
@@ -28,7 +28,7 @@ impl Family {
 
 /// Who calls: the family of an address and its bits, the first one the most significant. An IPv4-mapped address, `::ffff:a.b.c.d` (RFC
 /// 4291, 2.5.5.2), is the IPv4 one.
-#[derive(Clone, Copy, PartialEq, Eq, Debug, Default)]
+#[derive(Clone, Copy, Default)]
 pub struct Host {
     /// The family.
     pub family: Family,

@@ -10,7 +10,7 @@ use crate::text::{cut, number_of};
 use std::net::IpAddr;
 
 /// A network: all hosts of a family whose first bits are those of one of them.
-#[derive(Clone, Copy, PartialEq, Eq, Debug)]
+#[derive(Clone, Copy)]
 pub struct Network {
     /// One of its hosts.
     pub host: Host,

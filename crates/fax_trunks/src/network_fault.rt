@@ -1,7 +1,7 @@
 //! Why a text is no network.
 
 /// Why a text is no network.
-#[derive(Clone, Copy, PartialEq, Eq, Debug)]
+#[derive(Clone, Copy, PartialEq)]
 pub enum NetworkFault {
     /// No slash.
     NoLength,

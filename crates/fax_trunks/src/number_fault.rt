@@ -1,7 +1,7 @@
 //! Why octets are no number.
 
 /// Why octets are no number.
-#[derive(Clone, Copy, PartialEq, Eq, Debug)]
+#[derive(Clone, Copy, PartialEq, Debug)]
 pub enum NumberFault {
     /// The address has no user, or is not a `sip` or `sips` address.
     NoUser,

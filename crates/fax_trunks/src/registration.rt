@@ -11,7 +11,7 @@ use crate::stage::Stage;
 use crate::standing::Standing;
 
 /// A registration with a trunk.
-#[derive(Clone, Copy, PartialEq, Eq, Debug)]
+#[derive(Clone, Copy)]
 pub enum Registration {
     /// The next REGISTER is due at `due`.
     Waiting {

@@ -1,7 +1,7 @@
 //! What happens in a registration, and what is to be done.
 
 /// What happens in a registration. A final answer to the REGISTER that is under way comes once, or none does.
-#[derive(Clone, Copy, PartialEq, Eq, Debug)]
+#[derive(Clone, Copy)]
 pub enum RegistrationEvent {
     /// Time passed.
     TimePassed,
@@ -18,7 +18,7 @@ pub enum RegistrationEvent {
 }
 
 /// What is to be done in a registration.
-#[derive(Clone, Copy, PartialEq, Eq, Debug)]
+#[derive(Clone, Copy, PartialEq)]
 pub enum RegistrationAction {
     /// Nothing.
     Nothing,

@@ -1,7 +1,7 @@
 //! Where a registration stands.
 
 /// Where a registration stands.
-#[derive(Clone, Copy, PartialEq, Eq, Debug)]
+#[derive(Clone, Copy)]
 pub struct Standing {
     /// The pause after the next failure, in milliseconds.
     pub pause: u64,

@@ -348,7 +348,7 @@ fn registered(mut registration: Registration, steps: &[Step]) -> (usize, bool) {
             count = count.saturating_add(1);
         }
     }
-    let is_over = registration == Registration::Over;
+    let is_over = matches!(registration, Registration::Over);
     (count, is_over && registration.next_due().is_none())
 }
 
