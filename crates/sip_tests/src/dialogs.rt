@@ -1,11 +1,11 @@
 //! Dialogs and sessions by hand: the moments are those of RFC 3261, 13.3.1.4 and 14.1, in milliseconds; the flows are those of RFC 3665; the intervals are of RFC 4028, 12.
+use crate::messages::read;
 use fax_dialogs::{
     Agent, Agreement, Dialog, DialogFault, Refresher, Role, Session, SessionAction, SessionEvent,
     SessionTimer, TimerAction, TimerEvent, Within, agree_on, glare_pause, longer_interval,
 };
-use fax_sip::{Field, Message, Name, read_message};
+use fax_sip::{Field, Name};
 use std::alloc::Global;
-use std::test::Fail;
 
 /// When something happens in a session, what that is, and what is to be done.
 type Step = (u64, SessionEvent, SessionAction);
@@ -247,90 +247,127 @@ fn written(
     sent_by: &[u8],
     branch: &[u8],
     fields: &[Field<'_>],
-) -> Result<Vec<u8>, Fail> {
+) -> Option<Vec<u8>> {
     let within = Within {
         method,
-        number: dialog.take_number()?,
+        number: dialog.take_number().ok()?,
         sent_by,
         branch,
         fields,
         body: b"",
     };
-    Ok(dialog.write(alloc, &within)?)
+    dialog.write(alloc, &within).ok()
 }
 
-/// A message.
-fn read(octets: &[u8]) -> Result<Message<'_>, Fail> {
-    Ok(read_message(octets)?)
+/// The dialog that Alice began and Bob answered.
+fn of_caller() -> Option<Dialog> {
+    Dialog::of_caller(&read(ALICE)?, &read(BOB)?).ok()
 }
 
-/// A dialog that Alice began and Bob answered, or that STRICT begins.
-fn dialog_of(role: Role) -> Result<Dialog, Fail> {
-    match role {
-        Role::Caller => Ok(Dialog::of_caller(&read(ALICE)?, &read(BOB)?)?),
-        Role::Answerer => Ok(Dialog::of_answerer(&read(STRICT)?, b"to1")?),
+/// The dialog that STRICT begins.
+fn of_answerer() -> Option<Dialog> {
+    Dialog::of_answerer(&read(STRICT)?, b"to1").ok()
+}
+
+/// Whose a dialog is, whether a message is an answer within it, and whether it is a request there.
+fn seen(dialog: &Dialog, octets: &[u8]) -> Option<(Role, bool, bool)> {
+    let message = read(octets)?;
+    let is_answer = dialog.is_answered_by(&message);
+    Some((dialog.role(), is_answer, dialog.takes(&message)))
+}
+
+/// Alice's BYE within a dialog, of this branch.
+fn bye_of(alloc: Global, dialog: &mut Dialog, branch: &[u8]) -> Option<Vec<u8>> {
+    written(
+        alloc,
+        dialog,
+        b"BYE",
+        b"client.atlanta.example.com",
+        branch,
+        &[],
+    )
+}
+
+/// Whether it is this one.
+fn is_bye(alloc: Global, dialog: &mut Dialog) -> bool {
+    match bye_of(alloc, dialog, b"z9hG4bKnashds") {
+        Some(octets) => octets.as_slice() == ALICE_BYE,
+        None => false,
     }
 }
 
-/// Whether a message is an answer within a dialog, and whether it is a request there.
-fn is_within(dialog: &Dialog, message: &Message<'_>) -> (bool, bool) {
-    (dialog.is_answered_by(message), dialog.takes(message))
+/// Whether it goes to Bob's new target.
+fn goes_to_bob(alloc: Global, dialog: &mut Dialog) -> bool {
+    match bye_of(alloc, dialog, b"z9hG4bKnashe1") {
+        Some(octets) => octets
+            .as_slice()
+            .starts_with(b"BYE sip:bob@192.0.2.204 SIP/2.0\r\n"),
+        None => false,
+    }
+}
+
+/// Whether Bob's re-INVITE is heard within a dialog.
+fn is_refreshed(dialog: &mut Dialog) -> bool {
+    match read(BOB_AGAIN) {
+        Some(again) => dialog.hear(14).is_ok() && dialog.refresh(&again).is_ok(),
+        None => false,
+    }
+}
+
+/// Whether Bob's 200 and his re-INVITE are within the caller's dialog, whose BYE follows the loose routers, and after that goes to his new
+/// target.
+fn goes_on(alloc: Global) -> Option<bool> {
+    let mut dialog = of_caller()?;
+    Some(
+        seen(&dialog, BOB) == Some((Role::Caller, true, false))
+            && is_bye(alloc, &mut dialog)
+            && seen(&dialog, BOB_AGAIN) == Some((Role::Caller, false, true))
+            && is_refreshed(&mut dialog)
+            && goes_to_bob(alloc, &mut dialog),
+    )
 }
 
 #[test]
-fn a_caller_follows_loose_routers_and_a_new_target(rt: HostRuntime) -> Result<(), Fail> {
-    let mut dialog = dialog_of(Role::Caller)?;
-    assert!(rt; dialog.role() == Role::Caller && is_within(&dialog, &read(BOB)?) == (true, false));
-    let bye = written(
-        rt.alloc(),
-        &mut dialog,
-        b"BYE",
-        b"client.atlanta.example.com",
-        b"z9hG4bKnashds",
-        &[],
-    )?;
-    assert!(rt; bye.as_slice() == ALICE_BYE);
-    let again = read(BOB_AGAIN)?;
-    assert!(rt; is_within(&dialog, &again) == (false, true));
-    dialog.hear(14)?;
-    dialog.refresh(&again)?;
-    let octets = written(
-        rt.alloc(),
-        &mut dialog,
-        b"BYE",
-        b"client.atlanta.example.com",
-        b"z9hG4bKnashe1",
-        &[],
-    )?;
-    let line = b"BYE sip:bob@192.0.2.204 SIP/2.0\r\n";
-    assert!(rt; octets.as_slice().starts_with(line));
-    Ok(())
+fn a_caller_follows_loose_routers_and_a_new_target(rt: HostRuntime) {
+    assert!(rt; goes_on(rt.alloc()) == Some(true));
 }
 
-#[test]
-fn an_answerer_follows_a_strict_router(rt: HostRuntime) -> Result<(), Fail> {
-    let mut dialog = dialog_of(Role::Answerer)?;
-    assert!(rt;
-        dialog.role() == Role::Answerer && is_within(&dialog, &read(STRICT)?) == (false, false)
-    );
+/// Whether our OPTIONS within a dialog are these.
+fn are_options(alloc: Global, dialog: &mut Dialog) -> bool {
     let allow = [Field {
         name: Name::Allow,
         value: b"INVITE, ACK, BYE, CANCEL, OPTIONS",
     }];
-    let options = written(
-        rt.alloc(),
-        &mut dialog,
+    match written(
+        alloc,
+        dialog,
         b"OPTIONS",
         b"gw.example",
         b"z9hG4bK2",
         &allow,
-    )?;
-    assert!(rt; options.as_slice() == STRICT_OPTIONS);
-    let low = Err(DialogFault::LowNumber);
-    for (number, heard) in [(314_158, low), (314_160, Ok(())), (314_159, low)] {
-        assert!(rt; dialog.hear(number) == heard);
+    ) {
+        Some(octets) => octets.as_slice() == STRICT_OPTIONS,
+        None => false,
     }
-    Ok(())
+}
+
+/// Whether the request that began an answerer's dialog is none within it, whose OPTIONS follow the strict router, and where numbers that
+/// are not above the last one are low.
+fn follows(alloc: Global) -> Option<bool> {
+    let mut dialog = of_answerer()?;
+    let low = Err(DialogFault::LowNumber);
+    Some(
+        seen(&dialog, STRICT) == Some((Role::Answerer, false, false))
+            && are_options(alloc, &mut dialog)
+            && dialog.hear(314_158) == low
+            && dialog.hear(314_160) == Ok(())
+            && dialog.hear(314_159) == low,
+    )
+}
+
+#[test]
+fn an_answerer_follows_a_strict_router(rt: HostRuntime) {
+    assert!(rt; follows(rt.alloc()) == Some(true));
 }
 
 /// An interval, who asked to refresh, whether the other end takes timers, and what comes of it: RFC 4028, 12, where 50 s is too small
@@ -342,14 +379,24 @@ const AGREEMENTS: &[(u32, Option<Agent>, bool, Agreement)] = &[
     (4_000, None, false, Agreement::With(Agent::Uas)),
 ];
 
+/// How many of these are agreed on as they are to.
+fn agreed() -> usize {
+    let mut count = 0usize;
+    for (seconds, asked, is_supported, agreement) in AGREEMENTS {
+        if agree_on(*seconds, *asked, *is_supported) == *agreement {
+            count = count.saturating_add(1);
+        }
+    }
+    count
+}
+
 #[test]
 fn intervals_are_agreed_on(rt: HostRuntime) {
-    for (seconds, asked, is_supported, agreement) in AGREEMENTS {
-        assert!(rt; agree_on(*seconds, *asked, *is_supported) == *agreement);
-    }
-    assert!(rt; longer_interval(50, 3_600) == 3_600);
+    let refreshers = (Agent::Uac.refresher(true), Agent::Uas.refresher(true));
     assert!(rt;
-        Agent::Uac.refresher(true) == Refresher::We && Agent::Uas.refresher(true) == Refresher::They
+        agreed() == AGREEMENTS.len()
+            && longer_interval(50, 3_600) == 3_600
+            && refreshers == (Refresher::We, Refresher::They)
     );
 }
 

@@ -1,6 +1,6 @@
 //! The answers to the challenge of RFC 7616, 3.9.1.
 use fax_digest::{Algorithm, Credentials, response};
-use std::test::Fail;
+use std::alloc::Global;
 
 const MUFASA: Credentials<'static> = Credentials {
     user: b"Mufasa",
@@ -13,13 +13,20 @@ const MUFASA: Credentials<'static> = Credentials {
     client_nonce: b"f2/wE4q74E6zIJEtWaHKaf5wv/H5QzzpXusqGemxURZJ",
 };
 
+/// Whether the answer is this.
+fn is_response(alloc: Global, algorithm: Algorithm, wanted: &str) -> bool {
+    match response(alloc, algorithm, &MUFASA) {
+        Ok(text) => text.as_str() == wanted,
+        Err(_) => false,
+    }
+}
+
 #[test]
-fn answers_are_those_of_the_standard(rt: HostRuntime) -> Result<(), Fail> {
-    let md5 = response(rt.alloc(), Algorithm::Md5, &MUFASA)?;
-    assert!(rt; md5.as_str() == "8ca523f5e9506fed4657c9700eebdbec");
-    let sha256 = response(rt.alloc(), Algorithm::Sha256, &MUFASA)?;
+fn answers_are_those_of_the_standard(rt: HostRuntime) {
+    let md5 = "8ca523f5e9506fed4657c9700eebdbec";
+    let sha256 = "753927fa0e85d155564e2e272a28d1802ca10daf4496794697cf8db5856cb6c1";
     assert!(rt;
-        sha256.as_str() == "753927fa0e85d155564e2e272a28d1802ca10daf4496794697cf8db5856cb6c1"
+        is_response(rt.alloc(), Algorithm::Md5, md5)
+            && is_response(rt.alloc(), Algorithm::Sha256, sha256)
     );
-    Ok(())
 }

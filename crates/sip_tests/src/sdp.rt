@@ -5,7 +5,6 @@ use fax_sdp::{
 };
 use std::alloc::{AllocError, Global};
 use std::net::{IpAddr, Ipv4Addr, SocketAddr};
-use std::test::Fail;
 
 /// An offer of audio and, on the second line, of T.38.
 const OFFER: &[u8] =
@@ -32,28 +31,41 @@ fn written(alloc: Global, version: u64, sections: &[Section<'_>]) -> Result<Stri
     write_sdp(alloc, &origin, sections)
 }
 
-#[test]
-fn an_answer_refuses_what_it_does_not_take(rt: HostRuntime) -> Result<(), Fail> {
-    let offer = read_sdp(OFFER).ok().ok_or("an offer")?;
+/// The text of the answer that takes T.38 alone.
+fn answer_text(alloc: Global) -> Option<String> {
+    let Ok(offer) = read(OFFER) else {
+        return None;
+    };
     let fax = Section::Fax(FaxSection {
         port: 41_000,
         max_buffer: 1_800,
         max_datagram: 1_400,
     });
-    let text = written(rt.alloc(), 1, answer_sections(&offer, 1, fax).as_slice())?;
-    assert!(rt; text.as_str() == ANSWER);
-    Ok(())
+    written(alloc, 1, answer_sections(&offer, 1, fax).as_slice()).ok()
 }
 
-#[test]
-fn an_offer_of_audio_names_its_formats(rt: HostRuntime) -> Result<(), Fail> {
+/// That of an offer of audio.
+fn audio_text(alloc: Global) -> Option<String> {
     let audio = Section::Audio(AudioSection {
         port: 40_998,
         formats: AudioFormats::Both,
     });
-    let text = written(rt.alloc(), 2, &[audio])?;
-    assert!(rt; text.as_str() == AUDIO);
-    Ok(())
+    written(alloc, 2, &[audio]).ok()
+}
+
+/// Whether a text is this.
+fn is_text(text: Option<String>, wanted: &str) -> bool {
+    match text {
+        Some(text) => text.as_str() == wanted,
+        None => false,
+    }
+}
+
+#[test]
+fn an_answer_refuses_what_it_does_not_take_and_an_offer_names_its_formats(rt: HostRuntime) {
+    let is_answer = is_text(answer_text(rt.alloc()), ANSWER);
+    let is_offer = is_text(audio_text(rt.alloc()), AUDIO);
+    assert!(rt; is_answer && is_offer);
 }
 
 /// Audio that was turned to T.38, from a gateway that holds the audio.
@@ -87,34 +99,51 @@ fn are_its_terms(terms: &Terms) -> bool {
         && terms.max_datagram == Some(238)
 }
 
-#[test]
-fn an_offer_of_t38(rt: HostRuntime) -> Result<(), Fail> {
-    let session = read(FAX).ok().ok_or("an offer")?;
-    assert!(rt;
-        session.media.len() == 2
-            && session.first_t38() == Some(1)
-            && session.first_audio("0").is_none()
-    );
-    let image = medium_at(&session, 1).ok_or("an image")?;
+/// Whether the offer of T.38 is read.
+fn is_fax_read() -> bool {
+    let Ok(session) = read(FAX) else {
+        return false;
+    };
+    let Some(image) = medium_at(&session, 1) else {
+        return false;
+    };
     let host = IpAddr::V4(Ipv4Addr::new(192, 0, 2, 10));
-    assert!(rt; image.address() == Some(SocketAddr::new(host, 49_170)) && !image.is_held());
-    assert!(rt; are_its_terms(&image.terms));
-    Ok(())
+    session.media.len() == 2
+        && session.first_t38() == Some(1)
+        && session.first_audio("0").is_none()
+        && image.address() == Some(SocketAddr::new(host, 49_170))
+        && !image.is_held()
+        && are_its_terms(&image.terms)
+}
+
+/// Whether the audio on hold is.
+fn is_hold_read() -> bool {
+    let Ok(session) = read(HOLD) else {
+        return false;
+    };
+    let Some(audio) = medium_at(&session, 0) else {
+        return false;
+    };
+    session.first_audio("8") == Some(0) && audio.is_held() && audio.direction == Direction::SendOnly
 }
 
 #[test]
-fn audio_on_hold(rt: HostRuntime) -> Result<(), Fail> {
-    let session = read(HOLD).ok().ok_or("an offer")?;
-    let audio = medium_at(&session, 0).ok_or("audio")?;
-    assert!(rt; session.first_audio("8") == Some(0));
-    assert!(rt; audio.is_held() && audio.direction == Direction::SendOnly);
-    Ok(())
+fn an_offer_of_t38_and_audio_on_hold(rt: HostRuntime) {
+    let (is_fax, is_hold) = (is_fax_read(), is_hold_read());
+    assert!(rt; is_fax && is_hold);
+}
+
+/// Why octets are no description.
+fn fault_of(octets: &[u8]) -> Option<SdpFault> {
+    read(octets).err()
 }
 
 #[test]
 fn what_is_none(rt: HostRuntime) {
-    assert!(rt; read(b"o=- 1 1 IN IP4 192.0.2.9\n").err() == Some(SdpFault::NoVersion));
-    assert!(rt; read(b"v=0\nm=image udptl t38\n").err() == Some(SdpFault::BadMedium));
-    assert!(rt; read(b"v=0\nc=IN IP5 x\n").err() == Some(SdpFault::BadConnection));
-    assert!(rt; read(b"v=0\n\xff\n").err() == Some(SdpFault::NoText));
+    assert!(rt;
+        fault_of(b"o=- 1 1 IN IP4 192.0.2.9\n") == Some(SdpFault::NoVersion)
+            && fault_of(b"v=0\nm=image udptl t38\n") == Some(SdpFault::BadMedium)
+            && fault_of(b"v=0\nc=IN IP5 x\n") == Some(SdpFault::BadConnection)
+            && fault_of(b"v=0\n\xff\n") == Some(SdpFault::NoText)
+    );
 }

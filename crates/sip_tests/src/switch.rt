@@ -4,9 +4,8 @@ use fax_switch::{
     AudioEnd, CallEvent, Choice, Coding, Description, Entry, Event, FaxEnd, LineAction, LineCall,
     Offer, SipAction, Switch, describe,
 };
-use std::alloc::{AllocError, Global};
+use std::alloc::Global;
 use std::net::{IpAddr, Ipv4Addr, SocketAddr};
-use std::test::Fail;
 
 /// The call of a line, and the next one of that line.
 const ON: LineCall = LineCall { line: 3, call: 7 };
@@ -240,20 +239,20 @@ fn done_last(switch: &Switch) -> (&'static str, &'static str) {
 }
 
 /// How many steps go as they are to.
-fn played(alloc: Global, steps: &[Step]) -> Result<usize, AllocError> {
+fn played(alloc: Global, steps: &[Step]) -> usize {
     let mut switch = Switch::new(alloc, 2);
     let mut count = 0usize;
     for (now, happening, sent, told) in steps {
-        switch.hear(*now, event(*happening))?;
-        if done_last(&switch) == (*sent, *told) {
+        let is_heard = switch.hear(*now, event(*happening)).is_ok();
+        if is_heard && done_last(&switch) == (*sent, *told) {
             count = count.saturating_add(1);
         }
     }
-    Ok(count)
+    count
 }
 
 #[test]
-fn calls_go_by_the_standards(rt: HostRuntime) -> Result<(), Fail> {
+fn calls_go_by_the_standards(rt: HostRuntime) {
     for steps in [
         CAME_OVER_T38,
         CAME_OVER_AUDIO,
@@ -262,9 +261,8 @@ fn calls_go_by_the_standards(rt: HostRuntime) -> Result<(), Fail> {
         CHANGED_AFTER_GLARE,
         ANSWERED_LATE,
     ] {
-        assert!(rt; played(rt.alloc(), steps)? == steps.len());
+        assert!(rt; played(rt.alloc(), steps) == steps.len());
     }
-    Ok(())
 }
 
 /// The address and the bound of what is described, as numbers; the port alone of audio.

@@ -93,7 +93,9 @@ fn requested(steps: &[ClientStep]) -> usize {
 
 #[test]
 fn requests_go_out(rt: HostRuntime) {
-    assert!(rt; invited(UNANSWERED_INVITE) == (UNANSWERED_INVITE.len(), true));
-    assert!(rt; invited(REFUSED_INVITE) == (REFUSED_INVITE.len(), true));
-    assert!(rt; requested(UNANSWERED_REQUEST) == UNANSWERED_REQUEST.len());
+    assert!(rt;
+        invited(UNANSWERED_INVITE) == (UNANSWERED_INVITE.len(), true)
+            && invited(REFUSED_INVITE) == (REFUSED_INVITE.len(), true)
+            && requested(UNANSWERED_REQUEST) == UNANSWERED_REQUEST.len()
+    );
 }

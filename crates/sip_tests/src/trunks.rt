@@ -6,7 +6,6 @@ use fax_trunks::{
     RegistrationEvent, Route, SlowHosts, allows, choose,
 };
 use std::net::IpAddr;
-use std::test::Fail;
 
 /// Addresses, and the numbers that their users are, or why they are none.
 const CALLED: &[(&str, Result<&str, NumberFault>)] = &[
@@ -188,25 +187,42 @@ fn chosen(routes: &[Route], octets: &[u8]) -> Result<Option<(usize, Number)>, Nu
     }
 }
 
-#[test]
-fn the_longest_prefix_is_taken(rt: HostRuntime) -> Result<(), Fail> {
+/// Whether a number goes over this trunk, and this is dialled there.
+fn goes_over(routes: &[Route], octets: &[u8], wanted: &Option<(usize, &[u8])>) -> bool {
+    match (chosen(routes, octets), wanted) {
+        (Ok(Some((trunk, number))), Some((over, dialled))) => {
+            trunk == *over && octets_of(&number) == *dialled
+        }
+        (Ok(None), None) => true,
+        _ => false,
+    }
+}
+
+/// The routes of the trunks.
+fn routes() -> Option<[Route; 4]> {
     let [local, city, again, abroad] = WAYS;
-    let routes = [
-        route(local, 0)?,
-        route(city, 1)?,
-        route(again, 2)?,
-        route(abroad, 3)?,
-    ];
+    Some([
+        route(local, 0).ok()?,
+        route(city, 1).ok()?,
+        route(again, 2).ok()?,
+        route(abroad, 3).ok()?,
+    ])
+}
+
+/// Whether each number goes where it is to, and one nowhere where there are no routes.
+fn are_chosen() -> Option<bool> {
+    let routes = routes()?;
     for (octets, wanted) in CHOSEN {
-        match chosen(&routes, octets)? {
-            Some((trunk, number)) => {
-                assert!(rt; Some((trunk, octets_of(&number))) == *wanted);
-            }
-            None => assert!(rt; wanted.is_none()),
+        if !goes_over(&routes, octets, wanted) {
+            return None;
         }
     }
-    assert!(rt; chosen(&[], b"+4930123")?.is_none());
-    Ok(())
+    Some(goes_over(&[], b"+4930123", &None))
+}
+
+#[test]
+fn the_longest_prefix_is_taken(rt: HostRuntime) {
+    assert!(rt; are_chosen() == Some(true));
 }
 
 /// Whether the network of a text has each of two hosts.
@@ -354,10 +370,9 @@ fn registered(mut registration: Registration, steps: &[Step]) -> (usize, bool) {
 
 #[test]
 fn registrations_are_refreshed_and_ended(rt: HostRuntime) {
-    let hour = Registration::begin(1_000, 3_600);
-    assert!(rt; registered(hour, ENDED) == (ENDED.len(), true));
-    let minute = Registration::begin(0, 60);
-    assert!(rt; registered(minute, CHALLENGED) == (CHALLENGED.len(), false));
+    let ended = registered(Registration::begin(1_000, 3_600), ENDED);
+    let challenged = registered(Registration::begin(0, 60), CHALLENGED);
+    assert!(rt; ended == (ENDED.len(), true) && challenged == (CHALLENGED.len(), false));
 }
 
 /// Whether one is registered until 600 s after it was granted for that.
@@ -399,9 +414,11 @@ fn taken() -> ([bool; 4], u32) {
 
 #[test]
 fn callers_are_allowed_calls_bounded_and_registrations_end(rt: HostRuntime) {
-    assert!(rt; allowed() == Some([false, true]));
-    assert!(rt; taken() == ([true, true, false, true], 1));
-    assert!(rt; is_registered_until_its_end() == [true, false]);
+    assert!(rt;
+        allowed() == Some([false, true])
+            && taken() == ([true, true, false, true], 1)
+            && is_registered_until_its_end() == [true, false]
+    );
 }
 
 /// A host fails at a moment, or succeeds.
@@ -424,18 +441,26 @@ const FAILURES: &[(Option<u64>, [u64; 2], [bool; 2])] = &[
     (None, [6_000, 6_001], [true, true]),
 ];
 
-#[test]
-fn failures_slow_a_host(rt: HostRuntime) -> Result<(), Fail> {
+/// How many of these slow a host as they are to, and another one not.
+fn slowed() -> Option<usize> {
     let mut slow = SlowHosts::new();
-    let caller = host("198.51.100.9").ok_or("an address")?;
-    let other = host("198.51.100.10").ok_or("an address")?;
+    let caller = host("198.51.100.9")?;
+    let other = host("198.51.100.10")?;
+    let mut count = 0usize;
     for (failed, [first, second], wanted) in FAILURES {
         fail(&mut slow, caller, *failed);
         let answered = [
             is_answered(&slow, caller, *first),
             is_answered(&slow, caller, *second),
         ];
-        assert!(rt; answered == *wanted && is_answered(&slow, other, 5_000));
+        if answered == *wanted && is_answered(&slow, other, 5_000) {
+            count = count.saturating_add(1);
+        }
     }
-    Ok(())
+    Some(count)
+}
+
+#[test]
+fn failures_slow_a_host(rt: HostRuntime) {
+    assert!(rt; slowed() == Some(FAILURES.len()));
 }
