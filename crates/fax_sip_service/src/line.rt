@@ -8,7 +8,7 @@ use std::alloc::{AllocError, Global};
 use std::net::SocketAddr;
 
 /// A line: its name, and where its legs are heard.
-#[derive(Debug, Drop)]
+#[derive(Drop)]
 pub struct SipLine {
     pub name: String,
     pub calling: SocketAddr,

@@ -42,7 +42,7 @@ const UNAVAILABLE: u16 = 503;
 const INTERNAL: u16 = 500;
 
 /// What was dropped.
-#[derive(Clone, Copy, PartialEq, Eq, Debug, Default)]
+#[derive(Clone, Copy, Default)]
 pub(crate) struct Dropped {
     /// Datagrams of senders that no trunk allows.
     pub strangers: u64,

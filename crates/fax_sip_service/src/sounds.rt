@@ -8,14 +8,14 @@ use std::alloc::{AllocError, Global};
 use std::net::SocketAddr;
 
 /// A packet of audio that is to be sent.
-#[derive(Clone, Copy, Debug)]
+#[derive(Clone, Copy)]
 pub struct AudioPacket {
     pub to: SocketAddr,
     pub octets: [u8; PACKET_OCTETS],
 }
 
 /// The audio of a leg's call.
-#[derive(Clone, Copy, Debug)]
+#[derive(Clone, Copy)]
 struct Sound {
     place: Place,
     to: SocketAddr,

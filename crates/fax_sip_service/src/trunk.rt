@@ -4,7 +4,7 @@ use fax_user_agent::{CallTold, Direction, Progress};
 use std::alloc::{AllocError, Global};
 
 /// What is counted of the calls of one direction.
-#[derive(Clone, Copy, PartialEq, Eq, Debug, Default)]
+#[derive(Clone, Copy, Default)]
 pub(crate) struct CallCounts {
     /// Whose INVITE came, or was sent.
     pub begun: u64,
@@ -27,7 +27,7 @@ impl CallCounts {
 }
 
 /// A trunk: its name, and what is known of it.
-#[derive(Debug, Drop)]
+#[derive(Drop)]
 pub(crate) struct SipTrunk {
     pub name: String,
     /// Whether it is to be registered with, and whether it is.
