@@ -6,7 +6,7 @@ use fax_events::Direction;
 const MORE: u64 = 100;
 
 /// How many receives and sends of both legs failed.
-#[derive(Clone, Copy, PartialEq, Eq, Debug, Default)]
+#[derive(Clone, Copy, Default)]
 pub(crate) struct Failures {
     pub calling_receives: u64,
     pub calling_sends: u64,

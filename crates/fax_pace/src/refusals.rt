@@ -1,7 +1,7 @@
 //! Datagrams that are refused for want of memory.
 
 /// How many a line has refused, and the last call in which that was told.
-#[derive(Clone, Copy, PartialEq, Eq, Debug, Default)]
+#[derive(Clone, Copy, Default)]
 pub(crate) struct Refusals {
     count: u64,
     call: Option<u32>,

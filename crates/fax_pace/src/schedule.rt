@@ -5,7 +5,7 @@ ghost use Rattle.std.specs.Prelude.{◌≡◌, ◌+◌, ◌-◌, ◌≤◌, ◌<
 const MOST_AFTER_MS: u64 = 1_000;
 
 /// A slot has its turn each millisecond.
-#[derive(Clone, Copy, PartialEq, Eq, Debug)]
+#[derive(Drop)]
 pub struct Schedule {
     /// The moment of the next turn, in milliseconds.
     due: u64,
