@@ -18,7 +18,7 @@ const OTHERS: u32 = 0o077;
 const OWNER_ALONE: u32 = 0o600;
 
 /// Why a folder is not one for a spool.
-#[derive(Debug, Drop)]
+#[derive(Drop)]
 pub(crate) enum RightsFault {
     /// Others than its owner may write to it, so they could put another file in the place of one of the spool's.
     Shared,
