@@ -40,7 +40,7 @@ pub const LEAST_RETRY_SECONDS: u32 = 1;
 pub const MOST_RETRY_SECONDS: u32 = 604_800;
 
 /// Which datagrams are sent again.
-#[derive(Clone, Copy, PartialEq, Eq, Debug)]
+#[derive(Clone, Copy)]
 pub enum Repeat {
     /// Each once again, and the last one of a leg five times after that.
     Full,
@@ -51,14 +51,14 @@ pub enum Repeat {
 }
 
 /// A leg: where its datagrams come to, and where its peer is, if that is known.
-#[derive(Clone, Copy, PartialEq, Eq, Debug)]
+#[derive(Clone, Copy)]
 pub struct LegConfig {
     pub local: SocketAddr,
     pub peer: Option<SocketAddr>,
 }
 
 /// A line.
-#[derive(Debug, Drop)]
+#[derive(Drop)]
 pub struct LineConfig {
     pub name: String,
     pub calling: LegConfig,
@@ -75,21 +75,21 @@ pub struct LineConfig {
 }
 
 /// A redial line: a line without a calling leg, over which jobs that could not be delivered are tried again.
-#[derive(Debug, Drop)]
+#[derive(Drop)]
 pub struct RedialConfig {
     pub name: String,
     pub called: LegConfig,
 }
 
 /// When a job that could not be delivered is tried again.
-#[derive(Debug, Drop)]
+#[derive(Drop)]
 pub struct RetryConfig {
     /// How long after its end, for each time in turn: at most 16, each 1 to 604,800 seconds.
     pub after_seconds: Vec<u32>,
 }
 
 /// A configuration.
-#[derive(Debug, Drop)]
+#[derive(Drop)]
 pub struct Config {
     /// The path of the control socket.
     pub control: Option<String>,

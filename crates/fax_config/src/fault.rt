@@ -5,7 +5,7 @@ use std::alloc::{AllocError, AllocFailed};
 use std::fmt;
 
 /// What is wrong with the value at a key.
-#[derive(Clone, Copy, PartialEq, Eq, Debug)]
+#[derive(Clone, Copy)]
 pub enum Trouble {
     Absent,
     NotText,
@@ -39,7 +39,7 @@ pub enum Trouble {
 }
 
 /// What is wrong with a table.
-#[derive(Debug, Drop)]
+#[derive(Drop)]
 pub enum Flaw {
     /// It has a key that means nothing there.
     Unknown(String),
@@ -53,7 +53,7 @@ pub enum Flaw {
 }
 
 /// Which line of the configuration.
-#[derive(Debug, Drop)]
+#[derive(Drop)]
 pub enum LineName {
     Named(String),
     /// It has no name that can be read: so many lines stand before it.
@@ -61,7 +61,7 @@ pub enum LineName {
 }
 
 /// Why a text tells no configuration.
-#[derive(Debug, Drop)]
+#[derive(Drop)]
 pub enum ConfigFault {
     /// It is no TOML, at this line of it.
     NotToml(usize, toml::de::Error),
@@ -70,7 +70,7 @@ pub enum ConfigFault {
 }
 
 /// What is wrong with a TOML document.
-#[derive(Debug, Drop)]
+#[derive(Drop)]
 pub enum Misfit {
     /// What does not lie in a line's table.
     Top(Flaw),
@@ -100,35 +100,32 @@ pub enum Misfit {
 impl fmt::Display for Trouble {
     fn fmt<W: fmt::Write>(&self, f: &mut fmt::Formatter<W>) -> fmt::Result {
         match self {
-            Trouble::Absent => write!(f, "is absent"),
-            Trouble::NotText => write!(f, "is no text"),
-            Trouble::NotNumber => write!(f, "is no number"),
-            Trouble::NotTable => write!(f, "is no table"),
-            Trouble::NotTables => write!(f, "is no list of tables"),
-            Trouble::NotNumbers => write!(f, "is no list of numbers"),
+            Trouble::Absent => f.write_str("is absent"),
+            Trouble::NotText => f.write_str("is no text"),
+            Trouble::NotNumber => f.write_str("is no number"),
+            Trouble::NotTable => f.write_str("is no table"),
+            Trouble::NotTables => f.write_str("is no list of tables"),
+            Trouble::NotNumbers => f.write_str("is no list of numbers"),
             Trouble::TooMany(most) => write!(f, "has more than {most} items"),
             Trouble::ItemOutOfRange(least, most) => {
                 write!(f, "has an item that is not from {least} to {most}")
             }
-            Trouble::NotAddress => write!(f, "is no address with a port"),
-            Trouble::NotTruth => write!(f, "is neither true nor false"),
-            Trouble::NotNetworks => write!(f, "is no list of networks as 192.0.2.0/28"),
-            Trouble::NotUser => write!(f, "is no user of 1 to 64 letters, digits, -, _, . and +"),
-            Trouble::NotCallWith => write!(f, "is neither t38 nor audio"),
-            Trouble::NotCalled => write!(
-                f,
-                "is no number: an optional + and digits, 32 octets at most"
+            Trouble::NotAddress => f.write_str("is no address with a port"),
+            Trouble::NotTruth => f.write_str("is neither true nor false"),
+            Trouble::NotNetworks => f.write_str("is no list of networks as 192.0.2.0/28"),
+            Trouble::NotUser => f.write_str("is no user of 1 to 64 letters, digits, -, _, . and +"),
+            Trouble::NotCallWith => f.write_str("is neither t38 nor audio"),
+            Trouble::NotCalled => f.write_str(
+                "is no number: an optional + and digits, 32 octets at most",
             ),
-            Trouble::NotDialled => write!(
-                f,
-                "is neither empty nor an optional + and digits, 32 octets at most"
+            Trouble::NotDialled => f.write_str(
+                "is neither empty nor an optional + and digits, 32 octets at most",
             ),
-            Trouble::NoPort => write!(f, "has port 0"),
-            Trouble::Empty => write!(f, "is empty"),
-            Trouble::NotRepeat => write!(f, "is none of full, last and none"),
-            Trouble::NotName => write!(
-                f,
-                "is no name of 1 to 64 octets without a space, or is any"
+            Trouble::NoPort => f.write_str("has port 0"),
+            Trouble::Empty => f.write_str("is empty"),
+            Trouble::NotRepeat => f.write_str("is none of full, last and none"),
+            Trouble::NotName => f.write_str(
+                "is no name of 1 to 64 octets without a space, or is any",
             ),
             Trouble::OutOfRange(least, most) => write!(f, "is not from {least} to {most}"),
         }
@@ -141,8 +138,8 @@ impl fmt::Display for Flaw {
             Flaw::Unknown(key) => write!(f, "the key {key:?} is not known"),
             Flaw::At(key, trouble) => write!(f, "{key} {trouble}"),
             Flaw::Wants(key, other) => write!(f, "{key} wants {other}"),
-            Flaw::OwnPeer => write!(f, "peer is the leg's own address"),
-            Flaw::NoMemory => write!(f, "memory was refused"),
+            Flaw::OwnPeer => f.write_str("peer is the leg's own address"),
+            Flaw::NoMemory => f.write_str("memory was refused"),
         }
     }
 }
@@ -151,7 +148,7 @@ impl fmt::Display for LineName {
     fn fmt<W: fmt::Write>(&self, f: &mut fmt::Formatter<W>) -> fmt::Result {
         match self {
             LineName::Named(name) => write!(f, "line {name:?}"),
-            LineName::After(0) => write!(f, "the first line"),
+            LineName::After(0) => f.write_str("the first line"),
             LineName::After(count) => write!(f, "the line after {count} others"),
         }
     }
@@ -192,9 +189,9 @@ impl fmt::Display for Misfit {
                 let leg = leg.name();
                 write!(f, "{name}: {leg}: local is that of an earlier leg")
             }
-            Misfit::TooManyLines => write!(f, "lines has more than 4000"),
-            Misfit::TooManyRedials => write!(f, "redial has more than 4000"),
-            Misfit::NoMemory => write!(f, "memory was refused"),
+            Misfit::TooManyLines => f.write_str("lines has more than 4000"),
+            Misfit::TooManyRedials => f.write_str("redial has more than 4000"),
+            Misfit::NoMemory => f.write_str("memory was refused"),
         }
     }
 }

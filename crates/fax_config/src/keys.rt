@@ -9,7 +9,7 @@ use std::alloc::Global;
 use toml::Table;
 
 /// What a table of a configuration tells.
-#[derive(Clone, Copy, PartialEq, Eq, Debug)]
+#[derive(Clone, Copy)]
 pub enum Level {
     /// The whole configuration.
     Top,

@@ -123,7 +123,7 @@ fn sip_with(
 }
 
 /// What a document tells beside its lines.
-#[derive(Debug, Drop)]
+#[derive(Drop)]
 struct Service {
     control: Option<String>,
     spool: Option<String>,

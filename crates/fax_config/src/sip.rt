@@ -21,14 +21,14 @@ pub const MOST_CALLS: u32 = 4_000;
 pub const MOST_STRIP: u32 = 32;
 
 /// What a call of ours offers first. Where it is refused by 488, the other is offered.
-#[derive(Clone, Copy, PartialEq, Eq, Debug)]
+#[derive(Clone, Copy)]
 pub enum CallWith {
     T38,
     Audio,
 }
 
 /// A trunk: who is called, and who may call from there.
-#[derive(Debug, Drop)]
+#[derive(Drop)]
 pub struct TrunkConfig {
     pub name: String,
     /// Where requests are sent to.
@@ -47,7 +47,7 @@ pub struct TrunkConfig {
 }
 
 /// Numbers that begin with a prefix are placed over a trunk.
-#[derive(Debug, Drop)]
+#[derive(Drop)]
 pub struct RouteConfig {
     /// An optional `+` and digits.
     pub prefix: String,
@@ -60,7 +60,7 @@ pub struct RouteConfig {
 }
 
 /// How SIP is spoken.
-#[derive(Debug, Drop)]
+#[derive(Drop)]
 pub struct SipConfig {
     /// The address of SIP.
     pub local: SocketAddr,

@@ -4,7 +4,7 @@ use std::alloc::{AllocError, AllocFailed};
 use std::fmt;
 
 /// What is wrong with `[sip]`, `[[trunks]]` and `[[routes]]`.
-#[derive(Debug, Drop)]
+#[derive(Drop)]
 pub enum SipMisfit {
     /// This key is there, and `sip` is not.
     WithoutSip(&'static str),
@@ -34,7 +34,7 @@ pub enum SipMisfit {
 fn write_trunk<W: fmt::Write>(name: &LineName, f: &mut fmt::Formatter<W>) -> fmt::Result {
     match name {
         LineName::Named(name) => write!(f, "trunk {name:?}"),
-        LineName::After(0) => write!(f, "the first trunk"),
+        LineName::After(0) => f.write_str("the first trunk"),
         LineName::After(count) => write!(f, "the trunk after {count} others"),
     }
 }
@@ -42,7 +42,7 @@ fn write_trunk<W: fmt::Write>(name: &LineName, f: &mut fmt::Formatter<W>) -> fmt
 /// Tells of a route in a fault.
 fn write_route<W: fmt::Write>(after: usize, f: &mut fmt::Formatter<W>) -> fmt::Result {
     match after {
-        0 => write!(f, "the first route"),
+        0 => f.write_str("the first route"),
         count => write!(f, "the route after {count} others"),
     }
 }
@@ -53,7 +53,7 @@ impl fmt::Display for SipMisfit {
         match self {
             SipMisfit::WithoutSip(key) => write!(f, "{key} wants sip"),
             SipMisfit::Sip(flaw) => write!(f, "sip: {flaw}"),
-            SipMisfit::OneAddress => write!(f, "sip: audio is the address of local"),
+            SipMisfit::OneAddress => f.write_str("sip: audio is the address of local"),
             SipMisfit::Taken(key) => write!(f, "sip: {key} is the local address of a leg"),
             SipMisfit::Top(flaw) => write!(f, "{flaw}"),
             SipMisfit::Trunk(name, flaw) => {
@@ -64,8 +64,8 @@ impl fmt::Display for SipMisfit {
                 f,
                 "trunk {name:?}: name is that of an earlier trunk"
             ),
-            SipMisfit::TooManyTrunks => write!(f, "trunks has more than 64"),
-            SipMisfit::TooManyRoutes => write!(f, "routes has more than 1000"),
+            SipMisfit::TooManyTrunks => f.write_str("trunks has more than 64"),
+            SipMisfit::TooManyRoutes => f.write_str("routes has more than 1000"),
             SipMisfit::Route(after, flaw) => {
                 write_route(*after, f)?;
                 write!(f, ": {flaw}")
@@ -74,7 +74,7 @@ impl fmt::Display for SipMisfit {
                 write_route(*after, f)?;
                 write!(f, ": no trunk has the name {name:?}")
             }
-            SipMisfit::NoMemory => write!(f, "memory was refused"),
+            SipMisfit::NoMemory => f.write_str("memory was refused"),
         }
     }
 }

@@ -64,7 +64,7 @@ fn nothing_without_sip(table: &Table) -> Result<(), SipMisfit>
 }
 
 /// What the table of `sip` tells.
-#[derive(Clone, Copy, Debug)]
+#[derive(Clone, Copy)]
 struct Head {
     local: SocketAddr,
     audio: SocketAddr,

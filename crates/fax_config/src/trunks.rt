@@ -67,7 +67,7 @@ fn named_trunk_of(alloc: Global, table: &Table, after: usize) -> Result<TrunkCon
 }
 
 /// Where a trunk is, and who may call from there.
-#[derive(Debug, Drop)]
+#[derive(Drop)]
 struct Reach {
     name: String,
     address: SocketAddr,
@@ -75,7 +75,7 @@ struct Reach {
 }
 
 /// As whom a trunk is called.
-#[derive(Debug, Drop)]
+#[derive(Drop)]
 struct Account {
     user: Option<String>,
     password_file: Option<String>,

@@ -7,7 +7,7 @@ use clap::ArgMatches;
 use fax_gateway::Settings;
 
 /// What is asked of `faxgate explain`.
-#[derive(Clone, Copy, PartialEq, Eq, Debug)]
+#[derive(Clone, Copy)]
 pub struct ExplainOptions<'a> {
     pub settings: Settings,
     /// What the names of pictures begin with, where pages are to become pictures.

@@ -22,7 +22,7 @@ use std::alloc::Global;
 use std::convert::AsStr;
 
 /// What is asked for.
-#[derive(Debug, Drop)]
+#[derive(Drop)]
 pub enum Request<'a> {
     /// The rows of a page, or the page of rows.
     Page(PageOptions),

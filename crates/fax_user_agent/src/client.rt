@@ -5,7 +5,7 @@ use fax_transactions::{ClientAction, ClientEvent, ClientInvite, ClientRequest};
 use std::net::SocketAddr;
 
 /// What a request of ours is for.
-#[derive(Clone, Copy, PartialEq, Eq, Debug)]
+#[derive(Clone, Copy, PartialEq)]
 pub(crate) enum Purpose {
     /// An INVITE of this call.
     Invite(u64),
@@ -18,7 +18,7 @@ pub(crate) enum Purpose {
 }
 
 /// A client transaction, of either kind.
-#[derive(Clone, Copy, PartialEq, Eq, Debug)]
+#[derive(Clone, Copy)]
 pub(crate) enum Machine {
     /// Of an INVITE.
     Invite(ClientInvite),

@@ -37,7 +37,7 @@ pub enum LineOrder {
 }
 
 /// Which way a call goes.
-#[derive(Clone, Copy, PartialEq, Eq, Debug)]
+#[derive(Clone, Copy)]
 pub enum Direction {
     /// They call us.
     In,
@@ -46,7 +46,7 @@ pub enum Direction {
 }
 
 /// How far a call is.
-#[derive(Clone, Copy, PartialEq, Eq, Debug)]
+#[derive(Clone, Copy)]
 pub enum Progress {
     /// Its INVITE came, or was sent.
     Begun,
@@ -83,7 +83,7 @@ pub enum Told {
 }
 
 /// How many answers with a status were sent or came.
-#[derive(Clone, Copy, PartialEq, Eq, Debug)]
+#[derive(Clone, Copy)]
 pub struct Count {
     /// The status.
     pub status: u16,
@@ -94,7 +94,7 @@ pub struct Count {
 }
 
 /// What a datagram was.
-#[derive(Clone, Copy, PartialEq, Eq, Debug)]
+#[derive(Clone, Copy)]
 pub enum Heard {
     /// Its sender is no trunk's: nothing was done, and nothing is answered.
     Stranger,
