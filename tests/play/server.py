@@ -206,7 +206,7 @@ class Client:
 
     def say(self, word, within=LONGEST):
         """The lines that a word is answered with."""
-        self._tells_events = self._tells_events or word == "events"
+        self._tells_events = self._tells_events or word.split(" ")[0] == "events"
         self.send(word.encode() + b"\n")
         return self.answer(within)
 

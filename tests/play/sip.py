@@ -39,10 +39,10 @@ def rows_of(text):
 class AtATrunk(Play):
     """Plays with a server whose lines have no peers, and a trunk."""
 
-    def begin(self, lines=1, spool=False, sip="", trunk="", files=None, redial=()):
-        """A server of so many lines, its trunk, redial lines that try a job after so many seconds, and who hears its events."""
+    def begin(self, lines=1, spool=False, sip="", trunk="", files=None, redial=(), **settings):
+        """A server of so many lines with these settings, its trunk, redial lines that try a job after so many seconds, and who hears its events."""
         self.sip_port, self.audio_port, trunk_port = self.ports.take(), self.ports.take(), self.ports.take()
-        self.lines = [self.line(f"a{i}", calling_peer=False, called_peer=False) for i in range(lines)]
+        self.lines = [self.line(f"a{i}", calling_peer=False, called_peer=False, **settings) for i in range(lines)]
         text = f"""
 [sip]
 local = '{address(self.sip_port)}'

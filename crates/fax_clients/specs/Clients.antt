@@ -217,6 +217,10 @@ pub record IsTold (line : List ℕ) (old new : ClientValue) : Type 0 where
   pub said : new.said ≡ old.said
   pub told : HasTold line old.told new.told
 
+-- one that is told an event of a line that it watches, or watches another one and is left as it was
+abbrev pub IsToldOrLeft : List ℕ → ClientValue → ClientValue → Type 0
+IsToldOrLeft event old new = IsTold event old new ⊎ (new ≡ old)
+
 -- ---- events that are recorded
 
 -- one after the other, each as the next text, some octets of it are written

@@ -1,6 +1,6 @@
 //! A client.
 ghost use Rattle.std.specs.Prelude.{◌≡◌, is_some, IfNone, IfSome, OnOk, OnErr};
-ghost use Rattle.fax_clients.specs.Clients.{HearsLine, HearsNoLine, IsAsked, IsServed, IsTold, answered, counted, silent, wanting};
+ghost use Rattle.fax_clients.specs.Clients.{HearsLine, HearsNoLine, IsAsked, IsServed, IsTold, IsToldOrLeft, answered, counted, silent, wanting};
 
 use crate::inbox::Inbox;
 use crate::outbox::Outbox;
@@ -22,9 +22,11 @@ pub(crate) struct Client<I: Read + Drop, O: Write + Drop> {
     last_line: u64,
     /// Whether another one takes its place.
     is_let_go: bool,
+    /// The number of the line that it watches.
+    watches: Option<usize>,
 }
 
-/// Contracts see what came of it, and what it is told.
+/// Contracts see what came of it, and what it is told; not which line it watches.
 impl<I: Read + Drop, O: Write + Drop> Model for Client<I, O> {
     ghost use Rattle.fax_clients.specs.Clients.{ClientValue};
 
@@ -44,6 +46,7 @@ impl<I: Read + Drop, O: Write + Drop> Client<I, O> {
             outbox: Outbox::new(alloc),
             last_line: lines,
             is_let_go: false,
+            watches: None,
         }
     }
 
@@ -69,6 +72,28 @@ impl<I: Read + Drop, O: Write + Drop> Client<I, O> {
         ensures err { OnErr result (self.new ≡ self.old) }
     {
         self.outbox.want_events()
+    }
+
+    /// From now on it watches the line of this number, and no other.
+    pub(crate) fn watch(&mut self, line: usize)
+        ensures { self.new ≡ self.old }
+    {
+        self.watches = Some(line);
+    }
+
+    /// Whether it watches the line of this number.
+    pub(crate) fn watches(&self, line: usize) -> bool {
+        self.watches == Some(line)
+    }
+
+    /// It is told an event of the line of this number, where it watches that one, and wants events.
+    pub(crate) fn tell_watched(&mut self, line: usize, event: &[u8])
+        ensures { IsToldOrLeft event.now self.old self.new }
+    {
+        if !self.watches(line) {
+            return;
+        }
+        self.outbox.tell(event);
     }
 
     /// Whether more may come from it.

@@ -1,7 +1,7 @@
 //! All clients.
 ghost use Rattle.std.specs.Prelude.{◌≡◌, ℕ, ◌+◌, ◌≤◌, ◌⊎◌, ◌||◌, false, [], ◌∷◌, ◌++◌, length, map, nat_eq, is_some, IfNone, IfOk, IfSome, OnErr, OnOk};
 ghost use Rattle.std.specs.List.{AllZip};
-ghost use Rattle.fax_clients.specs.Clients.{AreLeft, AreServed, AreWaitedFor, Hears, HearsNoLine, IsAsked, IsCounted, IsServed, IsTold, JournalGoesOn, JournalTold, all_said, answered, changed_at, one_says_more, one_wants_events, silent, socket_alone, standard_alone, wanting, with_client};
+ghost use Rattle.fax_clients.specs.Clients.{AreLeft, AreServed, AreWaitedFor, Hears, HearsNoLine, IsAsked, IsCounted, IsServed, IsTold, IsToldOrLeft, JournalGoesOn, JournalTold, all_said, answered, changed_at, one_says_more, one_wants_events, silent, socket_alone, standard_alone, wanting, with_client};
 
 use crate::client::Client;
 use crate::journal::Journal;
@@ -289,6 +289,28 @@ impl<I: Read + Drop, O: Write + Drop> Clients<I, O> {
         }
     }
 
+    /// From now on a client watches the line of this number, and no other.
+    pub fn watch(&mut self, asker: Asker, line: usize)
+        ensures { self.new ≡ self.old }
+    {
+        watch(self.clients.as_mut_slice(), asker.0, line);
+    }
+
+    /// Whether a client watches the line of this number.
+    pub fn is_watched(&self, line: usize) -> bool {
+        self.clients.iter().any(|client| client.watches(line))
+    }
+
+    /// Each client that watches the line of this number, and wants events, is told this line of an event; it is not recorded.
+    pub fn tell_watchers(&mut self, line: usize, event: &[u8])
+        ensures told { AllZip (IsToldOrLeft event.now) self.old.clients self.new.clients }
+        ensures journal { self.new.journal ≡ self.old.journal }
+        ensures socket { self.new.has_socket ≡ self.old.has_socket }
+        ensures lost { self.new.lost ≡ self.old.lost }
+    {
+        tell_watchers(self.clients.as_mut_slice(), line, event);
+    }
+
     /// Writes what clients are still to be told, for half a second at most.
     pub fn finish(&mut self)
         ensures socket { self.new.has_socket ≡ self.old.has_socket }
@@ -296,11 +318,23 @@ impl<I: Read + Drop, O: Write + Drop> Clients<I, O> {
         ensures no_more { self.old.has_socket ≡ false → length self.new.clients ≤ length self.old.clients }
     {
         for _ in 0..MOST_FINISHING {
-            if !are_told(self.clients.as_mut_slice()) && !self.is_recording() {
+            if !self.is_telling() {
                 return;
             }
             self.wait(FINISHING_MS);
         }
+    }
+
+    /// Whether a client is still to be told something, or an event to be recorded.
+    fn is_telling(&mut self) -> bool
+        ensures socket { self.new.has_socket ≡ self.old.has_socket }
+        ensures lost { self.new.lost ≡ self.old.lost }
+        ensures as_many { length self.new.clients ≡ length self.old.clients }
+    {
+        if are_told(self.clients.as_mut_slice()) {
+            return true;
+        }
+        self.is_recording()
     }
 
     /// Whether an event is to be recorded still.
@@ -464,6 +498,28 @@ fn tell<I: Read + Drop, O: Write + Drop>(clients: &mut [Client<I, O>], line: &[u
 {
     for client in clients.iter_mut() {
         client.tell(line);
+    }
+}
+
+/// From now on the client at a place, where there is one, watches this line.
+fn watch<I: Read + Drop, O: Write + Drop>(clients: &mut [Client<I, O>], i: usize, line: usize)
+    ensures { clients.new ≡ clients.old }
+{
+    if i < clients.len() {
+        clients[i].watch(line);
+    }
+}
+
+/// Each of the clients that watches this line is told this event.
+fn tell_watchers<I: Read + Drop, O: Write + Drop>(
+    clients: &mut [Client<I, O>],
+    line: usize,
+    event: &[u8],
+)
+    ensures { AllZip (IsToldOrLeft event.now) clients.old clients.new }
+{
+    for client in clients.iter_mut() {
+        client.tell_watched(line, event);
     }
 }
 

@@ -1,5 +1,5 @@
 -- What a document tells of a service and its lines (this project's profile).
-use Rattle.std.specs.Prelude.{◌≡◌, ◌≢◌, ℕ, pos, ◌<◌, ◌≤◌, Option, None, Some, All, List, [], ◌∷◌, ◌++◌, length, codes, get_or, map, flat_map, option_map, string_bytes}
+use Rattle.std.specs.Prelude.{◌≡◌, ◌≢◌, ℕ, pos, ◌<◌, ◌≤◌, Option, None, Some, IfSome, All, List, [], ◌∷◌, ◌++◌, length, codes, get_or, map, flat_map, option_map, string_bytes}
 use Rattle.std.specs.declared.net.socket_addr.SocketAddr.{SocketAddr}
 use Rattle.toml.specs.Data.{Data, integer, table, Items, Members}
 use Rattle.toml.specs.Parse.{parse_document}
@@ -11,7 +11,7 @@ use Rattle.fax_config.specs.declared.config.RetryConfig.{RetryConfig}
 use Rattle.fax_config.specs.declared.keys.Level.TheVariants as levels
 use Rattle.fax_config.specs.declared.sip.SipConfig.{SipConfig}
 use Rattle.fax_config.specs.SipConfigurations.{IsSipAt}
-use Rattle.fax_config.specs.Members.{AreTold, AreToldAt, HasKnownKeys, IsAddressAt, IsLineName, IsNumberAt, IsPathAt, IsRepeatAt, IsTableAt, IsTableIfAt, IsTextAt}
+use Rattle.fax_config.specs.Members.{AreTold, AreToldAt, HasKnownKeys, IsAddressAt, IsLineName, IsNumberAt, IsNumberIfAt, IsPathAt, IsRepeatAt, IsTableAt, IsTableIfAt, IsTextAt}
 
 -- A line's name can be said in a control word, and its settings are in their ranges.
 pub record IsInRange (line : LineConfig) : Type 0 where
@@ -23,6 +23,12 @@ pub record IsInRange (line : LineConfig) : Type 0 where
   pub most_dial : line.dial_seconds ≤ 3600
   pub least_memory : 1048576 ≤ line.line_memory
   pub most_memory : line.line_memory ≤ 1073741824
+  pub least_waiting : 1 ≤ line.most_waiting
+  pub most_waiting : line.most_waiting ≤ 1000000
+
+-- so many octets all lines together may hold of pages
+abbrev pub IsMemory : ℕ → Type 0
+IsMemory octets = (16777216 ≤ octets) × (octets ≤ 1099511627776)
 
 -- no two in the list are alike
 abbrev pub AreUnlike : {X : Type 0} → List X → Type 0
@@ -75,6 +81,7 @@ pub record IsLine (members : Members) (line : LineConfig) : Type 0 where
   pub repeat : IsRepeatAt members line.repeat
   pub dial_seconds : IsNumberAt (codes "dial_seconds") members 180 line.dial_seconds
   pub line_memory : IsNumberAt (codes "line_memory") members 16777216 line.line_memory
+  pub most_waiting : IsNumberAt (codes "most_waiting") members 1000000 line.most_waiting
   pub in_range : IsInRange line
 
 abbrev pub IsLineOf : Data → LineConfig → Type 0
@@ -144,6 +151,8 @@ pub record IsConfig (members : Members) (config : Config) : Type 0 where
   pub http : IsAddressAt (codes "http") members config.http
   pub stop_seconds : IsNumberAt (codes "stop_seconds") members 120 config.stop_seconds
   pub stop_in_range : config.stop_seconds ≤ 86400
+  pub memory : IsNumberIfAt (codes "memory") members config.memory
+  pub memory_in_range : IfSome config.memory IsMemory
   pub lines : AreLinesAt members config.lines.items
   pub few : length config.lines.items ≤ 4000
   pub retry : IsRetryAt members config.retry

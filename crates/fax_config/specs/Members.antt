@@ -12,8 +12,8 @@ use Rattle.fax_config.specs.declared.keys.Level.TheVariants as levels
 -- the keys that a table may have: the document, a line, a leg of a line, what says when jobs are tried again, a redial line, and those of SIP
 abbrev pub known_keys : Level → List (List ℕ)
 known_keys levels.Top =
-    codes "control" ∷ codes "spool" ∷ codes "http" ∷ codes "stop_seconds" ∷ codes "lines" ∷ codes "retry" ∷ codes "redial" ∷ codes "sip" ∷ codes "trunks" ∷ codes "routes" ∷ []
-known_keys levels.Line = codes "name" ∷ codes "calling" ∷ codes "called" ∷ codes "redundancy" ∷ codes "preamble_ms" ∷ codes "repeat" ∷ codes "dial_seconds" ∷ codes "line_memory" ∷ []
+    codes "control" ∷ codes "spool" ∷ codes "http" ∷ codes "stop_seconds" ∷ codes "memory" ∷ codes "lines" ∷ codes "retry" ∷ codes "redial" ∷ codes "sip" ∷ codes "trunks" ∷ codes "routes" ∷ []
+known_keys levels.Line = codes "name" ∷ codes "calling" ∷ codes "called" ∷ codes "redundancy" ∷ codes "preamble_ms" ∷ codes "repeat" ∷ codes "dial_seconds" ∷ codes "line_memory" ∷ codes "most_waiting" ∷ []
 known_keys levels.Leg = codes "local" ∷ codes "peer" ∷ []
 known_keys levels.Retry = codes "after_seconds" ∷ []
 known_keys levels.Redial = codes "name" ∷ codes "called" ∷ []
@@ -39,6 +39,11 @@ IsTextAt key members (Some text) = get_member key members ≡ Some (string text)
 abbrev pub IsNumberAt : List ℕ → Members → ℕ → ℕ → Type 0
 IsNumberAt key members default n =
     ((get_member key members ≡ None) × (n ≡ default)) ⊎ (get_member key members ≡ Some (integer (pos n)))
+
+-- the number at a key, or that there is none
+abbrev pub IsNumberIfAt : List ℕ → Members → Option ℕ → Type 0
+IsNumberIfAt key members None = get_member key members ≡ None
+IsNumberIfAt key members (Some n) = get_member key members ≡ Some (integer (pos n))
 
 -- the path at a key, of an octet at least, or that there is none
 abbrev pub IsPathAt : List ℕ → Members → Option (List ℕ) → Type 0

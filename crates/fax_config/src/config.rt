@@ -28,6 +28,16 @@ pub const USUAL_LINE_MEMORY: u32 = 16_777_216;
 
 pub const MOST_LINE_MEMORY: u32 = 1_073_741_824;
 
+/// The least and the most octets that all lines together may hold of pages: 16 MiB and 1 TiB.
+pub const LEAST_MEMORY: u64 = 16_777_216;
+
+pub const MOST_MEMORY: u64 = 1_099_511_627_776;
+
+/// The least, and the usual and the most pages that may wait on a line.
+pub const LEAST_WAITING: u32 = 1;
+
+pub const MOST_WAITING: u32 = 1_000_000;
+
 /// The longest stop, in seconds: a day.
 pub const MOST_STOP_SECONDS: u32 = 86_400;
 
@@ -72,6 +82,8 @@ pub struct LineConfig {
     pub dial_seconds: u32,
     /// How many octets its call and its jobs may hold of pages, 1,048,576 to 1,073,741,824.
     pub line_memory: u32,
+    /// While so many pages of it wait, or more, it takes no call: 1 to 1,000,000.
+    pub most_waiting: u32,
 }
 
 /// A redial line: a line without a calling leg, over which jobs that could not be delivered are tried again.
@@ -99,6 +111,8 @@ pub struct Config {
     pub http: Option<SocketAddr>,
     /// How long a stop waits for calls and jobs, in seconds.
     pub stop_seconds: u32,
+    /// How many octets all lines together may hold of pages, 16,777,216 to 1,099,511,627,776. `None`: as many as each for itself.
+    pub memory: Option<u64>,
     pub lines: Vec<LineConfig>,
     pub retry: RetryConfig,
     pub redial: Vec<RedialConfig>,

@@ -35,7 +35,7 @@ pub enum Trouble {
     NotRepeat,
     NotName,
     /// The least and the most that it may be.
-    OutOfRange(u32, u32),
+    OutOfRange(u64, u64),
 }
 
 /// What is wrong with a table.

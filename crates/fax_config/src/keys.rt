@@ -35,6 +35,7 @@ impl Level {
                 "spool",
                 "http",
                 "stop_seconds",
+                "memory",
                 "lines",
                 "retry",
                 "redial",
@@ -52,6 +53,7 @@ impl Level {
                 "repeat",
                 "dial_seconds",
                 "line_memory",
+                "most_waiting",
             ]
             .contains(&key),
             Level::Leg => ["local", "peer"].contains(&key),

@@ -4,7 +4,7 @@ ghost use Rattle.toml.specs.Data.{get_member};
 ghost use Rattle.toml.specs.View.{table_view, view};
 ghost use Rattle.fax_config.specs.declared.keys.Level.{Level};
 ghost use Rattle.fax_config.specs.Faults.{HasFlaw};
-ghost use Rattle.fax_config.specs.Members.{IsAddressAt, IsLineName, IsNumberAt, IsPathAt, IsRepeatAt, IsTableAt, IsTableIfAt, IsTextAt};
+ghost use Rattle.fax_config.specs.Members.{IsAddressAt, IsLineName, IsNumberAt, IsNumberIfAt, IsPathAt, IsRepeatAt, IsTableAt, IsTableIfAt, IsTextAt};
 
 use crate::config::{MOST_NAME_OCTETS, Repeat};
 use crate::fault::{Flaw, Trouble};
@@ -85,6 +85,47 @@ pub fn number_at(
     };
     match in_range(number, least, most) {
         Some(number) => Ok(number),
+        None => Err(Flaw::At(key, Trouble::OutOfRange(u64::from(least), u64::from(most)))),
+    }
+}
+
+/// A large number that has to lie in a range, if it does.
+fn in_large_range(number: i64, least: u64, most: u64) -> Option<u64>
+    ensures same { IfSome result (λ found. number ≡ pos found) }
+    ensures within { IfSome result (λ found. (least ≤ found) × (found ≤ most)) }
+    ensures without { IfNone result ((n : ℕ) → number ≡ pos n → least ≤ n → n ≤ most → ⊥) }
+{
+    let Ok(found) = u64::try_from(number) else {
+        return None;
+    };
+    if found < least {
+        return None;
+    }
+    if most < found {
+        return None;
+    }
+    Some(found)
+}
+
+/// The large number at a key, if there is one. It has to lie in a range.
+pub fn large_number_at(
+    table: &Table,
+    key: &'static str,
+    least: u64,
+    most: u64,
+) -> Result<Option<u64>, Flaw>
+    ensures ok { IfOk result (λ number. IsNumberIfAt key.now (table_view table.now) number) }
+    ensures in_range { IfOk result (λ number. IfSome number (λ n. (least ≤ n) × (n ≤ most))) }
+    ensures fault { IfErr result (λ flaw. (level : Level) → HasFlaw level (table_view table.now) flaw) }
+{
+    let Some(value) = value_at(table, key) else {
+        return Ok(None);
+    };
+    let Some(number) = value.as_integer() else {
+        return Err(Flaw::At(key, Trouble::NotNumber));
+    };
+    match in_large_range(number, least, most) {
+        Some(number) => Ok(Some(number)),
         None => Err(Flaw::At(key, Trouble::OutOfRange(least, most))),
     }
 }

@@ -1,22 +1,25 @@
 //! From a text to the configuration that it tells.
-ghost use Rattle.std.specs.Prelude.{◌≡◌, ◌≤◌, ◌==◌, take, count_by, Some, All, codes, length, option_map, OnOk, IfOk, IfErr, string_bytes};
+ghost use Rattle.std.specs.Prelude.{◌≡◌, ◌≤◌, ◌==◌, take, count_by, Some, All, codes, length, option_map, OnOk, IfOk, IfErr, IfSome, string_bytes};
 ghost use Rattle.toml.specs.Data.{Members, array, get_member};
 ghost use Rattle.toml.specs.View.{array_view, table_view};
 ghost use Rattle.fax_gateway.specs.LegNames.{leg_text};
 ghost use Rattle.fax_config.specs.declared.keys.Level.TheVariants as levels;
-ghost use Rattle.fax_config.specs.Members.{HasKnownKeys, IsAddressAt, IsNumberAt, IsPathAt};
-ghost use Rattle.fax_config.specs.Configurations.{AreLines, AreLinesAt, AreUnlike, IsConfig, IsInRange, IsLeg, IsLegAt, IsLine, IsUnlikeSip, Tells, local_addresses, names_of};
+ghost use Rattle.fax_config.specs.Members.{HasKnownKeys, IsAddressAt, IsNumberAt, IsNumberIfAt, IsPathAt};
+ghost use Rattle.fax_config.specs.Configurations.{AreLines, AreLinesAt, AreUnlike, IsConfig, IsInRange, IsLeg, IsLegAt, IsLine, IsMemory, IsUnlikeSip, Tells, local_addresses, names_of};
 ghost use Rattle.fax_config.specs.SipConfigurations.{IsSipAt};
 ghost use Rattle.fax_config.specs.Faults.{HasFlaw, HasMisfit, IsFaultOf, IsMisfitOf, IsToldAs, line_number};
 
 use crate::config::{
-    Config, LEAST_DIAL_SECONDS, LEAST_LINE_MEMORY, LEAST_PREAMBLE_MS, LegConfig, LineConfig,
-    MOST_DIAL_SECONDS, MOST_LINE_MEMORY, MOST_LINES, MOST_PREAMBLE_MS, MOST_REDUNDANCY,
-    MOST_STOP_SECONDS, RedialConfig, USUAL_LINE_MEMORY,
+    Config, LEAST_DIAL_SECONDS, LEAST_LINE_MEMORY, LEAST_MEMORY, LEAST_PREAMBLE_MS, LEAST_WAITING,
+    LegConfig, LineConfig, MOST_DIAL_SECONDS, MOST_LINE_MEMORY, MOST_LINES, MOST_MEMORY,
+    MOST_PREAMBLE_MS, MOST_REDUNDANCY, MOST_STOP_SECONDS, MOST_WAITING, RedialConfig,
+    USUAL_LINE_MEMORY,
 };
 use crate::fault::{ConfigFault, Flaw, LineName, Misfit, Trouble};
 use crate::keys::{Level, only_known_keys};
-use crate::member::{address_at, name_of, number_at, path_at, repeat_of, table_at, value_at};
+use crate::member::{
+    address_at, large_number_at, name_of, number_at, path_at, repeat_of, table_at, value_at,
+};
 use crate::redial::redials_of;
 use crate::retry::retry_of;
 use crate::sip::SipConfig;
@@ -37,6 +40,7 @@ pub fn read_config(alloc: Global, text: &str) -> Result<Config, ConfigFault>
     ensures few { IfOk result (λ config. length config.lines.items ≤ 4000) }
     ensures few_redials { IfOk result (λ config. length config.redial.items ≤ 4000) }
     ensures stop_in_range { IfOk result (λ config. config.stop_seconds ≤ 86400) }
+    ensures memory_in_range { IfOk result (λ config. IfSome config.memory IsMemory) }
     // No two lines have one name, and no two legs one local address.
     ensures names_unlike { IfOk result (λ config. AreUnlike (names_of config)) }
     ensures addresses_unlike { IfOk result (λ config. AreUnlike (local_addresses config)) }
@@ -92,6 +96,7 @@ fn config_of(alloc: Global, table: &Table) -> Result<Config, Misfit>
             spool: top.spool,
             http: top.http,
             stop_seconds: top.stop_seconds,
+            memory: top.memory,
             lines,
             retry,
             redial,
@@ -129,6 +134,7 @@ struct Service {
     spool: Option<String>,
     http: Option<SocketAddr>,
     stop_seconds: u32,
+    memory: Option<u64>,
 }
 
 /// What a document tells beside its lines.
@@ -139,6 +145,8 @@ fn top_of(alloc: Global, table: &Table) -> Result<Service, Flaw>
     ensures http { IfOk result (λ top. IsAddressAt (codes "http") (table_view table.now) top.http) }
     ensures stop { IfOk result (λ top. IsNumberAt (codes "stop_seconds") (table_view table.now) 120 top.stop_seconds) }
     ensures stop_in_range { IfOk result (λ top. top.stop_seconds ≤ 86400) }
+    ensures memory { IfOk result (λ top. IsNumberIfAt (codes "memory") (table_view table.now) top.memory) }
+    ensures memory_in_range { IfOk result (λ top. IfSome top.memory IsMemory) }
     ensures fault { IfErr result (HasFlaw levels.Top (table_view table.now)) }
 {
     only_known_keys(alloc, table, Level::Top)?;
@@ -146,11 +154,13 @@ fn top_of(alloc: Global, table: &Table) -> Result<Service, Flaw>
     let control = owned(alloc, path_at(table, "control")?)?;
     let spool = owned(alloc, path_at(table, "spool")?)?;
     let http = address_at(table, "http")?;
+    let memory = large_number_at(table, "memory", LEAST_MEMORY, MOST_MEMORY)?;
     Ok(Service {
         control,
         spool,
         http,
         stop_seconds,
+        memory,
     })
 }
 
@@ -249,6 +259,13 @@ fn settings_of(
         LEAST_LINE_MEMORY,
         MOST_LINE_MEMORY,
     )?;
+    let most_waiting = number_at(
+        table,
+        "most_waiting",
+        MOST_WAITING,
+        LEAST_WAITING,
+        MOST_WAITING,
+    )?;
     Ok(LineConfig {
         name: String::from_str(alloc, name)?,
         calling,
@@ -258,6 +275,7 @@ fn settings_of(
         repeat,
         dial_seconds,
         line_memory,
+        most_waiting,
     })
 }
 

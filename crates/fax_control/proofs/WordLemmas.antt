@@ -4,7 +4,7 @@ use Rattle.std.proofs.lemmas.Bool.Decides.{nat_tests}
 use Rattle.std.specs.declared.net.socket_addr.SocketAddr.{SocketAddr}
 use Rattle.fax_control.specs.declared.word.Bounds.{Bounds}
 use Rattle.fax_gateway.specs.declared.leg.Leg.{Leg}
-use Rattle.fax_control.specs.Words.{Order, Ring, Peer, HangUp, Refuse, Report, Undelivered, Discard, Retry, Status, Metrics, Events, Stop, HasNoSpace, IsCallNumber, IsCause, IsInRange, IsName, IsPeerText, IsRingTag, IsRungLine, Spells, bounds_led, call_text, led, moved_text, rung_text, spaced, word_led}
+use Rattle.fax_control.specs.Words.{Order, Ring, Peer, HangUp, Refuse, Report, Undelivered, Discard, Retry, Status, Metrics, Events, Frames, Stop, HasNoSpace, IsCallNumber, IsCause, IsInRange, IsName, IsPeerText, IsRingTag, IsRungLine, Spells, bounds_led, call_text, frames_text, led, moved_text, rung_text, spaced, word_led}
 use Rattle.fax_gateway.specs.LegNames.{leg_text}
 use Rattle.fax_control.proofs.SpaceLemmas.{heads, tails, has_space, cut_once, NoSpace-by_test}
 
@@ -38,6 +38,7 @@ ring_spelled rest (Retry line life call) (e, name, is_life, is_call) = second_ap
 ring_spelled rest Status e = apart 114 115 _ _ refl e
 ring_spelled rest Metrics e = apart 114 109 _ _ refl e
 ring_spelled rest Events e = apart 114 101 _ _ refl e
+ring_spelled rest (Frames line) (e, name) = apart 114 101 _ _ refl e
 ring_spelled rest Stop e = apart 114 115 _ _ refl e
 
 -- what follows `peer`
@@ -58,6 +59,7 @@ peer_spelled rest (Retry line life call) (e, name, is_life, is_call) = apart 112
 peer_spelled rest Status e = apart 112 115 _ _ refl e
 peer_spelled rest Metrics e = apart 112 109 _ _ refl e
 peer_spelled rest Events e = apart 112 101 _ _ refl e
+peer_spelled rest (Frames line) (e, name) = apart 112 101 _ _ refl e
 peer_spelled rest Stop e = apart 112 115 _ _ refl e
 
 -- what follows `hangup`
@@ -75,6 +77,7 @@ hangup_spelled rest (Retry line life call) (e, name, is_life, is_call) = apart 1
 hangup_spelled rest Status e = apart 104 115 _ _ refl e
 hangup_spelled rest Metrics e = apart 104 109 _ _ refl e
 hangup_spelled rest Events e = apart 104 101 _ _ refl e
+hangup_spelled rest (Frames line) (e, name) = apart 104 101 _ _ refl e
 hangup_spelled rest Stop e = apart 104 115 _ _ refl e
 
 -- what follows `report`
@@ -92,6 +95,7 @@ report_spelled rest (Retry line life call) (e, name, is_life, is_call) = third_a
 report_spelled rest Status e = apart 114 115 _ _ refl e
 report_spelled rest Metrics e = apart 114 109 _ _ refl e
 report_spelled rest Events e = apart 114 101 _ _ refl e
+report_spelled rest (Frames line) (e, name) = apart 114 101 _ _ refl e
 report_spelled rest Stop e = apart 114 115 _ _ refl e
 
 -- what follows `refuse`
@@ -109,6 +113,7 @@ refuse_spelled rest (Retry line life call) (e, name, is_life, is_call) = third_a
 refuse_spelled rest Status e = apart 114 115 _ _ refl e
 refuse_spelled rest Metrics e = apart 114 109 _ _ refl e
 refuse_spelled rest Events e = apart 114 101 _ _ refl e
+refuse_spelled rest (Frames line) (e, name) = apart 114 101 _ _ refl e
 refuse_spelled rest Stop e = apart 114 115 _ _ refl e
 
 -- what follows `undelivered`
@@ -126,6 +131,7 @@ undelivered_spelled rest (Retry line life call) (e, name, is_life, is_call) = ap
 undelivered_spelled rest Status e = apart 117 115 _ _ refl e
 undelivered_spelled rest Metrics e = apart 117 109 _ _ refl e
 undelivered_spelled rest Events e = apart 117 101 _ _ refl e
+undelivered_spelled rest (Frames line) (e, name) = apart 117 101 _ _ refl e
 undelivered_spelled rest Stop e = apart 117 115 _ _ refl e
 
 -- what follows `discard`
@@ -143,6 +149,7 @@ discard_spelled rest (Retry line life call) (e, name, is_life, is_call) = apart 
 discard_spelled rest Status e = apart 100 115 _ _ refl e
 discard_spelled rest Metrics e = apart 100 109 _ _ refl e
 discard_spelled rest Events e = apart 100 101 _ _ refl e
+discard_spelled rest (Frames line) (e, name) = apart 100 101 _ _ refl e
 discard_spelled rest Stop e = apart 100 115 _ _ refl e
 
 -- what follows `retry`
@@ -160,7 +167,34 @@ retry_spelled rest (Retry line life call) (e, name, is_life, is_call) = let same
 retry_spelled rest Status e = apart 114 115 _ _ refl e
 retry_spelled rest Metrics e = apart 114 109 _ _ refl e
 retry_spelled rest Events e = apart 114 101 _ _ refl e
+retry_spelled rest (Frames line) (e, name) = apart 114 101 _ _ refl e
 retry_spelled rest Stop e = apart 114 115 _ _ refl e
+
+-- what follows `events`
+pub events_spelled : (rest : List ℕ) (order : Order) → Spells (spaced (codes "events") rest) order
+    → (line : List ℕ) × (order ≡ Frames line) × (rest ≡ spaced (codes "frames") line) × IsName line
+events_spelled rest (Ring line tag bounds) (e, name, is_tag, range) = apart 101 114 _ _ refl e
+events_spelled rest (Peer line leg address bounds is_moved) (text, e, name, is_address, range) = apart 101 112 _ _ refl e
+events_spelled rest (HangUp line leg) (e, name) = apart 101 104 _ _ refl e
+events_spelled rest (Refuse line cause) (e, name, is_cause) = apart 101 114 _ _ refl e
+events_spelled rest (Report line) (e, name) = apart 101 114 _ _ refl e
+events_spelled rest (Undelivered None) (e, name) = apart 101 117 _ _ refl e
+events_spelled rest (Undelivered (Some line)) (e, name) = apart 101 117 _ _ refl e
+events_spelled rest (Discard line life call) (e, name, is_life, is_call) = apart 101 100 _ _ refl e
+events_spelled rest (Retry line life call) (e, name, is_life, is_call) = apart 101 114 _ _ refl e
+events_spelled rest Status e = apart 101 115 _ _ refl e
+events_spelled rest Metrics e = apart 101 109 _ _ refl e
+events_spelled rest Events e = absurd (has_space (codes "events") rest (subst HasNoSpace (sym e) (NoSpace-by_test (codes "events") refl)))
+events_spelled rest (Frames line) (e, name) = let same : rest ≡ spaced (codes "frames") line = cc in (line, refl, same, name)
+events_spelled rest Stop e = apart 101 115 _ _ refl e
+
+-- the one name that may follow `events frames`
+pub frames_spelled : (rest : List ℕ) (order : Order) → Spells (frames_text rest) order → (order ≡ Frames rest) × IsName rest
+frames_spelled rest order says =
+    let (line, is, e, name) = events_spelled (spaced (codes "frames") rest) order says in
+    let none = NoSpace-by_test (codes "frames") refl in
+    let same = (cut_once (codes "frames") rest (codes "frames") line none none e).1 in
+    rw same (is, name)
 
 -- a text with no space that is none of the bare words spells nothing
 pub no_bare_word : (text : List ℕ) (order : Order) → HasNoSpace text → text ≢ codes "status" → text ≢ codes "metrics" → text ≢ codes "events" → text ≢ codes "stop" → text ≢ codes "undelivered" → Spells text order → ⊥
@@ -176,21 +210,23 @@ no_bare_word text (Retry line life call) none a b c d f (e, name, is_life, is_ca
 no_bare_word text Status none a b c d f e = a e
 no_bare_word text Metrics none a b c d f e = b e
 no_bare_word text Events none a b c d f e = c e
+no_bare_word text (Frames line) none a b c d f (e, name) = has_space (codes "events") (spaced (codes "frames") line) (subst HasNoSpace e none)
 no_bare_word text Stop none a b c d f e = d e
 
 -- a text whose first word is none of these spells nothing
-pub no_verb : (text verb rest : List ℕ) (order : Order) → text ≡ spaced verb rest → HasNoSpace verb → verb ≢ codes "ring" → verb ≢ codes "peer" → verb ≢ codes "hangup" → verb ≢ codes "report" → verb ≢ codes "refuse" → verb ≢ codes "undelivered" → verb ≢ codes "discard" → verb ≢ codes "retry" → Spells text order → ⊥
-no_verb text verb rest (Ring line tag bounds) cut none a b c d f g h i (e, name, is_tag, range) = a (cut_once verb rest (codes "ring") (led (rung_text line) (word_led tag (bounds_led bounds None))) none (NoSpace-by_test (codes "ring") refl) (sym cut ∙ e)).0
-no_verb text verb rest (Peer line leg address bounds is_moved) cut none a b c d f g h i (peer_text, e, name, is_address, range) =
+pub no_verb : (text verb rest : List ℕ) (order : Order) → text ≡ spaced verb rest → HasNoSpace verb → verb ≢ codes "ring" → verb ≢ codes "peer" → verb ≢ codes "hangup" → verb ≢ codes "report" → verb ≢ codes "refuse" → verb ≢ codes "undelivered" → verb ≢ codes "discard" → verb ≢ codes "retry" → verb ≢ codes "events" → Spells text order → ⊥
+no_verb text verb rest (Ring line tag bounds) cut none a b c d f g h i j (e, name, is_tag, range) = a (cut_once verb rest (codes "ring") (led (rung_text line) (word_led tag (bounds_led bounds None))) none (NoSpace-by_test (codes "ring") refl) (sym cut ∙ e)).0
+no_verb text verb rest (Peer line leg address bounds is_moved) cut none a b c d f g h i j (peer_text, e, name, is_address, range) =
     b (cut_once verb rest (codes "peer") (spaced line (spaced (leg_text leg) (led peer_text (bounds_led bounds (moved_text is_moved))))) none (NoSpace-by_test (codes "peer") refl) (sym cut ∙ e)).0
-no_verb text verb rest (HangUp line leg) cut none a b c d f g h i (e, name) = c (cut_once verb rest (codes "hangup") (spaced line (leg_text leg)) none (NoSpace-by_test (codes "hangup") refl) (sym cut ∙ e)).0
-no_verb text verb rest (Refuse line cause) cut none a b c d f g h i (e, name, is_cause) = f (cut_once verb rest (codes "refuse") (spaced line cause) none (NoSpace-by_test (codes "refuse") refl) (sym cut ∙ e)).0
-no_verb text verb rest (Report line) cut none a b c d f g h i (e, name) = d (cut_once verb rest (codes "report") line none (NoSpace-by_test (codes "report") refl) (sym cut ∙ e)).0
-no_verb text verb rest (Undelivered None) cut none a b c d f g h i (e, name) = has_space verb rest (subst HasNoSpace (sym e ∙ cut) (NoSpace-by_test (codes "undelivered") refl))
-no_verb text verb rest (Undelivered (Some line)) cut none a b c d f g h i (e, name) = g (cut_once verb rest (codes "undelivered") line none (NoSpace-by_test (codes "undelivered") refl) (sym cut ∙ e)).0
-no_verb text verb rest (Discard line life call) cut none a b c d f g h i (e, name, is_life, is_call) = h (cut_once verb rest (codes "discard") (call_text line life call) none (NoSpace-by_test (codes "discard") refl) (sym cut ∙ e)).0
-no_verb text verb rest (Retry line life call) cut none a b c d f g h i (e, name, is_life, is_call) = i (cut_once verb rest (codes "retry") (call_text line life call) none (NoSpace-by_test (codes "retry") refl) (sym cut ∙ e)).0
-no_verb text verb rest Status cut none a b c d f g h i e = has_space verb rest (subst HasNoSpace (sym e ∙ cut) (NoSpace-by_test (codes "status") refl))
-no_verb text verb rest Metrics cut none a b c d f g h i e = has_space verb rest (subst HasNoSpace (sym e ∙ cut) (NoSpace-by_test (codes "metrics") refl))
-no_verb text verb rest Events cut none a b c d f g h i e = has_space verb rest (subst HasNoSpace (sym e ∙ cut) (NoSpace-by_test (codes "events") refl))
-no_verb text verb rest Stop cut none a b c d f g h i e = has_space verb rest (subst HasNoSpace (sym e ∙ cut) (NoSpace-by_test (codes "stop") refl))
+no_verb text verb rest (HangUp line leg) cut none a b c d f g h i j (e, name) = c (cut_once verb rest (codes "hangup") (spaced line (leg_text leg)) none (NoSpace-by_test (codes "hangup") refl) (sym cut ∙ e)).0
+no_verb text verb rest (Refuse line cause) cut none a b c d f g h i j (e, name, is_cause) = f (cut_once verb rest (codes "refuse") (spaced line cause) none (NoSpace-by_test (codes "refuse") refl) (sym cut ∙ e)).0
+no_verb text verb rest (Report line) cut none a b c d f g h i j (e, name) = d (cut_once verb rest (codes "report") line none (NoSpace-by_test (codes "report") refl) (sym cut ∙ e)).0
+no_verb text verb rest (Undelivered None) cut none a b c d f g h i j (e, name) = has_space verb rest (subst HasNoSpace (sym e ∙ cut) (NoSpace-by_test (codes "undelivered") refl))
+no_verb text verb rest (Undelivered (Some line)) cut none a b c d f g h i j (e, name) = g (cut_once verb rest (codes "undelivered") line none (NoSpace-by_test (codes "undelivered") refl) (sym cut ∙ e)).0
+no_verb text verb rest (Discard line life call) cut none a b c d f g h i j (e, name, is_life, is_call) = h (cut_once verb rest (codes "discard") (call_text line life call) none (NoSpace-by_test (codes "discard") refl) (sym cut ∙ e)).0
+no_verb text verb rest (Retry line life call) cut none a b c d f g h i j (e, name, is_life, is_call) = i (cut_once verb rest (codes "retry") (call_text line life call) none (NoSpace-by_test (codes "retry") refl) (sym cut ∙ e)).0
+no_verb text verb rest Status cut none a b c d f g h i j e = has_space verb rest (subst HasNoSpace (sym e ∙ cut) (NoSpace-by_test (codes "status") refl))
+no_verb text verb rest Metrics cut none a b c d f g h i j e = has_space verb rest (subst HasNoSpace (sym e ∙ cut) (NoSpace-by_test (codes "metrics") refl))
+no_verb text verb rest Events cut none a b c d f g h i j e = has_space verb rest (subst HasNoSpace (sym e ∙ cut) (NoSpace-by_test (codes "events") refl))
+no_verb text verb rest (Frames line) cut none a b c d f g h i j (e, name) = j (cut_once verb rest (codes "events") (spaced (codes "frames") line) none (NoSpace-by_test (codes "events") refl) (sym cut ∙ e)).0
+no_verb text verb rest Stop cut none a b c d f g h i j e = has_space verb rest (subst HasNoSpace (sym e ∙ cut) (NoSpace-by_test (codes "stop") refl))

@@ -23,6 +23,7 @@ pub data Order : Type 0 where
   Status : Order
   Metrics : Order
   Events : Order
+  Frames : List ℕ → Order
   Stop : Order
 
 abbrev pub order_of : Word → Order
@@ -37,6 +38,7 @@ order_of (word.Retry said) = Retry said.line.now said.life said.call
 order_of word.Status = Status
 order_of word.Metrics = Metrics
 order_of word.Events = Events
+order_of (word.Frames line) = Frames line.now
 order_of word.Stop = Stop
 
 -- no octet of the text is a space
@@ -120,6 +122,10 @@ IsCallNumber n = n < 2 ^ 32
 abbrev pub call_text : (line : List ℕ) → (life call : ℕ) → List ℕ
 call_text line life call = spaced line (spaced (decimal life) (decimal call))
 
+-- events, with what happens in the calls of a line
+abbrev pub frames_text : (line : List ℕ) → List ℕ
+frames_text line = spaced (codes "events") (spaced (codes "frames") line)
+
 -- the text spells the order
 abbrev pub Spells : List ℕ → Order → Type 0
 Spells text (Ring line tag bounds) =
@@ -136,6 +142,7 @@ Spells text (Retry line life call) = (text ≡ spaced (codes "retry") (call_text
 Spells text Status = text ≡ codes "status"
 Spells text Metrics = text ≡ codes "metrics"
 Spells text Events = text ≡ codes "events"
+Spells text (Frames line) = (text ≡ frames_text line) × IsName line
 Spells text Stop = text ≡ codes "stop"
 
 -- The octets of a line say an order: they are at most 256, they are UTF-8, and they spell it.

@@ -2,7 +2,7 @@
 ghost use Rattle.std.specs.Prelude.{◌≡◌, List, ℕ, Option, Some, codes, IfSome, IfNone, IsSomeAnd};
 ghost use Rattle.std.specs.declared.net.socket_addr.SocketAddr.{SocketAddr as SocketAddrShown};
 ghost use Rattle.fax_control.specs.Options.{text_of};
-ghost use Rattle.fax_control.specs.Words.{HasNoSpace, IsCallNumber, IsName, IsPeerText, IsRungLine, Order, Says, Spells, call_text, order_of, rung_text, spaced};
+ghost use Rattle.fax_control.specs.Words.{HasNoSpace, IsCallNumber, IsName, IsPeerText, IsRungLine, Order, Says, Spells, call_text, frames_text, order_of, rung_text, spaced};
 ghost use Rattle.fax_gateway.specs.LegNames.{leg_text};
 
 use crate::number::number_of;
@@ -50,6 +50,8 @@ fn word_of(text: &str) -> Option<Word<'_>>
                 discard_of(rest)
             } else if verb == "retry" {
                 retry_of(rest)
+            } else if verb == "events" {
+                events_of(rest)
             } else {
                 None
             }
@@ -157,6 +159,33 @@ fn retry_of(rest: &str) -> Option<Word<'_>>
     match call_of(rest) {
         Some(call) => Some(Word::Retry(call)),
         None => None,
+    }
+}
+
+/// What follows `events`: `frames`, and the name of a line.
+fn events_of(rest: &str) -> Option<Word<'_>>
+    ensures said { IfSome result (λ word. Spells (spaced (codes "events") rest.now) (order_of word)) }
+    ensures only { (order : Order) → Spells (spaced (codes "events") rest.now) order → IsSomeAnd result (λ word. order_of word ≡ order) }
+{
+    let (what, line) = cut(rest)?;
+    if what == "frames" {
+        frames_of(line)
+    } else {
+        None
+    }
+}
+
+/// What follows `events frames`: the name of a line.
+fn frames_of(line: &str) -> Option<Word<'_>>
+    ensures said { IfSome result (λ word. Spells (frames_text line.now) (order_of word)) }
+    ensures only { (order : Order) → Spells (frames_text line.now) order → IsSomeAnd result (λ word. order_of word ≡ order) }
+{
+    if line.is_empty() {
+        return None;
+    }
+    match cut(line) {
+        None => Some(Word::Frames(line)),
+        Some(_) => None,
     }
 }
 

@@ -33,6 +33,8 @@ pub enum Refusal {
     Fixed,
     /// 13: the spool takes no page, since its disk has failed.
     NoSpool,
+    /// 14: as many pages of the line wait as may.
+    Full,
 }
 
 impl Refusal {
@@ -54,6 +56,7 @@ impl Refusal {
             Refusal::NoCall => 11,
             Refusal::Fixed => 12,
             Refusal::NoSpool => 13,
+            Refusal::Full => 14,
         }
     }
 
@@ -75,6 +78,7 @@ impl Refusal {
             Refusal::NoCall => "NoCall",
             Refusal::Fixed => "Fixed",
             Refusal::NoSpool => "NoSpool",
+            Refusal::Full => "Full",
         }
     }
 }

@@ -77,6 +77,8 @@ pub enum Word<'a> {
     Metrics,
     /// Asks for events, from now on.
     Events,
+    /// The same, and for what happens in the calls of this line, in words.
+    Frames(&'a str),
     /// No ring is taken any more; a second one ends at once.
     Stop,
 }

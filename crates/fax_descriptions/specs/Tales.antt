@@ -22,6 +22,14 @@ lane_picture ToCalled = codes "           gateway --> called"
 lane_picture FromCalled = codes "           gateway <-- called"
 lane_picture Inside = codes "           gateway           "
 
+-- and its name
+abbrev pub lane_name : Lane → List ℕ
+lane_name FromCaller = codes "FromCaller"
+lane_name ToCaller = codes "ToCaller"
+lane_name ToCalled = codes "ToCalled"
+lane_name FromCalled = codes "FromCalled"
+lane_name Inside = codes "Inside"
+
 -- a moment in milliseconds, in decimal, with spaces after it up to the tenth column, one at least
 abbrev pub moment_text : ℕ → List ℕ
 moment_text moment = decimal moment ++ (replicate (9 - length (decimal moment)) 32 ++ 32 ∷ [])

@@ -1,6 +1,6 @@
 //! Where a thing happened.
 ghost use Rattle.std.specs.Prelude.{◌≡◌};
-ghost use Rattle.fax_descriptions.specs.Tales.{lane_picture};
+ghost use Rattle.fax_descriptions.specs.Tales.{lane_name, lane_picture};
 
 /// Where a thing happened: on the way between two machines, or in the gateway itself.
 #[derive(Clone, Copy, PartialEq, Eq)]
@@ -23,6 +23,19 @@ impl Lane {
             Lane::ToCalled => "           gateway --> called",
             Lane::FromCalled => "           gateway <-- called",
             Lane::Inside => "           gateway           ",
+        }
+    }
+
+    /// Its name.
+    pub fn name(self) -> &'static str
+        ensures { result.now ≡ lane_name self }
+    {
+        match self {
+            Lane::FromCaller => "FromCaller",
+            Lane::ToCaller => "ToCaller",
+            Lane::ToCalled => "ToCalled",
+            Lane::FromCalled => "FromCalled",
+            Lane::Inside => "Inside",
         }
     }
 }

@@ -16,7 +16,7 @@ mod words;
 pub use command::Command;
 pub use lane::Lane;
 pub use reasons::{why_ended, why_refused};
-pub use tale::Tale;
+pub use tale::{Tale, Told};
 pub use timers::{why_again, why_given_up};
 pub use words::{
     name_of_kind, words_of_format, words_of_frame, words_of_numbers, words_of_wholeness,

@@ -1,6 +1,7 @@
 //! What happened at an event.
-ghost use Rattle.std.specs.Prelude.{◌≡◌, ◌++◌, ◌∷◌, [], IfOk, OnOk};
+ghost use Rattle.std.specs.Prelude.{◌≡◌, ◌++◌, ◌∷◌, [], option_map, slice_get, IfOk, OnOk};
 ghost use Rattle.fax_descriptions.specs.Tales.{last_with, paragraph_text};
+ghost use Rattle.fax_descriptions.specs.Tellings.{shown_of};
 
 use crate::lane::Lane;
 use crate::paragraph::paragraph_of;
@@ -13,6 +14,13 @@ use std::marker::Model;
 pub(crate) struct Entry {
     pub lane: Lane,
     pub words: String,
+}
+
+/// The same, as it is shown.
+#[derive(Clone, Copy)]
+pub struct Told<'a> {
+    pub lane: Lane,
+    pub words: &'a str,
 }
 
 /// What happened at an event, in the order in which it happened. Nothing is promised of a tale after an `Err`.
@@ -69,6 +77,19 @@ impl Tale {
     {
         self.entries.append(&mut other.entries)?;
         Ok(())
+    }
+
+    /// Thing i of those that happened, counted from 0. `None`: not so many did.
+    pub fn told(&self, i: usize) -> Option<Told<'_>>
+        ensures { option_map shown_of result ≡ slice_get self.now i }
+    {
+        match self.entries.get(i) {
+            Some(entry) => Some(Told {
+                lane: entry.lane,
+                words: entry.words.as_str(),
+            }),
+            None => None,
+        }
     }
 
     /// The lines that tell it at a moment in milliseconds.

@@ -1,4 +1,4 @@
-use Rattle.std.proofs.Common.{◌≡◌, ℕ, Bool, true, false, List, [], ◌∷◌, ◌++◌, Option, Some, None, refl, sym, ap, is_some}
+use Rattle.std.proofs.Common.{◌≡◌, ℕ, Bool, true, false, List, [], ◌∷◌, ◌++◌, Option, Some, None, refl, sym, ap, subst, is_some, length}
 use Rattle.fax_control.specs.declared.refusal.Refusal.{Refusal}
 use Rattle.fax_control.specs.declared.refusal.Refusal.TheVariants as refusal
 use Rattle.fax_control.specs.declared.word.Bounds.{Bounds}
@@ -24,9 +24,11 @@ use Rattle.fax_desk.specs.declared.questions.Question.{Question}
 use Rattle.fax_desk.specs.declared.tag.Tag.{Tag}
 use Rattle.fax_desk.specs.declared.view.AskedView.{AskedView}
 use Rattle.fax_desk.specs.declared.view.LineView.{LineView}
-use Rattle.fax_desk.specs.Desks.{done_of, done_with, line_named, next_at, next_here, next_ring, next_there, question_at, ring_if}
+use Rattle.fax_desk.specs.declared.next.RingAsk.{RingAsk}
+use Rattle.fax_desk.specs.Budgets.{bounded, has_memory, is_full_at}
+use Rattle.fax_desk.specs.Desks.{any_if, bounded_at, done_of, done_with, free_line, line_named, named_if, next_at, next_here, next_ring, next_there, question_at, ring_if, ring_on, ring_tagged}
 use Rattle.fax_desk.specs.Laws.{DeskEvent, Passes, Said, Lapsed, Told, Gives, answered, answered_at_once, asked, who_is_told, who_waits}
-use Rattle.fax_desk.specs.Said.{tag_said, unasked_if, waits_if}
+use Rattle.fax_desk.specs.Said.{bounds_of, tag_said, unasked_if, waits_if}
 use Rattle.fax_desk.specs.Stops.{takes_rings}
 use Rattle.fax_desk.specs.Words.{called_peer, connect_order, hang_up_order, is_connected, is_on, job_asked, next_of, orders_if, peer_if, peer_of, peer_order, refusal_order, refuse_of, reply_to, ring_order, takes_peer}
 
@@ -42,6 +44,7 @@ came asker next.Retries xs ys e = ap (λ l. asker ∷ l) e
 came asker next.Status xs ys e = ap (λ l. asker ∷ l) e
 came asker next.Metrics xs ys e = ap (λ l. asker ∷ l) e
 came asker next.Events xs ys e = ap (λ l. asker ∷ l) e
+came asker (next.Frames line) xs ys e = ap (λ l. asker ∷ l) e
 
 looks : (to : LookOutcome) (xs ys : List ℕ) → xs ≡ ys → who_waits (unasked_if to) ++ xs ≡ ys
 looks looked.Nothing xs ys e = e
@@ -70,6 +73,7 @@ gave_word asker next.Retries waits e = cc
 gave_word asker next.Status waits e = cc
 gave_word asker next.Metrics waits e = cc
 gave_word asker next.Events waits e = cc
+gave_word asker (next.Frames line) waits e = cc
 
 gave_look : (order : Order) (waits : Waits) → unasked_if (looked.Orders order) ≡ Some waits → Gives (Lapsed order) waits.asker waits.order
 gave_look order waits e = let w : record { asker = None; order = order } ≡ waits = cc in rw (← w) refl
@@ -122,6 +126,7 @@ of_line question i line (ask.Peer peer) got e = of_leg peer.leg question i line 
 of_line question i line (ask.Refuse why) got e = of_refusal (job_asked question line) i (cause.Said why) got e
 of_line question i line (ask.HangUp gone) got e = given (is_on gone.leg line) refusal.NoCall (hang_up_order i gone.leg) got e
 of_line question i line ask.Report got e = cc
+of_line question i line ask.Frames got e = cc
 
 of_there : (cards : List Card) (i : ℕ) (said : Ask) (line : Option LineView) (got : Order) → next_there cards i said line ≡ next.Orders got → i ≡ got.line
 of_there cards i said None got e = cc
@@ -155,3 +160,57 @@ serving desk lines has_failed name tag bounds got e = takes (takes_rings desk.st
 pub storage : (desk : Desk) (lines : ℕ → Option LineView) (has_failed : Bool) (name tag : Option (List ℕ)) (bounds : Bounds) (got : Order)
     → next_ring desk lines has_failed name tag bounds ≡ next.Orders got → has_failed ≡ false
 storage desk lines has_failed name tag bounds got e = keeps (takes_rings desk.stop) has_failed desk lines name bounds (tag_said tag) got e
+
+-- a ring that comes to an order: its line is not full, there is memory for it, and the order is this line's
+abbrev Allows : Desk → (ℕ → Option LineView) → ℕ → Type 0
+Allows desk lines i = (is_full_at desk.cards.items i ≡ false) × (has_memory desk.memory desk.cards.items lines i ≡ true)
+
+within : (full memory : Bool) (to : Next) (got : Order) → bounded full memory to ≡ next.Orders got → (full ≡ false) × (memory ≡ true) × (to ≡ next.Orders got)
+within true memory to got e = absurd (cc)
+within false false to got e = absurd (cc)
+within false true to got e = (refl, refl, e)
+
+at_line : (desk : Desk) (lines : ℕ → Option LineView) (i : ℕ) (to : Next) (got : Order) → (to ≡ next.Orders got → i ≡ got.line)
+    → bounded_at desk lines i to ≡ next.Orders got → Allows desk lines got.line
+at_line desk lines i to got is_its e =
+    let (full, memory, same) = within (is_full_at desk.cards.items i) (has_memory desk.memory desk.cards.items lines i) to got e in
+    subst (λ (k : ℕ). Allows desk lines k) (is_its same) (full, memory)
+
+order_of_ring : (i : ℕ) (ring : RingAsk) (got : Order) → next.Orders (ring_order i true ring.bounds (note.RingAny ring.tag)) ≡ next.Orders got → i ≡ got.line
+order_of_ring i ring got e = let q : ring_order i true ring.bounds (note.RingAny ring.tag) ≡ got = cc in ap (λ order. order.line) q
+
+of_any : (desk : Desk) (lines : ℕ → Option LineView) (ring : RingAsk) (n : Option ℕ) (got : Order) → any_if desk lines ring n ≡ next.Orders got → Allows desk lines got.line
+of_any desk lines ring None got e = absurd (cc)
+of_any desk lines ring (Some i) got e = at_line desk lines i (next.Orders (ring_order i true ring.bounds (note.RingAny ring.tag))) got (order_of_ring i ring got) e
+
+of_named : (desk : Desk) (lines : ℕ → Option LineView) (ring : RingAsk) (n : Option ℕ) (got : Order) → named_if desk lines ring n ≡ next.Orders got → Allows desk lines got.line
+of_named desk lines ring None got e = absurd (cc)
+of_named desk lines ring (Some i) got e =
+    at_line desk lines i (next_there desk.cards.items i (ask.Ring ring) (lines i)) got (of_there desk.cards.items i (ask.Ring ring) (lines i) got) e
+
+of_ring : (desk : Desk) (lines : ℕ → Option LineView) (name : Option (List ℕ)) (ring : RingAsk) (got : Order) → ring_on desk lines name ring ≡ next.Orders got → Allows desk lines got.line
+of_ring desk lines None ring got e = of_any desk lines ring (free_line desk.cards.items desk.any_from (length desk.names.items) lines) got e
+of_ring desk lines (Some name) ring got e = of_named desk lines ring (line_named desk.names.items name) got e
+
+of_tagged : (desk : Desk) (lines : ℕ → Option LineView) (name : Option (List ℕ)) (bounds : Bounds) (tag : Option (Option Tag)) (got : Order)
+    → ring_tagged desk lines name bounds tag ≡ next.Orders got → Allows desk lines got.line
+of_tagged desk lines name bounds None got e = absurd (cc)
+of_tagged desk lines name bounds (Some tag) got e = of_ring desk lines name (record { tag = tag; bounds = bounds_of bounds }) got e
+
+of_taken : (takes has_failed : Bool) (desk : Desk) (lines : ℕ → Option LineView) (name : Option (List ℕ)) (bounds : Bounds) (tag : Option (Option Tag)) (got : Order)
+    → ring_if takes has_failed desk lines name bounds tag ≡ next.Orders got → Allows desk lines got.line
+of_taken false has_failed desk lines name bounds tag got e = absurd (cc)
+of_taken true true desk lines name bounds tag got e = absurd (cc)
+of_taken true false desk lines name bounds tag got e = of_tagged desk lines name bounds tag got e
+
+pub allowed : (desk : Desk) (lines : ℕ → Option LineView) (has_failed : Bool) (name tag : Option (List ℕ)) (bounds : Bounds) (got : Order)
+    → next_ring desk lines has_failed name tag bounds ≡ next.Orders got → Allows desk lines got.line
+allowed desk lines has_failed name tag bounds got e = of_taken (takes_rings desk.stop) has_failed desk lines name bounds (tag_said tag) got e
+
+pub not_full : (desk : Desk) (lines : ℕ → Option LineView) (has_failed : Bool) (name tag : Option (List ℕ)) (bounds : Bounds) (got : Order)
+    → next_ring desk lines has_failed name tag bounds ≡ next.Orders got → is_full_at desk.cards.items got.line ≡ false
+not_full desk lines has_failed name tag bounds got e = (allowed desk lines has_failed name tag bounds got e).0
+
+pub remembered : (desk : Desk) (lines : ℕ → Option LineView) (has_failed : Bool) (name tag : Option (List ℕ)) (bounds : Bounds) (got : Order)
+    → next_ring desk lines has_failed name tag bounds ≡ next.Orders got → has_memory desk.memory desk.cards.items lines got.line ≡ true
+remembered desk lines has_failed name tag bounds got e = (allowed desk lines has_failed name tag bounds got e).1

@@ -1,2 +1,3 @@
+pub mod BudgetLemmas
 pub mod LawLemmas
 pub mod TagLemmas

@@ -17,7 +17,7 @@ use Rattle.fax_desk.specs.declared.view.FirstJob.{FirstJob}
 -- nothing happened on its line in this life
 abbrev pub card_new : ℕ → Card
 card_new seconds =
-    record { tags = buffer [] 256; counts = record { calls = 0; pages = 0 }; pages_in_call = 0; is_closed = false; jobs = 0; restored_jobs = 0; dial_seconds = seconds; question = None; refused = buffer [] 64 }
+    record { tags = buffer [] 256; counts = record { calls = 0; pages = 0 }; pages_in_call = 0; is_closed = false; jobs = 0; restored_jobs = 0; dial_seconds = seconds; question = None; refused = buffer [] 64; waiting = 0; limits = record { memory = 0; most_waiting = 2 ^ 32 - 1 } }
 
 -- ---- tags: of a call of this life, and of the job that is first in turn
 
@@ -97,12 +97,13 @@ abbrev pub one_more_if : Bool → ℕ → ℕ
 one_more_if true count = min (count + 1) (2 ^ 64 - 1)
 one_more_if false count = count
 
--- a page that could not be stored does not count as one that was confirmed
+-- a page that could not be stored does not count as one that was confirmed, and waits as one, since its job is sent all the same
 abbrev pub after_page : Bool → Option Kept → Card → Card
 after_page is_stored None card = card
 after_page is_stored (Some kept) card =
-    record card { counts = record card.counts { pages = one_more_if is_stored card.counts.pages }; pages_in_call = min (card.pages_in_call + 1) (2 ^ 32 - 1); is_closed = kept.closes }
+    record card { counts = record card.counts { pages = one_more_if is_stored card.counts.pages }; pages_in_call = min (card.pages_in_call + 1) (2 ^ 32 - 1); waiting = min (card.waiting + 1) (2 ^ 64 - 1); is_closed = kept.closes }
 
+-- the pages of a job that ended wait no more
 abbrev pub after_job : Bool → Option Report → Card → Card
 after_job is_restored None card = card
-after_job is_restored (Some report) card = record card { jobs = min (card.jobs + 1) (2 ^ 64 - 1); restored_jobs = one_more_if is_restored card.restored_jobs }
+after_job is_restored (Some report) card = record card { jobs = min (card.jobs + 1) (2 ^ 64 - 1); waiting = card.waiting - report.pages; restored_jobs = one_more_if is_restored card.restored_jobs }

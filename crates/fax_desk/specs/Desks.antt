@@ -1,5 +1,5 @@
 -- The desk: what a word, the end of an order, and a turn come to, of all lines (this project's profile).
-use Rattle.std.specs.Prelude.{◌≡◌, ℕ, ◌-◌, max, Bool, true, false, nat_le, bytes_eq, find, length, position, string_bytes, slice_get, slice_set, option_map, List, Option, Some, None, Ok, Err, String, Vec}
+use Rattle.std.specs.Prelude.{◌≡◌, ℕ, ◌-◌, max, Bool, true, false, not, ◌&&◌, nat_le, bytes_eq, find, length, position, string_bytes, slice_get, slice_set, option_map, List, Option, Some, None, Ok, Err, String, Vec}
 use Rattle.std.specs.List.{range_with_len}
 use Rattle.std.specs.declared.alloc.Global.{Global}
 use Rattle.fax_control.specs.declared.answer.Answer.{Answer}
@@ -44,6 +44,7 @@ use Rattle.fax_desk.specs.declared.told.Turn.{Turn}
 use Rattle.fax_desk.specs.declared.view.AskedView.{AskedView}
 use Rattle.fax_desk.specs.declared.view.FirstJob.{FirstJob}
 use Rattle.fax_desk.specs.declared.view.LineView.{LineView}
+use Rattle.fax_desk.specs.Budgets.{bounded, has_memory, is_full_at}
 use Rattle.fax_desk.specs.Cards.{after_done, report_texts, tag_of, tagged_job}
 use Rattle.fax_desk.specs.Questions.{heard_after}
 use Rattle.fax_desk.specs.Said.{bounds_of, peer_said, rung_happened, tag_said}
@@ -55,7 +56,7 @@ use Rattle.fax_desk.specs.Words.{next_of, refusal_order, refuses, reply_to, ring
 -- nothing happened
 abbrev pub desk_new : Vec (String Global) Global → Vec Card Global → ℕ → Desk
 desk_new names cards within =
-    record { names = names; cards = cards; stop = stop.No; stop_ms = within; damage = record { records = 0; octets = 0 }; failed = None; time = record { heard = 0; last = 0 }; is_heard = false; waits = None; any_from = 0 }
+    record { names = names; cards = cards; stop = stop.No; stop_ms = within; damage = record { records = 0; octets = 0 }; failed = None; time = record { heard = 0; last = 0 }; is_heard = false; waits = None; any_from = 0; memory = None }
 
 -- the line of this name
 abbrev pub line_named : List (String Global) → List ℕ → Option ℕ
@@ -86,7 +87,7 @@ next_here cards lines said (Some i) = next_there cards i said (lines i)
 abbrev pub next_at : Desk → (ℕ → Option LineView) → List ℕ → Ask → Next
 next_at desk lines name said = next_here desk.cards.items lines said (line_named desk.names.items name)
 
--- a line can be rung before its peer is said: its calling leg is idle, and the configuration gives it no peer
+-- a line can be rung before its peer is said: its calling leg is idle, the configuration gives it no peer, and it is not full
 abbrev pub is_idle_line : Option ℕ → Bool → Bool
 is_idle_line (Some call) is_fixed = false
 is_idle_line None true = false
@@ -96,27 +97,41 @@ abbrev pub is_free_line : Option LineView → Bool
 is_free_line None = false
 is_free_line (Some line) = is_idle_line line.call line.calling.is_fixed
 
-abbrev pub first_free : ℕ → ℕ → (ℕ → Option LineView) → Option ℕ
-first_free from to lines = find (λ i. is_free_line (lines i)) (range_with_len from (to - from))
+abbrev pub is_free_at : List Card → (ℕ → Option LineView) → ℕ → Bool
+is_free_at cards lines i = is_free_line (lines i) && not (is_full_at cards i)
+
+abbrev pub first_free : List Card → ℕ → ℕ → (ℕ → Option LineView) → Option ℕ
+first_free cards from to lines = find (λ i. is_free_at cards lines i) (range_with_len from (to - from))
 
 abbrev pub free_or : Option ℕ → Option ℕ → Option ℕ
 free_or None other = other
 free_or (Some i) other = Some i
 
 -- the first of so many, from this one on, and round
-abbrev pub free_line : ℕ → ℕ → (ℕ → Option LineView) → Option ℕ
-free_line from count lines = free_or (first_free from count lines) (first_free 0 from lines)
+abbrev pub free_line : List Card → ℕ → ℕ → (ℕ → Option LineView) → Option ℕ
+free_line cards from count lines = free_or (first_free cards from count lines) (first_free cards 0 from lines)
 
-abbrev pub any_if : RingAsk → Option ℕ → Next
-any_if ring None = refuses refusal.Busy
-any_if ring (Some i) = next.Orders (ring_order i true ring.bounds (note.RingAny ring.tag))
+-- A ring that names a line, or any, is bounded by what is said in `Budgets`, before what the line is is looked at.
+abbrev pub bounded_at : Desk → (ℕ → Option LineView) → ℕ → Next → Next
+bounded_at desk lines i to = bounded (is_full_at desk.cards.items i) (has_memory desk.memory desk.cards.items lines i) to
+
+abbrev pub any_if : Desk → (ℕ → Option LineView) → RingAsk → Option ℕ → Next
+any_if desk lines ring None = refuses refusal.Busy
+any_if desk lines ring (Some i) = bounded_at desk lines i (next.Orders (ring_order i true ring.bounds (note.RingAny ring.tag)))
 
 abbrev pub next_any : Desk → (ℕ → Option LineView) → RingAsk → Next
-next_any desk lines ring = any_if ring (free_line desk.any_from (length desk.names.items) lines)
+next_any desk lines ring = any_if desk lines ring (free_line desk.cards.items desk.any_from (length desk.names.items) lines)
+
+abbrev pub named_if : Desk → (ℕ → Option LineView) → RingAsk → Option ℕ → Next
+named_if desk lines ring None = refuses refusal.NoLine
+named_if desk lines ring (Some i) = bounded_at desk lines i (next_there desk.cards.items i (ask.Ring ring) (lines i))
+
+abbrev pub next_named : Desk → (ℕ → Option LineView) → List ℕ → RingAsk → Next
+next_named desk lines name ring = named_if desk lines ring (line_named desk.names.items name)
 
 abbrev pub ring_on : Desk → (ℕ → Option LineView) → Option (List ℕ) → RingAsk → Next
 ring_on desk lines None ring = next_any desk lines ring
-ring_on desk lines (Some name) ring = next_at desk lines name (ask.Ring ring)
+ring_on desk lines (Some name) ring = next_named desk lines name ring
 
 abbrev pub ring_tagged : Desk → (ℕ → Option LineView) → Option (List ℕ) → SaidBounds → Option (Option Tag) → Next
 ring_tagged desk lines name bounds None = refuses refusal.NoWord
@@ -127,7 +142,8 @@ ring_if false has_failed desk lines name bounds tag = refuses refusal.Stopping
 ring_if true true desk lines name bounds tag = refuses refusal.NoSpool
 ring_if true false desk lines name bounds tag = ring_tagged desk lines name bounds tag
 
--- A ring needs a server that does not stop, and whose spool has not failed: whichever line it names, and whatever that is.
+-- A ring needs a server that does not stop, and whose spool has not failed: whichever line it names, and whatever that is. Then it needs
+-- a tag that is none too long; a line that is there, or any that can be rung; one that is not full; memory; and a peer.
 abbrev pub next_ring : Desk → (ℕ → Option LineView) → (has_failed : Bool) → (name tag : Option (List ℕ)) → SaidBounds → Next
 next_ring desk lines has_failed name tag bounds = ring_if (takes_rings desk.stop) has_failed desk lines name bounds (tag_said tag)
 
@@ -151,6 +167,7 @@ step_of desk lines has_failed (word.Retry said) = next.Retries
 step_of desk lines has_failed word.Status = next.Status
 step_of desk lines has_failed word.Metrics = next.Metrics
 step_of desk lines has_failed word.Events = next.Events
+step_of desk lines has_failed (word.Frames name) = next_at desk lines name.now ask.Frames
 step_of desk lines has_failed word.Stop = next.Replies reply.Done
 
 abbrev pub stop_then : Word → (now within : ℕ) → Stop → Stop
@@ -165,6 +182,7 @@ stop_then (word.Retry said) now within before = before
 stop_then word.Status now within before = before
 stop_then word.Metrics now within before = before
 stop_then word.Events now within before = before
+stop_then (word.Frames name) now within before = before
 stop_then word.Stop now within before = stop_after before now within
 
 -- ---- cards: what line i's becomes, where there is such a line; all others stay

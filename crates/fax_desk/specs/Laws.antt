@@ -12,6 +12,7 @@ use Rattle.fax_desk.specs.declared.next.Next.TheVariants as next
 use Rattle.fax_desk.specs.declared.next.Order.{Order}
 use Rattle.fax_control.specs.declared.word.Bounds.{Bounds}
 use Rattle.fax_desk.specs.declared.view.LineView.{LineView}
+use Rattle.fax_desk.specs.Budgets.{has_memory, is_full_at}
 use Rattle.fax_desk.specs.Desks.{done_of, line_named, next_at, next_ring}
 use Rattle.fax_desk.specs.Said.{unasked_if, waits_if}
 use Rattle.fax_desk.specs.Stops.{takes_rings}
@@ -42,6 +43,7 @@ order_of next.Retries = []
 order_of next.Status = []
 order_of next.Metrics = []
 order_of next.Events = []
+order_of (next.Frames line) = []
 
 abbrev pub orders_of : List DeskEvent → List Order
 orders_of [] = []
@@ -79,6 +81,7 @@ answered_at_once asker next.Retries = asker ∷ []
 answered_at_once asker next.Status = asker ∷ []
 answered_at_once asker next.Metrics = asker ∷ []
 answered_at_once asker next.Events = asker ∷ []
+answered_at_once asker (next.Frames line) = asker ∷ []
 
 abbrev pub asked : List DeskEvent → List ℕ
 asked [] = []
@@ -108,6 +111,7 @@ Gives (Said asker next.Retries) who_asked order = ⊥
 Gives (Said asker next.Status) who_asked order = ⊥
 Gives (Said asker next.Metrics) who_asked order = ⊥
 Gives (Said asker next.Events) who_asked order = ⊥
+Gives (Said asker (next.Frames line)) who_asked order = ⊥
 Gives (Lapsed given) None order = given ≡ order
 Gives (Lapsed given) (Some who_asked) order = ⊥
 Gives (Told told _) who_asked order = ⊥
@@ -133,3 +137,13 @@ NoRingWhileStopping = (desk : Desk) (lines : ℕ → Option LineView) (has_faile
 abbrev pub NoRingWithoutASpool : Type 0
 NoRingWithoutASpool = (desk : Desk) (lines : ℕ → Option LineView) (has_failed : Bool) (name tag : Option (List ℕ)) (bounds : Bounds) (given : Order)
     → next_ring desk lines has_failed name tag bounds ≡ next.Orders given → has_failed ≡ false
+
+-- NO RING COMES TO AN ORDER of a line of which as many pages wait as may.
+abbrev pub NoRingOnAFullLine : Type 0
+NoRingOnAFullLine = (desk : Desk) (lines : ℕ → Option LineView) (has_failed : Bool) (name tag : Option (List ℕ)) (bounds : Bounds) (given : Order)
+    → next_ring desk lines has_failed name tag bounds ≡ next.Orders given → is_full_at desk.cards.items given.line ≡ false
+
+-- NO RING COMES TO AN ORDER whose line may come to hold more than the others leave of what all together may hold.
+abbrev pub NoRingBeyondTheMemory : Type 0
+NoRingBeyondTheMemory = (desk : Desk) (lines : ℕ → Option LineView) (has_failed : Bool) (name tag : Option (List ℕ)) (bounds : Bounds) (given : Order)
+    → next_ring desk lines has_failed name tag bounds ≡ next.Orders given → has_memory desk.memory desk.cards.items lines given.line ≡ true

@@ -1,3 +1,4 @@
+pub mod Budgets
 pub mod Cards
 pub mod Desks
 pub mod Laws

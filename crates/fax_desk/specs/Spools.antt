@@ -79,3 +79,4 @@ unserved_reply (word.Retry said) = reply.Refused (record { why = refusal.NoSpool
 unserved_reply word.Status = reply.Refused (record { why = refusal.NoSpool })
 unserved_reply word.Metrics = reply.Refused (record { why = refusal.NoSpool })
 unserved_reply word.Events = reply.Refused (record { why = refusal.NoSpool })
+unserved_reply (word.Frames name) = reply.Refused (record { why = refusal.NoSpool })

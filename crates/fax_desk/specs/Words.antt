@@ -99,6 +99,7 @@ next_of question i line (ask.Peer peer) = peer_of peer.leg question i line peer
 next_of question i line (ask.Refuse why) = refuse_of (job_asked question line) i (cause.Said why)
 next_of question i line (ask.HangUp gone) = orders_if (is_on gone.leg line) refusal.NoCall (hang_up_order i gone.leg)
 next_of question i line ask.Report = next.Reports i
+next_of question i line ask.Frames = next.Frames i
 
 -- ---- HOW A WORD IS ANSWERED whose order its line answered so; none: there is no such line
 

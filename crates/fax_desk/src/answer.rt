@@ -35,6 +35,7 @@ pub fn next_of(question: Option<Question>, i: usize, line: LineView, ask: Ask) -
             hang_up_order(i, hang_up.leg),
         ),
         Ask::Report => Next::Reports(i),
+        Ask::Frames => Next::Frames(i),
     }
 }
 

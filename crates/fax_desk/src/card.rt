@@ -46,6 +46,15 @@ pub struct LineCounts {
     pub pages: u64,
 }
 
+/// What a line is bounded by.
+#[derive(Clone, Copy)]
+pub struct LineLimits {
+    /// How many octets its call and its jobs may hold of pages.
+    pub memory: u32,
+    /// While so many pages of it wait, or more, it takes no call.
+    pub most_waiting: u32,
+}
+
 /// What is known of a line.
 #[derive(Drop)]
 pub struct Card {
@@ -63,10 +72,14 @@ pub struct Card {
     pub question: Option<Question>,
     /// The last jobs whose calls could not be placed, the newest first.
     pub refused: HeapCircularBuffer<RefusedJob>,
+    /// How many pages of it wait: they were confirmed, and their jobs have not ended.
+    pub waiting: u64,
+    pub limits: LineLimits,
 }
 
 impl Card {
-    /// A line to which nothing happened, whose questions are open for so many seconds. It takes the memory for all that it is to know.
+    /// A line to which nothing happened, whose questions are open for so many seconds, and of whose memory nothing is counted. It takes
+    /// the memory for all that it is to know.
     pub fn new(alloc: Global, dial_seconds: u32) -> Result<Self, AllocError>
         ensures { IfOk result (λ card. card ≡ card_new dial_seconds) }
     {
@@ -82,6 +95,11 @@ impl Card {
             dial_seconds,
             question: None,
             refused,
+            waiting: 0,
+            limits: LineLimits {
+                memory: 0,
+                most_waiting: u32::MAX,
+            },
         })
     }
 
@@ -214,6 +232,7 @@ impl Card {
                 self.counts.pages = self.counts.pages.saturating_add(1);
             }
             self.pages_in_call = self.pages_in_call.saturating_add(1);
+            self.waiting = self.waiting.saturating_add(1);
             self.is_closed = kept.closes;
         }
     }
@@ -222,8 +241,9 @@ impl Card {
     pub(crate) fn end_job(&mut self, first: FirstJob, report: Option<Report>)
         ensures { self.new ≡ after_job first.is_restored report self.old }
     {
-        if report.is_some() {
+        if let Some(report) = report {
             self.jobs = self.jobs.saturating_add(1);
+            self.waiting = self.waiting.saturating_sub(u64::from(report.pages));
             if first.is_restored {
                 self.restored_jobs = self.restored_jobs.saturating_add(1);
             }

@@ -1,12 +1,14 @@
 //! The desk.
 ghost use Rattle.std.specs.Prelude.{◌≡◌, ◌↔◌, IsTrue, None, Some, is_some, length, not, option_map, slice_get};
-ghost use Rattle.fax_desk.specs.Desks.{asked_cards, connected_happened, desk_new, done_of, due_of, free_line, happened_of, heard_until, line_named, looked_at, looked_cards, name_at, next_any, next_at, next_ring, noted, noted_at, peer_next, question_at, refuse_next, step_of, stop_then, told_at, turned_at};
+ghost use Rattle.fax_desk.specs.Budgets.{has_memory, is_full_at};
+ghost use Rattle.fax_desk.specs.Desks.{asked_cards, connected_happened, desk_new, done_of, due_of, free_line, happened_of, heard_until, line_named, looked_at, looked_cards, name_at, next_any, next_at, next_named, next_ring, next_there, noted, noted_at, peer_next, question_at, refuse_next, step_of, stop_then, told_at, turned_at};
 ghost use Rattle.fax_desk.specs.Said.{any_after, peer_said, unasked_if, waits_if};
 ghost use Rattle.fax_desk.specs.Spools.{are_at_rest, end_of, failed_after, is_news, run_is_over};
 ghost use Rattle.fax_desk.specs.Stops.{stop_after, takes_rings};
 ghost use Rattle.fax_desk.specs.Tags.{tag_of_text};
 
 use crate::answer::{next_of, refuses, reply_to, ring_order};
+use crate::budgets::{bounded, has_memory, is_full_at};
 use crate::card::Card;
 use crate::next::{Ask, HangUpAsk, Next, Note, Order, Reply, RingAsk};
 use crate::questions::{HeardTime, Question};
@@ -68,6 +70,8 @@ pub struct Desk {
     pub waits: Option<Waits>,
     /// The line from which on any is looked for that can be rung.
     pub any_from: usize,
+    /// How many octets all lines together may hold of pages. `None`: as many as each for itself.
+    pub memory: Option<u64>,
 }
 
 impl Desk {
@@ -89,6 +93,7 @@ impl Desk {
             is_heard: false,
             waits: None,
             any_from: 0,
+            memory: None,
         }
     }
 
@@ -150,6 +155,7 @@ impl Desk {
             Word::Status => Next::Status,
             Word::Metrics => Next::Metrics,
             Word::Events => Next::Events,
+            Word::Frames(name) => self.ask(name, Ask::Frames, view),
             Word::Stop => Next::Replies(Reply::Done),
         }
     }
@@ -161,10 +167,17 @@ impl Desk {
         let Some(i) = self.find(name) else {
             return refuses(Refusal::NoLine);
         };
-        let Some(line) = view.line(i) else {
-            return refuses(Refusal::NoLine);
-        };
-        next_of(self.question(i), i, line, ask)
+        self.ask_at_line(i, ask, view)
+    }
+
+    /// The same of line i.
+    fn ask_at_line<V: View>(&self, i: usize, ask: Ask, view: &V) -> Next
+        ensures { result ≡ next_there self.now.cards.items i ask (V.line view.now i) }
+    {
+        match view.line(i) {
+            Some(line) => next_of(self.question(i), i, line, ask),
+            None => refuses(Refusal::NoLine),
+        }
     }
 
     /// What a ring comes to.
@@ -182,8 +195,21 @@ impl Desk {
         };
         let bounds = bounds_of(ring.bounds);
         match ring.line {
-            Some(name) => self.ask(name, Ask::Ring(RingAsk { tag, bounds }), view),
+            Some(name) => self.ring_named(name, RingAsk { tag, bounds }, view),
             None => self.ring_any(RingAsk { tag, bounds }, view),
+        }
+    }
+
+    /// What it comes to that the line of this name is to ring.
+    fn ring_named<V: View>(&self, name: &str, ring: RingAsk, view: &V) -> Next
+        ensures { result ≡ next_named self.now (V.line view.now) name.now ring }
+    {
+        match self.find(name) {
+            Some(i) => {
+                let to = self.ask_at_line(i, Ask::Ring(ring), view);
+                bounded(self.memory, self.cards.as_slice(), view, i, to)
+            }
+            None => refuses(Refusal::NoLine),
         }
     }
 
@@ -194,7 +220,8 @@ impl Desk {
         match self.free_line(view) {
             Some(i) => {
                 let note = Note::RingAny(ring.tag);
-                Next::Orders(ring_order(i, true, ring.bounds, note))
+                let to = Next::Orders(ring_order(i, true, ring.bounds, note));
+                bounded(self.memory, self.cards.as_slice(), view, i, to)
             }
             None => refuses(Refusal::Busy),
         }
@@ -202,12 +229,27 @@ impl Desk {
 
     /// The first line that can be rung without its peer, from the one after that which was taken last.
     fn free_line<V: View>(&self, view: &V) -> Option<usize>
-        ensures { result ≡ free_line self.now.any_from (length self.now.names.items) (V.line view.now) }
+        ensures { result ≡ free_line self.now.cards.items self.now.any_from (length self.now.names.items) (V.line view.now) }
     {
-        match first_free(view, self.any_from, self.names.len()) {
+        let cards = self.cards.as_slice();
+        match first_free(cards, view, self.any_from, self.names.len()) {
             Some(i) => Some(i),
-            None => first_free(view, 0, self.any_from),
+            None => first_free(cards, view, 0, self.any_from),
         }
+    }
+
+    /// Whether as many pages of line i wait as may.
+    pub fn is_full(&self, i: usize) -> bool
+        ensures { result ≡ is_full_at self.now.cards.items i }
+    {
+        is_full_at(self.cards.as_slice(), i)
+    }
+
+    /// Whether there is memory for a call on line i beside what all others may come to hold.
+    pub fn has_memory<V: View>(&self, i: usize, view: &V) -> bool
+        ensures { result ≡ has_memory self.now.memory self.now.cards.items (V.line view.now) i }
+    {
+        has_memory(self.memory, self.cards.as_slice(), view, i)
     }
 
     /// What it comes to that the peer of a leg is said.

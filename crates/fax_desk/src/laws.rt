@@ -1,5 +1,5 @@
 //! Laws of the definitions: functions that do nothing, each of whose contracts is a theorem.
-ghost use Rattle.fax_desk.specs.Laws.{AnsweredOnce, AnswersWhatWasDone, NoRingWhileStopping, NoRingWithoutASpool, OrdersTheNamed};
+ghost use Rattle.fax_desk.specs.Laws.{AnsweredOnce, AnswersWhatWasDone, NoRingBeyondTheMemory, NoRingOnAFullLine, NoRingWhileStopping, NoRingWithoutASpool, OrdersTheNamed};
 
 /// Each word is answered once, in the order in which they came.
 pub fn words_are_answered_once()
@@ -24,4 +24,14 @@ pub fn no_ring_while_stopping()
 /// No ring is ordered while the spool takes no page.
 pub fn no_ring_without_a_spool()
     ensures { NoRingWithoutASpool }
+{}
+
+/// No ring is ordered of a line of which as many pages wait as may.
+pub fn no_ring_on_a_full_line()
+    ensures { NoRingOnAFullLine }
+{}
+
+/// No ring is ordered whose line may come to hold more than the others leave of what all together may hold.
+pub fn no_ring_beyond_the_memory()
+    ensures { NoRingBeyondTheMemory }
 {}

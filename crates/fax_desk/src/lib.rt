@@ -4,6 +4,7 @@
 
 mod answer;
 mod asking;
+mod budgets;
 mod card;
 mod desk;
 mod events;
@@ -21,7 +22,7 @@ mod turning;
 mod view;
 
 pub use answer::next_of;
-pub use card::{Card, LineCounts, RefusedJob, ReportTexts, TagsOn};
+pub use card::{Card, LineCounts, LineLimits, RefusedJob, ReportTexts, TagsOn};
 pub use desk::{Desk, LookOutcome, OrderEnd, Waits};
 pub use next::{
     Ask, ConnectNote, HangUpAsk, Next, Note, Order, PeerAsk, RefusedWord, Reply, RingAsk, RungOn,

@@ -37,6 +37,8 @@ pub enum Ask {
     Refuse(Tag),
     HangUp(HangUpAsk),
     Report,
+    /// What happens in its calls, from now on.
+    Frames,
 }
 
 /// The job that is connected: the call that its pages came in, and what is known of it.
@@ -106,4 +108,6 @@ pub enum Next {
     Metrics,
     /// From now on the client hears events; first it is told what is on.
     Events,
+    /// The same, and it is told what happens in the calls of this line.
+    Frames(usize),
 }

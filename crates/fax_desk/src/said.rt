@@ -1,8 +1,10 @@
 //! What is said in a word.
 ghost use Rattle.std.specs.Prelude.{◌≡◌, option_map};
-ghost use Rattle.fax_desk.specs.Desks.{first_free, is_free_line};
+ghost use Rattle.fax_desk.specs.Desks.{first_free, is_free_at, is_free_line};
 ghost use Rattle.fax_desk.specs.Said.{any_after, bounds_of, peer_said, rung_happened, tag_said, unasked_if, waits_if};
 
+use crate::budgets::is_full_at;
+use crate::card::Card;
 use crate::desk::{LookOutcome, Waits};
 use crate::next::{Next, Note, PeerAsk};
 use crate::tag::{Tag, TaggedCall};
@@ -104,10 +106,17 @@ pub(crate) fn rung_happened(note: Note, call: u32) -> Option<LineEvent>
 }
 
 /// The first line from this one on, up to that, that can be rung before its peer is said.
-pub(crate) fn first_free<V: View>(view: &V, from: usize, to: usize) -> Option<usize>
-    ensures { result ≡ first_free from to (V.line view.now) }
+pub(crate) fn first_free<V: View>(cards: &[Card], view: &V, from: usize, to: usize) -> Option<usize>
+    ensures { result ≡ first_free cards.now from to (V.line view.now) }
 {
-    (from..to).find(|i| is_free_line(view.line(*i)))
+    (from..to).find(|i| is_free_at(cards, view, *i))
+}
+
+/// Whether line i can be rung before its peer is said, and is not full.
+fn is_free_at<V: View>(cards: &[Card], view: &V, i: usize) -> bool
+    ensures { result ≡ is_free_at cards.now (V.line view.now) i }
+{
+    is_free_line(view.line(i)) && !is_full_at(cards, i)
 }
 
 /// Whether a line can be rung before its peer is said: its calling leg is idle, and the configuration gives it no peer.

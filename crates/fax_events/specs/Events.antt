@@ -20,7 +20,7 @@ use Rattle.fax_events.specs.declared.event.Ending.TheVariants.{Done, HungUp, Giv
 use Rattle.fax_events.specs.declared.event.WhyAside.{WhyAside}
 use Rattle.fax_events.specs.declared.event.WhyAside.TheVariants.{NoPage, TornCall, NoLine}
 use Rattle.fax_events.specs.declared.event.What.{What}
-use Rattle.fax_events.specs.declared.event.What.TheVariants.{Rung, Page, RefusedPage, Ended, Dial, Asked, Connected, Job, Undelivered, Discarded, Wire, Late, Full, SetAside, Damaged, SpoolFailed}
+use Rattle.fax_events.specs.declared.event.What.TheVariants.{Rung, Page, RefusedPage, Ended, Dial, Asked, Connected, Job, Undelivered, Discarded, Wire, Late, Full, SetAside, Damaged, Frame, SpoolFailed}
 use Rattle.fax_events.specs.declared.event.What.TheVariants as what
 use Rattle.fax_events.specs.declared.event.Event.{Event}
 
@@ -72,6 +72,7 @@ event_name (Full call) = codes "full"
 event_name (what.NotStored call tag) = codes "not_stored"
 event_name (SetAside aside tag) = codes "set_aside"
 event_name (Damaged records octets) = codes "damaged"
+event_name (Frame lane words) = codes "frame"
 event_name SpoolFailed = codes "spool_failed"
 
 -- ---- members of an object
@@ -151,6 +152,7 @@ what_members (SetAside aside tag) =
     number_member (codes "life") aside.life ++ (number_member (codes "call") aside.call ++ (tag_member (option_map (λ text. text.now) tag)
     ++ (number_member (codes "number") aside.number ++ text_member (codes "why") (aside_name aside.why))))
 what_members (Damaged records octets) = number_member (codes "records") records ++ number_member (codes "octets") octets
+what_members (Frame lane words) = text_member (codes "lane") lane.now ++ text_member (codes "text") words.now
 what_members SpoolFailed = []
 
 -- the line that it happened on; none where it happened to all of them

@@ -172,6 +172,8 @@ pub enum What<'a> {
     /// The start found so many damaged records in the spool, and passed so many octets over in which nothing could be read. It is told
     /// of no line.
     Damaged(u64, u64),
+    /// A thing happened in a call: where, and in which words it is told. It is told those alone who watch the line.
+    Frame(&'a str, &'a str),
     /// A call of the spool's disk failed: no page is stored from now on, until the spool is opened anew. It is told of no line.
     SpoolFailed,
 }
@@ -197,6 +199,7 @@ impl<'a> What<'a> {
             What::NotStored(_, _) => "not_stored",
             What::SetAside(_, _) => "set_aside",
             What::Damaged(_, _) => "damaged",
+            What::Frame(_, _) => "frame",
             What::SpoolFailed => "spool_failed",
         }
     }

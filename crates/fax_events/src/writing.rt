@@ -321,6 +321,10 @@ fn put_what(writer: &mut Writer, what: &What<'_>) -> Result<(), AllocError>
             put_number(writer, "records", records)?;
             put_number(writer, "octets", octets)
         }
+        What::Frame(lane, words) => {
+            put_text(writer, "lane", lane)?;
+            put_text(writer, "text", words)
+        }
         What::SpoolFailed => Ok(()),
     }
 }

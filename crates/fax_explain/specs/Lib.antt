@@ -8,3 +8,4 @@ pub mod Ladders
 pub mod Explained
 pub mod Staged
 pub mod Marks
+pub mod Live

@@ -7,3 +7,4 @@ pub mod HangUps
 pub mod PeersKept
 pub mod Legs
 pub mod Sockets
+pub mod Taps

@@ -13,7 +13,10 @@ use crate::hang_up::GOODBYE_OCTETS;
 use crate::leg_peer::LegPeer;
 use crate::sending::send_bounded;
 use crate::socket::DatagramSocket;
+use crate::tap::Tap;
+use fax_bits::Octets;
 use fax_repeat::{Bounds, LegState, Peer};
+use std::alloc::Global;
 use std::cell::Cell;
 use std::io;
 use std::io::ErrorKind;
@@ -57,9 +60,11 @@ pub struct LegSocket<S: DatagramSocket + Drop> {
     /// How many octets were received in the turn that is on.
     received: usize,
     counts: LegCounts,
+    /// What it hands out, where that can be tapped.
+    tap: Option<Tap>,
 }
 
-/// Contracts see all but whether the system is asked at all.
+/// Contracts see all but whether the system is asked at all, and what is tapped.
 impl<S: DatagramSocket + Drop> Model for LegSocket<S> {
     ghost use Rattle.fax_legs.specs.Legs.{LegValue, peer_of};
     ghost use Rattle.fax_legs.specs.Sockets.{IsConnected};
@@ -88,7 +93,15 @@ impl<S: DatagramSocket + Drop> LegSocket<S> {
             may_have_come: Cell::new(true),
             received: 0,
             counts: LegCounts::default(),
+            tap: None,
         })
+    }
+
+    /// From now on it can be tapped.
+    pub fn add_tap(&mut self, alloc: Global)
+        ensures { self.new ≡ self.old }
+    {
+        self.tap = Some(Tap::new(alloc));
     }
 
     /// From now on datagrams go to this peer and come from it alone; those that came before and were not received are
@@ -148,6 +161,9 @@ impl<S: DatagramSocket + Drop> LegSocket<S> {
     {
         self.peer.settle(is_on);
         self.received = 0;
+        if let Some(tap) = &mut self.tap {
+            tap.begin_turn();
+        }
     }
 
     /// Its peer, where that is known.
@@ -220,6 +236,22 @@ impl<S: DatagramSocket + Drop> LegSocket<S> {
         self.may_have_come.set(true);
     }
 
+    /// From now on the datagrams that it hands out in a turn are copied, or no more; never those of a leg that cannot be tapped.
+    pub fn set_tapped(&self, is_tapped: bool) {
+        if let Some(tap) = &self.tap {
+            tap.set_on(is_tapped);
+        }
+    }
+
+    /// The datagrams that it handed out since the last turn began, in their order, where it was tapped all the time. `None`: memory was
+    /// refused for one of them, or it cannot be tapped.
+    pub fn tapped(&self) -> Option<&[Octets]> {
+        match &self.tap {
+            Some(tap) => tap.datagrams(),
+            None => None,
+        }
+    }
+
     /// Whether a receive may bring something: one that has come, or a DCN where the peer's call is gone.
     pub fn asks(&self) -> bool
         ensures gone { self.now.peer.is_gone ≡ true → result ≡ true }
@@ -248,6 +280,7 @@ impl<S: DatagramSocket + Drop> LegSocket<S> {
         ensures deaf { (self.old.call.standing ≡ standings.Gone → ⊥) → self.old.peer.address ≡ None → self.old.peer.learns ≡ false → result ≡ Ok None }
     {
         if self.peer.call.hand_out(buffer) {
+            self.note(buffer, GOODBYE_OCTETS);
             return Ok(Some(GOODBYE_OCTETS));
         }
         self.hear(buffer)
@@ -281,6 +314,7 @@ impl<S: DatagramSocket + Drop> LegSocket<S> {
         match self.socket.receive_octets(buffer) {
             Ok(count) => {
                 self.peer.hear(&buffer[..count]);
+                self.note(buffer, count);
                 self.count(count);
                 Ok(Some(count))
             }
@@ -298,10 +332,20 @@ impl<S: DatagramSocket + Drop> LegSocket<S> {
         match receive_first(&mut self.socket, buffer) {
             Ok((count, from)) => {
                 self.peer.learn(from, &buffer[..count]);
+                self.note(buffer, count);
                 self.count(count);
                 Ok(Some(count))
             }
             Err(error) => self.hear_none(error),
+        }
+    }
+
+    /// A datagram of so many octets is handed out in the front of a buffer: it is copied, where the leg is tapped.
+    fn note(&mut self, buffer: &[u8], octets: usize)
+        ensures { self.new ≡ self.old }
+    {
+        if let Some(tap) = &mut self.tap {
+            tap.note(&buffer[..octets.min(buffer.len())]);
         }
     }
 

@@ -10,6 +10,7 @@ mod leg_socket;
 mod lent_socket;
 mod sending;
 mod socket;
+mod tap;
 mod udp_wire;
 
 pub use leg_socket::{LegCounts, LegSocket};

@@ -13,5 +13,5 @@ pub use control::{close_control, open_control};
 pub use fault::ServeFault;
 pub use named_fault::NamedFault;
 pub use sockets::{
-    OpenedWire, ServedWire, SocketLegs, SocketWire, open_lines, open_restored_lines,
+    OpenedWire, ServedWire, SocketLegs, SocketWire, open_lines, open_restored_lines, settings_of,
 };

@@ -186,11 +186,11 @@ fn open_wire<N: Net>(
     alloc: Global,
     config: &LineConfig,
 ) -> Result<UdpWire<UdpSocket>, ServeFault> {
-    let calling = match open_leg(net, &config.calling, config.redundancy) {
+    let calling = match open_leg(net, alloc, &config.calling, config.redundancy) {
         Ok(leg) => leg,
         Err(error) => return Err(leg_fault(alloc, config, Leg::Calling, error)),
     };
-    match open_leg(net, &config.called, config.redundancy) {
+    match open_leg(net, alloc, &config.called, config.redundancy) {
         Ok(called) => Ok(UdpWire::new(calling, called)),
         Err(error) => Err(leg_fault(alloc, config, Leg::Called, error)),
     }
@@ -204,15 +204,17 @@ fn leg_fault(alloc: Global, config: &LineConfig, leg: Leg, error: io::Error) -> 
     }
 }
 
-/// Opens the socket of a leg, and connects it where its peer is known. Where no word says otherwise, its datagrams have so many packets
-/// before their own.
+/// Opens the socket of a leg, which can be tapped, and connects it where its peer is known. Where no word says otherwise, its datagrams have
+/// so many packets before their own.
 fn open_leg<N: Net>(
     net: &N,
+    alloc: Global,
     config: &LegConfig,
     redundancy: u16,
 ) -> io::Result<LegSocket<UdpSocket>> {
     let redundancy = redundancy.min(MOST_REDUNDANCY) as u8;
     let mut leg = LegSocket::new(net.bind_udp(config.local)?, redundancy)?;
+    leg.add_tap(alloc);
     if let Some(peer) = config.peer {
         leg.fix_peer(peer)?;
     }
@@ -231,7 +233,7 @@ fn policy_of(repeat: Repeat) -> RepeatPolicy {
 /// The settings of a line's gateway, which asks for the calls of its jobs where the configuration gives the called leg no peer. A
 /// datagram of it has as many packets before its own as any call may have: its leg sends those that the call has. A pause beyond
 /// the limits, which no configuration has, reads as the limit.
-fn settings_of(config: &LineConfig) -> Settings
+pub fn settings_of(config: &LineConfig) -> Settings
     ensures allowed { AreAllowed result }
     ensures settings { result ≡ settings_by config.now }
 {

@@ -10,6 +10,7 @@ mod answers;
 mod aside;
 mod calls_on;
 mod failures;
+mod ladders;
 mod pace;
 mod redial_side;
 mod refusals;

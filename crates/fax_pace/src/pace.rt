@@ -12,6 +12,7 @@ use self::held::{drop_all_beyond, hold_slot};
 use self::sip::{BETWEEN_FINISHING_MS, FINISHING_MS, tell_of_sip, turn_redials};
 use crate::aside::{tell_pages_aside, tell_torn_pages};
 use crate::calls_on::calls_if;
+use crate::ladders::Ladders;
 use crate::redial_side::RedialSide;
 use crate::retries::{Beside, Retries};
 use crate::rounds::Rounds;
@@ -26,6 +27,7 @@ use crate::watch::Watch;
 use fax_clients::Clients;
 use fax_control::Refusal;
 use fax_desk::{Damage, Desk, RunEnd};
+use fax_gateway::Settings;
 use fax_held::HeldPages;
 use fax_line::{LineAnswer, Lines, Order, Pace, SlotEnd};
 use fax_opening::{SocketLegs, Stopwatch};
@@ -70,6 +72,8 @@ pub struct RealPace<
     retries: Retries<R>,
     /// What keeps pages in memory, where there is no spool.
     held: Option<HeldPages>,
+    /// The ladders of lines that are watched.
+    ladders: Ladders,
 }
 
 /// Contracts see what the desk waits to be told of.
@@ -90,14 +94,15 @@ impl<
     R: RedialSide + Drop,
     S: SipSide + Drop,
 > RealPace<'a, C, I, O, R, S> {
-    /// The time begins now, and nothing was ordered of so many lines, whose legs are watched so, or not. The spool has failed so often in runs
-    /// before this one.
+    /// The time begins now, and nothing was ordered of so many lines, whose gateways have these settings, and whose legs are watched so, or
+    /// not. The spool has failed so often in runs before this one.
     pub fn new(
         alloc: Global,
         clock: Stopwatch<'a, C>,
         clients: Clients<I, O>,
         desk: Desk,
         lines: usize,
+        settings: Vec<Settings>,
         watch: Option<Watch>,
         visitors: Option<Visitors>,
         sip: Option<S>,
@@ -122,6 +127,7 @@ impl<
             sip,
             retries: Retries::new(alloc, redials),
             held,
+            ladders: Ladders::new(alloc, settings),
         })
     }
 
@@ -276,6 +282,22 @@ impl<
         Some(self.turn_or_wake(seen))
     }
 
+    /// This is ordered, which the ladders of lines are to know.
+    fn note_order(&mut self, order: Option<Order>)
+        ensures { self.new ≡ self.old }
+    {
+        self.ladders.note(order);
+    }
+
+    /// What a line answered to what was asked of it is played on its ladder, where it is watched.
+    fn play_done(&mut self, line: usize, answer: Option<LineAnswer>)
+        ensures { self.new ≡ self.old }
+    {
+        if let Some(name) = self.desk.name(line) {
+            self.ladders.done(line, name, answer, &mut self.teller);
+        }
+    }
+
     /// Writes what clients are still to be told, for a while. It answers how the run ends.
     pub fn finish(&mut self) -> RunEnd {
         self.finish_sip();
@@ -407,7 +429,9 @@ impl<
         }
         let seen = Seen { lines, store };
         self.look_at_spool(has_failed(store));
-        self.next_order(&seen)
+        let order = self.next_order(&seen);
+        self.note_order(order);
+        order
     }
 
     fn before_put(&mut self, lines: &Lines<W>, store: &mut PairedStore<D, U>) {
@@ -447,5 +471,6 @@ impl<
     fn done(&mut self, line: usize, answer: Option<LineAnswer>) {
         let _ = self.waking.woken.push(line);
         self.tell_done(answer);
+        self.play_done(line, answer);
     }
 }

@@ -1,5 +1,6 @@
 //! The lines of a server, as what answers words and tells events sees them.
-use fax_desk::{Turn, View};
+use fax_bits::Octets;
+use fax_desk::{Desk, Turn, View};
 use fax_gateway::{Leg, TurnReport};
 use fax_holding_wire::StoreFault;
 use fax_jobs::Report;
@@ -70,6 +71,12 @@ pub trait SeenLines: View {
     /// The system tells when a datagram comes on a leg, or no more.
     fn set_watched(&self, i: usize, leg: Leg, is_watched: bool);
 
+    /// What a leg hands out in a turn is copied from now on, or no more.
+    fn set_tapped(&self, i: usize, leg: Leg, is_tapped: bool);
+
+    /// The datagrams that a leg handed out in the last turn of the line, where they are copied. `None`: memory was refused for one.
+    fn tapped(&self, i: usize, leg: Leg) -> Option<&[Octets]>;
+
     /// The page that its last turn confirmed. An `Err`: memory was refused for its text.
     fn page_of(&self, alloc: Global, i: usize) -> Result<Option<PageToStore>, StoreFault>;
 
@@ -106,11 +113,11 @@ pub(crate) fn are_calm<S: SeenLines>(seen: &S) -> bool {
     true
 }
 
-/// Whether a line can be rung.
-pub(crate) fn has_free_line<S: SeenLines>(seen: &S) -> bool {
+/// Whether a line can be rung of which fewer pages wait than may, and there is memory for a call on the first such.
+pub(crate) fn has_free_line<S: SeenLines>(desk: &Desk, seen: &S) -> bool {
     for i in 0..seen.len() {
-        if seen.can_be_rung(i) {
-            return true;
+        if seen.can_be_rung(i) && !desk.is_full(i) {
+            return desk.has_memory(i, seen);
         }
     }
     false

@@ -106,6 +106,29 @@ impl<I: Read + Drop, O: Write + Drop> Teller<I, O> {
         self.clients.want_events(asker)
     }
 
+    /// From now on a client watches line i, and no other.
+    pub(crate) fn watch(&mut self, asker: Asker, i: usize) {
+        self.clients.watch(asker, i);
+    }
+
+    /// Whether a client watches line i.
+    pub(crate) fn is_watched(&self, i: usize) -> bool {
+        self.clients.is_watched(i)
+    }
+
+    /// Those who watch line i, of this name, are told a thing that happened there. Without memory it is lost.
+    pub(crate) fn tell_frame(&mut self, i: usize, name: &str, at: u64, lane: &str, words: &str) {
+        let event = Event {
+            line: Some(name),
+            at,
+            what: What::Frame(lane, words),
+        };
+        match write_event(self.alloc, &event) {
+            Ok(text) => self.clients.tell_watchers(i, text.as_slice()),
+            Err(_) => self.lost = self.lost.saturating_add(1),
+        }
+    }
+
     /// Clients are told this line of an event.
     pub(crate) fn tell_line(&mut self, line: &[u8]) {
         self.clients.tell(line);

@@ -6,6 +6,7 @@ ghost use Rattle.fax_pace.specs.Views.{asked_seen, failed_if, first_if, first_on
 ghost use Rattle.fax_spool.specs.Calls.{refuses_now};
 
 use crate::seen::SeenLines;
+use fax_bits::Octets;
 use fax_desk::{AskedView, FirstJob, LegView, LineView, Tag, Turn, View};
 use fax_gateway::{Leg, TurnReport};
 use fax_holding_wire::{LineWire, StoreFault};
@@ -166,6 +167,19 @@ impl<'a, W: SocketLegs + Drop, D: Disk, U: Disk> SeenLines for Seen<'a, W, D, U>
     fn set_watched(&self, i: usize, leg: Leg, is_watched: bool) {
         if let Some(line) = self.lines.line(i) {
             line.wire().leg(leg).set_watched(is_watched);
+        }
+    }
+
+    fn set_tapped(&self, i: usize, leg: Leg, is_tapped: bool) {
+        if let Some(line) = self.lines.line(i) {
+            line.wire().leg(leg).set_tapped(is_tapped);
+        }
+    }
+
+    fn tapped(&self, i: usize, leg: Leg) -> Option<&[Octets]> {
+        match self.lines.line(i) {
+            Some(line) => line.wire().leg(leg).tapped(),
+            None => None,
         }
     }
 

@@ -152,6 +152,7 @@ fn named_in<'a>(word: Word<'a>) -> Option<&'a str>
         Word::Status => None,
         Word::Metrics => None,
         Word::Events => None,
+        Word::Frames(_) => None,
         Word::Stop => None,
     }
 }
@@ -172,6 +173,7 @@ fn own_reply(word: Word<'_>) -> Option<Reply>
         Word::Status => Some(refused(Refusal::NoLine)),
         Word::Metrics => Some(refused(Refusal::NoLine)),
         Word::Events => Some(refused(Refusal::NoLine)),
+        Word::Frames(_) => Some(refused(Refusal::NoLine)),
         Word::Stop => Some(refused(Refusal::NoLine)),
     }
 }

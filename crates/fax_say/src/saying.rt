@@ -1,7 +1,7 @@
 //! The line of a control word.
 ghost use Rattle.std.specs.Prelude.{◌≡◌, ◌<◌, length, slice_index, string_bytes, IfErr, IfOk, IsOk, MatchBool};
 ghost use Rattle.fax_control.specs.ClientStreams.{HasNoLineFeed};
-ghost use Rattle.fax_say.specs.Sayings.{IsSayable, IsUnsayable, waits_after};
+ghost use Rattle.fax_say.specs.Sayings.{IsSayable, IsUnsayable, waits_after, wants_events};
 
 use fax_control::MOST_OCTETS;
 use std::marker::Model;
@@ -57,12 +57,18 @@ impl Saying {
         self.text.as_bytes()
     }
 
-    /// Whether more is waited for after its answer: `stop`, `events`.
+    /// Whether more is waited for after its answer: `stop`, `events`, `events frames LINE`.
     pub fn stays(&self) -> bool
         ensures { result ≡ waits_after self.now }
     {
-        let text = self.text.as_str();
-        text == "stop" || text == "events"
+        self.text.as_str() == "stop" || self.wants_events()
+    }
+
+    /// Whether events come after its answer.
+    fn wants_events(&self) -> bool
+        ensures { result ≡ wants_events self.now }
+    {
+        self.text.as_str() == "events" || self.as_bytes().starts_with(b"events frames ".as_slice())
     }
 }
 

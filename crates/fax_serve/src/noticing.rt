@@ -3,6 +3,7 @@ ghost use Rattle.std.specs.Prelude.{◌≡◌};
 ghost use Rattle.fax_notify.specs.Tellings.{ready_after};
 
 use crate::stopping::StoppingPace;
+use fax_desk::RunEnd;
 use fax_holding_wire::LineWire;
 use fax_line::{LineAnswer, Lines, Order, Pace, RunStore, SlotEnd};
 use fax_notify::{Notice, ServiceManager};
@@ -37,6 +38,13 @@ impl<P: Drop, M: ServiceManager + Drop> NoticingPace<P, M> {
             manager: manager.another(),
             has_told: false,
         }
+    }
+}
+
+impl<P: StoppingPace + Drop, M: Drop> NoticingPace<P, M> {
+    /// What clients are still to be told is written, for a while. It answers how the run ends.
+    pub(crate) fn finish(mut self) -> RunEnd {
+        self.ordering.finish()
     }
 }
 

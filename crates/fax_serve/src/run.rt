@@ -12,14 +12,15 @@ use crate::sip::{SipFront, open_sip};
 use fax_bits::NoMemory;
 use fax_clients::Clients;
 use fax_config::{Config, LineConfig};
-use fax_desk::{Card, Damage, Desk, RunEnd};
+use fax_desk::{Card, Damage, Desk, LineLimits, RunEnd};
+use fax_gateway::Settings;
 use fax_held::HeldPages;
 use fax_holding_wire::{HoldingWire, PageStore};
 use fax_line::{Lines, PageToStore, RunStore, serve};
 use fax_notify::ServiceManager;
 use fax_opening::{
     ServeFault, ServedWire, SocketWire, Stopwatch, close_control, open_control, open_lines,
-    open_restored_lines,
+    open_restored_lines, settings_of,
 };
 use fax_pace::{RealPace, RedialSide, Seen, SeenLines, SipSide, Watch};
 use fax_queue::{Queue, Storage};
@@ -28,7 +29,7 @@ use fax_spool_folder::{Folders, SpoolFolderFile};
 use fax_undelivered::{PairedStore, Undelivered};
 use fax_visitors::Visitors;
 use sqlite_disk::{Disk, Start};
-use std::alloc::Global;
+use std::alloc::{AllocError, Global};
 use std::fs::Files;
 use std::io::{Read, Write};
 use std::net::{Net, SocketAddr};
@@ -267,12 +268,13 @@ fn serve_in_memory<
         sip,
         &seen,
         redials,
+        &[],
         Some(held),
         0,
     )?;
     let mut pace = NoticingPace::begin(pace, manager, lines.len());
     serve_new::<W, P, R, M, N, I, O, D, U>(lines, &mut pace);
-    Ok(pace.ordering.finish())
+    Ok(pace.finish())
 }
 
 /// The same where pages are stored in the spool of this folder: each line begins with those of its own that wait there, but for calls that
@@ -389,7 +391,7 @@ fn serve_opened<
     let store = store_of(alloc, spool, queues, kept)?;
     let mut pace = NoticingPace::begin(pace, manager, lines.len());
     serve_restored(lines, store, &mut pace);
-    Ok(pace.ordering.finish())
+    Ok(pace.finish())
 }
 
 /// What a start found in a spool, as it is told: the pages that wait, the calls that lack one, and the queues of the lines.
@@ -435,6 +437,7 @@ fn pace_beside<
         sip,
         &seen,
         redials,
+        aside.queues,
         None,
         spool_failures,
     )?;
@@ -487,7 +490,8 @@ fn held_pages(alloc: Global, configs: &[LineConfig]) -> Result<HeldPages, ServeF
     Ok(held)
 }
 
-/// What gives the orders to lines that are seen so, whose pages are kept in memory so, or on a spool that has failed so often before.
+/// What gives the orders to lines that are seen so, of which these pages wait, and whose pages are kept in memory so, or on a spool that has
+/// failed so often before.
 fn pace_of<
     'a,
     L: SeenLines,
@@ -504,22 +508,24 @@ fn pace_of<
     sip: Option<P>,
     seen: &L,
     redials: R,
+    queues: &[Queue],
     held: Option<HeldPages>,
     spool_failures: u64,
 ) -> Result<RealPace<'a, N, I, O, R, P>, ServeFault>
     ensures { IfOk result (λ pace. pace.waits ≡ None) }
 {
-    let stop_ms = u64::from(config.stop_seconds).saturating_mul(SECOND_MS);
-    let desk = desk_of(alloc, config.lines.as_slice(), stop_ms)?;
+    let desk = desk_of(alloc, config, queues)?;
     let clock = clock_of(system)?;
     let watch = Watch::new(system, alloc, seen).ok();
     let visitors = visitors_of(system, alloc, config)?;
+    let settings = settings_of_all(alloc, config.lines.as_slice())?;
     Ok(RealPace::new(
         alloc,
         clock,
         clients,
         desk,
         seen.len(),
+        settings,
         watch,
         visitors,
         sip,
@@ -527,6 +533,15 @@ fn pace_of<
         held,
         spool_failures,
     )?)
+}
+
+/// The settings of the gateways of these lines.
+fn settings_of_all(alloc: Global, configs: &[LineConfig]) -> Result<Vec<Settings>, ServeFault> {
+    let mut settings = Vec::new(alloc);
+    for config in configs {
+        settings.push(settings_of(config))?;
+    }
+    Ok(settings)
 }
 
 /// The clock, from now on.
@@ -607,15 +622,31 @@ fn serve_restored<
     serve(&mut lines, &mut store, pace);
 }
 
-/// The desk at which words about these lines come in; a stop takes so many milliseconds at most.
-fn desk_of(alloc: Global, configs: &[LineConfig], stop_ms: u64) -> Result<Desk, ServeFault>
+/// The desk at which words about the lines of a configuration come in, of which these pages wait.
+fn desk_of(alloc: Global, config: &Config, queues: &[Queue]) -> Result<Desk, ServeFault>
     ensures { IfOk result (λ desk. desk.waits ≡ None) }
 {
     let mut names = Vec::new(alloc);
     let mut cards = Vec::new(alloc);
-    for config in configs {
-        names.push(String::from_str(alloc, config.name.as_str())?)?;
-        cards.push(Card::new(alloc, config.dial_seconds)?)?;
+    for line in &config.lines {
+        names.push(String::from_str(alloc, line.name.as_str())?)?;
+        cards.push(card_of(alloc, line, queues.get(cards.len()))?)?;
     }
-    Ok(Desk::new(names, cards, stop_ms))
+    let stop_ms = u64::from(config.stop_seconds).saturating_mul(SECOND_MS);
+    let mut desk = Desk::new(names, cards, stop_ms);
+    desk.memory = config.memory;
+    Ok(desk)
+}
+
+/// What is known of a line of this configuration as its run begins, where these pages of it wait.
+fn card_of(alloc: Global, config: &LineConfig, queue: Option<&Queue>) -> Result<Card, AllocError> {
+    let mut card = Card::new(alloc, config.dial_seconds)?;
+    card.limits = LineLimits {
+        memory: config.line_memory,
+        most_waiting: config.most_waiting,
+    };
+    if let Some(queue) = queue {
+        card.waiting = queue.waits().len() as u64;
+    }
+    Ok(card)
 }

@@ -1,4 +1,5 @@
 //! Whether the server stops, as what gives the orders knows it.
+use fax_desk::RunEnd;
 use fax_pace::{RealPace, RedialSide, SipSide};
 use std::io::{Read, Write};
 use std::rt::Clock;
@@ -7,6 +8,9 @@ use std::rt::Clock;
 pub(crate) trait StoppingPace {
     /// Whether it was.
     fn is_stopping(&self) -> bool;
+
+    /// Writes what clients are still to be told, for a while. It answers how the run ends.
+    fn finish(&mut self) -> RunEnd;
 }
 
 impl<
@@ -19,5 +23,9 @@ impl<
 > StoppingPace for RealPace<'a, C, I, O, R, S> {
     fn is_stopping(&self) -> bool {
         RealPace::is_stopping(self)
+    }
+
+    fn finish(&mut self) -> RunEnd {
+        RealPace::finish(self)
     }
 }

@@ -26,7 +26,7 @@ pub(super) fn most_between_sip<S: SipSide>(sip: &Option<S>) -> u64 {
 pub(super) fn serve_sip<L: SeenLines, S: SipSide, I: Read + Drop, O: Write + Drop>(
     sip: &mut Option<S>,
     teller: &mut Teller<I, O>,
-    is_stopping: bool,
+    desk: &Desk,
     now: u64,
     seen: &L,
 ) {
@@ -36,10 +36,10 @@ pub(super) fn serve_sip<L: SeenLines, S: SipSide, I: Read + Drop, O: Write + Dro
     if !sip.is_due(now) {
         return;
     }
-    if is_stopping {
+    if desk.is_stopping() {
         sip.leave(now);
     } else if sip.is_open_due(now) {
-        sip.set_open(!seen.has_failed() && has_free_line(seen));
+        sip.set_open(!seen.has_failed() && has_free_line(desk, seen));
     }
     sip.look(now);
     tell_of_sip(sip, teller, now);

@@ -45,10 +45,22 @@ impl<
         if has_turned {
             self.tell_turn(i, seen);
         }
+        self.tell_frames(i, seen);
         self.waking.see(i, looks, seen);
         let asks_for_a_call = (has_turned || looks) && seen.asks_for_a_call(i);
         if self.desk.is_due(i, asks_for_a_call) {
             let _ = self.waking.to_ask.push(i);
+        }
+    }
+
+    /// Tells those who watch line i what happened in its calls.
+    fn tell_frames<L: SeenLines>(&mut self, i: usize, seen: &L)
+        ensures { self.new ≡ self.old }
+    {
+        if self.ladders.has(i)
+            && let Some(name) = self.desk.name(i)
+        {
+            self.ladders.see(i, name, seen, &mut self.teller);
         }
     }
 

@@ -62,14 +62,8 @@ impl<
         self.teller.wait(most.min(1_000) as i32);
         self.read_clock();
         self.serve_visitors(seen);
-        let is_stopping = self.desk.is_stopping();
-        serve_sip(
-            &mut self.sip,
-            &mut self.teller,
-            is_stopping,
-            self.rounds.now,
-            seen,
-        );
+        let now = self.rounds.now;
+        serve_sip(&mut self.sip, &mut self.teller, &self.desk, now, seen);
     }
 
     /// A client said this line. It answers what the word orders of a line.
@@ -158,6 +152,7 @@ impl<
             Next::Status => {}
             Next::Metrics => {}
             Next::Events => {}
+            Next::Frames(_) => {}
         }
         None
     }
@@ -187,6 +182,7 @@ impl<
             Next::Discards => self.see_call_word(asker, word, seen),
             Next::Retries => self.see_call_word(asker, word, seen),
             Next::Events => self.want_events(asker, seen),
+            Next::Frames(i) => self.want_frames(asker, i, seen),
         }
         None
     }
@@ -283,6 +279,21 @@ impl<
             Err(NoMemory) => Err(NoMemory),
         };
         self.teller.put(asker, text);
+    }
+
+    /// The same, and it is told what happens in the calls of line i.
+    fn want_frames<L: SeenLines>(&mut self, asker: Asker, i: usize, seen: &L)
+        ensures { self.new ≡ self.old }
+    {
+        match self.ladders.watch(i, seen) {
+            Ok(()) => {
+                self.teller.watch(asker, i);
+                self.want_events(asker, seen);
+            }
+            Err(NoMemory) => self
+                .teller
+                .answer(asker, Answer::Refused(Refusal::NoMemory)),
+        }
     }
 
     /// What is on, as events of this moment, and `ok`.

@@ -19,3 +19,6 @@ returns-in_err-dial_seconds-clause-fault c = let here = c.in_err-dial_seconds.en
 
 pub returns-in_err-line_memory-clause-fault : goal.returns-in_err-line_memory-clause-fault
 returns-in_err-line_memory-clause-fault c = let here = c.in_err-line_memory.ensures.fault levels.Line in search rules
+
+pub returns-in_err-most_waiting-clause-fault : goal.returns-in_err-most_waiting-clause-fault
+returns-in_err-most_waiting-clause-fault c = let here = c.in_err-most_waiting.ensures.fault levels.Line in search rules

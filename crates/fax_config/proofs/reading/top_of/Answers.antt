@@ -13,3 +13,6 @@ returns-in_err-path_at-2-clause-fault c = let here = c.in_err-path_at-2.ensures.
 
 pub returns-in_err-http-clause-fault : goal.returns-in_err-http-clause-fault
 returns-in_err-http-clause-fault c = let here = c.in_err-http.ensures.fault levels.Top in search rules
+
+pub returns-in_err-memory-clause-fault : goal.returns-in_err-memory-clause-fault
+returns-in_err-memory-clause-fault c = let here = c.in_err-memory.ensures.fault levels.Top in search rules
