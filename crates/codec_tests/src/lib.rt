@@ -1,4 +1,4 @@
-//! Tests of what is coded: bits, code words, lines and pages, frames, packets and datagrams, through what these crates show.
+//! Tests of what is coded: bits, code words, lines and pages, TIFF files, frames, packets and datagrams, through what these crates show.
 #![tactic(auto)]
 
 #[cfg(test)]
@@ -17,5 +17,7 @@ mod mrcode;
 mod pagestore;
 #[cfg(test)]
 mod runcodes;
+#[cfg(test)]
+mod tiff;
 #[cfg(test)]
 mod udptl;

@@ -3,14 +3,13 @@
 mod memory;
 
 use crate::runcodes::row_of;
-use fax_bits::{NoMemory, Octets};
+use fax_bits::NoMemory;
 use fax_pagestore::{
     Coding, Format, PackedRows, Page, PageFault, PageReader, PlainRows, RowStore, read_page,
     write_page,
 };
 use fax_runcodes::{RowFault, Width};
 use std::alloc::Global;
-use std::test::Fail;
 
 /// The standard format of a page of 1728 elements a row.
 const STANDARD: Format = Format {
@@ -34,16 +33,15 @@ const FILLED: &[&[u8]] = &[
     &[0x08, 0x00, 0x80, 0x08, 0x00, 0x80],
 ];
 
-/// The text of the page of a text.
-fn written_back(alloc: Global, text: &[u8]) -> Result<Octets, PageFault> {
+/// Whether the text of the page of a text is that text.
+fn is_written_back(alloc: Global, text: &[u8]) -> Result<bool, PageFault> {
     let page: Page<PlainRows> = read_page(alloc, text, STANDARD, Coding::Mh)?;
-    Ok(write_page(alloc, &page, Coding::Mh, 0)?)
+    Ok(write_page(alloc, &page, Coding::Mh, 0)?.as_slice() == text)
 }
 
 #[test]
-fn a_page_is_read_and_written(rt: HostRuntime) -> Result<(), Fail> {
-    assert!(rt; written_back(rt.alloc(), &PAGE)?.as_slice() == PAGE.as_slice());
-    Ok(())
+fn a_page_is_read_and_written(rt: HostRuntime) {
+    assert!(rt; is_written_back(rt.alloc(), &PAGE) == Ok(true));
 }
 
 /// How many octets are kept of a piece, and whether the page's end is settled.
@@ -52,15 +50,20 @@ fn kept_of(reader: &mut PageReader<PackedRows>, piece: &[u8]) -> Result<(usize, 
     Ok((reader.pending(), reader.is_settled()))
 }
 
-#[test]
-fn fill_is_not_kept(rt: HostRuntime) -> Result<(), Fail> {
-    let mut reader: PageReader<PackedRows> = PageReader::new(rt.alloc(), STANDARD, Coding::Mh);
+/// Whether of each piece but few octets are kept, and none at the end, which is settled.
+fn keeps_no_fill(alloc: Global) -> Result<bool, PageFault> {
+    let mut reader: PageReader<PackedRows> = PageReader::new(alloc, STANDARD, Coding::Mh);
+    let mut all = true;
     for piece in FILLED {
         let (kept, is_settled) = kept_of(&mut reader, piece)?;
-        assert!(rt; kept <= if is_settled { 0 } else { 12 });
+        all = all && kept <= if is_settled { 0 } else { 12 };
     }
-    assert!(rt; reader.is_settled());
-    Ok(())
+    Ok(all && reader.is_settled())
+}
+
+#[test]
+fn fill_is_not_kept(rt: HostRuntime) {
+    assert!(rt; keeps_no_fill(rt.alloc()) == Ok(true));
 }
 
 /// The first EOL of a page, with fill before it.
@@ -77,18 +80,29 @@ const WHITE_LINE_AND_END: [u8; 13] = [
 /// The most octets that are kept beside the rows.
 const MOST_KEPT: usize = 8192;
 
-#[test]
-fn of_a_line_of_many_empty_runs_few_octets_are_kept(rt: HostRuntime) -> Result<(), Fail> {
-    let mut reader: PageReader<PackedRows> = PageReader::new(rt.alloc(), STANDARD, Coding::Mh);
+/// A line of many empty runs comes, and the end of its page. It answers whether few octets were kept meanwhile.
+fn feed_empty_runs(reader: &mut PageReader<PackedRows>) -> Result<bool, PageFault> {
     reader.feed(&FIRST_EOL)?;
+    let mut are_few = true;
     for _ in 0..5_000 {
-        let (kept, is_settled) = kept_of(&mut reader, &EMPTY_RUNS)?;
-        assert!(rt; kept <= MOST_KEPT && !is_settled);
+        let (kept, is_settled) = kept_of(reader, &EMPTY_RUNS)?;
+        are_few = are_few && kept <= MOST_KEPT && !is_settled;
     }
     reader.feed(&WHITE_LINE_AND_END)?;
+    Ok(are_few)
+}
+
+/// Whether that is so, and the page has a white row.
+fn keeps_few(alloc: Global) -> Result<bool, PageFault> {
+    let mut reader: PageReader<PackedRows> = PageReader::new(alloc, STANDARD, Coding::Mh);
+    let are_few = feed_empty_runs(&mut reader)?;
     let page = reader.finish()?;
-    assert!(rt; page.rows().len() == 1 && has_row(page.rows(), 0, &[])?);
-    Ok(())
+    Ok(are_few && page.rows().len() == 1 && has_row(page.rows(), 0, &[])?)
+}
+
+#[test]
+fn of_a_line_of_many_empty_runs_few_octets_are_kept(rt: HostRuntime) {
+    assert!(rt; keeps_few(rt.alloc()) == Ok(true));
 }
 
 /// How many octets a reader holds after the page in pieces, and how many the page holds.
@@ -102,9 +116,8 @@ fn held_of_page(alloc: Global) -> Result<(u64, u64), PageFault> {
 }
 
 #[test]
-fn a_white_row_holds_its_entry_alone(rt: HostRuntime) -> Result<(), Fail> {
-    assert!(rt; held_of_page(rt.alloc())? == (16, 16));
-    Ok(())
+fn a_white_row_holds_its_entry_alone(rt: HostRuntime) {
+    assert!(rt; held_of_page(rt.alloc()) == Ok((16, 16)));
 }
 
 /// Adds a marked row that is lent, and a black one.
@@ -141,8 +154,8 @@ fn keeps_rows<S: RowStore>(alloc: Global, rows: S) -> Result<bool, RowFault> {
 }
 
 #[test]
-fn stores_keep_rows(rt: HostRuntime) -> Result<(), Fail> {
-    assert!(rt; keeps_rows(rt.alloc(), PlainRows::empty(rt.alloc()))?);
-    assert!(rt; keeps_rows(rt.alloc(), PackedRows::empty(rt.alloc()))?);
-    Ok(())
+fn stores_keep_rows(rt: HostRuntime) {
+    let are_plain = keeps_rows(rt.alloc(), PlainRows::empty(rt.alloc())) == Ok(true);
+    let are_packed = keeps_rows(rt.alloc(), PackedRows::empty(rt.alloc())) == Ok(true);
+    assert!(rt; are_plain && are_packed);
 }

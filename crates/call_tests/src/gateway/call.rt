@@ -134,7 +134,7 @@ const KEPT: (u32, Kept) = (
 
 /// What was given in a call, in order: how many datagrams, a sum over them and their turns, and whether each is the one of the whole
 /// call. None of this wants memory.
-#[derive(Clone, Copy, PartialEq, Eq, Debug)]
+#[derive(Clone, Copy, PartialEq)]
 pub(super) struct Sends {
     pub count: u32,
     pub sum: u64,
@@ -206,7 +206,7 @@ pub(super) enum Change {
 }
 
 /// What came of a call.
-#[derive(Clone, Copy, PartialEq, Eq, Debug)]
+#[derive(Clone, Copy, PartialEq)]
 pub(super) struct Played {
     pub sends: Sends,
     /// How many of the datagrams that come decided a slot.

@@ -21,7 +21,7 @@ struct Run {
 }
 
 /// What a run comes to.
-#[derive(Clone, Copy, PartialEq, Eq, Debug)]
+#[derive(Clone, Copy, PartialEq)]
 struct Ran {
     driven: Driven,
     report: Option<Report>,

@@ -48,27 +48,27 @@ const FIELD_TYPES: &[(u8, FieldType)] = &[
 
 #[test]
 fn indicators_have_the_codes_of_the_standard(rt: HostRuntime) {
+    let is_last = Indicator::from_code(16).is_none();
     for (code, indicator) in INDICATORS {
         let named = Indicator::from_code(*code);
-        assert!(rt; indicator.code() == *code && named == Some(*indicator));
+        assert!(rt; is_last && indicator.code() == *code && named == Some(*indicator));
     }
-    assert!(rt; Indicator::from_code(16).is_none());
 }
 
 #[test]
 fn data_types_have_the_codes_of_the_standard(rt: HostRuntime) {
+    let is_last = DataType::from_code(9).is_none();
     for (code, kind) in DATA_TYPES {
         let named = DataType::from_code(*code);
-        assert!(rt; kind.code() == *code && named == Some(*kind));
+        assert!(rt; is_last && kind.code() == *code && named == Some(*kind));
     }
-    assert!(rt; DataType::from_code(9).is_none());
 }
 
 #[test]
 fn field_types_have_the_codes_of_the_standard(rt: HostRuntime) {
+    let is_last = FieldType::from_code(8).is_none();
     for (code, what) in FIELD_TYPES {
         let named = FieldType::from_code(*code);
-        assert!(rt; what.code() == *code && named == Some(*what));
+        assert!(rt; is_last && what.code() == *code && named == Some(*what));
     }
-    assert!(rt; FieldType::from_code(8).is_none());
 }

@@ -4,8 +4,6 @@ use fax_pagestore::{Format, PackedRows, Page, PageFault, RowStore};
 use fax_runcodes::Width;
 use fax_tiff::{CodedPage, TiffFault, TiffWriteFault, read_tiff, write_tiff};
 use std::alloc::Global;
-use std::process::Abort;
-use std::test::Fail;
 
 /// Two pages of 98 lines an inch, each with one strip of one-dimensional lines: the least significant octet of a number first, the most
 /// significant bit of an octet first.
@@ -64,71 +62,89 @@ const CHANGES: [(usize, u8, TiffFault); 15] = [
 const STRIP: usize = 222;
 
 /// The octets that texts show in hex.
-fn octets(alloc: Global, text: &str) -> Result<Vec<u8>, Fail> {
+fn octets(alloc: Global, text: &str) -> Option<Vec<u8>> {
     let mut writer = BitWriter::new(alloc);
     for digit in text.bytes() {
         // the low bits of a digit's code are its value, and those of a letter 9 less
         let code = u32::from(digit);
-        writer.put(if digit > b'9' { code + 9 } else { code }, 4)?;
+        let put = writer.put(if digit > b'9' { code + 9 } else { code }, 4);
+        put.ok()?;
     }
-    Ok(writer.finish().into_vec())
+    Some(writer.finish().into_vec())
 }
 
-/// The page has these rows.
-fn expect_rows(rt: &impl Abort, page: &Page<PackedRows>, rows: &[&[u16]]) -> Result<(), Fail> {
-    assert_eq!(rt; page.rows().len() as usize, rows.len());
+/// Whether a page has these rows.
+fn has_rows(page: &Page<PackedRows>, rows: &[&[u16]]) -> Option<bool> {
+    let mut all = page.rows().len() as usize == rows.len();
     for i in 0..page.rows().len() {
-        let row = page.rows().row(i)?;
-        let runs = row.runs()?;
-        assert_eq!(rt; Some(runs.as_slice()), rows.get(i as usize).copied());
+        let row = page.rows().row(i).ok()?;
+        let runs = row.runs().ok()?;
+        all = all && rows.get(i as usize).copied() == Some(runs.as_slice());
     }
-    Ok(())
+    Some(all)
+}
+
+/// Whether a file has pages of these rows, all of them fine, or none.
+fn is_read(alloc: Global, file: &[u8], fine: bool, wanted: &[&[&[u16]]]) -> Option<bool> {
+    let pages = read_tiff(alloc, file).ok()?;
+    let width = Width::W1728;
+    let mut all = pages.len() == wanted.len();
+    for (page, rows) in pages.iter().zip(wanted) {
+        all = has_rows(page, rows)? && page.format() == Format { width, fine } && all;
+    }
+    Some(all)
+}
+
+/// The same of the file of a text.
+fn is_file(alloc: Global, text: &str, fine: bool, wanted: &[&[&[u16]]]) -> Option<bool> {
+    is_read(alloc, octets(alloc, text)?.as_slice(), fine, wanted)
 }
 
 #[test]
-fn files_of_libtiff_are_read(rt: HostRuntime) -> Result<(), Fail> {
+fn files_of_libtiff_are_read(rt: HostRuntime) {
     for (text, fine, wanted) in FILES {
-        let pages = read_tiff(rt.alloc(), octets(rt.alloc(), text)?.as_slice())?;
-        assert_eq!(rt; pages.len(), wanted.len());
-        for (page, rows) in pages.iter().zip(wanted) {
-            let width = Width::W1728;
-            assert_eq!(rt; page.format(), Format { width, fine });
-            expect_rows(&rt, page, rows)?;
-        }
+        assert!(rt; is_file(rt.alloc(), text, fine, wanted) == Some(true));
     }
-    Ok(())
+}
+
+/// The fault that is met where an octet of `LITTLE` is changed.
+fn fault_at(alloc: Global, at: usize, octet: u8) -> Option<TiffFault> {
+    let mut changed = octets(alloc, LITTLE)?;
+    if let Some(place) = changed.get_mut(at) {
+        *place = octet;
+    }
+    read_tiff(alloc, changed.as_slice()).err()
 }
 
 #[test]
-fn changed_octets_meet_faults(rt: HostRuntime) -> Result<(), Fail> {
+fn changed_octets_meet_faults(rt: HostRuntime) {
     for (at, octet, fault) in CHANGES {
-        let mut changed = octets(rt.alloc(), LITTLE)?;
-        if let Some(place) = changed.get_mut(at) {
-            *place = octet;
-        }
-        let read = read_tiff(rt.alloc(), changed.as_slice());
-        assert_eq!(rt; read.err(), Some(fault), "at {at}");
+        assert!(rt; fault_at(rt.alloc(), at, octet) == Some(fault), "at {at}");
     }
-    Ok(())
+}
+
+/// The file of the pages of a file.
+fn written(alloc: Global, file: &[u8]) -> Option<Vec<u8>> {
+    let pages = read_tiff(alloc, file).ok()?;
+    let mut coded = Vec::new(alloc);
+    for page in &pages {
+        coded.push(CodedPage::new(alloc, page).ok()?).ok()?;
+    }
+    write_tiff(alloc, coded.as_slice()).ok()
+}
+
+/// Whether the file of the pages of `LITTLE` has the strip that libtiff wrote, and is read again.
+fn is_written_back(alloc: Global) -> Option<bool> {
+    let file = octets(alloc, LITTLE)?;
+    let written = written(alloc, file.as_slice())?;
+    let is_again = is_read(alloc, written.as_slice(), false, &[FIRST, SECOND])?;
+    Some(is_again && written.get(STRIP..STRIP + 14) == file.get(8..22))
 }
 
 #[test]
-fn pages_are_written(rt: HostRuntime) -> Result<(), Fail> {
-    let file = octets(rt.alloc(), LITTLE)?;
-    let pages = read_tiff(rt.alloc(), file.as_slice())?;
-    let mut coded = Vec::new(rt.alloc());
-    for page in &pages {
-        coded.push(CodedPage::new(rt.alloc(), page)?)?;
-    }
-    let written = write_tiff(rt.alloc(), coded.as_slice())?;
-    // the strip that libtiff wrote
-    assert_eq!(rt; written.get(STRIP..STRIP + 14), file.get(8..22));
-    let again = read_tiff(rt.alloc(), written.as_slice())?;
-    assert_eq!(rt; again.len(), 2);
-    for (page, rows) in again.iter().zip([FIRST, SECOND]) {
-        expect_rows(&rt, page, rows)?;
-    }
-    let none = write_tiff(rt.alloc(), &[]);
-    assert_eq!(rt; none.err(), Some(TiffWriteFault::NoPages));
-    Ok(())
+fn pages_are_written(rt: HostRuntime) {
+    let fault = write_tiff(rt.alloc(), &[]).err();
+    assert!(rt;
+        is_written_back(rt.alloc()) == Some(true) && fault == Some(TiffWriteFault::NoPages)
+    );
 }

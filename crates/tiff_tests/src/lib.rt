@@ -1,5 +1,0 @@
-//! Tests of TIFF files of class F, through what their crate shows.
-#![tactic(auto)]
-
-#[cfg(test)]
-mod tiff;
