@@ -8,8 +8,9 @@ import t38
 from playing import PATIENCE, Playing
 from server import Line
 
-# How long a run of the program may take, and after what came last a script goes on, in seconds; the milliseconds of a turn.
-RUN_SECONDS, AFTER_SECONDS, TURN_MS = 60 * int(os.environ.get("FAXGATE_SLOW", "1")), 20, 40
+# How long a run of the program may take, and after what came last a script goes on, in seconds; the milliseconds between two ticks of
+# a script, so few that it answers no later than a line does, which has a turn in 40.
+RUN_SECONDS, AFTER_SECONDS, TICK_MS = 60 * int(os.environ.get("FAXGATE_SLOW", "1")), 20, 5
 # A line of a ladder: where a thing happened, and what; and the names of the first in an event.
 RUNG = re.compile(r"\d+ +(caller --> gateway|caller <-- gateway|gateway --> called|gateway <-- called|gateway) +(.*)")
 LANES = {
@@ -35,15 +36,14 @@ def explained(script):
 
 
 def script_of(begun, came):
-    """A ring at a moment, and what came on both legs after it, as a script: each with its moment in seconds, its letter and its octets."""
-    lines, came, now = ["R"], sorted(came), 0
-    end = came[-1][0] - begun + AFTER_SECONDS
-    while now < 1000 * end:
-        while came and 1000 * (came[0][0] - begun) <= now:
-            _, letter, octets = came.pop(0)
-            lines.append(f"{letter} {octets.hex()}")
-        lines.append(f"T {now}")
-        now += TURN_MS
+    """A ring at a moment, and what came on both legs after it, as a script: each with its moment in seconds, its letter and its octets. A
+    tick stands before each, since it may answer what a tick gave just before it."""
+    lines, moment, now = ["R"], 0, 0
+    for at, letter, octets in sorted(came):
+        moment = max(moment, int(1000 * (at - begun)))
+        lines += [f"T {tick}" for tick in range(now, moment, TICK_MS)] + [f"T {moment}", f"{letter} {octets.hex()}"]
+        now = moment
+    lines += [f"T {tick}" for tick in range(now, now + 1000 * AFTER_SECONDS, TICK_MS)]
     return "".join(line + "\n" for line in lines)
 
 
