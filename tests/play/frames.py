@@ -5,7 +5,7 @@ import subprocess
 import time
 
 import t38
-from playing import PATIENCE, Playing
+from playing import PAGE, PATIENCE, Playing
 from server import Line
 
 # How long a run of the program may take, and after what came last a script goes on, in seconds; the milliseconds between two ticks of
@@ -83,9 +83,11 @@ class Frames(Playing):
         watcher = server.client()
         self.assertEqual(watcher.say("events frames a1"), ["ok"])
         called = self.called(line, goes=self.keeping("B", came))
-        calling = self.calling(line, goes=self.keeping("A", came))
+        # the caller says nothing before the ring
+        leg = t38.Leg(line.calling_peer, line.calling, goes=self.keeping("A", came))
         begun = time.monotonic()
         self.ring(server, line, "tag-1")
+        calling = self.stack.enter_context(t38.Calling(leg, [PAGE]))
         calling.end()
         self.await_job(events, line="a1", pages=1, delivered=1)
         called.end()
