@@ -11,6 +11,7 @@ use fax_ifp::{
     Field, Head, Ifp, IfpFault, data_length, write_data, write_frame, write_image, write_indicator,
 };
 use std::alloc::Global;
+use std::test::Fail;
 
 /// The packet of data of a kind with fields.
 struct Worked {
@@ -297,19 +298,15 @@ fn is_written(alloc: Global, packet: &Worked) -> Result<bool, NoMemory> {
     Ok(length == packet.octets.len() && written.as_slice() == packet.octets)
 }
 
-/// Whether its octets are read as what it is.
-fn is_read(alloc: Global, packet: &Worked) -> Result<bool, IfpFault> {
-    let read = Ifp::read(alloc, packet.octets)?;
-    let head = Head::Message { kind: packet.kind };
-    Ok(read.head() == head && read.fields() == packet.fields)
-}
-
 #[test]
-fn worked_packets_are_read_and_written(rt: HostRuntime) {
+fn worked_packets_are_read_and_written(rt: HostRuntime) -> Result<(), Fail> {
     for packet in WORKED {
-        let is_read = is_read(rt.alloc(), packet) == Ok(true);
-        assert!(rt; is_read && is_written(rt.alloc(), packet) == Ok(true));
+        assert!(rt; is_written(rt.alloc(), packet)?);
+        let read = Ifp::read(rt.alloc(), packet.octets)?;
+        assert!(rt; read.head() == Head::Message { kind: packet.kind });
+        assert!(rt; read.fields() == packet.fields);
     }
+    Ok(())
 }
 
 /// The head of a packet, and how many fields it has.

@@ -11,5 +11,3 @@ mod noted;
 mod read_back;
 #[cfg(test)]
 mod reopened;
-#[cfg(test)]
-mod steps;
