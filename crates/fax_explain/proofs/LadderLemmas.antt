@@ -1,18 +1,15 @@
 -- What is told, and lines at their moments.
-use Rattle.std.proofs.Common.{◌≡◌, ℕ, List, [], ◌∷◌, ◌++◌, Option, None, Some, inl, inr, map, refl, sym, ◌∙◌, ap, subst, append-nil, append_assoc, codes}
+use Rattle.std.proofs.Common.{◌≡◌, ℕ, Bool, is_some, List, [], ◌∷◌, ◌++◌, Option, None, Some, inl, inr, map, refl, sym, ◌∙◌, ap, subst, append-nil, append_assoc}
 use Rattle.fax_command.specs.RowLines.{text_of_lines}
-use Rattle.fax_gateway.specs.declared.given.RefusedPage.{RefusedPage}
+use Rattle.fax_jobs.specs.Jobs.{JobValue}
 use Rattle.fax_gateway.specs.Setups.{Setup}
 use Rattle.fax_call.specs.Writings.{Writing}
 use Rattle.fax_trace.specs.declared.event.ScriptEvent.{ScriptEvent}
 use Rattle.fax_trace.specs.Playing.{PlayedScript, moment_at}
-use Rattle.fax_descriptions.specs.declared.lane.Lane.{Lane}
-use Rattle.fax_descriptions.specs.declared.lane.Lane.TheVariants.{Inside}
-use Rattle.fax_descriptions.specs.Reasons.{refusal_text}
-use Rattle.fax_descriptions.specs.Tales.{last_with, line_text, paragraph_text}
+use Rattle.fax_descriptions.specs.Tales.{line_text, paragraph_text}
 use Rattle.fax_descriptions.specs.Tellings.{Description}
-use Rattle.fax_explain.specs.Ladders.{TellsPlay, TellsRefusal, TellAll, with_why}
-use Rattle.fax_explain.specs.Staged.{GoesOn}
+use Rattle.fax_explain.specs.Ladders.{TellsPlay, TellAll, begun_tellings, newly_sent}
+use Rattle.fax_explain.specs.Staged.{begun_if}
 
 -- the lines of a paragraph
 pub paragraph_lines : (moment : ℕ) (told : List Description) → paragraph_text moment told ≡ text_of_lines (map (line_text moment) told)
@@ -43,44 +40,11 @@ TellAll-push setup writes old (e ∷ events) event mid new lines told all one =
       TellAll-push setup writes all.0 events event mid new all.2 told all.5 one,
     )
 
--- why a page is refused stays told
-pub TellsRefusal-on : (refused : Option RefusedPage) (old new : List Description) → TellsRefusal refused old → GoesOn old new → TellsRefusal refused new
-TellsRefusal-on None old new told on = tt
-TellsRefusal-on (Some r) old new told on =
-    (told.0, told.1, told.2, told.3 ++ on.0, on.1 ∙ ap (λ (o : List Description). o ++ on.0) told.4 ∙ append_assoc told.0 (with_why told.1 told.2 r ∷ told.3) on.0)
-
 -- what goes on goes on
-pub goes_on_both : (old mid new : List Description) → GoesOn old mid → GoesOn mid new → GoesOn old new
-goes_on_both old mid new p q = (p.0 ++ q.0, q.1 ∙ ap (λ (t : List Description). t ++ q.0) p.1 ∙ append_assoc old p.0 q.0)
+pub goes_both : (old mid new a b : List Description) → mid ≡ old ++ a → new ≡ mid ++ b → new ≡ old ++ (a ++ b)
+goes_both old mid new a b p q = q ∙ ap (λ (t : List Description). t ++ b) p ∙ append_assoc old a b
 
--- why a page is refused is told after what was told before
-pub TellsRefusal-after : (refused : Option RefusedPage) (old after new : List Description) → TellsRefusal refused after → new ≡ old ++ after → TellsRefusal refused new
-TellsRefusal-after None old after new told is = tt
-TellsRefusal-after (Some r) old after new told is =
-    (old ++ told.0, told.1, told.2, told.3, is ∙ ap (λ (t : List Description). old ++ t) told.4 ∙ sym (append_assoc old told.0 (with_why told.1 told.2 r ∷ told.3)))
-
--- these words, in this lane
-abbrev in_lane : Lane → List ℕ → Description
-in_lane lane words = record { lane = lane; words = words }
-
--- what goes on ends with what it goes on with
-pub record EndsWith (more : List ℕ) (told : List Description) : Type 0 where
-  pub front : List Description
-  pub lane : Lane
-  pub words : List ℕ
-  pub is : told ≡ front ++ in_lane lane (words ++ more) ∷ []
-
-pub last_with-ends : (more : List ℕ) (told : List Description) → EndsWith more (last_with more told)
-last_with-ends more [] = record { front = []; lane = Inside; words = []; is = refl }
-last_with-ends more (last ∷ []) = record { front = []; lane = last.lane; words = last.words; is = refl }
-last_with-ends more (telling ∷ next ∷ told) =
-    let e = last_with-ends more (next ∷ told) in
-    record { front = telling ∷ e.front; lane = e.lane; words = e.words; is = ap (λ (t : List Description). telling ∷ t) e.is }
-
--- why a page is refused is told after what was told last
-pub refusal_told : (given : Option RefusedPage) (refused : RefusedPage) (old new : List Description) (words : List ℕ) → given ≡ Some refused
-    → words ≡ codes ": " ++ refusal_text refused.why → new ≡ last_with words old → TellsRefusal given new
-refusal_told given refused old new words some is told =
-    let e = last_with-ends words old in
-    subst (λ (g : Option RefusedPage). TellsRefusal g new) (sym some)
-    (e.front, e.lane, e.words, [], told ∙ e.is ∙ ap (λ (w : List ℕ). e.front ++ in_lane e.lane (e.words ++ w) ∷ []) is)
+-- the job whose call begins is told
+pub begun_told : (was : Bool) (sending before after : Option JobValue) → was ≡ is_some before → sending ≡ after → begun_if was sending ≡ begun_tellings (newly_sent before after)
+begun_told was sending None after w s = ap (λ (b : Bool). begun_if b sending) w ∙ ap begun_tellings s
+begun_told was sending (Some job) after w s = ap (λ (b : Bool). begun_if b sending) w

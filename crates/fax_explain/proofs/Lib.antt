@@ -4,6 +4,7 @@ pub mod GivenLemmas
 pub mod LadderLemmas
 pub mod PlayLemmas
 pub mod Told
+pub mod MarkLemmas
 pub mod RowLemmas
 pub mod PictureLemmas
 pub mod StagedLemmas

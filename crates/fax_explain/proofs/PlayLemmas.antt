@@ -1,16 +1,14 @@
 -- One event more on a stage.
-use Rattle.std.proofs.Common.{◌≡◌, ℕ, List, [], ◌∷◌, ◌++◌, Option, None, Result, Ok, Err, IfOk, OnOk, max, inl, inr, refl, ◌∙◌, ap, ap₂, append-nil}
+use Rattle.std.proofs.Common.{◌≡◌, ℕ, List, [], ◌∷◌, ◌++◌, Option, None, Result, Ok, Err, IfOk, OnOk, inl, inr, refl, ◌∙◌, ap, ap₂, append-nil}
 use Rattle.fax_call.specs.Writings.{Writing}
-use Rattle.fax_gateway.specs.declared.given.RefusedPage.{RefusedPage}
-use Rattle.fax_gateway.specs.CallingLegs.{calling_leg}
-use Rattle.fax_gateway.specs.Events.{Event, Given, Tick, clock, moment_of}
+use Rattle.fax_gateway.specs.Events.{Event, moment_of}
 use Rattle.fax_gateway.specs.Setups.{Setup}
-use Rattle.fax_gateway.specs.Turns.{IsRefusedAt, call_if_new}
+use Rattle.fax_gateway.specs.Turns.{call_if_new}
 use Rattle.fax_trace.specs.declared.event.ScriptEvent.{ScriptEvent}
 use Rattle.fax_trace.specs.Told.{asked_lines, lines_told}
 use Rattle.fax_trace.specs.Playing.{PlayedScript, IsRefusal, call_after, newly_asked, scripted, moment_at}
 use Rattle.fax_trace.proofs.PlayLemmas.{none_new}
-use Rattle.fax_explain.specs.Ladders.{EndsWithReport, HasAnswer, TellsRefusal, TellsTimer, asked_tellings}
+use Rattle.fax_explain.specs.Ladders.{HasAnswer, asked_tellings}
 use Rattle.fax_explain.specs.declared.stage.Stage.{Stage}
 use Rattle.fax_explain.specs.Staged.{HasAnswered, IsStagedBy, PlaysOn}
 use Rattle.fax_descriptions.specs.Tales.{inside}
@@ -75,9 +73,3 @@ each_ok (Err fault) p f = tt
 pub OnOk-both : {T E : Type 0} (P Q : Type 0) (r : Result T E) → OnOk r P → OnOk r Q → OnOk r (P × Q)
 OnOk-both P Q (Ok done) p q = (p, q)
 OnOk-both P Q (Err fault) p q = tt
-
--- what is told of a tick
-pub tick_answer : (setup : Setup) (writes : Writing) (earlier : List Event) (now : ℕ) (given : Given) (told : List Description) (refused : Option RefusedPage)
-    → TellsTimer setup earlier now told → IsRefusedAt (calling_leg setup earlier) (max now (clock earlier)) refused → TellsRefusal refused told → EndsWithReport given.report told
-    → HasAnswer setup writes earlier (Tick now given) told
-tick_answer setup writes earlier now given told refused timer right tells ends = (timer, (refused, right, tells), ends)

@@ -1,54 +1,74 @@
 -- HEARD: what is told of the datagrams of one direction of a leg, and what is kept of them. (This project's profile.)
-use Rattle.std.specs.Prelude.{◌≡◌, ℕ, ◌+◌, ◌≤◌, List, [], ◌∷◌, ◌++◌, length, reverse, Contains, Result, Ok, Err}
+use Rattle.std.specs.Prelude.{◌≡◌, ℕ, ◌+◌, ◌≤◌, ◌&&◌, Bool, true, false, List, [], ◌∷◌, ◌++◌, length, reverse, Contains, Result, Ok, Err, count_by}
 use Rattle.fax_udptl.specs.declared.fault.UdptlFault.{UdptlFault}
 use Rattle.fax_udptl.specs.Datagrams.{DatagramValue}
 use Rattle.fax_udptl.specs.Slots.{newest_slots}
 use Rattle.fax_udptl.specs.Taking.{DecidedValue, Decides, IsAfter}
 use Rattle.fax_ifp.specs.Elements.{Slot}
 use Rattle.fax_ifp.specs.Pieces.{Piece, pieces}
-use Rattle.fax_ifp.specs.Tracked.{IsTracked}
+use Rattle.fax_ifp.specs.Tracked.{IsTracked, lost_slots}
 use Rattle.fax_explain.specs.declared.listener.Listener.{Listener}
-use Rattle.fax_explain.specs.Openings.{Opening, datagram_openings, octets_counted, unread_opening}
-use Rattle.fax_descriptions.specs.declared.lane.Lane.{Lane}
+use Rattle.fax_explain.specs.declared.mark.Mark.{Mark}
+use Rattle.fax_explain.specs.Listening.{Ear, has_mark, outside_text}
+use Rattle.fax_explain.specs.Openings.{Opening, datagram_openings, octets_counted, pieces_in, unread_opening}
 use Rattle.fax_descriptions.specs.Tellings.{Description}
 
 -- ---- lines
 
--- words begin with one of these texts
-pub record BeginsAsOneOf (opening : Opening) (words : List ℕ) : Type 0 where
+-- a line goes on with just its last words, where it ends
+abbrev pub EndsIf : (ends : Bool) → (last more : List ℕ) → Type 0
+EndsIf true last more = more ≡ last
+EndsIf false last more = Unit {0}
+
+-- words begin with one of these texts, or are it and these last words
+pub record BeginsAsOneOf (ends : Bool) (last : List ℕ) (opening : Opening) (words : List ℕ) : Type 0 where
   pub text : List ℕ
-  pub is_one : Contains opening text
+  pub is_one : Contains opening.texts text
   pub more : List ℕ
   pub words_are : words ≡ text ++ more
+  pub ended : EndsIf (opening.ends && ends) last more
 
--- a line in this lane begins so
-abbrev pub Opens : Lane → Opening → Description → Type 0
-Opens lane opening telling = (telling.lane ≡ lane) × BeginsAsOneOf opening telling.words
+-- a line in this lane begins so, and where no call is on it says that last
+abbrev pub Opens : Ear → Opening → Description → Type 0
+Opens ear opening telling = (telling.lane ≡ ear.lane) × BeginsAsOneOf ear.ends (outside_text ear.is_outside) opening telling.words
 
 -- these lines begin so, one for each
-abbrev pub AreOpened : Lane → List Opening → List Description → Type 0
-AreOpened lane [] [] = Unit {0}
-AreOpened lane [] (telling ∷ told) = ⊥
-AreOpened lane (opening ∷ openings) [] = ⊥
-AreOpened lane (opening ∷ openings) (telling ∷ told) = Opens lane opening telling × AreOpened lane openings told
+abbrev pub AreOpened : Ear → List Opening → List Description → Type 0
+AreOpened ear [] [] = Unit {0}
+AreOpened ear [] (telling ∷ told) = ⊥
+AreOpened ear (opening ∷ openings) [] = ⊥
+AreOpened ear (opening ∷ openings) (telling ∷ told) = Opens ear opening telling × AreOpened ear openings told
 
 -- after what was told such lines are told, and no others
-pub record Adds (lane : Lane) (openings : List Opening) (old new : List Description) : Type 0 where
+pub record Adds (ear : Ear) (openings : List Opening) (old new : List Description) : Type 0 where
   pub own : List Description
-  pub opened : AreOpened lane openings own
+  pub opened : AreOpened ear openings own
   pub is : new ≡ old ++ own
 
--- a line more in this lane, whose words begin so
-pub record AddsLine (lane : Lane) (text : List ℕ) (old new : List Description) : Type 0 where
-  pub more : List ℕ
-  pub is : new ≡ old ++ record { lane = lane; words = text ++ more } ∷ []
+-- a line more of a listener: these words, and where no call is on that
+pub record AddsLine (listener : Listener) (text : List ℕ) (old new : List Description) : Type 0 where
+  pub is : new ≡ old ++ record { lane = listener.lane; words = text ++ outside_text listener.is_outside } ∷ []
 
--- Such lines are told in the lane of a listener, which hears on: each frame that it hears more has a line.
-pub record Hears (openings : List Opening) (old new : Listener) (told now_told : List Description) : Type 0 where
-  pub adds : Adds old.lane openings told now_told
-  pub lane : new.lane ≡ old.lane
+-- a listener hears so
+pub record IsEar (ear : Ear) (listener : Listener) : Type 0 where
+  pub lane : listener.lane ≡ ear.lane
+  pub is_outside : listener.is_outside ≡ ear.is_outside
+  pub usual : listener.usual ≡ ear.usual
+
+-- this is so however a listener hears
+abbrev pub EachEar : Listener → (Ear → Type 0) → Type 0
+EachEar listener IsSo = (ear : Ear) → IsEar ear listener → IsSo ear
+
+-- Such lines are told of what a listener hears, which hears on: each frame that it hears more has a line.
+pub record Hears (ear : Ear) (openings : List Opening) (old new : Listener) (told now_told : List Description) : Type 0 where
+  pub adds : Adds ear openings told now_told
+  pub is_ear : IsEar ear new
   pub receiver : new.receiver ≡ old.receiver
   pub frames : length new.frames.items + length told ≤ length old.frames.items + length now_told
+
+-- that is so however it hears
+abbrev pub HearsThese : List Opening → (old new : Listener) → (told now_told : List Description) → Type 0
+HearsThese openings old new told now_told = EachEar old (λ ear. Hears ear openings old new told now_told)
 
 -- ---- what is kept
 
@@ -73,11 +93,19 @@ abbrev pub arrived_with : List DatagramValue → Result DatagramValue UdptlFault
 arrived_with arrived (Ok datagram) = datagram ∷ arrived
 arrived_with arrived (Err fault) = arrived
 
--- After these datagrams octets come in a lane: what they bring is told.
-abbrev pub TellsDatagram : List DatagramValue → Result DatagramValue UdptlFault → Lane → (old new : List Description) → Type 0
-TellsDatagram arrived (Ok datagram) lane old new =
-    (decided : DecidedValue) × Decides arrived datagram decided × Adds lane (datagram_openings (newest_slots arrived) datagram.number decided) old new
-TellsDatagram arrived (Err fault) lane old new = Adds lane (unread_opening ∷ []) old new
+-- After these datagrams octets come, whose pieces were taken as these marks say: what they bring is told, the words of each piece
+-- those of its mark.
+abbrev pub TellsDatagram : Ear → List Mark → List DatagramValue → Result DatagramValue UdptlFault → (old new : List Description) → Type 0
+TellsDatagram ear marks arrived (Ok datagram) old new =
+    (decided : DecidedValue) × Decides arrived datagram decided × Adds ear (datagram_openings ear marks (newest_slots arrived) datagram.number decided) old new
+TellsDatagram ear marks arrived (Err fault) old new = Adds ear (unread_opening ∷ []) old new
+
+-- EACH PIECE HAS ITS MARK: there are just as many marks as pieces that have one in the packets that octets bring after these
+abbrev pub AreAll : List Mark → List DatagramValue → Result DatagramValue UdptlFault → Type 0
+AreAll marks arrived (Ok datagram) =
+    (decided : DecidedValue) → Decides arrived datagram decided
+    → length marks ≡ count_by has_mark (pieces_in (lost_slots decided.lost ++ newest_slots arrived) decided.packets)
+AreAll marks arrived (Err fault) = marks ≡ []
 
 -- ---- over whatever came
 
@@ -91,15 +119,15 @@ abbrev pub HearsOn : (old : Listener) → Result DatagramValue UdptlFault → (n
 HearsOn old datagram new =
     EachHearing old (λ arrived. IsHearing (arrived_with arrived datagram) new)
 
--- what it brings after them is told in the lane of the listener
-abbrev pub TellsComing : Listener → Result DatagramValue UdptlFault → (old new : List Description)
-    → Type 0
-TellsComing listener datagram old new =
-    EachHearing listener (λ arrived. TellsDatagram arrived datagram listener.lane old new)
+-- what it brings after them, with these marks, is told as the listener hears
+abbrev pub TellsComing : Listener → List Mark → Result DatagramValue UdptlFault
+    → (old new : List Description) → Type 0
+TellsComing listener marks datagram old new =
+    EachEar listener (λ ear. EachHearing listener (λ arrived. TellsDatagram ear marks arrived datagram old new))
 
--- and its lane stays
-abbrev pub StaysInLane : (old new : Listener) → Type 0
-StaysInLane old new = EachHearing old (λ arrived. new.lane ≡ old.lane)
+-- and it hears on so
+abbrev pub KeepsEar : (old new : Listener) → Type 0
+KeepsEar old new = EachEar old (λ ear. EachHearing old (λ arrived. IsEar ear new))
 
 -- this is so of each list of slots that a listener has heard, the newest first
 abbrev pub EachHeard : Listener → (List Slot → Type 0) → Type 0

@@ -4,59 +4,52 @@ use Rattle.fax_udptl.specs.Datagrams.{DatagramValue, datagram_of}
 use Rattle.fax_jobs.specs.declared.report.Report.{Report}
 use Rattle.fax_jobs.specs.Jobs.{JobValue}
 use Rattle.fax_jobs.specs.ReportTexts.{report_text}
+use Rattle.fax_answer.specs.Table.{Reading}
 use Rattle.fax_call.specs.Delivery.{is_over}
+use Rattle.fax_call.specs.declared.state.State.{State}
 use Rattle.fax_call.specs.Writings.{Writing}
 use Rattle.fax_gateway.specs.Asking.{asked_after}
 use Rattle.fax_gateway.specs.declared.given.RefusedPage.{RefusedPage}
 use Rattle.fax_gateway.specs.CallingLegs.{CallingLeg, calling_leg, core_of, is_idle}
 use Rattle.fax_gateway.specs.CalledLegs as called_legs
 use Rattle.fax_gateway.specs.CalledLegs.{CalledLeg}
-use Rattle.fax_gateway.specs.BothLegs.{both_legs}
-use Rattle.fax_gateway.specs.Events.{Event, Ring, FromCalling, FromCalled, Tick, Placed, clock}
+use Rattle.fax_gateway.specs.BothLegs.{both_legs, in_tick}
+use Rattle.fax_gateway.specs.Events.{Event, Given, Ring, FromCalling, FromCalled, Tick, Placed, clock}
+use Rattle.fax_gateway.specs.Reached.{given_on}
+use Rattle.fax_gateway.specs.Reports.{job_sent}
 use Rattle.fax_gateway.specs.Setups.{Setup}
 use Rattle.fax_gateway.specs.Turns.{IsRefusedAt, call_on}
-use Rattle.fax_gateway.specs.Watched.{calling_acting, calling_state}
+use Rattle.fax_gateway.specs.Watched.{called_state, called_tellings, calling_acting, calling_state, calling_tellings}
+use Rattle.fax_notes.specs.Notes.{answer_notes, call_notes}
 use Rattle.fax_trace.specs.declared.event.ScriptEvent.{ScriptEvent}
 use Rattle.fax_trace.specs.Playing.{PlayedScript, Accepts, Refuses, newly_asked}
 use Rattle.fax_descriptions.specs.declared.command.Command.{Command}
 use Rattle.fax_descriptions.specs.declared.lane.Lane.{Lane}
-use Rattle.fax_descriptions.specs.declared.lane.Lane.TheVariants.{FromCaller, FromCalled, ToCalled}
+use Rattle.fax_descriptions.specs.declared.lane.Lane.TheVariants.{FromCaller, FromCalled, ToCaller, ToCalled}
 use Rattle.fax_descriptions.specs.Reasons.{ended_text, refusal_text}
-use Rattle.fax_descriptions.specs.Tales.{inside, line_text}
+use Rattle.fax_descriptions.specs.Tales.{inside, last_with, line_text}
 use Rattle.fax_descriptions.specs.Tellings.{Description}
 use Rattle.fax_descriptions.specs.Words.{format_text}
-use Rattle.fax_explain.specs.Given.{timer_lines}
-use Rattle.fax_explain.specs.Heard.{TellsDatagram}
+use Rattle.fax_explain.specs.Given.{TellsGiven, given_datagrams, given_to, timer_lines, to_called}
+use Rattle.fax_explain.specs.Heard.{AreAll, TellsDatagram}
+use Rattle.fax_explain.specs.Listening.{in_call, outside_call}
+use Rattle.fax_explain.specs.Marks.{given_signal, mark_of_answer, mark_of_call}
+use Rattle.fax_explain.specs.declared.mark.Mark.{Mark}
 
--- where a job ended, its report is told last, in the gateway itself, and after it why it ended so: with the command that had
--- no answer, where one waited for it
-abbrev pub EndsWithReport : Option Report → List Description → Type 0
-EndsWithReport None told = Unit {0}
-EndsWithReport (Some report) told =
-    (front : List Description) × (unanswered : Option Command) × (told ≡ front ++ inside (report_text report ++ ended_text report.outcome unanswered) ∷ [])
+-- where a job ended, its report is told, in the gateway itself, and after it why it ended so: with the command that had no answer,
+-- where one waited for it
+abbrev pub IsReport : Option Report → List Description → Type 0
+IsReport None told = told ≡ []
+IsReport (Some report) told = (unanswered : Option Command) × (told ≡ inside (report_text report ++ ended_text report.outcome unanswered) ∷ [])
 
--- words go on with why a page is refused
-abbrev pub with_why : Lane → List ℕ → RefusedPage → Description
-with_why lane words refused = record { lane = lane; words = words ++ (codes ": " ++ refusal_text refused.why) }
+-- where a page is refused, the last line of what is given, which is its RTN, goes on with why
+abbrev pub with_why : Option RefusedPage → List Description → List Description
+with_why None told = told
+with_why (Some refused) told = last_with (codes ": " ++ refusal_text refused.why) told
 
--- where a page was refused, a line ends with why
-abbrev pub TellsRefusal : Option RefusedPage → List Description → Type 0
-TellsRefusal None told = Unit {0}
-TellsRefusal (Some refused) told =
-    (front : List Description) × (lane : Lane) × (words : List ℕ) × (rest : List Description) × (told ≡ front ++ with_why lane words refused ∷ rest)
-
--- a tick after these events: where it refuses a page, for a reason that is right, that is told
-abbrev pub SaysWhy : Setup → (earlier : List Event) → (now : ℕ) → List Description → Type 0
-SaysWhy setup earlier now told =
-    (refused : Option RefusedPage) × IsRefusedAt (calling_leg setup earlier) (max now (clock earlier)) refused × TellsRefusal refused told
-
--- a tick after these events: the timer that acts in it on the calling leg, where it gives the call up, is told first
+-- the timer that acts in a tick on the calling leg, where it gives the call up, is told
 abbrev pub timers_told : Option CallingLeg → (now : ℕ) → List Description
 timers_told leg now = timer_lines (calling_acting leg now) (calling_state leg)
-
-abbrev pub TellsTimer : Setup → (earlier : List Event) → (now : ℕ) → List Description → Type 0
-TellsTimer setup earlier now told =
-    (more : List Description) × (told ≡ timers_told (calling_leg setup earlier) (max now (clock earlier)) ++ more)
 
 -- where the call of a job begins, that is told in the gateway itself: with the number of the call that its pages came in, the format
 -- of the first, and how many there are
@@ -81,37 +74,87 @@ abbrev pub over_tellings : (before after : Option ℕ) → List Description
 over_tellings (Some call) None = inside (codes "call " ++ (decimal call ++ codes " is over")) ∷ []
 over_tellings before after = []
 
+-- THE MARKS of a datagram's pieces: the gateway is told of each frame, each beginning and each end of a signal, in the order of
+-- time, what it was taken as, and each of these has the mark of what was told of it (specs/Watched of fax_gateway)
+abbrev pub caller_marks : Option CallingLeg → (now : ℕ) → (octets : List ℕ) → Reading → List Mark
+caller_marks leg now octets read = map mark_of_answer (answer_notes (calling_tellings leg now octets read))
+
+abbrev pub called_marks : Writing → Option CalledLeg → (now : ℕ) → (octets : List ℕ) → List Mark
+called_marks writes leg now octets = map mark_of_call (call_notes (called_tellings writes leg now octets))
+
 -- A datagram comes from the caller in a call: after those that arrived in this call, a line for each thing that it brings, and no
--- others; and last that the call is over, where it ends.
-pub record TellsInCall (arrived : List DatagramValue) (octets : List ℕ) (over told : List Description) : Type 0 where
+-- others, that of a piece in the words of its mark, which each has; and last that the call is over, where it ends.
+pub record TellsInCall (marks : List Mark) (arrived : List DatagramValue) (octets : List ℕ) (over told : List Description) : Type 0 where
   pub own : List Description
-  pub brought : TellsDatagram arrived (datagram_of octets) FromCaller [] own
+  pub brought : TellsDatagram (in_call FromCaller) marks arrived (datagram_of octets) [] own
+  pub each : AreAll marks arrived (datagram_of octets)
   pub told_is : told ≡ own ++ over
 
-abbrev pub InCall : (is_over : Bool) → Type 0 → Type 0
-InCall true IsSo = Unit {0}
-InCall false IsSo = IsSo
+-- While no call is on: a line for each thing that it brings after datagrams that came before it, which ends with that no call is on,
+-- where it is told whole.
+abbrev pub TellsOutside : Lane → (octets : List ℕ) → List Description → Type 0
+TellsOutside lane octets told = (arrived : List DatagramValue) × TellsDatagram (outside_call lane) [] arrived (datagram_of octets) [] told
 
-abbrev pub TellsFromCaller : (before after : Option CallingLeg) → (octets : List ℕ) → List Description → Type 0
-TellsFromCaller None after octets told = Unit {0}
-TellsFromCaller (Some leg) after octets told =
-    InCall (is_idle (core_of leg).state) (TellsInCall leg.arrived octets (over_tellings (Some leg.number) (call_on after)) told)
+abbrev pub InCall : (is_over : Bool) → (outside inside : Type 0) → Type 0
+InCall true outside inside = outside
+InCall false outside inside = inside
 
--- the same of one that comes from the called machine while its job is sent; the end of that call is told by its report
-abbrev pub TellsFromCalled : Writing → Option CalledLeg → (octets : List ℕ) → List Description → Type 0
-TellsFromCalled writes None octets told = Unit {0}
-TellsFromCalled writes (Some leg) octets told =
-    InCall leg.entered (InCall (is_over (called_legs.core_of writes leg).state) (TellsDatagram leg.arrived (datagram_of octets) FromCalled [] told))
+abbrev pub TellsFromCaller : (before after : Option CallingLeg) → List Mark → (octets : List ℕ) → List Description → Type 0
+TellsFromCaller None after marks octets told = TellsOutside FromCaller octets told
+TellsFromCaller (Some leg) after marks octets told =
+    InCall (is_idle (core_of leg).state) (TellsOutside FromCaller octets told)
+    (TellsInCall marks leg.arrived octets (over_tellings (Some leg.number) (call_on after)) told)
 
--- what is told of an event that is accepted after these has the gateway's answer: a ring its call's number; a datagram in a call
--- what it brings; a tick the timer that gives the call up in it, why a page is refused in it, and the report of the job that ended in it;
--- and a call that is placed or not the job that was asked for
+-- the same of one that comes from the called machine while the call of its job is on; the end of that call is told by its report
+abbrev pub TellsFromCalled : Writing → Option CalledLeg → List Mark → (octets : List ℕ) → List Description → Type 0
+TellsFromCalled writes None marks octets told = TellsOutside FromCalled octets told
+TellsFromCalled writes (Some leg) marks octets told =
+    InCall (is_over (called_legs.core_of writes leg).state) (TellsOutside FromCalled octets told)
+    (TellsDatagram (in_call FromCalled) marks leg.arrived (datagram_of octets) [] told × AreAll marks leg.arrived (datagram_of octets))
+
+-- the call of a job begins where one is sent and none was
+abbrev pub newly_sent : (before after : Option JobValue) → Option JobValue
+newly_sent None after = after
+newly_sent (Some job) after = None
+
+-- what a tick gives on each leg, after what was given in this call: a line for each thing, and no others. What signals are to the
+-- called machine the state of the call tells.
+abbrev pub TellsToCaller : Setup → Option CallingLeg → Option (List ℕ) → List Description → Type 0
+TellsToCaller setup leg given told = TellsGiven (in_call ToCaller) (given_datagrams setup (given_on leg)) given [] told
+
+abbrev pub TellsToCalled : Setup → Option CalledLeg → State → Option (List ℕ) → List Description → Type 0
+TellsToCalled setup leg state given told = TellsGiven (to_called (given_signal state)) (given_datagrams setup (given_to leg)) given [] told
+
+-- A TICK after these events tells in this order, and nothing else: the timer that gives the call up in it; what it gives to the
+-- caller, and why where that refuses a page; that the call is over, where it ends it; the job whose call begins in it; what it gives
+-- to the called machine; and the report of the job that ended in it.
+pub record TellsTick (setup : Setup) (writes : Writing) (earlier : List Event) (at : ℕ) (given : Given) (told : List Description) : Type 0 where
+  pub to_caller : List Description
+  pub gives_caller : TellsToCaller setup (calling_leg setup earlier) given.on_calling to_caller
+  pub refused : Option RefusedPage
+  pub is_refused : IsRefusedAt (calling_leg setup earlier) (max at (clock earlier)) refused
+  pub to_called : List Description
+  pub gives_called : TellsToCalled setup (in_tick setup writes earlier at).leg (called_state writes (both_legs setup writes (Tick at given ∷ earlier)).leg) given.on_called to_called
+  pub ended : List Description
+  pub is_report : IsReport given.report ended
+  pub told_is :
+      told ≡ timers_told (calling_leg setup earlier) (max at (clock earlier))
+      ++ (with_why refused to_caller
+      ++ (over_tellings (call_on (calling_leg setup earlier)) (call_on (calling_leg setup (Tick at given ∷ earlier)))
+      ++ (begun_tellings (newly_sent (job_sent (both_legs setup writes earlier).leg) (job_sent (both_legs setup writes (Tick at given ∷ earlier)).leg))
+      ++ (to_called ++ ended))))
+
+-- what is told of an event that is accepted after these has the gateway's answer: a ring its call's number; a datagram what it brings,
+-- and in a call as what each piece of it was taken; a tick all that it does; and a call that is placed or not the job that was asked for
 abbrev pub HasAnswer : Setup → Writing → (earlier : List Event) → Event → List Description → Type 0
 HasAnswer setup writes earlier (Ring now number) told = told ≡ inside (codes "ring " ++ decimal number) ∷ []
 HasAnswer setup writes earlier (FromCalling octets now decided read) told =
-    TellsFromCaller (calling_leg setup earlier) (calling_leg setup (FromCalling octets now decided read ∷ earlier)) octets told
-HasAnswer setup writes earlier (FromCalled octets now decided) told = TellsFromCalled writes (both_legs setup writes earlier).leg octets told
-HasAnswer setup writes earlier (Tick now given) told = TellsTimer setup earlier now told × SaysWhy setup earlier now told × EndsWithReport given.report told
+    let leg = calling_leg setup earlier in
+    TellsFromCaller leg (calling_leg setup (FromCalling octets now decided read ∷ earlier)) (caller_marks leg (max now (clock earlier)) octets read) octets told
+HasAnswer setup writes earlier (FromCalled octets now decided) told =
+    let leg = (both_legs setup writes earlier).leg in
+    TellsFromCalled writes leg (called_marks writes leg (max now (clock earlier)) octets) octets told
+HasAnswer setup writes earlier (Tick now given) told = TellsTick setup writes earlier now given told
 HasAnswer setup writes earlier (Placed now connected) told = (job : JobValue) × (asked_after setup writes earlier ≡ Some job) × (told ≡ placed_tellings connected job)
 
 -- the call of a job is asked for

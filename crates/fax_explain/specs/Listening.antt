@@ -1,11 +1,10 @@
 -- LISTENING: the lines of the pieces that come or are given on a direction of a leg, by what the gateway took each as. (ITU-T T.30,
 -- 5.3.6.1; the words are this project's profile.)
-use Rattle.std.specs.Prelude.{◌≡◌, ℕ, ◌==◌, ◌&&◌, Bool, true, false, List, [], ◌++◌, Option, Some, None, if◌then◌else◌, codes, decimal, slice_get, unwrap_or}
+use Rattle.std.specs.Prelude.{◌≡◌, ℕ, ◌==◌, ◌&&◌, Bool, true, false, List, [], ◌∷◌, ◌++◌, drop, Option, Some, None, if◌then◌else◌, codes, decimal}
 use Rattle.fax_frames.specs.declared.dcs.Dcs.{Dcs}
 use Rattle.fax_frames.specs.declared.dis.Dis.{Dis as Offer}
 use Rattle.fax_frames.specs.declared.frame.Frame.{Frame}
 use Rattle.fax_frames.specs.declared.frame.Frame.TheVariants.{Dis, Csi, Nsf, Tsi, Eom, Mps, Eop, Crp, Other}
-use Rattle.fax_frames.specs.Frames.{frame_of}
 use Rattle.fax_descriptions.specs.Words.{frame_text, kind_name}
 use Rattle.fax_descriptions.specs.declared.lane.Lane.{Lane}
 use Rattle.fax_descriptions.specs.declared.lane.Lane.TheVariants.{FromCaller}
@@ -15,7 +14,7 @@ use Rattle.fax_explain.specs.declared.mark.Passed.{Passed}
 use Rattle.fax_explain.specs.declared.mark.Passed.TheVariants as passed
 use Rattle.fax_explain.specs.declared.mark.Signal.{Signal}
 use Rattle.fax_explain.specs.declared.mark.Signal.TheVariants.{Strange, Unasked, Outside, Ending, Check, Page, Late}
-use Rattle.fax_explain.specs.Openings.{image_text}
+use Rattle.fax_ifp.specs.Pieces.{Piece, Frame as FramePiece, Start, Octets, End, Gap}
 
 -- the commands after a page
 abbrev pub is_command : Frame → Bool
@@ -89,16 +88,69 @@ abbrev pub verdict_name : (is_good : Bool) → List ℕ
 verdict_name true = codes "good"
 verdict_name false = codes "bad"
 
+-- ---- marks
+
+-- HOW A DIRECTION IS HEARD: its lane, and whether no call is on; what a piece is taken as that has no mark; and whether what is
+-- told of a piece is its whole line, to which nothing is added
+pub record Ear : Type 0 where
+  pub lane : Lane
+  pub is_outside : Bool
+  pub usual : Mark
+  pub ends : Bool
+
+-- the marks that a listener has not handed out
+abbrev pub marks_left : Listener → List Mark
+marks_left listener = drop listener.taken listener.marks.items
+
+-- no call is on from now on
+abbrev pub outside : Listener → Listener
+outside listener = record listener { is_outside = true }
+
+-- the mark of the next piece
+abbrev pub first_mark : (usual : Mark) → List Mark → Mark
+first_mark usual [] = usual
+first_mark usual (mark ∷ marks) = mark
+
+-- Each frame, each beginning and each end of a signal has a mark of its own, in their order: those that are left after a piece
+abbrev pub marks_after : Piece → List Mark → List Mark
+marks_after (FramePiece octets) marks = drop 1 marks
+marks_after (Start kind) marks = drop 1 marks
+marks_after (Octets octets) marks = marks
+marks_after (End whole) marks = drop 1 marks
+marks_after Gap marks = marks
+
+abbrev pub has_mark : Piece → Bool
+has_mark (FramePiece octets) = true
+has_mark (Start kind) = true
+has_mark (Octets octets) = false
+has_mark (End whole) = true
+has_mark Gap = false
+
+-- and after pieces
+abbrev pub later_marks : List Piece → List Mark → List Mark
+later_marks [] marks = marks
+later_marks (piece ∷ pieces) marks = later_marks pieces (marks_after piece marks)
+
+-- a piece of which nothing is told is taken as a signal before which there is no DCS
+abbrev pub unmarked : Mark
+unmarked = record { signal = Strange; passed = passed.Heard; is_good = false; trains_again = false }
+
+-- what comes in a call
+abbrev pub in_call : Lane → Ear
+in_call lane = record { lane = lane; is_outside = false; usual = unmarked; ends = true }
+
+-- what comes while no call is on
+abbrev pub outside_call : Lane → Ear
+outside_call lane = record (in_call lane) { is_outside = true }
+
 -- ---- the lines of pieces, by the mark of each
 
--- the mark of the next piece; one that is given has none of its own
-abbrev pub mark_at : Listener → Mark
-mark_at listener = unwrap_or (slice_get listener.marks.items listener.taken) listener.usual
+-- where no call is on each line says that
+abbrev pub outside_text : (is_outside : Bool) → List ℕ
+outside_text true = codes ", passed over: no call is on"
+outside_text false = []
 
--- a frame, and a signal that begins
-abbrev pub marked_frame : Mark → Lane → Option Offer → (octets : List ℕ) → List ℕ
-marked_frame mark lane last octets = words_after last octets (frame_of octets) ++ passed_text mark.passed lane (frame_of octets)
-
+-- a signal that begins
 abbrev pub marked_start : Mark → (kind : ℕ) → List ℕ
 marked_start mark kind = signal_name mark.signal ++ (codes " begins, " ++ kind_name kind)
 
@@ -110,6 +162,11 @@ is_judged lane = false
 abbrev pub check_text : (is_judged : Bool) → (is_good : Bool) → List ℕ
 check_text true is_good = codes "training check " ++ (verdict_name is_good ++ codes ": ")
 check_text false is_good = codes "training check, "
+
+-- an image of so many octets, and whether it is whole
+abbrev pub image_text : (octets : ℕ) → (whole : Bool) → List ℕ
+image_text octets true = codes "image of " ++ (decimal octets ++ codes " octets, whole: ")
+image_text octets false = codes "image of " ++ (decimal octets ++ codes " octets, not whole, ")
 
 abbrev pub signal_text : (octets : ℕ) → Signal → (is_outside : Bool) → List ℕ
 signal_text octets signal is_outside = codes "a signal of " ++ (decimal octets ++ (codes " octets" ++ strange_text signal is_outside))

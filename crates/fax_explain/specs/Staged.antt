@@ -1,8 +1,11 @@
 -- What a stage holds of what was played.
 use Rattle.std.specs.Prelude.{◌≡◌, ℕ, ◌⊎◌, max, Bool, true, false, List, [], ◌∷◌, ◌++◌, Option, Some, None}
+use Rattle.fax_udptl.specs.Datagrams.{DatagramValue}
+use Rattle.fax_jobs.specs.declared.report.Report.{Report}
 use Rattle.fax_jobs.specs.Jobs.{JobValue}
 use Rattle.fax_call.specs.Delivery.{is_over}
 use Rattle.fax_call.specs.Writings.{IsWriting, Writing}
+use Rattle.fax_gateway.specs.declared.given.RefusedPage.{RefusedPage}
 use Rattle.fax_gateway.specs.Setups.{AreSet, Setup}
 use Rattle.fax_answer.specs.Replies.{ConfirmedPage}
 use Rattle.fax_gateway.specs.CallingLegs.{CallingLeg, calling_leg, core_of, is_idle}
@@ -11,49 +14,99 @@ use Rattle.fax_gateway.specs.CalledLegs.{CalledLeg}
 use Rattle.fax_gateway.specs.BothLegs.{both_legs}
 use Rattle.fax_gateway.specs.Cuts.{confirmed_at}
 use Rattle.fax_gateway.specs.Events.{Event, clock, moment_of}
-use Rattle.fax_gateway.specs.Reached.{GatewayValue, IsReachedBy}
+use Rattle.fax_gateway.specs.Reached.{GatewayValue, IsReachedBy, given_on}
+use Rattle.fax_gateway.specs.Watched.{called_state}
 use Rattle.fax_trace.specs.declared.event.ScriptEvent.{ScriptEvent}
 use Rattle.fax_trace.specs.declared.event.ScriptEvent.TheVariants.{Tick}
 use Rattle.fax_trace.specs.Playing.{PlayedScript, IsRefusal, moment_at, scripted}
 use Rattle.fax_explain.specs.declared.stage.FoundPage.{FoundPage}
 use Rattle.fax_explain.specs.declared.stage.Stage.{Stage}
 use Rattle.fax_explain.specs.declared.listener.Listener.{Listener}
-use Rattle.fax_explain.specs.Heard.{IsHearing}
-use Rattle.fax_explain.specs.Ladders.{HasAnswer, TellsPlay, timers_told}
+use Rattle.fax_explain.specs.Given.{IsToCalled, TellsGiven, given_datagrams, given_to, to_called}
+use Rattle.fax_explain.specs.Heard.{IsEar, IsHearing}
+use Rattle.fax_explain.specs.Listening.{Ear, in_call, outside, outside_call}
+use Rattle.fax_explain.specs.Ladders.{HasAnswer, IsReport, TellsPlay, begun_tellings, timers_told, with_why}
+use Rattle.fax_explain.specs.Marks.{given_signal}
 use Rattle.fax_explain.specs.Places.{HasPicture}
-use Rattle.fax_descriptions.specs.declared.lane.Lane.TheVariants.{FromCaller, FromCalled}
+use Rattle.fax_descriptions.specs.declared.lane.Lane.{Lane}
+use Rattle.fax_descriptions.specs.declared.lane.Lane.TheVariants.{FromCaller, FromCalled, ToCaller}
 use Rattle.fax_descriptions.specs.Tales.{inside, paragraph_text}
 use Rattle.fax_descriptions.specs.Tellings.{Description}
-
--- more is told after what was told
-abbrev pub GoesOn : (old new : List Description) → Type 0
-GoesOn old new = (more : List Description) × (new ≡ old ++ more)
 
 -- the listener to the caller has heard what arrived in the call that is on
 abbrev pub HearsCall : Option CallingLeg → Listener → Type 0
 HearsCall None listener = Unit {0}
-HearsCall (Some leg) listener = is_idle (core_of leg).state ≡ false → (listener.lane ≡ FromCaller) × IsHearing leg.arrived listener
+HearsCall (Some leg) listener = is_idle (core_of leg).state ≡ false → IsEar (in_call FromCaller) listener × IsHearing leg.arrived listener
 
 -- and the one to the called machine, while its job is sent and its call is not over
 abbrev pub HearsJob : Writing → Option CalledLeg → Listener → Type 0
 HearsJob writes None listener = Unit {0}
 HearsJob writes (Some leg) listener =
-    leg.entered ≡ false → is_over (called_legs.core_of writes leg).state ≡ false → (listener.lane ≡ FromCalled) × IsHearing leg.arrived listener
+    leg.entered ≡ false → is_over (called_legs.core_of writes leg).state ≡ false → IsEar (in_call FromCalled) listener × IsHearing leg.arrived listener
+
+-- and each of them may go on to hear while no call is on
+abbrev pub HearsOutside : Lane → Listener → Type 0
+HearsOutside lane listener = (arrived : List DatagramValue) × IsEar (outside_call lane) (outside listener) × IsHearing arrived listener
+
+-- the listeners to the gateway itself have heard what it gave on each leg, in the last call of that
+abbrev pub GivesCall : Setup → Option CallingLeg → Listener → Type 0
+GivesCall setup leg ours = IsEar (in_call ToCaller) ours × IsHearing (given_datagrams setup (given_on leg)) ours
+
+abbrev pub GivesJob : Setup → Option CalledLeg → Listener → Type 0
+GivesJob setup leg ours = IsToCalled ours × IsHearing (given_datagrams setup (given_to leg)) ours
 
 -- where a job is sent, the listener to the called machine is a new one; and where none was sent before
 abbrev pub BeginsWith : Option JobValue → (old new : Listener) → Type 0
 BeginsWith None old new = new ≡ old
-BeginsWith (Some job) old new = (new.lane ≡ FromCalled) × IsHearing [] new
+BeginsWith (Some job) old new = IsEar (in_call FromCalled) new × IsHearing [] new
+
+-- where a job could not be sent on, what comes is passed over
+abbrev pub FailsWith : Option JobValue → (old new : Listener) → Type 0
+FailsWith None old new = new ≡ old
+FailsWith (Some job) old new = IsEar (outside_call FromCalled) new × IsHearing [] new
 
 abbrev pub BeginsIf : (was_sending : Bool) → Option JobValue → (old new : Listener) → Type 0
 BeginsIf true sending old new = new ≡ old
 BeginsIf false sending old new = BeginsWith sending old new
+
+-- and so is the one to what is given to it
+abbrev pub GivesWith : Option JobValue → (old new : Listener) → Type 0
+GivesWith None old new = new ≡ old
+GivesWith (Some job) old new = IsToCalled new × IsHearing [] new
+
+abbrev pub GivesIf : (was_sending : Bool) → Option JobValue → (old new : Listener) → Type 0
+GivesIf true sending old new = new ≡ old
+GivesIf false sending old new = GivesWith sending old new
+
+-- lines of what a tick gives to the caller are told, after that the datagrams that were given before, and why it refuses a page
+abbrev pub TellsGiving : Ear → List DatagramValue → Option (List ℕ) → Option RefusedPage → (old new : List Description) → Type 0
+TellsGiving ear arrived given refused old new = (own : List Description) × TellsGiven ear arrived given [] own × (new ≡ old ++ with_why refused own)
+
+-- and lines of what it gives to the called machine, in the state of its call in which the tick leaves it
+abbrev pub TellsTo : GatewayValue → Listener → Option (List ℕ) → (old new : List Description) → Type 0
+TellsTo gateway ours given old new =
+    (setup : Setup) (writes : Writing) (trace : List Event) → IsReachedBy setup writes trace gateway
+    → (arrived : List DatagramValue) → IsHearing arrived ours → IsToCalled ours
+    → (own : List Description) × TellsGiven (to_called (given_signal (called_state writes (both_legs setup writes trace).leg))) arrived given [] own × (new ≡ old ++ own)
+
+-- the call of the job that is sent is told as it begins, where none was sent before
+abbrev pub begun_if : (was_sending : Bool) → Option JobValue → List Description
+begun_if true sending = []
+begun_if false sending = begun_tellings sending
+
+-- the report of the job that ended is told, where one did
+abbrev pub TellsReport : Option Report → (old new : List Description) → Type 0
+TellsReport report old new = (own : List Description) × IsReport report own × (new ≡ old ++ own)
 
 -- the trace led to a stage, where this function gives the texts of pages: to its gateway, and to what was heard
 pub record IsStagedBy (setup : Setup) (writes : Writing) (trace : List Event) (stage : Stage) : Type 0 where
   pub reached : IsReachedBy setup writes trace stage.gateway
   pub hears : HearsCall (calling_leg setup trace) stage.calling.theirs
   pub hears_job : HearsJob writes (both_legs setup writes trace).leg stage.called.theirs
+  pub caller_outside : HearsOutside FromCaller stage.calling.theirs
+  pub called_outside : HearsOutside FromCalled stage.called.theirs
+  pub gives : GivesCall setup (calling_leg setup trace) stage.calling.ours
+  pub gives_job : GivesJob setup (both_legs setup writes trace).leg stage.called.ours
 
 -- A gateway accepted one event more, and this is told of its answer.
 pub record HasAccepted (setup : Setup) (writes : Writing) (old : PlayedScript) (event : ScriptEvent) (told : List Description) (stage : Stage) : Type 0 where

@@ -2,8 +2,10 @@
 ghost use Rattle.std.specs.Prelude.{◌≡◌, ◌≢◌, ◌+◌, ◌-◌, ◌^◌, min, [], None, Some, OnOk};
 ghost use Rattle.fax_udptl.specs.Datagrams.{datagram_of};
 ghost use Rattle.fax_descriptions.specs.declared.lane.Lane.TheVariants.{FromCalled};
-ghost use Rattle.fax_explain.specs.Given.{GoesOnInLine, TellsGiven, arrived_after};
-ghost use Rattle.fax_explain.specs.Heard.{EachHearing, HearsOn, IsHearing, StaysInLane, TellsComing};
+ghost use Rattle.fax_explain.specs.Given.{EachGiven, GoesOnInLine, IsToCalled, KeepsToCalled, TellsGiven, arrived_after, giving, going_on};
+ghost use Rattle.fax_explain.specs.Heard.{EachHearing, HearsOn, IsEar, IsHearing, KeepsEar, TellsComing, TellsDatagram};
+ghost use Rattle.fax_explain.specs.Listening.{in_call, outside, outside_call};
+ghost use Rattle.fax_explain.specs.Marks.{given_signal};
 ghost use Rattle.fax_explain.specs.Places.{found_at, sent_place};
 
 use crate::listener::Listener;
@@ -50,8 +52,10 @@ impl CalledLeg {
         ensures call { result.call ≡ None }
         ensures before { result.before ≡ 0 }
         ensures delivered { result.delivered ≡ 0 }
-        ensures lane { result.theirs.lane ≡ FromCalled }
+        ensures ear { IsEar (in_call FromCalled) result.theirs }
         ensures hearing { IsHearing [] result.theirs }
+        ensures ours { IsToCalled result.ours }
+        ensures giving { IsHearing [] result.ours }
     {
         CalledLeg {
             alloc,
@@ -72,8 +76,10 @@ impl CalledLeg {
         ensures delivered { self.new.delivered ≡ 0 }
         ensures before { self.old.call ≡ Some call → self.new.before ≡ self.old.before }
         ensures first { self.old.call ≢ Some call → self.new.before ≡ 0 }
-        ensures lane { self.new.theirs.lane ≡ FromCalled }
+        ensures ear { IsEar (in_call FromCalled) self.new.theirs }
         ensures hearing { IsHearing [] self.new.theirs }
+        ensures ours { IsToCalled self.new.ours }
+        ensures giving { IsHearing [] self.new.ours }
     {
         self.theirs = Listener::new(self.alloc, Lane::FromCalled);
         self.ours = Listener::new(self.alloc, Lane::ToCalled);
@@ -93,8 +99,10 @@ impl CalledLeg {
         ensures delivered { self.new.delivered ≡ 0 }
         ensures before { self.old.call ≡ Some call → self.new.before ≡ self.old.before }
         ensures first { self.old.call ≢ Some call → self.new.before ≡ 0 }
-        ensures lane { self.new.theirs.lane ≡ FromCalled }
+        ensures ear { IsEar (outside_call FromCalled) self.new.theirs }
         ensures hearing { IsHearing [] self.new.theirs }
+        ensures ours { IsToCalled self.new.ours }
+        ensures giving { IsHearing [] self.new.ours }
     {
         self.begin(call);
         self.theirs.end_call();
@@ -122,15 +130,24 @@ impl CalledLeg {
         tale: &mut Tale,
     ) -> Result<(), NoMemory>
         ensures told { OnOk result
-            (TellsComing self.old.theirs (datagram_of octets.now) tale.old tale.new) }
+            (TellsComing self.old.theirs marks.items (datagram_of octets.now) tale.old tale.new) }
         ensures hearing { OnOk result
             (HearsOn self.old.theirs (datagram_of octets.now) self.new.theirs) }
-        ensures lane { OnOk result (StaysInLane self.old.theirs self.new.theirs) }
+        ensures ear { OnOk result (KeepsEar self.old.theirs self.new.theirs) }
         ensures call { self.new.call ≡ self.old.call }
         ensures before { self.new.before ≡ self.old.before }
+        ensures ours { self.new.ours ≡ self.old.ours }
     {
         self.theirs.mark(marks);
         self.theirs.hear(octets, tale)?;
+        self.note();
+        Ok(())
+    }
+
+    /// The frames of the last datagram say that pages were delivered, or that a training is given again.
+    fn note(&mut self)
+        ensures { self.new ≡ record self.old { again = self.new.again; delivered = self.new.delivered } }
+    {
         if self.theirs.is_asked_again() {
             self.again = Some(Again::Dis);
         }
@@ -139,19 +156,18 @@ impl CalledLeg {
                 self.delivered = self.delivered.saturating_add(1);
             }
         }
-        Ok(())
     }
 
     /// The octets of a datagram come from the called machine while no call is on.
     pub(crate) fn hear_outside(&mut self, octets: &[u8], tale: &mut Tale) -> Result<(), NoMemory>
-        ensures told { OnOk result
-            (TellsComing self.old.theirs (datagram_of octets.now) tale.old tale.new) }
+        ensures told { OnOk result (TellsComing (outside self.old.theirs) [] (datagram_of octets.now) tale.old tale.new) }
         ensures hearing { OnOk result
             (HearsOn self.old.theirs (datagram_of octets.now) self.new.theirs) }
-        ensures lane { OnOk result (StaysInLane self.old.theirs self.new.theirs) }
+        ensures ear { OnOk result (KeepsEar (outside self.old.theirs) self.new.theirs) }
         ensures left { self.new ≡ record self.old { theirs = self.new.theirs } }
     {
         self.theirs.end_call();
+        self.theirs.mark(Vec::new(self.alloc));
         self.theirs.hear(octets, tale)
     }
 
@@ -173,11 +189,11 @@ impl CalledLeg {
         state: State,
         tale: &mut Tale,
     ) -> Result<(), NoMemory>
-        ensures told { OnOk result (EachHearing self.old.ours (λ arrived.
-            TellsGiven arrived given.now.called self.old.ours.lane tale.old tale.new)) }
+        ensures told { OnOk result (EachGiven (giving (given_signal state) self.old.ours) (λ ear arrived.
+            TellsGiven ear arrived given.now.called tale.old tale.new)) }
         ensures hearing { OnOk result (EachHearing self.old.ours (λ arrived.
             IsHearing (arrived_after arrived given.now.called) self.new.ours)) }
-        ensures lane { OnOk result (StaysInLane self.old.ours self.new.ours) }
+        ensures ear { OnOk result (KeepsToCalled self.old.ours self.new.ours) }
         ensures place { sent_place self.new ≡ sent_place self.old }
         ensures theirs { self.new.theirs ≡ self.old.theirs }
     {
@@ -190,14 +206,15 @@ impl CalledLeg {
 
     /// A datagram is given: what it brings is told.
     fn give_datagram(&mut self, octets: &[u8], tale: &mut Tale) -> Result<(), NoMemory>
-        ensures told { OnOk result
-            (TellsComing self.old.ours (datagram_of octets.now) tale.old tale.new) }
+        ensures told { OnOk result (EachGiven self.old.ours (λ ear arrived.
+            TellsDatagram (going_on ear) [] arrived (datagram_of octets.now) tale.old tale.new)) }
         ensures hearing { OnOk result
             (HearsOn self.old.ours (datagram_of octets.now) self.new.ours) }
-        ensures lane { OnOk result (StaysInLane self.old.ours self.new.ours) }
+        ensures ear { OnOk result (KeepsEar self.old.ours self.new.ours) }
         ensures place { sent_place self.new ≡ sent_place self.old }
         ensures theirs { self.new.theirs ≡ self.old.theirs }
     {
+        self.ours.mark(Vec::new(self.alloc));
         self.ours.hear(octets, tale)?;
         match self.ours.last_frame() {
             Some(frame) => self.ask(Command::of(frame), tale),
@@ -208,6 +225,7 @@ impl CalledLeg {
     /// The page that was sent, where the last of it was given and none took it.
     pub(crate) fn take_page(&mut self) -> Option<FoundPage>
         ensures found { result ≡ found_at (sent_place self.old) self.old.ours.page }
+        ensures ours { self.new.ours ≡ record self.old.ours { page = None } }
         ensures theirs { self.new.theirs ≡ self.old.theirs }
     {
         let page = self.ours.take_page()?;

@@ -1,10 +1,11 @@
 //! What is heard on the calling leg.
 ghost use Rattle.std.specs.Prelude.{◌≡◌, ◌++◌, [], IfOk, OnOk};
 ghost use Rattle.fax_udptl.specs.Datagrams.{datagram_of};
-ghost use Rattle.fax_descriptions.specs.declared.lane.Lane.TheVariants.{FromCaller};
+ghost use Rattle.fax_descriptions.specs.declared.lane.Lane.TheVariants.{FromCaller, ToCaller};
 ghost use Rattle.fax_descriptions.specs.Tales.{last_with};
-ghost use Rattle.fax_explain.specs.Given.{GoesOnInLine, TellsGiven, arrived_after, timer_lines};
-ghost use Rattle.fax_explain.specs.Heard.{EachHearing, HearsOn, IsHearing, StaysInLane, TellsComing};
+ghost use Rattle.fax_explain.specs.Given.{EachGiven, GoesOnInLine, TellsGiven, arrived_after, going_on, timer_lines};
+ghost use Rattle.fax_explain.specs.Heard.{EachHearing, HearsOn, IsEar, IsHearing, KeepsEar, TellsComing, TellsDatagram};
+ghost use Rattle.fax_explain.specs.Listening.{in_call, outside};
 ghost use Rattle.fax_explain.specs.Places.{confirmed_text, next_number, page_of};
 
 use crate::listener::Listener;
@@ -35,8 +36,10 @@ impl CallingLeg {
     /// A leg on which nothing came or was given.
     pub(crate) fn new(alloc: Global) -> Self
         ensures pages { result.pages ≡ 0 }
-        ensures lane { result.theirs.lane ≡ FromCaller }
+        ensures ear { IsEar (in_call FromCaller) result.theirs }
         ensures hearing { IsHearing [] result.theirs }
+        ensures ours { IsEar (in_call ToCaller) result.ours }
+        ensures giving { IsHearing [] result.ours }
     {
         CallingLeg {
             alloc,
@@ -55,11 +58,11 @@ impl CallingLeg {
         tale: &mut Tale,
     ) -> Result<(), NoMemory>
         ensures told { OnOk result
-            (TellsComing self.old.theirs (datagram_of octets.now) tale.old tale.new) }
+            (TellsComing self.old.theirs marks.items (datagram_of octets.now) tale.old tale.new) }
         ensures hearing { OnOk result
             (HearsOn self.old.theirs (datagram_of octets.now) self.new.theirs) }
-        ensures lane { OnOk result (StaysInLane self.old.theirs self.new.theirs) }
-        ensures pages { self.new.pages ≡ self.old.pages }
+        ensures ear { OnOk result (KeepsEar self.old.theirs self.new.theirs) }
+        ensures left { self.new ≡ record self.old { theirs = self.new.theirs } }
     {
         self.theirs.mark(marks);
         self.theirs.hear(octets, tale)
@@ -67,14 +70,14 @@ impl CallingLeg {
 
     /// The octets of a datagram come from the caller while no call is on.
     pub(crate) fn hear_outside(&mut self, octets: &[u8], tale: &mut Tale) -> Result<(), NoMemory>
-        ensures told { OnOk result
-            (TellsComing self.old.theirs (datagram_of octets.now) tale.old tale.new) }
+        ensures told { OnOk result (TellsComing (outside self.old.theirs) [] (datagram_of octets.now) tale.old tale.new) }
         ensures hearing { OnOk result
             (HearsOn self.old.theirs (datagram_of octets.now) self.new.theirs) }
-        ensures lane { OnOk result (StaysInLane self.old.theirs self.new.theirs) }
+        ensures ear { OnOk result (KeepsEar (outside self.old.theirs) self.new.theirs) }
         ensures left { self.new ≡ record self.old { theirs = self.new.theirs } }
     {
         self.theirs.end_call();
+        self.theirs.mark(Vec::new(self.alloc));
         self.theirs.hear(octets, tale)
     }
 
@@ -107,11 +110,11 @@ impl CallingLeg {
         page: Option<Page<PackedRows>>,
         tale: &mut Tale,
     ) -> Result<Option<FoundPage>, NoMemory>
-        ensures told { OnOk result (EachHearing self.old.ours (λ arrived.
-            TellsGiven arrived given.now.calling self.old.ours.lane tale.old tale.new)) }
+        ensures told { OnOk result (EachGiven self.old.ours (λ ear arrived.
+            TellsGiven ear arrived given.now.calling tale.old tale.new)) }
         ensures hearing { OnOk result (EachHearing self.old.ours (λ arrived.
             IsHearing (arrived_after arrived given.now.calling) self.new.ours)) }
-        ensures lane { OnOk result (StaysInLane self.old.ours self.new.ours) }
+        ensures ear { OnOk result (KeepsEar self.old.ours self.new.ours) }
         ensures theirs { self.new.theirs ≡ self.old.theirs }
         ensures found { IfOk result (λ found. found ≡ page_of given.now.kept page self.old) }
     {
@@ -129,14 +132,15 @@ impl CallingLeg {
         kept: Option<Kept>,
         tale: &mut Tale,
     ) -> Result<(), NoMemory>
-        ensures told { OnOk result
-            (TellsComing self.old.ours (datagram_of octets.now) tale.old tale.new) }
+        ensures told { OnOk result (EachGiven self.old.ours (λ ear arrived.
+            TellsDatagram (going_on ear) [] arrived (datagram_of octets.now) tale.old tale.new)) }
         ensures hearing { OnOk result
             (HearsOn self.old.ours (datagram_of octets.now) self.new.ours) }
-        ensures lane { OnOk result (StaysInLane self.old.ours self.new.ours) }
+        ensures ear { OnOk result (KeepsEar self.old.ours self.new.ours) }
         ensures theirs { self.new.theirs ≡ self.old.theirs }
         ensures pages { self.new.pages ≡ self.old.pages }
     {
+        self.ours.mark(Vec::new(self.alloc));
         self.ours.hear(octets, tale)?;
         match self.ours.last_frame() {
             Some(frame) => self.go_on(frame, kept, tale),

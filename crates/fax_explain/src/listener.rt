@@ -1,5 +1,5 @@
 //! What is read of the datagrams of one direction of a leg.
-ghost use Rattle.std.specs.Prelude.{◌≡◌, ◌<◌, ◌+◌, ◌-◌, ◌≤◌, ◌++◌, ◌∷◌, [], Some, codes, decimal, length, map, nat_lt, reverse, slice_get, IfOk, OnOk, string_bytes};
+ghost use Rattle.std.specs.Prelude.{◌≡◌, ◌<◌, ◌+◌, ◌-◌, ◌≤◌, ◌++◌, ◌∷◌, [], Some, codes, decimal, drop, length, map, nat_lt, reverse, slice_get, IfOk, OnOk, string_bytes};
 ghost use Rattle.fax_frames.specs.Frames.{frame_of};
 ghost use Rattle.fax_udptl.specs.Datagrams.{datagram_of};
 ghost use Rattle.fax_udptl.specs.Taking.{slots_in};
@@ -7,10 +7,11 @@ ghost use Rattle.fax_ifp.specs.Packets.{packet_of};
 ghost use Rattle.fax_ifp.specs.Shown.{piece_of, pieces_shown};
 ghost use Rattle.fax_ifp.specs.Tracked.{lost_slots};
 ghost use Rattle.fax_explain.specs.FrameEnds.{AreEnds};
-ghost use Rattle.fax_explain.specs.Heard.{AddsLine, BeginsAsOneOf, EachCounted, EachHeard, EachHearing, HasHeard, Hears, HearsOn, HearsSlots, IsHearing, Stays, StaysInLane, TellsComing};
+ghost use Rattle.fax_explain.specs.Given.{giving};
+ghost use Rattle.fax_explain.specs.Heard.{AddsLine, EachCounted, EachEar, EachHeard, EachHearing, HasHeard, Hears, HearsOn, HearsSlots, HearsThese, IsEar, IsHearing, KeepsEar, Stays, TellsComing};
 ghost use Rattle.fax_command.specs.Answers.{page_fault_line};
-ghost use Rattle.fax_explain.specs.Listening.{StartsWith, check_text, dis_after, is_command, is_heard, is_judged, mark_at, marked_end, marked_frame, marked_start, page_dcs, passed_text, signal_name, strange_text, unasked_text, verdict_name, words_after};
-ghost use Rattle.fax_explain.specs.Openings.{back_openings, check_opening, datagram_openings, end_opening, frame_opening, head_openings, image_text, late_openings, line_if, lost_openings, octets_counted, packet_openings, packets_openings, piece_openings, pieces_openings, start_opening, tone_openings};
+ghost use Rattle.fax_explain.specs.Listening.{StartsWith, check_text, dis_after, first_mark, image_text, in_call, is_command, is_heard, is_judged, later_marks, marked_end, marks_after, marks_left, outside, page_dcs, passed_text, signal_name, strange_text, unasked_text, verdict_name, words_after};
+ghost use Rattle.fax_explain.specs.Openings.{back_openings, begins, datagram_openings, end_opening, frame_opening, head_openings, late_openings, line_if, lost_openings, marks_past, octets_counted, packet_openings, packets_openings, piece_openings, pieces_openings, start_opening, tone_at, tone_openings};
 
 use crate::frame_ends::FrameEnds;
 use crate::image::Image;
@@ -52,7 +53,7 @@ pub(crate) struct Listener {
 impl Listener {
     /// A direction on which nothing came.
     pub(crate) fn new(alloc: Global, lane: Lane) -> Self
-        ensures lane { result.lane ≡ lane }
+        ensures ear { IsEar (in_call lane) result }
         ensures frames { result.frames.items ≡ [] }
         ensures hearing { IsHearing [] result }
     {
@@ -76,9 +77,9 @@ impl Listener {
     /// The octets of a datagram come: what it brings is told, a line for each thing, by what the pieces of it were taken as.
     pub(crate) fn hear(&mut self, octets: &[u8], tale: &mut Tale) -> Result<(), NoMemory>
         ensures told { OnOk result
-            (TellsComing self.old (datagram_of octets.now) tale.old tale.new) }
+            (TellsComing self.old (marks_left self.old) (datagram_of octets.now) tale.old tale.new) }
         ensures hearing { OnOk result (HearsOn self.old (datagram_of octets.now) self.new) }
-        ensures lane { OnOk result (StaysInLane self.old self.new) }
+        ensures ear { OnOk result (KeepsEar self.old self.new) }
         ensures frames { OnOk result (EachHearing self.old (λ arrived.
             length self.new.frames.items + length tale.old ≤ length tale.new)) }
     {
@@ -106,9 +107,9 @@ impl Listener {
         decided: &Decided<'_>,
         tale: &mut Tale,
     ) -> Result<(), NoMemory>
-        ensures told { OnOk result (EachHeard self.old (λ slots.
-            Hears (datagram_openings slots number decided.now)
-            self.old self.new tale.old tale.new)) }
+        ensures told { OnOk result (EachEar self.old (λ ear. EachHeard self.old (λ slots.
+            Hears ear (datagram_openings ear (marks_left self.old) slots number decided.now)
+            self.old self.new tale.old tale.new))) }
         ensures heard { OnOk result
             (HearsSlots self.old (reverse (slots_in decided.now)) self.new) }
     {
@@ -130,9 +131,9 @@ impl Listener {
         packets: Packets<'_>,
         tale: &mut Tale,
     ) -> Result<(), NoMemory>
-        ensures told { OnOk result (EachHeard self.old (λ slots.
-            Hears (packets_openings slots first packets.entry)
-            self.old self.new tale.old tale.new)) }
+        ensures told { OnOk result (EachEar self.old (λ ear. EachHeard self.old (λ slots.
+            Hears ear (packets_openings ear (marks_left self.old) slots first packets.entry)
+            self.old self.new tale.old tale.new))) }
         ensures heard { OnOk result (EachHeard self.old (λ slots.
             HasHeard (reverse (map Some packets.entry) ++ slots) self.new)) }
     {
@@ -175,14 +176,14 @@ impl Listener {
 
     /// From now on a piece of which nothing is told is taken as one that is given, as this signal.
     pub(crate) fn give(&mut self, signal: Signal)
-        ensures { self.new ≡ record self.old { usual = record { signal = signal; passed = Passed.Heard; is_good = Rattle.std.specs.Prelude.false; trains_again = Rattle.std.specs.Prelude.false } } }
+        ensures { self.new ≡ giving signal self.old }
     {
         self.usual = Mark::given(signal);
     }
 
     /// The call is over: everything is passed over.
     pub(crate) fn end_call(&mut self)
-        ensures { self.new ≡ record self.old { is_outside = Rattle.std.specs.Prelude.true } }
+        ensures { self.new ≡ outside self.old }
     {
         self.is_outside = true;
     }
@@ -197,7 +198,7 @@ impl Listener {
 
     /// Something happened on this direction.
     fn tell(&self, words: &str, tale: &mut Tale) -> Result<(), NoMemory>
-        ensures { OnOk result (AddsLine self.now.lane words.now tale.old tale.new) }
+        ensures { OnOk result (AddsLine self.now words.now tale.old tale.new) }
     {
         tale.tell(self.lane, words)?;
         if self.is_outside {
@@ -208,7 +209,7 @@ impl Listener {
 
     /// Something happened on this direction, where that holds.
     fn tell_if(&self, holds: bool, words: &str, tale: &mut Tale) -> Result<(), NoMemory>
-        ensures { OnOk result (Hears (line_if holds (words.now ∷ [])) self.now self.now tale.old tale.new) }
+        ensures { OnOk result (HearsThese (line_if holds (begins words.now)) self.now self.now tale.old tale.new) }
     {
         if holds {
             self.tell(words, tale)?;
@@ -218,7 +219,7 @@ impl Listener {
 
     /// A datagram decides nothing: one that came again says nothing new, and a late one is told.
     fn hear_late(&self, number: u16, expected: u16, tale: &mut Tale) -> Result<(), NoMemory>
-        ensures { OnOk result (Hears (late_openings number expected) self.now self.now tale.old tale.new) }
+        ensures { OnOk result (HearsThese (late_openings number expected) self.now self.now tale.old tale.new) }
     {
         if number.wrapping_add(1) == expected {
             return Ok(());
@@ -229,8 +230,9 @@ impl Listener {
 
     /// So many datagrams from a number on are lost.
     fn lose(&mut self, from: u16, count: u16, tale: &mut Tale) -> Result<(), NoMemory>
-        ensures told { OnOk result (Hears (lost_openings from count) self.old self.new tale.old tale.new) }
+        ensures told { OnOk result (HearsThese (lost_openings from count) self.old self.new tale.old tale.new) }
         ensures heard { OnOk result (HearsSlots self.old (lost_slots count) self.new) }
+        ensures marks { OnOk result (marks_left self.new ≡ marks_left self.old) }
     {
         self.signals.lose(count);
         if count == 0 {
@@ -244,7 +246,7 @@ impl Listener {
 
     /// The datagrams from a number on, up to that of the one that came, are told as brought back, where there are any.
     fn bring_back(&self, from: u16, number: u16, tale: &mut Tale) -> Result<(), NoMemory>
-        ensures { OnOk result (Hears (back_openings from number) self.now self.now tale.old tale.new) }
+        ensures { OnOk result (HearsThese (back_openings from number) self.now self.now tale.old tale.new) }
     {
         if from == number {
             return Ok(());
@@ -264,10 +266,13 @@ impl Listener {
 
     /// The packet of the datagram of this number comes.
     fn hear_packet(&mut self, number: u16, packet: &[u8], tale: &mut Tale) -> Result<(), NoMemory>
-        ensures told { OnOk result (EachHeard self.old (λ slots.
-            Hears (packet_openings slots number packet.now) self.old self.new tale.old tale.new)) }
+        ensures told { OnOk result (EachEar self.old (λ ear. EachHeard self.old (λ slots.
+            Hears ear (packet_openings ear (marks_left self.old) slots number packet.now)
+            self.old self.new tale.old tale.new))) }
         ensures heard { OnOk result (EachHeard self.old (λ slots.
             HasHeard (Some packet.now ∷ slots) self.new)) }
+        ensures marks { OnOk result (EachHeard self.old (λ slots.
+            marks_left self.new ≡ marks_past slots packet.now (marks_left self.old))) }
     {
         let ends = self.hear_head(number, packet, tale)?;
         let pieces = self.signals.slot(Slot::Packet(packet))?;
@@ -283,15 +288,14 @@ impl Listener {
         packet: &[u8],
         tale: &mut Tale,
     ) -> Result<FrameEnds, NoMemory>
-        ensures told { OnOk result (Hears (head_openings number (packet_of packet.now)) self.old self.new tale.old tale.new) }
+        ensures told { OnOk result (HearsThese (head_openings number (packet_of packet.now)) self.old self.new tale.old tale.new) }
         ensures stays { OnOk result (Stays self.old self.new) }
+        ensures marks { OnOk result (marks_left self.new ≡ marks_left self.old) }
         ensures ends { IfOk result (λ ends. AreEnds (packet_of packet.now) ends) }
     {
         match Ifp::read(self.alloc, packet) {
             Ok(content) => {
-                if let Head::Indicator(code) = content.head() {
-                    self.hear_tone(Indicator::from_code(code), tale)?;
-                }
+                self.hear_tone(tone_of(content.head()), tale)?;
                 Ok(FrameEnds::of(&content))
             }
             Err(IfpFault::NoMemory) => Err(NoMemory),
@@ -309,8 +313,9 @@ impl Listener {
         fault: IfpFault,
         tale: &mut Tale,
     ) -> Result<(), NoMemory>
-        ensures told { OnOk result (Hears (((codes "packet " ++ (decimal number ++ codes " cannot be read: ")) ∷ []) ∷ []) self.old self.new tale.old tale.new) }
+        ensures told { OnOk result (HearsThese (begins (codes "packet " ++ (decimal number ++ codes " cannot be read: ")) ∷ []) self.old self.new tale.old tale.new) }
         ensures stays { OnOk result (Stays self.old self.new) }
+        ensures marks { OnOk result (marks_left self.new ≡ marks_left self.old) }
     {
         let mut words = format!(in self.alloc; "packet {number} cannot be read: ")?;
         let why = format!(in self.alloc; "{fault}")?;
@@ -325,8 +330,8 @@ impl Listener {
 
     /// So many frames have ended in which something is missing, and so many with a wrong check sequence.
     fn tell_lacking(&self, lacking: usize, bad: usize, tale: &mut Tale) -> Result<(), NoMemory>
-        ensures { OnOk result (Hears (line_if (nat_lt 0 lacking) (codes "a frame in which something is missing, passed over" ∷ [])
-            ++ line_if (nat_lt 0 bad) (codes "a frame with a wrong check sequence, passed over" ∷ [])) self.now self.now tale.old tale.new) }
+        ensures { OnOk result (HearsThese (line_if (nat_lt 0 lacking) (begins (codes "a frame in which something is missing, passed over"))
+            ++ line_if (nat_lt 0 bad) (begins (codes "a frame with a wrong check sequence, passed over"))) self.now self.now tale.old tale.new) }
     {
         self.tell_if(
             lacking > 0,
@@ -342,8 +347,9 @@ impl Listener {
 
     /// CNG and CED are told.
     fn hear_tone(&mut self, indicator: Option<Indicator>, tale: &mut Tale) -> Result<(), NoMemory>
-        ensures told { OnOk result (Hears (tone_openings indicator) self.old self.new tale.old tale.new) }
+        ensures told { OnOk result (HearsThese (tone_openings indicator) self.old self.new tale.old tale.new) }
         ensures stays { Stays self.old self.new }
+        ensures marks { marks_left self.new ≡ marks_left self.old }
     {
         let name = match indicator {
             Some(Indicator::Cng) => "CNG",
@@ -355,11 +361,12 @@ impl Listener {
 
     /// Pieces come.
     fn hear_pieces(&mut self, pieces: &[Piece<'_>], tale: &mut Tale) -> Result<(), NoMemory>
-        ensures told { OnOk result (EachCounted self.old (λ before.
-            Hears (pieces_openings before (pieces_shown pieces.now))
-            self.old self.new tale.old tale.new)) }
+        ensures told { OnOk result (EachEar self.old (λ ear. EachCounted self.old (λ before.
+            Hears ear (pieces_openings ear (marks_left self.old) before (pieces_shown pieces.now))
+            self.old self.new tale.old tale.new))) }
         ensures counted { OnOk result (EachCounted self.old (λ before.
             self.new.image.octets ≡ octets_counted (reverse (pieces_shown pieces.now) ++ before))) }
+        ensures marks { OnOk result (marks_left self.new ≡ later_marks (pieces_shown pieces.now) (marks_left self.old)) }
         ensures signals { OnOk result (self.new.signals ≡ self.old.signals) }
     {
         for piece in pieces {
@@ -370,11 +377,12 @@ impl Listener {
 
     /// A piece comes.
     fn hear_piece(&mut self, piece: &Piece<'_>, tale: &mut Tale) -> Result<(), NoMemory>
-        ensures told { OnOk result (EachCounted self.old (λ before.
-            Hears (piece_openings before (piece_of piece.now))
-            self.old self.new tale.old tale.new)) }
+        ensures told { OnOk result (EachEar self.old (λ ear. EachCounted self.old (λ before.
+            Hears ear (piece_openings ear (first_mark ear.usual (marks_left self.old)) before (piece_of piece.now))
+            self.old self.new tale.old tale.new))) }
         ensures counted { OnOk result (EachCounted self.old (λ before.
             self.new.image.octets ≡ octets_counted (piece_of piece.now ∷ before))) }
+        ensures marks { OnOk result (marks_left self.new ≡ marks_after (piece_of piece.now) (marks_left self.old)) }
         ensures signals { OnOk result (self.new.signals ≡ self.old.signals) }
     {
         match piece {
@@ -388,21 +396,24 @@ impl Listener {
 
     /// What the next piece was taken as.
     fn next_mark(&mut self) -> Mark
-        ensures mark { result ≡ mark_at self.old }
+        ensures mark { result ≡ first_mark self.old.usual (marks_left self.old) }
+        ensures marks { marks_left self.new ≡ drop 1 (marks_left self.old) }
         ensures left { self.new ≡ record self.old { taken = self.new.taken } }
     {
-        let Some(mark) = self.marks.get(self.taken) else {
-            return self.usual;
-        };
-        let mark = *mark;
-        self.taken = self.taken.saturating_add(1);
-        mark
+        if self.taken < self.marks.len() {
+            let mark = self.marks[self.taken];
+            self.taken += 1;
+            mark
+        } else {
+            self.usual
+        }
     }
 
     /// A frame comes. Where it was passed over, that is told, and nothing follows from it.
     fn hear_frame(&mut self, octets: &[u8], tale: &mut Tale) -> Result<(), NoMemory>
-        ensures told { OnOk result (Hears (frame_opening octets.now (frame_of octets.now) ∷ []) self.old self.new tale.old tale.new) }
-        ensures marked { OnOk result (AddsLine self.old.lane (marked_frame (mark_at self.old) self.old.lane self.old.dis octets.now) tale.old tale.new) }
+        ensures told { OnOk result (EachEar self.old (λ ear.
+            Hears ear (frame_opening (first_mark ear.usual (marks_left self.old)) ear.lane octets.now ∷ []) self.old self.new tale.old tale.new)) }
+        ensures marks { OnOk result (marks_left self.new ≡ drop 1 (marks_left self.old)) }
         ensures stays { OnOk result (Stays self.old self.new) }
     {
         let mark = self.next_mark();
@@ -447,8 +458,9 @@ impl Listener {
 
     /// An image begins, by this type of data.
     fn begin_image(&mut self, kind: u8, tale: &mut Tale) -> Result<(), NoMemory>
-        ensures told { OnOk result (Hears (start_opening kind ∷ []) self.old self.new tale.old tale.new) }
-        ensures marked { OnOk result (AddsLine self.old.lane (marked_start (mark_at self.old) kind) tale.old tale.new) }
+        ensures told { OnOk result (EachEar self.old (λ ear.
+            Hears ear (start_opening (first_mark ear.usual (marks_left self.old)) kind ∷ []) self.old self.new tale.old tale.new)) }
+        ensures marks { OnOk result (marks_left self.new ≡ drop 1 (marks_left self.old)) }
         ensures octets { self.new.image.octets ≡ 0 }
         ensures signals { self.new.signals ≡ self.old.signals }
     {
@@ -462,8 +474,9 @@ impl Listener {
 
     /// The image under way ends.
     fn end_image(&mut self, whole: bool, tale: &mut Tale) -> Result<(), NoMemory>
-        ensures told { OnOk result (Hears (end_opening self.old.image.octets whole ∷ []) self.old self.new tale.old tale.new) }
-        ensures marked { OnOk result (AddsLine self.old.lane (marked_end (mark_at self.old) self.old.lane self.old.is_outside self.old.image.octets whole) tale.old tale.new) }
+        ensures told { OnOk result (EachEar self.old (λ ear.
+            Hears ear (end_opening (first_mark ear.usual (marks_left self.old)) ear.lane ear.is_outside self.old.image.octets whole ∷ []) self.old self.new tale.old tale.new)) }
+        ensures marks { OnOk result (marks_left self.new ≡ drop 1 (marks_left self.old)) }
         ensures stays { OnOk result (Stays self.old self.new) }
     {
         let words = self.words_of_end(whole)?;
@@ -472,8 +485,11 @@ impl Listener {
 
     /// What the image under way was.
     fn words_of_end(&mut self, whole: bool) -> Result<String, NoMemory>
-        ensures words { IfOk result (λ words. StartsWith (marked_end (mark_at self.old) self.old.lane self.old.is_outside self.old.image.octets whole) (string_bytes words)) }
+        ensures words { IfOk result (λ words. StartsWith (marked_end (first_mark self.old.usual (marks_left self.old)) self.old.lane self.old.is_outside self.old.image.octets whole) (string_bytes words)) }
+        ensures marks { marks_left self.new ≡ drop 1 (marks_left self.old) }
         ensures lane { self.new.lane ≡ self.old.lane }
+        ensures outside { self.new.is_outside ≡ self.old.is_outside }
+        ensures usual { self.new.usual ≡ self.old.usual }
         ensures receiver { self.new.receiver ≡ self.old.receiver }
         ensures frames { self.new.frames ≡ self.old.frames }
         ensures stays { Stays self.old self.new }
@@ -654,4 +670,14 @@ fn is_heard(frame: Frame) -> bool
         frame,
         Frame::Csi | Frame::Nsf | Frame::Tsi | Frame::Crp | Frame::Other
     )
+}
+
+/// The tone that a packet tells, where it tells one.
+fn tone_of(head: Head) -> Option<Indicator>
+    ensures { result ≡ tone_at head }
+{
+    match head {
+        Head::Indicator(code) => Indicator::from_code(code),
+        Head::Message { .. } => None,
+    }
 }

@@ -5,9 +5,11 @@ ghost use Rattle.fax_gateway.specs.CallingLegs.{calling_leg};
 ghost use Rattle.fax_gateway.specs.EachTrace.{EachTrace};
 ghost use Rattle.fax_gateway.specs.Turns.{call_if_new, call_on};
 ghost use Rattle.fax_trace.specs.declared.event.ScriptEvent.TheVariants as script;
-ghost use Rattle.fax_explain.specs.Ladders.{EndsWithReport, TellsRefusal, asked_tellings, begun_tellings, over_tellings};
+ghost use Rattle.fax_explain.specs.Given.{EachGiven, KeepsToCalled, arrived_after};
+ghost use Rattle.fax_explain.specs.Heard.{EachHearing, IsHearing, KeepsEar};
+ghost use Rattle.fax_explain.specs.Ladders.{asked_tellings, begun_tellings, over_tellings, with_why};
 ghost use Rattle.fax_explain.specs.Places.{Grows, Keeps, page_if, page_of};
-ghost use Rattle.fax_explain.specs.Staged.{AnswersAny, AnswersAt, AnswersEvent, AnswersTick, BeginsIf, BeginsWith, GoesOn, IsNew, Pictures, PlaysEvent, TimersAct};
+ghost use Rattle.fax_explain.specs.Staged.{AnswersAny, AnswersAt, AnswersEvent, AnswersTick, BeginsIf, BeginsWith, FailsWith, GivesIf, GivesWith, IsNew, Pictures, PlaysEvent, TellsGiving, TellsReport, TellsTo, TimersAct, begun_if};
 
 use crate::called::CalledLeg;
 use crate::calling::CallingLeg;
@@ -19,6 +21,7 @@ use fax_call::State;
 use fax_descriptions::{Lane, Tale, why_ended, why_refused, words_of_format};
 use fax_gateway::laws::{confirms_the_newest, jobs_have_states};
 use fax_gateway::{Gateway, Given, PlaceFault, RingFault, Settings};
+use fax_notes::laws::{keeps_answers, keeps_calls};
 use fax_notes::{AnswerNotes, CallNotes};
 use fax_pagestore::{PackedRows, Page};
 use fax_trace::ScriptEvent;
@@ -136,6 +139,7 @@ impl Stage {
         ensures { OnOk result
             (AnswersAt moment self.old (script.FromCalling octets.now) tale.new self.new) }
     {
+        keeps_answers();
         let call = self.gateway.call();
         let mut notes = AnswerNotes::new(self.alloc);
         self.gateway
@@ -157,6 +161,7 @@ impl Stage {
         ensures { OnOk result
             (AnswersAt moment self.old (script.FromCalled octets.now) tale.new self.new) }
     {
+        keeps_calls();
         let state = self.gateway.called_state();
         let mut notes = CallNotes::new(self.alloc);
         self.gateway
@@ -234,7 +239,9 @@ impl Stage {
     fn act(&mut self, moment: u64, tale: &mut Tale) -> Result<(), NoMemory>
         ensures gateway { self.new.gateway ≡ self.old.gateway }
         ensures theirs { self.new.calling.theirs ≡ self.old.calling.theirs }
+        ensures ours { self.new.calling.ours ≡ self.old.calling.ours }
         ensures called { self.new.called.theirs ≡ self.old.called.theirs }
+        ensures giving { self.new.called.ours ≡ self.old.called.ours }
         ensures told { OnOk result (TimersAct self.old.gateway moment tale.old tale.new) }
     {
         self.called.act(self.gateway.called_acting(moment));
@@ -248,9 +255,12 @@ impl Stage {
     fn give_calling(&mut self, given: &Given, scene: &mut Scene) -> Result<(), NoMemory>
         ensures gateway { self.new.gateway ≡ self.old.gateway }
         ensures theirs { self.new.calling.theirs ≡ self.old.calling.theirs }
-        ensures called { self.new.called.theirs ≡ self.old.called.theirs }
-        ensures goes_on { OnOk result (GoesOn scene.old.tale scene.new.tale) }
-        ensures refused { OnOk result (TellsRefusal given.now.refused scene.new.tale) }
+        ensures called { self.new.called ≡ self.old.called }
+        ensures told { OnOk result (EachGiven self.old.calling.ours (λ ear arrived.
+            TellsGiving ear arrived given.now.calling given.now.refused scene.old.tale scene.new.tale)) }
+        ensures hearing { OnOk result (EachHearing self.old.calling.ours (λ arrived.
+            IsHearing (arrived_after arrived given.now.calling) self.new.calling.ours)) }
+        ensures ear { OnOk result (KeepsEar self.old.calling.ours self.new.calling.ours) }
         ensures page { OnOk result (Keeps (page_of given.now.kept (page_if given.now.kept self.old.gateway.book) self.old.calling) scene.old.pages.items scene.new.pages.items) }
     {
         let mut after = Tale::new(self.alloc);
@@ -277,9 +287,12 @@ impl Stage {
     /// What a tick gives on the called leg is told.
     fn give_called(&mut self, given: &Given, scene: &mut Scene) -> Result<(), NoMemory>
         ensures gateway { self.new.gateway ≡ self.old.gateway }
-        ensures theirs { self.new.calling.theirs ≡ self.old.calling.theirs }
-        ensures called { self.new.called.theirs ≡ self.old.called.theirs }
-        ensures goes_on { OnOk result (GoesOn scene.old.tale scene.new.tale) }
+        ensures calling { self.new.calling ≡ self.old.calling }
+        ensures theirs { self.new.called.theirs ≡ self.old.called.theirs }
+        ensures told { OnOk result (TellsTo self.old.gateway self.old.called.ours given.now.called scene.old.tale scene.new.tale) }
+        ensures hearing { OnOk result (EachHearing self.old.called.ours (λ arrived.
+            IsHearing (arrived_after arrived given.now.called) self.new.called.ours)) }
+        ensures ear { OnOk result (KeepsToCalled self.old.called.ours self.new.called.ours) }
         ensures pages { OnOk result (Grows scene.old.pages.items scene.new.pages.items) }
     {
         let mut after = Tale::new(self.alloc);
@@ -293,7 +306,6 @@ impl Stage {
     fn tell_over(&self, call: Option<u32>, tale: &mut Tale) -> Result<(), NoMemory>
         ensures told { OnOk result (EachTrace self.now.gateway (λ setup writes trace.
             tale.new ≡ tale.old ++ over_tellings call (call_on (calling_leg setup trace)))) }
-        ensures goes_on { OnOk result (GoesOn tale.old tale.new) }
     {
         let Some(call) = call else {
             return Ok(());
@@ -308,9 +320,10 @@ impl Stage {
     /// Where a job is sent and none was before the tick, its call begins.
     fn begin_job(&mut self, was_sending: bool, tale: &mut Tale) -> Result<(), NoMemory>
         ensures gateway { self.new.gateway ≡ self.old.gateway }
-        ensures theirs { self.new.calling.theirs ≡ self.old.calling.theirs }
+        ensures calling { self.new.calling ≡ self.old.calling }
         ensures called { BeginsIf was_sending self.old.gateway.book.sending self.old.called.theirs self.new.called.theirs }
-        ensures goes_on { OnOk result (GoesOn tale.old tale.new) }
+        ensures giving { GivesIf was_sending self.old.gateway.book.sending self.old.called.ours self.new.called.ours }
+        ensures told { OnOk result (tale.new ≡ tale.old ++ begun_if was_sending self.old.gateway.book.sending) }
     {
         if was_sending {
             return Ok(());
@@ -321,8 +334,9 @@ impl Stage {
     /// The call of the job that is sent begins, where there is one.
     fn begin_call(&mut self, tale: &mut Tale) -> Result<(), NoMemory>
         ensures gateway { self.new.gateway ≡ self.old.gateway }
-        ensures theirs { self.new.calling.theirs ≡ self.old.calling.theirs }
+        ensures calling { self.new.calling ≡ self.old.calling }
         ensures called { BeginsWith self.old.gateway.book.sending self.old.called.theirs self.new.called.theirs }
+        ensures giving { GivesWith self.old.gateway.book.sending self.old.called.ours self.new.called.ours }
         ensures told { OnOk result (tale.new ≡ tale.old ++ begun_tellings self.old.gateway.book.sending) }
     {
         let Some(job) = self.gateway.sending() else {
@@ -341,8 +355,9 @@ impl Stage {
     /// The call of the job that is sent could not be placed, where there is one: it is over as it begins.
     fn fail_call(&mut self)
         ensures gateway { self.new.gateway ≡ self.old.gateway }
-        ensures theirs { self.new.calling.theirs ≡ self.old.calling.theirs }
-        ensures called { BeginsWith self.old.gateway.book.sending self.old.called.theirs self.new.called.theirs }
+        ensures calling { self.new.calling ≡ self.old.calling }
+        ensures called { FailsWith self.old.gateway.book.sending self.old.called.theirs self.new.called.theirs }
+        ensures giving { GivesWith self.old.gateway.book.sending self.old.called.ours self.new.called.ours }
     {
         if let Some(job) = self.gateway.sending() {
             self.called.fail(job.call());
@@ -352,10 +367,10 @@ impl Stage {
     /// The job that ended is told last, by the line that `faxgate trace` prints, with why it ended so.
     fn end_job(&mut self, given: &Given, tale: &mut Tale) -> Result<(), NoMemory>
         ensures gateway { self.new.gateway ≡ self.old.gateway }
-        ensures theirs { self.new.calling.theirs ≡ self.old.calling.theirs }
-        ensures called { self.new.called.theirs ≡ self.old.called.theirs }
-        ensures told { OnOk result (EndsWithReport given.now.report tale.new) }
-        ensures goes_on { OnOk result (GoesOn tale.old tale.new) }
+        ensures calling { self.new.calling ≡ self.old.calling }
+        ensures theirs { self.new.called.theirs ≡ self.old.called.theirs }
+        ensures ours { self.new.called.ours ≡ self.old.called.ours }
+        ensures told { OnOk result (TellsReport given.now.report tale.old tale.new) }
     {
         let Some(report) = &given.report else {
             return Ok(());
@@ -397,7 +412,7 @@ fn keep_found(pages: &mut Vec<FoundPage>, found: Option<FoundPage>) -> Result<()
 
 /// Why a tick refuses a page is told, where it does: after what was told last, which is its RTN.
 fn tell_refusal(alloc: Global, given: &Given, tale: &mut Tale) -> Result<(), NoMemory>
-    ensures { OnOk result (TellsRefusal given.now.refused tale.new) }
+    ensures { OnOk result (tale.new ≡ with_why given.now.refused tale.old) }
 {
     let Some(refused) = &given.refused else {
         return Ok(());
