@@ -34,6 +34,7 @@ written_none told = record { count = 0; due = refl }
 waited : (old asked served : ClientValue) → IsAsked old asked → IsServed asked served → IsWaitedFor old (counted served)
 waited old asked served a s = record {
   said = subst (λ (x : ClientInput). ComesOn x served.said) a.said s.said;
+  watches = s.watches ∙ a.watches;
   asked = asked.told;
   events = a.told;
   count = s.told.count;

@@ -1,5 +1,5 @@
 -- Clients as they are seen, and what a call does with them (this project's profile).
-use Rattle.std.specs.Prelude.{◌≡◌, ℕ, zero, suc, ◌+◌, ◌<◌, min, codes, decimal, Bool, true, false, not, ◌&&◌, List, [], ◌∷◌, ◌++◌, drop, flat_map, length, map, ◌⊎◌, Option, None, Some, is_some, unwrap_or, MatchOption}
+use Rattle.std.specs.Prelude.{◌≡◌, ℕ, zero, suc, ◌+◌, ◌<◌, min, nat_eq, codes, decimal, Bool, true, false, not, ◌&&◌, List, [], ◌∷◌, ◌++◌, drop, flat_map, length, map, ◌⊎◌, Option, None, Some, is_some, unwrap_or, MatchOption}
 use Rattle.std.specs.List.{AllZip, items_where_true, list_any}
 use Rattle.fax_control.specs.ClientStreams.{EndsALine, HasNoLineFeed, fitting, octets_of_heard}
 use Rattle.fax_control.specs.declared.hearing.HeardLine.{HeardLine}
@@ -19,9 +19,11 @@ pub record ClientOutput : Type 0 where
   pub events : Option (List QueuedLine)
   pub lost : ℕ
 
+-- A client: what comes of it, what it is told, and the number of the line that it watches, where it watches one.
 pub record ClientValue : Type 0 where
   pub said : ClientInput
   pub told : ClientOutput
+  pub watches : Option ℕ
 
 -- All clients: whether they come by a control socket, what is still to be recorded of events, where they are, each client, and
 -- how many lines of events were lost, as far as they were counted.
@@ -39,13 +41,17 @@ nothing_said = record { more = true; unheard = []; begun = Some [] }
 abbrev pub nothing_told : ClientOutput
 nothing_told = record { due = []; events = None; lost = 0 }
 
--- a client that said nothing, and wants no events
+-- a client that said nothing, wants no events, and watches no line
 abbrev pub silent : ClientValue
-silent = record { said = nothing_said; told = nothing_told }
+silent = record { said = nothing_said; told = nothing_told; watches = None }
 
 -- a client that wants events: those that waited already go on waiting
 abbrev pub wanting : ClientValue → ClientValue
-wanting client = record { said = client.said; told = record { due = client.told.due; events = Some (unwrap_or client.told.events []); lost = client.told.lost } }
+wanting client = record client { told = record { due = client.told.due; events = Some (unwrap_or client.told.events []); lost = client.told.lost } }
+
+-- a client that watches this line, and no other
+abbrev pub watching : (line : ℕ) → ClientValue → ClientValue
+watching line client = record client { watches = Some line }
 
 -- standard input and output: one client, which wants events
 abbrev pub standard_alone : ClientsValue
@@ -74,6 +80,15 @@ all_said clients = not clients.has_socket && not (one_says_more clients.clients)
 abbrev pub one_wants_events : List ClientValue → Bool
 one_wants_events clients = list_any (λ client. is_some client.told.events) clients
 
+-- it is this line that is watched
+abbrev pub is_line : (line : ℕ) → (watched : Option ℕ) → Bool
+is_line line None = false
+is_line line (Some watched) = nat_eq watched line
+
+-- one of the clients watches this line
+abbrev pub one_watches : (line : ℕ) → List ClientValue → Bool
+one_watches line clients = list_any (λ client. is_line line client.watches) clients
+
 -- ---- one client
 
 -- the client at a place is changed, and no other one; with none at that place, none is
@@ -87,7 +102,7 @@ with_client change place clients = record { has_socket = clients.has_socket; jou
 
 -- the text is what a client is told now, from its beginning
 abbrev pub answered : List ℕ → ClientValue → ClientValue
-answered text client = record { said = client.said; told = record { due = text; events = client.told.events; lost = client.told.lost } }
+answered text client = record client { told = record { due = text; events = client.told.events; lost = client.told.lost } }
 
 -- ---- what is heard
 
@@ -108,12 +123,14 @@ pub record IsHeard (heard : HeardLine) (old new : ClientInput) : Type 0 where
 -- Nothing is heard of a client: it is still to be told something, or no line ends in what was read of it.
 pub record HearsNoLine (old new : ClientValue) : Type 0 where
   pub told : new.told ≡ old.told
+  pub watches : new.watches ≡ old.watches
   pub waits : 0 < length old.told.due → new.said ≡ old.said
   pub kept : old.told.due ≡ [] → IsKept old.said new.said
 
 -- A line is heard of a client, to which nothing is still to be written.
 pub record HearsLine (heard : HeardLine) (old new : ClientValue) : Type 0 where
   pub told : new.told ≡ old.told
+  pub watches : new.watches ≡ old.watches
   pub due : old.told.due ≡ []
   pub said : IsHeard heard old.said new.said
 
@@ -165,10 +182,12 @@ GoesOn old new = TakesNext old new ⊎ (((0 < length old.due) ⊎ (unwrap_or old
 
 pub record IsAsked (old new : ClientValue) : Type 0 where
   pub said : new.said ≡ old.said
+  pub watches : new.watches ≡ old.watches
   pub told : GoesOn old.told new.told
 
 pub record IsServed (old new : ClientValue) : Type 0 where
   pub said : ComesOn old.said new.said
+  pub watches : new.watches ≡ old.watches
   pub told : IsWritten old.told new.told
 
 -- Each was asked, and then served.
@@ -179,14 +198,15 @@ pub record AreServed (old new : List ClientValue) : Type 0 where
 
 -- the lines that it lost were counted
 abbrev pub counted : ClientValue → ClientValue
-counted client = record { said = client.said; told = record { due = client.told.due; events = client.told.events; lost = 0 } }
+counted client = record client { told = record { due = client.told.due; events = client.told.events; lost = 0 } }
 
 abbrev pub IsCounted : ClientValue → ClientValue → Type 0
 IsCounted old new = new ≡ counted old
 
--- While it is waited for, more may come of a client, its events go on, and some octets are written.
+-- While it is waited for, more may come of a client, its events go on, and some octets are written. It watches what it watched.
 pub record IsWaitedFor (old new : ClientValue) : Type 0 where
   pub said : ComesOn old.said new.said
+  pub watches : new.watches ≡ old.watches
   pub asked : ClientOutput
   pub events : GoesOn old.told asked
   pub count : ℕ
@@ -215,11 +235,17 @@ HasTold line old new = MatchOption old.events (new ≡ old)
 
 pub record IsTold (line : List ℕ) (old new : ClientValue) : Type 0 where
   pub said : new.said ≡ old.said
+  pub watches : new.watches ≡ old.watches
   pub told : HasTold line old.told new.told
 
--- one that is told an event of a line that it watches, or watches another one and is left as it was
-abbrev pub IsToldOrLeft : List ℕ → ClientValue → ClientValue → Type 0
-IsToldOrLeft event old new = IsTold event old new ⊎ (new ≡ old)
+-- a client is told an event where that holds, and else is left as it was
+abbrev pub IsToldIf : Bool → (event : List ℕ) → (old new : ClientValue) → Type 0
+IsToldIf true event old new = IsTold event old new
+IsToldIf false event old new = new ≡ old
+
+-- AN EVENT OF A LINE is told each client that watches that line, and no other
+abbrev pub IsToldOfLine : (line : ℕ) → (event : List ℕ) → (old new : ClientValue) → Type 0
+IsToldOfLine line event old new = IsToldIf (is_line line old.watches) event old new
 
 -- ---- events that are recorded
 

@@ -1,6 +1,6 @@
 //! A client.
 ghost use Rattle.std.specs.Prelude.{◌≡◌, is_some, IfNone, IfSome, OnOk, OnErr};
-ghost use Rattle.fax_clients.specs.Clients.{HearsLine, HearsNoLine, IsAsked, IsServed, IsTold, IsToldOrLeft, answered, counted, silent, wanting};
+ghost use Rattle.fax_clients.specs.Clients.{HearsLine, HearsNoLine, IsAsked, IsServed, IsTold, IsToldOfLine, answered, counted, is_line, silent, wanting, watching};
 
 use crate::inbox::Inbox;
 use crate::outbox::Outbox;
@@ -26,13 +26,13 @@ pub(crate) struct Client<I: Read + Drop, O: Write + Drop> {
     watches: Option<usize>,
 }
 
-/// Contracts see what came of it, and what it is told; not which line it watches.
+/// Contracts see what came of it, what it is told, and which line it watches.
 impl<I: Read + Drop, O: Write + Drop> Model for Client<I, O> {
     ghost use Rattle.fax_clients.specs.Clients.{ClientValue};
 
     ghost Value = { ClientValue };
 
-    ghost view = { λ c. record { said = c.inbox; told = c.outbox } };
+    ghost view = { λ c. record { said = c.inbox; told = c.outbox; watches = c.watches } };
 }
 
 impl<I: Read + Drop, O: Write + Drop> Client<I, O> {
@@ -76,19 +76,24 @@ impl<I: Read + Drop, O: Write + Drop> Client<I, O> {
 
     /// From now on it watches the line of this number, and no other.
     pub(crate) fn watch(&mut self, line: usize)
-        ensures { self.new ≡ self.old }
+        ensures { self.new ≡ watching line self.old }
     {
         self.watches = Some(line);
     }
 
     /// Whether it watches the line of this number.
-    pub(crate) fn watches(&self, line: usize) -> bool {
-        self.watches == Some(line)
+    pub(crate) fn watches(&self, line: usize) -> bool
+        ensures { result ≡ is_line line self.now.watches }
+    {
+        match self.watches {
+            Some(watched) => watched == line,
+            None => false,
+        }
     }
 
     /// It is told an event of the line of this number, where it watches that one, and wants events.
     pub(crate) fn tell_watched(&mut self, line: usize, event: &[u8])
-        ensures { IsToldOrLeft event.now self.old self.new }
+        ensures { IsToldOfLine line event.now self.old self.new }
     {
         if !self.watches(line) {
             return;

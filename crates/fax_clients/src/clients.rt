@@ -1,7 +1,7 @@
 //! All clients.
 ghost use Rattle.std.specs.Prelude.{◌≡◌, ℕ, ◌+◌, ◌≤◌, ◌⊎◌, ◌||◌, false, [], ◌∷◌, ◌++◌, length, map, nat_eq, is_some, IfNone, IfOk, IfSome, OnErr, OnOk};
 ghost use Rattle.std.specs.List.{AllZip};
-ghost use Rattle.fax_clients.specs.Clients.{AreLeft, AreServed, AreWaitedFor, Hears, HearsNoLine, IsAsked, IsCounted, IsServed, IsTold, IsToldOrLeft, JournalGoesOn, JournalTold, all_said, answered, changed_at, one_says_more, one_wants_events, silent, socket_alone, standard_alone, wanting, with_client};
+ghost use Rattle.fax_clients.specs.Clients.{AreLeft, AreServed, AreWaitedFor, Hears, HearsNoLine, IsAsked, IsCounted, IsServed, IsTold, IsToldOfLine, JournalGoesOn, JournalTold, all_said, answered, changed_at, one_says_more, one_wants_events, one_watches, silent, socket_alone, standard_alone, wanting, watching, with_client};
 
 use crate::client::Client;
 use crate::journal::Journal;
@@ -291,19 +291,21 @@ impl<I: Read + Drop, O: Write + Drop> Clients<I, O> {
 
     /// From now on a client watches the line of this number, and no other.
     pub fn watch(&mut self, asker: Asker, line: usize)
-        ensures { self.new ≡ self.old }
+        ensures { self.new ≡ with_client (watching line) asker self.old }
     {
         watch(self.clients.as_mut_slice(), asker.0, line);
     }
 
     /// Whether a client watches the line of this number.
-    pub fn is_watched(&self, line: usize) -> bool {
+    pub fn is_watched(&self, line: usize) -> bool
+        ensures { result ≡ one_watches line self.now.clients }
+    {
         self.clients.iter().any(|client| client.watches(line))
     }
 
     /// Each client that watches the line of this number, and wants events, is told this line of an event; it is not recorded.
     pub fn tell_watchers(&mut self, line: usize, event: &[u8])
-        ensures told { AllZip (IsToldOrLeft event.now) self.old.clients self.new.clients }
+        ensures told { AllZip (IsToldOfLine line event.now) self.old.clients self.new.clients }
         ensures journal { self.new.journal ≡ self.old.journal }
         ensures socket { self.new.has_socket ≡ self.old.has_socket }
         ensures lost { self.new.lost ≡ self.old.lost }
@@ -503,7 +505,7 @@ fn tell<I: Read + Drop, O: Write + Drop>(clients: &mut [Client<I, O>], line: &[u
 
 /// From now on the client at a place, where there is one, watches this line.
 fn watch<I: Read + Drop, O: Write + Drop>(clients: &mut [Client<I, O>], i: usize, line: usize)
-    ensures { clients.new ≡ clients.old }
+    ensures { clients.new ≡ changed_at (watching line) i clients.old }
 {
     if i < clients.len() {
         clients[i].watch(line);
@@ -516,7 +518,7 @@ fn tell_watchers<I: Read + Drop, O: Write + Drop>(
     line: usize,
     event: &[u8],
 )
-    ensures { AllZip (IsToldOrLeft event.now) clients.old clients.new }
+    ensures { AllZip (IsToldOfLine line event.now) clients.old clients.new }
 {
     for client in clients.iter_mut() {
         client.tell_watched(line, event);
