@@ -5,7 +5,6 @@
 //! memory for words, and its only fault is that none is left.
 #![tactic(auto)]
 
-mod command;
 mod lane;
 mod paragraph;
 mod reasons;
@@ -13,11 +12,10 @@ mod tale;
 mod timers;
 mod words;
 
-pub use command::Command;
 pub use lane::Lane;
 pub use reasons::{why_ended, why_refused};
 pub use tale::{Tale, Told};
-pub use timers::{why_again, why_given_up};
+pub use timers::words_of_timer;
 pub use words::{
     name_of_kind, words_of_format, words_of_frame, words_of_numbers, words_of_wholeness,
 };

@@ -1,5 +1,5 @@
 -- What was heard on the called leg of a stage, as a trace goes on.
-use Rattle.std.proofs.Common.{◌≡◌, ℕ, Bool, true, false, ◌&&◌, not, is_some, List, [], ◌∷◌, Option, Some, None, option_copied, option_map, Bor, Result, Ok, Err, refl, sym, ◌∙◌, ap, subst, if◌then◌else◌}
+use Rattle.std.proofs.Common.{◌≡◌, ℕ, Bool, true, false, ◌&&◌, not, is_some, IsSome, List, [], ◌∷◌, Option, Some, None, option_copied, option_map, Bor, Result, Ok, Err, refl, sym, ◌∙◌, ap, subst, if◌then◌else◌}
 use Rattle.fax_udptl.specs.declared.fault.UdptlFault.{UdptlFault}
 use Rattle.fax_udptl.specs.Datagrams.{DatagramValue, datagram_of}
 use Rattle.fax_jobs.specs.declared.outcome.Outcome.{Outcome}
@@ -12,12 +12,14 @@ use Rattle.fax_call.specs.Replies.{Due, Packet, calling_tone, waits}
 use Rattle.fax_call.specs.Table.{Move, Stays, on_timers}
 use Rattle.fax_call.specs.Writings.{Writing}
 use Rattle.fax_call.proofs.Told.{over_is_idle}
-use Rattle.fax_jobs.specs.Books.{Book}
+use Rattle.fax_jobs.specs.Books.{Book, next_job}
+use Rattle.fax_jobs.specs.Pasts.{sent_if}
 use Rattle.fax_gateway.specs.Events.{Event, Ring, FromCalling, FromCalled, Tick, Placed, clock}
 use Rattle.fax_gateway.specs.CallingLegs.{calling_leg}
 use Rattle.fax_gateway.specs.Reached.{GatewayValue, IsReachedBy}
 use Rattle.fax_gateway.specs.Setups.{Setup}
-use Rattle.fax_gateway.specs.BothLegs.{BothLegs, both_legs, begins_next, heard_in_tick, leg_of, sends, sends_if}
+use Rattle.fax_gateway.proofs.InCalls.{asked_sends}
+use Rattle.fax_gateway.specs.BothLegs.{BothLegs, both_legs, begins_next, heard_in_tick, job_asked, leg_of, sends, sends_if}
 use Rattle.fax_gateway.specs.CalledLegs.{CalledLeg, calls, core_left, core_of, hears, is_free, leg_ticked, leg_with, packets_given, placed_leg, told_by, told_called, with_tick}
 use Rattle.fax_gateway.specs.Reports.{JobsHaveStates, job_sent}
 use Rattle.fax_gateway.specs.Watched.{called_state}
@@ -28,7 +30,7 @@ use Rattle.fax_explain.specs.declared.mark.Mark.{Mark}
 use Rattle.fax_explain.specs.Given.{KeepsToCalled, arrived_after, given_datagrams}
 use Rattle.fax_explain.specs.Heard.{AreAll, EachHearing, HearsOn, IsHearing, KeepsEar, TellsComing, TellsDatagram}
 use Rattle.fax_explain.specs.Listening.{in_call}
-use Rattle.fax_explain.specs.Ladders.{InCall, TellsFromCalled, TellsOutside}
+use Rattle.fax_explain.specs.Ladders.{InCall, TellsFromCalled, TellsOutside, newly_sent, since_begun}
 use Rattle.fax_explain.proofs.MarkLemmas.{AreEachCalled}
 use Rattle.fax_explain.proofs.StagedLemmas.{outside_failed, outside_new}
 use Rattle.fax_explain.specs.Staged.{BeginsIf, BeginsWith, FailsWith, GivesIf, GivesJob, GivesWith, HearsJob, HearsOutside}
@@ -60,11 +62,11 @@ over_ticked writes job a now h =
     subst (λ (b : CallerCore). is_over (paced writes job b now).core.state ≡ true) (sym (over_timed a now p)) (paced_by writes job a now _ h p)
 
 -- no call is on
-pub tells_over : (writes : Writing) (leg : Option CalledLeg) (marks : List Mark) (octets : List ℕ) (told : List Description) → called_state writes leg ≡ Idle → TellsOutside FromCalled octets told
-    → TellsFromCalled writes leg marks octets told
-tells_over writes None marks octets told is out = out
-tells_over writes (Some l) marks octets told is out =
-    subst (λ (b : Bool). InCall b (TellsOutside FromCalled octets told) (TellsDatagram (in_call FromCalled) marks l.arrived (datagram_of octets) [] told × AreAll marks l.arrived (datagram_of octets)))
+pub tells_over : (writes : Writing) (leg : Option CalledLeg) (marks : List Mark) (came : List DatagramValue) (octets : List ℕ) (told : List Description) → called_state writes leg ≡ Idle
+    → TellsOutside FromCalled came octets told → TellsFromCalled writes leg marks came octets told
+tells_over writes None marks came octets told is out = out
+tells_over writes (Some l) marks came octets told is out =
+    subst (λ (b : Bool). InCall b (TellsOutside FromCalled came octets told) (TellsDatagram (in_call FromCalled) marks l.arrived (datagram_of octets) [] told × AreAll marks l.arrived (datagram_of octets)))
     (sym (ap is_over is)) out
 
 -- a call whose end was entered is over
@@ -144,13 +146,13 @@ not_over : (state : State) (b : Bool) → is_over state ≡ b → (state ≡ Idl
 not_over state true is busy = absurd (busy (over_is_idle state is))
 not_over state false is busy = refl
 
-tells_job : (writes : Writing) (l : CalledLeg) (marks kept : List Mark) (octets : List ℕ) (old : Listener) (before told : List Description) → HearsJob writes (Some l) old → before ≡ []
+tells_job : (writes : Writing) (l : CalledLeg) (marks kept : List Mark) (came : List DatagramValue) (octets : List ℕ) (old : Listener) (before told : List Description) → HearsJob writes (Some l) old → before ≡ []
     → kept ≡ marks → TellsComing old kept (datagram_of octets) before told → AreEachCalled writes (Some l) marks octets → OverIf writes (Some l) → ((core_of writes l).state ≡ Idle → ⊥)
-    → TellsFromCalled writes (Some l) marks octets told
-tells_job writes l marks kept octets old before told h none same comes each over busy =
+    → TellsFromCalled writes (Some l) marks came octets told
+tells_job writes l marks kept came octets old before told h none same comes each over busy =
     let q : is_over (core_of writes l).state ≡ false = not_over (core_of writes l).state (is_over (core_of writes l).state) refl busy in
     let p : l.entered ≡ false = opened l.entered refl q in
-    subst (λ (b : Bool). InCall b (TellsOutside FromCalled octets told) (TellsDatagram (in_call FromCalled) marks l.arrived (datagram_of octets) [] told × AreAll marks l.arrived (datagram_of octets))) (sym q) (
+    subst (λ (b : Bool). InCall b (TellsOutside FromCalled came octets told) (TellsDatagram (in_call FromCalled) marks l.arrived (datagram_of octets) [] told × AreAll marks l.arrived (datagram_of octets))) (sym q) (
       subst (λ (ms : List Mark). TellsDatagram (in_call FromCalled) ms l.arrived (datagram_of octets) [] told) same
           (subst (λ (first : List Description). TellsDatagram (in_call FromCalled) kept l.arrived (datagram_of octets) first told) none (comes (in_call FromCalled) (h p q).0 l.arrived (h p q).1)),
       each q,
@@ -160,16 +162,16 @@ tells_job writes l marks kept octets old before told h none same comes each over
     opened true p q = absurd (cc (sym (over p) ∙ q))
     opened false p q = refl
 
-pub tells_called : (setup : Setup) (writes : Writing) (trace : List Event) (marks kept : List Mark) (octets : List ℕ) (old : Listener) (before told : List Description)
+pub tells_called : (setup : Setup) (writes : Writing) (trace : List Event) (marks kept : List Mark) (came : List DatagramValue) (octets : List ℕ) (old : Listener) (before told : List Description)
     → HearsJob writes (both_legs setup writes trace).leg old → before ≡ [] → kept ≡ marks → TellsComing old kept (datagram_of octets) before told
     → AreEachCalled writes (both_legs setup writes trace).leg marks octets → (called_state writes (both_legs setup writes trace).leg ≡ Idle → ⊥)
-    → TellsFromCalled writes (both_legs setup writes trace).leg marks octets told
-tells_called setup writes trace marks kept octets old before told h none same comes each busy =
+    → TellsFromCalled writes (both_legs setup writes trace).leg marks came octets told
+tells_called setup writes trace marks kept came octets old before told h none same comes each busy =
     by (both_legs setup writes trace).leg h each busy (entered_over setup writes trace)
   where
-    by : (leg : Option CalledLeg) → HearsJob writes leg old → AreEachCalled writes leg marks octets → (called_state writes leg ≡ Idle → ⊥) → OverIf writes leg → TellsFromCalled writes leg marks octets told
+    by : (leg : Option CalledLeg) → HearsJob writes leg old → AreEachCalled writes leg marks octets → (called_state writes leg ≡ Idle → ⊥) → OverIf writes leg → TellsFromCalled writes leg marks came octets told
     by None h each busy over = absurd (busy refl)
-    by (Some l) h each busy over = tells_job writes l marks kept octets old before told h none same comes each over busy
+    by (Some l) h each busy over = tells_job writes l marks kept came octets old before told h none same comes each over busy
 
 -- a call is placed, or not: then it is over
 pub hears_begun : (writes : Writing) (job was : Option JobValue) (before : CallerCore) (now : ℕ) (leg : Option CalledLeg) (old new : Listener) → was ≡ job → HearsJob writes leg old
@@ -186,18 +188,35 @@ hears_failed writes None was before now leg old new is h b =
     subst (λ (l : Listener). HearsJob writes leg l) (sym same) h
 hears_failed writes (Some job) was before now leg old new is h b = λ entered busy. absurd (cc (busy))
 
+-- the job that was asked for is sent once its call is placed, or could not be
+pub job_taken : (asks : Bool) (book : Book) → IsSome (job_asked asks book) → (sent_if book.sending book).sending ≡ job_asked asks book
+job_taken false book h = absurd (cc)
+job_taken true book h =
+    let none : book.sending ≡ None = asked_sends true book h in
+    ap (λ (o : Option JobValue). (sent_if o book).sending) none ∙ sym (ap (λ (o : Option JobValue). if◌then◌else◌ {A = Option JobValue} (is_some o) None (next_job book)) none)
+
 -- each hears on while no call is on
-pub outside_begun : (job : Option JobValue) (old new : Listener) → HearsOutside FromCalled old → BeginsWith job old new → HearsOutside FromCalled new
-outside_begun None old new h same = subst (λ (l : Listener). HearsOutside FromCalled l) (sym same) h
-outside_begun (Some job) old new h b = outside_new FromCalled new b.0 b.1
+outside_begun : (came : List DatagramValue) (job : Option JobValue) (old new : Listener) → HearsOutside FromCalled came old → BeginsWith job old new → HearsOutside FromCalled (since_begun job came) new
+outside_begun came None old new h same = subst (λ (l : Listener). HearsOutside FromCalled came l) (sym same) h
+outside_begun came (Some job) old new h b = outside_new FromCalled new b.0 b.1
 
-pub outside_placed : (job : Option JobValue) (old new : Listener) → HearsOutside FromCalled old → FailsWith job old new → HearsOutside FromCalled new
-outside_placed None old new h same = subst (λ (l : Listener). HearsOutside FromCalled l) (sym same) h
-outside_placed (Some job) old new h b = outside_failed FromCalled new b.0 b.1
+pub outside_connected : (job asked : Option JobValue) (it : JobValue) (old new : Listener) → job ≡ asked → asked ≡ Some it → BeginsWith job old new → HearsOutside FromCalled [] new
+outside_connected job asked it old new is some b =
+    let begins : BeginsWith (Some it) old new = subst (λ (j : Option JobValue). BeginsWith j old new) (is ∙ some) b in
+    outside_new FromCalled new begins.0 begins.1
 
-pub outside_if : (was : Bool) (job : Option JobValue) (old new : Listener) → HearsOutside FromCalled old → BeginsIf was job old new → HearsOutside FromCalled new
-outside_if true job old new h same = subst (λ (l : Listener). HearsOutside FromCalled l) (sym same) h
-outside_if false job old new h b = outside_begun job old new h b
+pub outside_unplaced : (job asked : Option JobValue) (it : JobValue) (old new : Listener) → job ≡ asked → asked ≡ Some it → FailsWith job old new → HearsOutside FromCalled [] new
+outside_unplaced job asked it old new is some b =
+    let fails : FailsWith (Some it) old new = subst (λ (j : Option JobValue). FailsWith j old new) (is ∙ some) b in
+    outside_failed FromCalled new fails.0 fails.1
+
+pub outside_if : (was : Bool) (sending before after : Option JobValue) (came : List DatagramValue) (old new : Listener) → was ≡ is_some before → sending ≡ after → HearsOutside FromCalled came old
+    → BeginsIf was sending old new → HearsOutside FromCalled (since_begun (newly_sent before after) came) new
+outside_if was sending None after came old new w s h b =
+    outside_begun came after old new h (subst (λ (o : Option JobValue). BeginsWith o old new) s (subst (λ (x : Bool). BeginsIf x sending old new) w b))
+outside_if was sending (Some job) after came old new w s h b =
+    let same : new ≡ old = subst (λ (x : Bool). BeginsIf x sending old new) w b in
+    subst (λ (l : Listener). HearsOutside FromCalled came l) (sym same) h
 
 -- a tick
 ticked_job : (writes : Writing) (now : ℕ) (l : CalledLeg) (listener : Listener) → HearsJob writes (Some l) listener → HearsJob writes (Some (leg_ticked writes now l)) listener

@@ -31,7 +31,6 @@ use Rattle.fax_explain.specs.declared.listener.Listener.{Listener}
 use Rattle.fax_explain.specs.declared.mark.Signal.{Signal}
 use Rattle.fax_explain.specs.declared.mark.Mark.{Mark}
 use Rattle.fax_explain.specs.declared.mark.Signal.TheVariants.{Page}
-use Rattle.fax_explain.specs.Given.{going_on}
 use Rattle.fax_explain.specs.Listening.{Ear, StartsWith, check_text, end_text, first_mark, image_text, is_same, later_marks, marked_end, marks_after, marks_left, outside_text, signal_text, strange_text, verdict_name, words_after}
 use Rattle.fax_explain.specs.Openings.{Opening, back_openings, begins, datagram_openings, decided_openings, frame_texts, head_openings, late_openings, line_if, lost_openings, marks_past, octets_counted, packet_openings, packets_openings, piece_openings, pieces_after, pieces_openings, slots_openings, tail_openings, tone_at, tone_openings, unread_opening}
 use Rattle.fax_explain.specs.Heard.{AddsLine, Adds, AreOpened, BeginsAsOneOf, EndsIf, HasHeard, Hears, HearsOn, HearsThese, IsEar, IsHearing, KeepsEar, Stays, TellsComing, TellsDatagram, arrived_with}
@@ -58,17 +57,12 @@ pub adds_none : (ear : Ear) (old new : List Description) → new ≡ old → Add
 adds_none ear old new same = record { own = []; opened = tt; is = same ∙ sym (append-nil old) }
 
 -- what ends after nothing more, and what goes on
-ends_both : (a b : Bool) (x y last : List ℕ) → EndsIf (a && true) [] x → y ≡ last → EndsIf (a && b) last (x ++ y)
-ends_both true true x y last p q = ap₂ (λ (l m : List ℕ). l ++ m) p q
-ends_both true false x y last p q = tt
-ends_both false b x y last p q = tt
-
-ends_never : (a : Bool) (last more : List ℕ) → EndsIf (a && false) last more
-ends_never true last more = tt
-ends_never false last more = tt
+ends_both : (a : Bool) (x y last : List ℕ) → EndsIf a [] x → y ≡ last → EndsIf a last (x ++ y)
+ends_both true x y last p q = ap₂ (λ (l m : List ℕ). l ++ m) p q
+ends_both false x y last p q = tt
 
 -- one line, whose words begin as the opening says
-pub adds_line : (ear : Ear) (opening : Opening) (words : List ℕ) (l : Listener) (old new : List Description) → IsEar ear l → BeginsAsOneOf true [] opening words → AddsLine l words old new
+pub adds_line : (ear : Ear) (opening : Opening) (words : List ℕ) (l : Listener) (old new : List Description) → IsEar ear l → BeginsAsOneOf [] opening words → AddsLine l words old new
     → Adds ear (opening ∷ []) old new
 adds_line ear opening words l old new h b line =
     let more : List ℕ = outside_text l.is_outside in
@@ -83,7 +77,7 @@ adds_line ear opening words l old new h b line =
             is_one = b.is_one;
             more = b.more ++ more;
             words_are = ap (λ (w : List ℕ). w ++ more) b.words_are ∙ append_assoc b.text b.more more;
-            ended = ends_both opening.ends ear.ends b.more more (outside_text ear.is_outside) b.ended (ap outside_text h.is_outside);
+            ended = ends_both opening.ends b.more more (outside_text ear.is_outside) b.ended (ap outside_text h.is_outside);
           },
         ),
         tt,
@@ -91,50 +85,11 @@ adds_line ear opening words l old new h b line =
       is = line.is;
     }
 
--- so many lines
-pub opened_length : (ear : Ear) (xs : List Opening) (a : List Description) → AreOpened ear xs a → length a ≡ length xs
-opened_length ear [] [] p = refl
-opened_length ear [] (t ∷ a) p = absurd p
-opened_length ear (x ∷ xs) [] p = absurd p
-opened_length ear (x ∷ xs) (t ∷ a) p = grind (arith, opened_length ear xs a p.1)
-
-pub adds_length : (ear : Ear) (xs : List Opening) (old new : List Description) → Adds ear xs old new → length new ≡ length old + length xs
-adds_length ear xs old new h = ap length h.is ∙ length-append old h.own ∙ ap (λ (n : ℕ). length old + n) (opened_length ear xs h.own h.opened)
-
 -- the last of the lines goes on
 goes_on : (more : List ℕ) (old : List Description) (t : Description) (own : List Description) → last_with more (old ++ t ∷ own) ≡ old ++ last_with more (t ∷ own)
 goes_on more [] t own = refl
 goes_on more (x ∷ []) t own = refl
 goes_on more (x ∷ y ∷ old) t own = ap (λ (l : List Description). x ∷ l) (goes_on more (y ∷ old) t own)
-
-opened_on : (ear : Ear) (xs : List Opening) (more : List ℕ) (t : Description) (own : List Description) → AreOpened (going_on ear) xs (t ∷ own) → AreOpened (going_on ear) xs (last_with more (t ∷ own))
-opened_on ear [] more t own p = absurd p
-opened_on ear (x ∷ xs) more t [] p = (
-  (
-    p.0.0,
-    record {
-      text = p.0.1.text;
-      is_one = p.0.1.is_one;
-      more = p.0.1.more ++ more;
-      words_are = ap (λ (w : List ℕ). w ++ more) p.0.1.words_are ∙ append_assoc p.0.1.text p.0.1.more more;
-      ended = ends_never x.ends (outside_text ear.is_outside) (p.0.1.more ++ more);
-    },
-  ),
-  p.1,
-)
-opened_on ear (x ∷ xs) more t (u ∷ own) p = (p.0, opened_on ear xs more u own p.1)
-
-pub adds_on : (ear : Ear) (x : Opening) (xs : List Opening) (more : List ℕ) (old mid new : List Description) → Adds (going_on ear) (x ∷ xs) old mid → new ≡ last_with more mid → Adds (going_on ear) (x ∷ xs) old new
-adds_on ear x xs more old mid new h is = adds_own ear x xs more old mid new h.own h.opened h.is is
-  where
-    adds_own : (ear : Ear) (x : Opening) (xs : List Opening) (more : List ℕ) (old mid new own : List Description) → AreOpened (going_on ear) (x ∷ xs) own → mid ≡ old ++ own → new ≡ last_with more mid
-        → Adds (going_on ear) (x ∷ xs) old new
-    adds_own ear x xs more old mid new [] p e is = absurd p
-    adds_own ear x xs more old mid new (t ∷ own) p e is = record {
-      own = last_with more (t ∷ own);
-      opened = opened_on ear (x ∷ xs) more t own p;
-      is = is ∙ ap (last_with more) e ∙ goes_on more old t own;
-    }
 
 -- ---- what is heard
 
@@ -151,7 +106,7 @@ same_hearing arrived a b receiver signals octets h = record {
 
 -- one way in which a listener hears
 pub ear_of : Listener → Ear
-ear_of l = record { lane = l.lane; is_outside = l.is_outside; usual = l.usual; ends = false }
+ear_of l = record { lane = l.lane; is_outside = l.is_outside; usual = l.usual }
 
 pub has_ear : (l : Listener) → IsEar (ear_of l) l
 unfolding ear_of
@@ -181,64 +136,36 @@ told_marked old mid other r marks before told is kept comes = λ ear is_ear arri
 pub keeps_marked : (old mid other new : Listener) → mid ≡ with_marks old other → KeepsEar mid new → KeepsEar old new
 keeps_marked old mid other new is stays = λ ear is_ear arrived h. stays ear (ear_marked ear old mid other is is_ear) arrived (marked_hearing arrived old mid other is h)
 
--- and so has heard what it had, as one that hears on from there
-pub hears_marked : (old mid other new : Listener) (r : Result DatagramValue UdptlFault) → mid ≡ with_marks old other → HearsOn mid r new → HearsOn old r new
-hears_marked old mid other new r is on = λ arrived h. on arrived (marked_hearing arrived old mid other is h)
-
--- what is told whole may go on
-pub may_go_on : (ear : Ear) (l : Listener) → IsEar ear l → IsEar (going_on ear) l
-may_go_on ear l h = record { lane = h.lane; is_outside = h.is_outside; usual = h.usual }
-
 pub hears_both : (ear : Ear) (xs ys : List Opening) (a b c : Listener) (old mid new : List Description) → Hears ear xs a b old mid → Hears ear ys b c mid new → Hears ear (xs ++ ys) a c old new
 hears_both ear xs ys a b c old mid new p q = record {
   adds = adds_both ear xs ys old mid new p.adds q.adds;
   is_ear = q.is_ear;
   receiver = q.receiver ∙ p.receiver;
-  frames = omega (arith, p.frames, q.frames);
 }
 
--- nothing is told, and no frame heard
-pub hears_none : (ear : Ear) (a b : Listener) (old new : List Description) → IsEar ear b → b.receiver ≡ a.receiver → b.frames.items ≡ a.frames.items → new ≡ old → Hears ear [] a b old new
-hears_none ear a b old new is_ear receiver frames same = record {
-  adds = adds_none ear old new same;
-  is_ear = is_ear;
-  receiver = receiver;
-  frames = omega (arith, ap length frames, ap length same);
-}
+-- nothing is told
+pub hears_none : (ear : Ear) (a b : Listener) (old new : List Description) → IsEar ear b → b.receiver ≡ a.receiver → new ≡ old → Hears ear [] a b old new
+hears_none ear a b old new is_ear receiver same = record { adds = adds_none ear old new same; is_ear = is_ear; receiver = receiver }
 
--- a line, and at most one frame
-pub hears_line : (ear : Ear) (opening : Opening) (words : List ℕ) (a l b : Listener) (old new : List Description) → IsEar ear l → IsEar ear b → b.receiver ≡ a.receiver
-    → length b.frames.items ≤ length a.frames.items + 1 → BeginsAsOneOf true [] opening words → AddsLine l words old new → Hears ear (opening ∷ []) a b old new
-hears_line ear opening words a l b old new at is_ear receiver frames begun line =
-    let adds : Adds ear (opening ∷ []) old new = adds_line ear opening words l old new at begun line in
-    record {
-      adds = adds;
-      is_ear = is_ear;
-      receiver = receiver;
-      frames = omega (arith, frames, adds_length ear (opening ∷ []) old new adds);
-    }
-
--- a line, and no frame
+-- a line
 pub hears_told : (ear : Ear) (opening : Opening) (words : List ℕ) (a l b : Listener) (old new : List Description) → IsEar ear l → IsEar ear b → b.receiver ≡ a.receiver
-    → b.frames.items ≡ a.frames.items → BeginsAsOneOf true [] opening words → AddsLine l words old new → Hears ear (opening ∷ []) a b old new
-hears_told ear opening words a l b old new at is_ear receiver frames begun line =
-    let few : length b.frames.items ≤ length a.frames.items + 1 = omega (arith, ap length frames) in
-    hears_line ear opening words a l b old new at is_ear receiver few begun line
+    → BeginsAsOneOf [] opening words → AddsLine l words old new → Hears ear (opening ∷ []) a b old new
+hears_told ear opening words a l b old new at is_ear receiver begun line = record { adds = adds_line ear opening words l old new at begun line; is_ear = is_ear; receiver = receiver }
 
 -- words that go on from a text, and words that are one
-pub begins_with : (text words more : List ℕ) → words ≡ text ++ more → BeginsAsOneOf true [] (begins text) words
+pub begins_with : (text words more : List ℕ) → words ≡ text ++ more → BeginsAsOneOf [] (begins text) words
 begins_with text words more is = record { text = text; is_one = (0, omega arith, refl); more = more; words_are = is; ended = tt }
 
-pub begins_as : (text words : List ℕ) → words ≡ text → BeginsAsOneOf true [] (begins text) words
+pub begins_as : (text words : List ℕ) → words ≡ text → BeginsAsOneOf [] (begins text) words
 begins_as text words is = begins_with text words [] (is ∙ sym (append-nil text))
 
 abbrev pub one_of : List (List ℕ) → Opening
 one_of texts = record { texts = texts; ends = true }
 
-pub says_first : (text : List ℕ) (others : List (List ℕ)) (words : List ℕ) → words ≡ text → BeginsAsOneOf true [] (one_of (text ∷ others)) words
+pub says_first : (text : List ℕ) (others : List (List ℕ)) (words : List ℕ) → words ≡ text → BeginsAsOneOf [] (one_of (text ∷ others)) words
 says_first text others words is = record { text = text; is_one = (0, omega arith, refl); more = []; words_are = is ∙ sym (append-nil text); ended = refl }
 
-pub says_later : (text : List ℕ) (others : List (List ℕ)) (words : List ℕ) → BeginsAsOneOf true [] (one_of others) words → BeginsAsOneOf true [] (one_of (text ∷ others)) words
+pub says_later : (text : List ℕ) (others : List (List ℕ)) (words : List ℕ) → BeginsAsOneOf [] (one_of others) words → BeginsAsOneOf [] (one_of (text ∷ others)) words
 says_later text others words b = record { text = b.text; is_one = (suc b.is_one.0, omega (arith, b.is_one.1), b.is_one.2); more = b.more; words_are = b.words_are; ended = b.ended }
 
 -- what follows where a call was answered
@@ -261,12 +188,6 @@ pub line_outside : (l : Listener) (text : List ℕ) (old mid new : List Descript
     → AddsLine l text old new
 line_outside l text old mid new is told on = record {
   is = line_on l.lane text (codes ", passed over: no call is on") old mid new told on
-      ∙ ap (λ (o : Bool). old ++ line_of l.lane (text ++ outside_text o) ∷ []) (sym is);
-}
-
-pub line_inside : (l : Listener) (text : List ℕ) (old new : List Description) → l.is_outside ≡ false → new ≡ old ++ line_of l.lane text ∷ [] → AddsLine l text old new
-line_inside l text old new is told = record {
-  is = told ∙ ap (λ (w : List ℕ). old ++ line_of l.lane w ∷ []) (sym (append-nil text))
       ∙ ap (λ (o : Bool). old ++ line_of l.lane (text ++ outside_text o) ∷ []) (sym is);
 }
 
@@ -305,17 +226,8 @@ image_heard n octets whole wholeness missing meaning words count said is =
     (is ∙ ap (λ (m : ℕ). codes "image of " ++ (decimal m ++ (codes " octets, " ++ (wholeness ++ (codes ": " ++ meaning))))) count
     ∙ ap (λ (w : List ℕ). codes "image of " ++ (decimal octets ++ (codes " octets, " ++ (w ++ (codes ": " ++ meaning))))) said)
 
--- another signal
-pub signal_heard : (n octets : ℕ) (signal : Signal) (is_outside : Bool) (why words : List ℕ) → n ≡ octets → why ≡ strange_text signal is_outside
-    → words ≡ codes "a signal of " ++ (decimal n ++ (codes " octets" ++ why)) → StartsWith (signal_text octets signal is_outside) words
-signal_heard n octets signal is_outside why words count said is = (
-  [],
-  is ∙ ap₂ (λ (m : ℕ) (w : List ℕ). codes "a signal of " ++ (decimal m ++ (codes " octets" ++ w))) count said
-      ∙ sym (append-nil (signal_text octets signal is_outside)),
-)
-
 -- the end of a signal is told as one
-pub end_heard : (text words : List ℕ) → StartsWith text words → BeginsAsOneOf true [] (begins text) words
+pub end_heard : (text words : List ℕ) → StartsWith text words → BeginsAsOneOf [] (begins text) words
 end_heard text words s = begins_with text words s.0 s.1
 
 -- an image that a mark says
@@ -335,17 +247,17 @@ marked_ear ear old whole words h s =
     (subst (λ (o : Bool). StartsWith (marked_end (first_mark old.usual (marks_left old)) old.lane o old.image.octets whole) words) h.is_outside s))
 
 -- words that go on
-pub begins_more : (text words more new : List ℕ) → words ≡ text → new ≡ words ++ more → BeginsAsOneOf true [] (begins text) new
+pub begins_more : (text words more new : List ℕ) → words ≡ text → new ≡ words ++ more → BeginsAsOneOf [] (begins text) new
 begins_more text words more new is on = begins_with text new more (on ∙ ap (λ (w : List ℕ). w ++ more) is)
 
 -- a frame
 pub frame_heard : (last : Option Offer) (octets why : List ℕ) (frame : Option Frame) (words : List ℕ) → words ≡ words_after last octets frame ++ why
-    → BeginsAsOneOf true [] (one_of (frame_texts octets why frame)) words
+    → BeginsAsOneOf [] (one_of (frame_texts octets why frame)) words
 frame_heard last octets why None words is = says_first _ _ words is
 frame_heard last octets why (Some (Dis dis)) words is = dis_heard (is_same last dis) octets why words is
   where
     dis_heard : (same : Bool) (octets why words : List ℕ) → words ≡ (if same then codes "DIS as before" else frame_text octets) ++ why
-        → BeginsAsOneOf true [] (one_of ((frame_text octets ++ why) ∷ (codes "DIS as before" ++ why) ∷ [])) words
+        → BeginsAsOneOf [] (one_of ((frame_text octets ++ why) ∷ (codes "DIS as before" ++ why) ∷ [])) words
     dis_heard true octets why words is = says_later _ _ words (says_first _ _ words is)
     dis_heard false octets why words is = says_first _ _ words is
 frame_heard last octets why (Some frame) words is = says_first _ _ words is
@@ -388,20 +300,6 @@ lost_heard count slots signals old new tracks gives is octets h = record {
   tracked = subst (λ (t : TrackState). IsTracked (lost_slots count ++ slots) t) (sym is) (tracks slots h.tracked);
   counted = octets ∙ h.counted ∙ sym (lost_counted count slots (gives slots h.tracked));
 }
-
--- ---- marks that are left
-
-pub first_left : (usual : Mark) (marks : List Mark) (n : ℕ) (mark : Mark) → n < length marks → mark ≡ get_or marks n mark → mark ≡ first_mark usual (drop n marks)
-first_left usual marks n mark h is = is ∙ ap (λ (ms : List Mark). first_mark usual ms) (sym (drop_more marks n mark h))
-
-pub none_left : (usual : Mark) (marks : List Mark) (n : ℕ) → length marks ≤ n → usual ≡ first_mark usual (drop n marks)
-none_left usual marks n h = ap (λ (ms : List Mark). first_mark usual ms) (sym (drop_all n marks h))
-
-pub left_after : (marks : List Mark) (n : ℕ) → drop (n + 1) marks ≡ drop 1 (drop n marks)
-left_after marks n = sym (drop-drop 1 n marks)
-
-pub none_after : (marks : List Mark) (n : ℕ) → length marks ≤ n → drop n marks ≡ drop 1 (drop n marks)
-none_after marks n h = let none = drop_all n marks h in none ∙ sym (ap (λ (ms : List Mark). drop 1 ms) none)
 
 -- ---- lists of pieces, one more
 
@@ -505,18 +403,10 @@ pub each_ok : {T E : Type 0} {P Q : T → Type 0} (r : Result T E) → IfOk r P 
 each_ok (Ok x) p f = f x p
 each_ok (Err fault) p f = tt
 
-pub one_more : {T : Type 0} (xs ys : List T) (x : T) → ys ≡ xs ++ x ∷ [] → length ys ≤ length xs + 1
-one_more xs ys x is = omega (arith, ap length is, length-append xs (x ∷ []))
-
 -- the same lines, told from a listener that has heard the same
-pub hears_from : (ear : Ear) (xs : List Opening) (a m b : Listener) (old new : List Description) → m.receiver ≡ a.receiver → m.frames.items ≡ a.frames.items
+pub hears_from : (ear : Ear) (xs : List Opening) (a m b : Listener) (old new : List Description) → m.receiver ≡ a.receiver
     → Hears ear xs m b old new → Hears ear xs a b old new
-hears_from ear xs a m b old new receiver frames h = record {
-  adds = h.adds;
-  is_ear = h.is_ear;
-  receiver = h.receiver ∙ receiver;
-  frames = omega (arith, h.frames, ap length frames);
-}
+hears_from ear xs a m b old new receiver h = record { adds = h.adds; is_ear = h.is_ear; receiver = h.receiver ∙ receiver }
 
 -- ---- a packet
 
@@ -538,16 +428,15 @@ tail_told (Err fault) ends given lacking are is =
 -- what a packet brings is told: before its pieces, its pieces, and after them
 pub packet_heard : (ear : Ear) (marks : List Mark) (slots : List Slot) (number : ℕ) (packet : List ℕ) (given : List Piece) (ends : FrameEnds) (lacking : ℕ) (a b m c : Listener)
     (t u v w : List Description) → Hears ear (head_openings number (packet_of packet)) a b t u → Stays a b → HasHeard slots a → Gives (Some packet) b.signals given
-    → m.receiver ≡ b.receiver → m.frames.items ≡ b.frames.items
-    → ((before : List Piece) → b.image.octets ≡ octets_counted before → Hears ear (pieces_openings ear marks before given) m c u v)
+    → m.receiver ≡ b.receiver → ((before : List Piece) → b.image.octets ≡ octets_counted before → Hears ear (pieces_openings ear marks before given) m c u v)
     → AreEnds (packet_of packet) ends → lacking ≡ ends.good - frames_in given → HearsThese (tail_lines lacking ends.bad) c c v w
     → Hears ear (packet_openings ear marks slots number packet) a c t w
-packet_heard ear marks slots number packet given ends lacking a b m c t u v w head stays h gives receiver frames body are lacks tail =
+packet_heard ear marks slots number packet given ends lacking a b m c t u v w head stays h gives receiver body are lacks tail =
     let front = head_openings number (packet_of packet) in
     let mid = pieces_openings ear marks (reverse (pieces slots)) given in
     let after = tail_openings (packet_of packet) given in
     let tracked : IsTracked slots b.signals = subst (λ (s : TrackState). IsTracked slots s) (sym stays.0) h.tracked in
-    let one : Hears ear mid b c u v = hears_from ear mid b m c u v receiver frames (body (reverse (pieces slots)) (stays.1 ∙ h.counted)) in
+    let one : Hears ear mid b c u v = hears_from ear mid b m c u v receiver (body (reverse (pieces slots)) (stays.1 ∙ h.counted)) in
     let two : Hears ear after c c v w = subst (λ (os : List Opening). Hears ear os c c v w) (sym (tail_told (packet_of packet) ends given lacking are lacks)) (tail ear one.is_ear) in
     subst (λ (os : List Opening). Hears ear os a c t w) (sym (packet_told ear marks slots number packet given (gives slots tracked)))
     (hears_both ear front (mid ++ after) a b c t u w head (hears_both ear mid after b c c u v w one two))

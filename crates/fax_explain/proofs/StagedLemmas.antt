@@ -62,11 +62,11 @@ hears_outside setup (Some l) now octets at decided read listener none =
     let over : is_idle (core_of l).state ≡ true = not_on (is_idle (core_of l).state) l.number none in
     subst (λ (b : Bool). HearsCall (if◌then◌else◌ {A = Option CallingLeg} b (Some l) (Some (leg_with l now read (datagram_of octets)))) listener) (sym over) (λ on. absurd (cc (sym over ∙ on)))
 
-pub tells_outside : (leg after : Option CallingLeg) (marks : List Mark) (octets : List ℕ) (told : List Description) → call_on leg ≡ None → TellsOutside FromCaller octets told
-    → TellsFromCaller leg after marks octets told
-tells_outside None after marks octets told none out = out
-tells_outside (Some l) after marks octets told none out =
-    subst (λ (b : Bool). InCall b (TellsOutside FromCaller octets told) (TellsInCall marks l.arrived octets (over_tellings (Some l.number) (call_on after)) told))
+pub tells_outside : (leg after : Option CallingLeg) (marks : List Mark) (came : List DatagramValue) (octets : List ℕ) (told : List Description) → call_on leg ≡ None → TellsOutside FromCaller came octets told
+    → TellsFromCaller leg after marks came octets told
+tells_outside None after marks came octets told none out = out
+tells_outside (Some l) after marks came octets told none out =
+    subst (λ (b : Bool). InCall b (TellsOutside FromCaller came octets told) (TellsInCall marks l.arrived octets (over_tellings (Some l.number) (call_on after)) told))
     (sym (not_on (is_idle (core_of l).state) l.number none)) out
 
 -- ---- a listener, while no call is on
@@ -74,29 +74,29 @@ tells_outside (Some l) after marks octets told none out =
 hearing_outside : (arrived : List DatagramValue) (l : Listener) → IsHearing arrived l → IsHearing arrived (outside l)
 hearing_outside arrived l h = record { after = h.after; heard = record { tracked = h.heard.tracked; counted = h.heard.counted } }
 
-pub outside_new : (lane : Lane) (l : Listener) → IsEar (in_call lane) l → IsHearing [] l → HearsOutside lane l
-outside_new lane l ear h = ([], record { lane = ear.lane; is_outside = refl; usual = ear.usual }, h)
+pub outside_new : (lane : Lane) (l : Listener) → IsEar (in_call lane) l → IsHearing [] l → HearsOutside lane [] l
+outside_new lane l ear h = (record { lane = ear.lane; is_outside = refl; usual = ear.usual }, h)
 
-pub outside_failed : (lane : Lane) (l : Listener) → IsEar (outside_call lane) l → IsHearing [] l → HearsOutside lane l
-outside_failed lane l ear h = ([], record { lane = ear.lane; is_outside = refl; usual = ear.usual }, h)
+pub outside_failed : (lane : Lane) (l : Listener) → IsEar (outside_call lane) l → IsHearing [] l → HearsOutside lane [] l
+outside_failed lane l ear h = (record { lane = ear.lane; is_outside = refl; usual = ear.usual }, h)
 
 -- a datagram came to it, in a call or while none was on
-pub outside_more : (lane : Lane) (old new : Listener) (r : Result DatagramValue UdptlFault) → HearsOutside lane old → HearsOn old r new → KeepsEar old new → HearsOutside lane new
-outside_more lane old new r h on stays =
-    let is : (new.lane ≡ old.lane) × (new.usual ≡ old.usual) = keeps_lane old new h.0 stays h.2 in
-    (arrived_with h.0 r, record { lane = is.0 ∙ h.1.lane; is_outside = refl; usual = is.1 ∙ h.1.usual }, on h.0 h.2)
+pub outside_more : (lane : Lane) (came : List DatagramValue) (old new : Listener) (r : Result DatagramValue UdptlFault) → HearsOutside lane came old → HearsOn old r new → KeepsEar old new
+    → HearsOutside lane (arrived_with came r) new
+outside_more lane came old new r h on stays =
+    let is : (new.lane ≡ old.lane) × (new.usual ≡ old.usual) = keeps_lane old new came stays h.1 in
+    (record { lane = is.0 ∙ h.0.lane; is_outside = refl; usual = is.1 ∙ h.0.usual }, on came h.1)
 
-pub outside_on : (lane : Lane) (old new : Listener) (r : Result DatagramValue UdptlFault) → HearsOutside lane old → HearsOn old r new → KeepsEar (outside old) new → HearsOutside lane new
-outside_on lane old new r h on stays =
-    let is : IsEar (outside_call lane) new = stays (outside_call lane) h.1 h.0 (hearing_outside h.0 old h.2) in
-    (arrived_with h.0 r, record { lane = is.lane; is_outside = refl; usual = is.usual }, on h.0 h.2)
+pub outside_on : (lane : Lane) (came : List DatagramValue) (old new : Listener) (r : Result DatagramValue UdptlFault) → HearsOutside lane came old → HearsOn old r new → KeepsEar (outside old) new
+    → HearsOutside lane (arrived_with came r) new
+outside_on lane came old new r h on stays =
+    let is : IsEar (outside_call lane) new = stays (outside_call lane) h.0 came (hearing_outside came old h.1) in
+    (record { lane = is.lane; is_outside = refl; usual = is.usual }, on came h.1)
 
-pub told_outside : (lane : Lane) (old : Listener) (octets : List ℕ) (before told : List Description) → HearsOutside lane old → before ≡ [] → TellsComing (outside old) [] (datagram_of octets) before told
-    → TellsOutside lane octets told
-told_outside lane old octets before told h none comes = (
-  h.0,
-  subst (λ (first : List Description). TellsDatagram (outside_call lane) [] h.0 (datagram_of octets) first told) none (comes (outside_call lane) h.1 h.0 (hearing_outside h.0 old h.2)),
-)
+pub told_outside : (lane : Lane) (came : List DatagramValue) (old : Listener) (octets : List ℕ) (before told : List Description) → HearsOutside lane came old → before ≡ []
+    → TellsComing (outside old) [] (datagram_of octets) before told → TellsOutside lane came octets told
+told_outside lane came old octets before told h none comes =
+    subst (λ (first : List Description). TellsDatagram (outside_call lane) [] came (datagram_of octets) first told) none (comes (outside_call lane) h.0 came (hearing_outside came old h.1))
 
 -- ---- what is given on the calling leg
 
@@ -150,13 +150,13 @@ hears_more setup (Some l) now octets at decided read old new h on stays = by (is
     by true e = λ busy. absurd (cc (sym e ∙ busy))
     by false e = with_one e (datagram_of octets) on
 
-pub tells_caller : (leg after : Option CallingLeg) (marks kept : List Mark) (octets : List ℕ) (call : ℕ) (old : Listener) (before own told : List Description) → HearsCall leg old → before ≡ []
-    → kept ≡ marks → TellsComing old kept (datagram_of octets) before own → AreEach leg marks octets → Some call ≡ call_on leg → told ≡ own ++ over_tellings (Some call) (call_on after) → TellsFromCaller leg after marks octets told
-tells_caller None after marks kept octets call old before own told h none same_marks comes each is tells = absurd (cc)
-tells_caller (Some l) after marks kept octets call old before own told h none same_marks comes each is tells = by (is_idle (core_of l).state) refl is
+pub tells_caller : (leg after : Option CallingLeg) (marks kept : List Mark) (came : List DatagramValue) (octets : List ℕ) (call : ℕ) (old : Listener) (before own told : List Description) → HearsCall leg old → before ≡ []
+    → kept ≡ marks → TellsComing old kept (datagram_of octets) before own → AreEach leg marks octets → Some call ≡ call_on leg → told ≡ own ++ over_tellings (Some call) (call_on after) → TellsFromCaller leg after marks came octets told
+tells_caller None after marks kept came octets call old before own told h none same_marks comes each is tells = absurd (cc)
+tells_caller (Some l) after marks kept came octets call old before own told h none same_marks comes each is tells = by (is_idle (core_of l).state) refl is
   where
     by : (b : Bool) → is_idle (core_of l).state ≡ b → Some call ≡ (if◌then◌else◌ {A = Option ℕ} b None (Some l.number))
-        → InCall b (TellsOutside FromCaller octets told) (TellsInCall marks l.arrived octets (over_tellings (Some l.number) (call_on after)) told)
+        → InCall b (TellsOutside FromCaller came octets told) (TellsInCall marks l.arrived octets (over_tellings (Some l.number) (call_on after)) told)
     by true e same = absurd (cc)
     by false e same = record {
       own = own;

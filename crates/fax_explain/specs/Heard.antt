@@ -1,5 +1,5 @@
 -- HEARD: what is told of the datagrams of one direction of a leg, and what is kept of them. (This project's profile.)
-use Rattle.std.specs.Prelude.{◌≡◌, ℕ, ◌+◌, ◌≤◌, ◌&&◌, Bool, true, false, List, [], ◌∷◌, ◌++◌, length, reverse, Contains, Result, Ok, Err, count_by}
+use Rattle.std.specs.Prelude.{◌≡◌, ℕ, Bool, true, false, List, [], ◌∷◌, ◌++◌, length, reverse, Contains, Result, Ok, Err, count_by}
 use Rattle.fax_udptl.specs.declared.fault.UdptlFault.{UdptlFault}
 use Rattle.fax_udptl.specs.Datagrams.{DatagramValue}
 use Rattle.fax_udptl.specs.Slots.{newest_slots}
@@ -21,16 +21,16 @@ EndsIf true last more = more ≡ last
 EndsIf false last more = Unit {0}
 
 -- words begin with one of these texts, or are it and these last words
-pub record BeginsAsOneOf (ends : Bool) (last : List ℕ) (opening : Opening) (words : List ℕ) : Type 0 where
+pub record BeginsAsOneOf (last : List ℕ) (opening : Opening) (words : List ℕ) : Type 0 where
   pub text : List ℕ
   pub is_one : Contains opening.texts text
   pub more : List ℕ
   pub words_are : words ≡ text ++ more
-  pub ended : EndsIf (opening.ends && ends) last more
+  pub ended : EndsIf opening.ends last more
 
 -- a line in this lane begins so, and where no call is on it says that last
 abbrev pub Opens : Ear → Opening → Description → Type 0
-Opens ear opening telling = (telling.lane ≡ ear.lane) × BeginsAsOneOf ear.ends (outside_text ear.is_outside) opening telling.words
+Opens ear opening telling = (telling.lane ≡ ear.lane) × BeginsAsOneOf (outside_text ear.is_outside) opening telling.words
 
 -- these lines begin so, one for each
 abbrev pub AreOpened : Ear → List Opening → List Description → Type 0
@@ -59,12 +59,11 @@ pub record IsEar (ear : Ear) (listener : Listener) : Type 0 where
 abbrev pub EachEar : Listener → (Ear → Type 0) → Type 0
 EachEar listener IsSo = (ear : Ear) → IsEar ear listener → IsSo ear
 
--- Such lines are told of what a listener hears, which hears on: each frame that it hears more has a line.
+-- Such lines are told of what a listener hears, which hears on.
 pub record Hears (ear : Ear) (openings : List Opening) (old new : Listener) (told now_told : List Description) : Type 0 where
   pub adds : Adds ear openings told now_told
   pub is_ear : IsEar ear new
   pub receiver : new.receiver ≡ old.receiver
-  pub frames : length new.frames.items + length told ≤ length old.frames.items + length now_told
 
 -- that is so however it hears
 abbrev pub HearsThese : List Opening → (old new : Listener) → (told now_told : List Description) → Type 0

@@ -37,15 +37,21 @@ abbrev pub unasked_text : Lane → Frame → List ℕ
 unasked_text FromCaller frame = if is_command frame then codes ", passed over: no page is due" else codes ", passed over: it is no command"
 unasked_text lane frame = codes ", passed over: it answers nothing"
 
-abbrev pub passed_as : Passed → Lane → Frame → List ℕ
-passed_as passed.Heard lane frame = []
-passed_as passed.Outside lane frame = codes ", passed over: no call is on"
-passed_as passed.Sending lane frame = if is_heard frame then codes ", passed over while the gateway sends" else []
-passed_as passed.Unasked lane frame = if is_heard frame then unasked_text lane frame else []
+-- or that a training goes out again, for a DIS in place of an answer
+abbrev pub training_text : (trains_again : Bool) → Frame → List ℕ
+training_text true (Dis dis) = codes ", and no answer: the training goes out again"
+training_text trains_again frame = []
 
-abbrev pub passed_text : Passed → Lane → Option Frame → List ℕ
-passed_text passed lane None = []
-passed_text passed lane (Some frame) = passed_as passed lane frame
+abbrev pub passed_as : Passed → (trains_again : Bool) → Lane → Frame → List ℕ
+passed_as passed.Heard trains_again lane frame = training_text trains_again frame
+passed_as passed.Outside trains_again lane frame = codes ", passed over: no call is on"
+passed_as passed.Sending trains_again lane frame = if is_heard frame then codes ", passed over while the gateway sends" else []
+passed_as passed.Unasked trains_again lane frame = if is_heard frame then unasked_text lane frame else []
+
+-- what a frame was taken as, after its words
+abbrev pub taken_text : Mark → Lane → Option Frame → List ℕ
+taken_text mark lane None = []
+taken_text mark lane (Some frame) = passed_as mark.passed mark.trains_again lane frame
 
 -- why a signal is passed over, after its words: where no call is on, each line says that
 abbrev pub strange_text : Signal → (is_outside : Bool) → List ℕ
@@ -90,13 +96,11 @@ verdict_name false = codes "bad"
 
 -- ---- marks
 
--- HOW A DIRECTION IS HEARD: its lane, and whether no call is on; what a piece is taken as that has no mark; and whether what is
--- told of a piece is its whole line, to which nothing is added
+-- HOW A DIRECTION IS HEARD: its lane, whether no call is on, and what a piece is taken as that has no mark
 pub record Ear : Type 0 where
   pub lane : Lane
   pub is_outside : Bool
   pub usual : Mark
-  pub ends : Bool
 
 -- the marks that a listener has not handed out
 abbrev pub marks_left : Listener → List Mark
@@ -137,7 +141,7 @@ unmarked = record { signal = Strange; passed = passed.Heard; is_good = false; tr
 
 -- what comes in a call
 abbrev pub in_call : Lane → Ear
-in_call lane = record { lane = lane; is_outside = false; usual = unmarked; ends = true }
+in_call lane = record { lane = lane; is_outside = false; usual = unmarked }
 
 -- what comes while no call is on
 abbrev pub outside_call : Lane → Ear

@@ -20,7 +20,7 @@ use Rattle.fax_ifp.specs.Tracked.{lost_slots}
 use Rattle.fax_descriptions.specs.declared.lane.Lane.{Lane}
 use Rattle.fax_descriptions.specs.Words.{frame_text, numbers_text}
 use Rattle.fax_explain.specs.declared.mark.Mark.{Mark}
-use Rattle.fax_explain.specs.Listening.{Ear, first_mark, later_marks, marked_end, marked_start, marks_after, passed_text}
+use Rattle.fax_explain.specs.Listening.{Ear, first_mark, later_marks, marked_end, marked_start, marks_after, taken_text}
 use Rattle.fax_explain.specs.FrameEnds.{ends_in, ends_rightly, ends_wrongly, frames_in}
 
 -- the texts of which a line begins with one, and whether it ends there
@@ -42,14 +42,14 @@ line_if false opening = []
 
 -- ---- pieces
 
--- a frame, in words, and after them why it is passed over, where it is; a DIS may be told as the one before
+-- a frame, in words, and after them what it was taken as; a DIS may be told as the one before
 abbrev pub frame_texts : (octets why : List ℕ) → Option Frame → List (List ℕ)
 frame_texts octets why (Some (Dis dis)) = (frame_text octets ++ why) ∷ (codes "DIS as before" ++ why) ∷ []
 frame_texts octets why frame = (frame_text octets ++ why) ∷ []
 
 -- the line of a frame, of a signal that begins, and of one of so many octets that ends, by what each was taken as
 abbrev pub frame_opening : Mark → Lane → (octets : List ℕ) → Opening
-frame_opening mark lane octets = record { texts = frame_texts octets (passed_text mark.passed lane (frame_of octets)) (frame_of octets); ends = true }
+frame_opening mark lane octets = record { texts = frame_texts octets (taken_text mark lane (frame_of octets)) (frame_of octets); ends = true }
 
 abbrev pub start_opening : Mark → (kind : ℕ) → Opening
 start_opening mark kind = says (marked_start mark kind)

@@ -15,6 +15,11 @@ use Rattle.fax_descriptions.specs.Words.{format_text}
 abbrev pub next_number : ℕ → ℕ
 next_number n = min (n + 1) (2 ^ 32 - 1)
 
+-- the number of the page that a tick confirms, where it confirms one, after this one
+abbrev pub next_if : Option Kept → ℕ → ℕ
+next_if None n = n
+next_if (Some kept) n = next_number n
+
 -- a page that is sent: in the call that it came in, after those that were sent before and those that were delivered
 abbrev pub sent_place : CalledLeg → Place
 sent_place leg = record { leg = legs.Called; call = unwrap_or leg.call 0; page = next_number (min (leg.before + leg.delivered) (2 ^ 32 - 1)) }

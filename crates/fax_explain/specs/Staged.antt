@@ -1,10 +1,10 @@
 -- What a stage holds of what was played.
 use Rattle.std.specs.Prelude.{◌≡◌, ℕ, ◌⊎◌, max, Bool, true, false, List, [], ◌∷◌, ◌++◌, Option, Some, None}
 use Rattle.fax_udptl.specs.Datagrams.{DatagramValue}
-use Rattle.fax_jobs.specs.declared.report.Report.{Report}
 use Rattle.fax_jobs.specs.Jobs.{JobValue}
 use Rattle.fax_call.specs.Delivery.{is_over}
 use Rattle.fax_call.specs.Writings.{IsWriting, Writing}
+use Rattle.fax_gateway.specs.declared.given.Kept.{Kept}
 use Rattle.fax_gateway.specs.declared.given.RefusedPage.{RefusedPage}
 use Rattle.fax_gateway.specs.Setups.{AreSet, Setup}
 use Rattle.fax_answer.specs.Replies.{ConfirmedPage}
@@ -25,7 +25,7 @@ use Rattle.fax_explain.specs.declared.listener.Listener.{Listener}
 use Rattle.fax_explain.specs.Given.{IsToCalled, TellsGiven, given_datagrams, given_to, to_called}
 use Rattle.fax_explain.specs.Heard.{IsEar, IsHearing}
 use Rattle.fax_explain.specs.Listening.{Ear, in_call, outside, outside_call}
-use Rattle.fax_explain.specs.Ladders.{HasAnswer, IsReport, TellsPlay, begun_tellings, timers_told, with_why}
+use Rattle.fax_explain.specs.Ladders.{HasAnswer, TellsPlay, begun_tellings, called_timers_told, came_from_called, came_from_caller, pages_so_far, timers_told, with_page, with_why}
 use Rattle.fax_explain.specs.Marks.{given_signal}
 use Rattle.fax_explain.specs.Places.{HasPicture}
 use Rattle.fax_descriptions.specs.declared.lane.Lane.{Lane}
@@ -44,9 +44,9 @@ HearsJob writes None listener = Unit {0}
 HearsJob writes (Some leg) listener =
     leg.entered ≡ false → is_over (called_legs.core_of writes leg).state ≡ false → IsEar (in_call FromCalled) listener × IsHearing leg.arrived listener
 
--- and each of them may go on to hear while no call is on
-abbrev pub HearsOutside : Lane → Listener → Type 0
-HearsOutside lane listener = (arrived : List DatagramValue) × IsEar (outside_call lane) (outside listener) × IsHearing arrived listener
+-- and each of them has heard what came since the last call began, and may go on to hear while no call is on
+abbrev pub HearsOutside : Lane → (came : List DatagramValue) → Listener → Type 0
+HearsOutside lane came listener = IsEar (outside_call lane) (outside listener) × IsHearing came listener
 
 -- the listeners to the gateway itself have heard what it gave on each leg, in the last call of that
 abbrev pub GivesCall : Setup → Option CallingLeg → Listener → Type 0
@@ -78,9 +78,10 @@ abbrev pub GivesIf : (was_sending : Bool) → Option JobValue → (old new : Lis
 GivesIf true sending old new = new ≡ old
 GivesIf false sending old new = GivesWith sending old new
 
--- lines of what a tick gives to the caller are told, after that the datagrams that were given before, and why it refuses a page
-abbrev pub TellsGiving : Ear → List DatagramValue → Option (List ℕ) → Option RefusedPage → (old new : List Description) → Type 0
-TellsGiving ear arrived given refused old new = (own : List Description) × TellsGiven ear arrived given [] own × (new ≡ old ++ with_why refused own)
+-- lines of what a tick gives to the caller are told, after that the datagrams that were given before, with the page that it confirms,
+-- of this number, or why it refuses one
+abbrev pub TellsGiving : Ear → List DatagramValue → Option (List ℕ) → Option Kept → (page : ℕ) → Option RefusedPage → (old new : List Description) → Type 0
+TellsGiving ear arrived given kept page refused old new = (own : List Description) × TellsGiven ear arrived given [] own × (new ≡ old ++ with_why refused (with_page kept page own))
 
 -- and lines of what it gives to the called machine, in the state of its call in which the tick leaves it
 abbrev pub TellsTo : GatewayValue → Listener → Option (List ℕ) → (old new : List Description) → Type 0
@@ -94,19 +95,16 @@ abbrev pub begun_if : (was_sending : Bool) → Option JobValue → List Descript
 begun_if true sending = []
 begun_if false sending = begun_tellings sending
 
--- the report of the job that ended is told, where one did
-abbrev pub TellsReport : Option Report → (old new : List Description) → Type 0
-TellsReport report old new = (own : List Description) × IsReport report own × (new ≡ old ++ own)
-
 -- the trace led to a stage, where this function gives the texts of pages: to its gateway, and to what was heard
 pub record IsStagedBy (setup : Setup) (writes : Writing) (trace : List Event) (stage : Stage) : Type 0 where
   pub reached : IsReachedBy setup writes trace stage.gateway
   pub hears : HearsCall (calling_leg setup trace) stage.calling.theirs
   pub hears_job : HearsJob writes (both_legs setup writes trace).leg stage.called.theirs
-  pub caller_outside : HearsOutside FromCaller stage.calling.theirs
-  pub called_outside : HearsOutside FromCalled stage.called.theirs
+  pub caller_outside : HearsOutside FromCaller (came_from_caller trace) stage.calling.theirs
+  pub called_outside : HearsOutside FromCalled (came_from_called setup writes trace) stage.called.theirs
   pub gives : GivesCall setup (calling_leg setup trace) stage.calling.ours
   pub gives_job : GivesJob setup (both_legs setup writes trace).leg stage.called.ours
+  pub pages : stage.calling.pages ≡ pages_so_far setup trace
 
 -- A gateway accepted one event more, and this is told of its answer.
 pub record HasAccepted (setup : Setup) (writes : Writing) (old : PlayedScript) (event : ScriptEvent) (told : List Description) (stage : Stage) : Type 0 where
@@ -137,11 +135,11 @@ pub record PlaysOn (setup : Setup) (writes : Writing) (old : PlayedScript) (even
 abbrev pub IsNew : Stage → Type 0
 IsNew stage = (setup : Setup) (writes : Writing) → AreSet setup stage.gateway.settings → IsStagedBy setup writes [] stage
 
--- the timer that acts in a tick at this moment on the calling leg gives the call up, where it does so, and that is told
+-- the timers that act in a tick at this moment are told
 abbrev pub TimersAct : GatewayValue → (moment : ℕ) → (old new : List Description) → Type 0
 TimersAct gateway moment old new =
     (setup : Setup) (writes : Writing) (trace : List Event) → IsReachedBy setup writes trace gateway
-    → new ≡ old ++ timers_told (calling_leg setup trace) (max moment (clock trace))
+    → new ≡ old ++ (timers_told (calling_leg setup trace) (max moment (clock trace)) ++ called_timers_told writes (both_legs setup writes trace).leg (max moment (clock trace)))
 
 -- after a tick at this moment: where the trace confirms a page in it, that page has its picture
 abbrev pub Pictures : GatewayValue → (moment : ℕ) → (old new : List FoundPage) → Type 0

@@ -16,6 +16,7 @@ mod mark;
 mod run;
 mod stage;
 mod store;
+mod timers;
 
 pub use live::LiveLadder;
 pub use run::run_explain;

@@ -10,7 +10,7 @@ ghost use Rattle.fax_explain.specs.FrameEnds.{AreEnds};
 ghost use Rattle.fax_explain.specs.Given.{giving};
 ghost use Rattle.fax_explain.specs.Heard.{AddsLine, EachCounted, EachEar, EachHeard, EachHearing, HasHeard, Hears, HearsOn, HearsSlots, HearsThese, IsEar, IsHearing, KeepsEar, Stays, TellsComing};
 ghost use Rattle.fax_command.specs.Answers.{page_fault_line};
-ghost use Rattle.fax_explain.specs.Listening.{StartsWith, check_text, dis_after, first_mark, image_text, in_call, is_command, is_heard, is_judged, later_marks, marked_end, marks_after, marks_left, outside, page_dcs, passed_text, signal_name, strange_text, unasked_text, verdict_name, words_after};
+ghost use Rattle.fax_explain.specs.Listening.{StartsWith, check_text, dis_after, first_mark, image_text, in_call, is_command, is_heard, is_judged, later_marks, marked_end, marks_after, marks_left, outside, page_dcs, signal_name, strange_text, taken_text, training_text, unasked_text, verdict_name, words_after};
 ghost use Rattle.fax_explain.specs.Openings.{back_openings, begins, datagram_openings, end_opening, frame_opening, head_openings, late_openings, line_if, lost_openings, marks_past, octets_counted, packet_openings, packets_openings, piece_openings, pieces_openings, start_opening, tone_at, tone_openings};
 
 use crate::frame_ends::FrameEnds;
@@ -46,15 +46,12 @@ pub(crate) struct Listener {
     dis: Option<Dis>,
     /// The frames of the last datagram that were not passed over.
     frames: Vec<Frame>,
-    /// Whether a DIS of the last datagram gave a training again.
-    is_asked_again: bool,
 }
 
 impl Listener {
     /// A direction on which nothing came.
     pub(crate) fn new(alloc: Global, lane: Lane) -> Self
         ensures ear { IsEar (in_call lane) result }
-        ensures frames { result.frames.items ≡ [] }
         ensures hearing { IsHearing [] result }
     {
         Listener {
@@ -70,7 +67,6 @@ impl Listener {
             page: None,
             dis: None,
             frames: Vec::new(alloc),
-            is_asked_again: false,
         }
     }
 
@@ -80,11 +76,8 @@ impl Listener {
             (TellsComing self.old (marks_left self.old) (datagram_of octets.now) tale.old tale.new) }
         ensures hearing { OnOk result (HearsOn self.old (datagram_of octets.now) self.new) }
         ensures ear { OnOk result (KeepsEar self.old self.new) }
-        ensures frames { OnOk result (EachHearing self.old (λ arrived.
-            length self.new.frames.items + length tale.old ≤ length tale.new)) }
     {
         self.frames.clear();
-        self.is_asked_again = false;
         let number = match read(octets) {
             Ok(datagram) => datagram.number(),
             Err(fault) => {
@@ -98,6 +91,17 @@ impl Listener {
             return Ok(());
         };
         self.hear_decided(number, &decided, tale)
+    }
+
+    /// The octets of a datagram come whose pieces were taken as usual.
+    pub(crate) fn hear_unmarked(&mut self, octets: &[u8], tale: &mut Tale) -> Result<(), NoMemory>
+        ensures told { OnOk result
+            (TellsComing self.old [] (datagram_of octets.now) tale.old tale.new) }
+        ensures hearing { OnOk result (HearsOn self.old (datagram_of octets.now) self.new) }
+        ensures ear { OnOk result (KeepsEar self.old self.new) }
+    {
+        self.mark(Vec::new(self.alloc));
+        self.hear(octets, tale)
     }
 
     /// The slots come that the datagram of this number decides.
@@ -150,20 +154,6 @@ impl Listener {
         ensures { result.now ≡ self.now.frames.items }
     {
         self.frames.as_slice()
-    }
-
-    /// The last of them.
-    pub(crate) fn last_frame(&self) -> Option<Frame>
-        ensures { result ≡ slice_get self.now.frames.items (length self.now.frames.items - 1) }
-    {
-        self.frames.as_slice().last().copied()
-    }
-
-    /// Whether a DIS of the last datagram gave a training again.
-    pub(crate) fn is_asked_again(&self) -> bool
-        ensures { result ≡ self.now.is_asked_again }
-    {
-        self.is_asked_again
     }
 
     /// A datagram comes next whose pieces were taken as these.
@@ -409,7 +399,7 @@ impl Listener {
         }
     }
 
-    /// A frame comes. Where it was passed over, that is told, and nothing follows from it.
+    /// A frame comes, and what it was taken as is told.
     fn hear_frame(&mut self, octets: &[u8], tale: &mut Tale) -> Result<(), NoMemory>
         ensures told { OnOk result (EachEar self.old (λ ear.
             Hears ear (frame_opening (first_mark ear.usual (marks_left self.old)) ear.lane octets.now ∷ []) self.old self.new tale.old tale.new)) }
@@ -419,9 +409,9 @@ impl Listener {
         let mark = self.next_mark();
         let frame = Frame::read(octets);
         let mut words = self.words_of(octets)?;
-        words.push_str(why_passed_over(mark.passed, self.lane, frame))?;
+        words.push_str(words_of_taking(mark, self.lane, frame))?;
         self.tell(words.as_str(), tale)?;
-        self.take(frame, mark)
+        self.take(frame, mark.passed)
     }
 
     /// What a frame says. A DIS like the one before is not told again.
@@ -442,17 +432,12 @@ impl Listener {
     }
 
     /// A frame is kept that was not passed over.
-    fn take(&mut self, frame: Option<Frame>, mark: Mark) -> Result<(), NoMemory>
-        ensures left { self.new ≡ record self.old { frames = self.new.frames; is_asked_again = self.new.is_asked_again } }
-        ensures frames { OnOk result (length self.new.frames.items ≤ length self.old.frames.items + 1) }
+    fn take(&mut self, frame: Option<Frame>, passed: Passed) -> Result<(), NoMemory>
+        ensures { self.new ≡ record self.old { frames = self.new.frames } }
     {
-        let (Some(frame), Passed::Heard) = (frame, mark.passed) else {
-            return Ok(());
-        };
-        if let Frame::Dis(_) = frame {
-            self.is_asked_again = self.is_asked_again || mark.trains_again;
+        if let (Some(frame), Passed::Heard) = (frame, passed) {
+            self.frames.push(frame)?;
         }
-        self.frames.push(frame)?;
         Ok(())
     }
 
@@ -491,7 +476,6 @@ impl Listener {
         ensures outside { self.new.is_outside ≡ self.old.is_outside }
         ensures usual { self.new.usual ≡ self.old.usual }
         ensures receiver { self.new.receiver ≡ self.old.receiver }
-        ensures frames { self.new.frames ≡ self.old.frames }
         ensures stays { Stays self.old self.new }
     {
         let mark = self.next_mark();
@@ -609,20 +593,30 @@ fn why_strange(signal: Signal, is_outside: bool) -> &'static str
     }
 }
 
-/// Why a frame is passed over that came on this way, after its words. A frame that is heard in no state of a call is passed over
-/// without a word.
-fn why_passed_over(passed: Passed, lane: Lane, frame: Option<Frame>) -> &'static str
-    ensures { result.now ≡ passed_text passed lane frame }
+/// What a frame was taken as that came on this way, after its words: why it is passed over, or that a training goes out again. A frame
+/// that is heard in no state of a call is passed over without a word.
+fn words_of_taking(mark: Mark, lane: Lane, frame: Option<Frame>) -> &'static str
+    ensures { result.now ≡ taken_text mark lane frame }
 {
     let Some(frame) = frame else {
         return "";
     };
-    match passed {
-        Passed::Heard => "",
+    match mark.passed {
+        Passed::Heard => words_of_training(mark.trains_again, frame),
         Passed::Outside => ", passed over: no call is on",
         Passed::Sending if is_heard(frame) => ", passed over while the gateway sends",
         Passed::Unasked if is_heard(frame) => why_unasked(lane, frame),
         Passed::Sending | Passed::Unasked => "",
+    }
+}
+
+/// That a training goes out again, where it does for a DIS.
+fn words_of_training(trains_again: bool, frame: Frame) -> &'static str
+    ensures { result.now ≡ training_text trains_again frame }
+{
+    match frame {
+        Frame::Dis(_) if trains_again => ", and no answer: the training goes out again",
+        _ => "",
     }
 }
 

@@ -7,15 +7,16 @@ ghost use Rattle.fax_gateway.specs.Turns.{call_if_new, call_on};
 ghost use Rattle.fax_trace.specs.declared.event.ScriptEvent.TheVariants as script;
 ghost use Rattle.fax_explain.specs.Given.{EachGiven, KeepsToCalled, arrived_after};
 ghost use Rattle.fax_explain.specs.Heard.{EachHearing, IsHearing, KeepsEar};
-ghost use Rattle.fax_explain.specs.Ladders.{asked_tellings, begun_tellings, over_tellings, with_why};
-ghost use Rattle.fax_explain.specs.Places.{Grows, Keeps, page_if, page_of};
-ghost use Rattle.fax_explain.specs.Staged.{AnswersAny, AnswersAt, AnswersEvent, AnswersTick, BeginsIf, BeginsWith, FailsWith, GivesIf, GivesWith, IsNew, Pictures, PlaysEvent, TellsGiving, TellsReport, TellsTo, TimersAct, begun_if};
+ghost use Rattle.fax_explain.specs.Ladders.{asked_tellings, begun_tellings, over_tellings, report_tellings, with_why};
+ghost use Rattle.fax_explain.specs.Places.{Grows, Keeps, next_if, page_if, page_of};
+ghost use Rattle.fax_explain.specs.Staged.{AnswersAny, AnswersAt, AnswersEvent, AnswersTick, BeginsIf, BeginsWith, FailsWith, GivesIf, GivesWith, IsNew, Pictures, PlaysEvent, TellsGiving, TellsTo, TimersAct, begun_if};
 
 use crate::called::CalledLeg;
 use crate::calling::CallingLeg;
 use crate::copies::copy_of;
 use crate::mark::{marks_of_answer, marks_of_call};
 use crate::store::Place;
+use crate::timers::{tell_called_timer, tell_calling_timer};
 use fax_bits::NoMemory;
 use fax_call::State;
 use fax_descriptions::{Lane, Tale, why_ended, why_refused, words_of_format};
@@ -188,7 +189,7 @@ impl Stage {
         jobs_have_states();
         let call = self.gateway.call();
         let was_sending = self.gateway.sending().is_some();
-        self.act(moment, &mut scene.tale)?;
+        self.tell_timers(moment, &mut scene.tale)?;
         let given = self.gateway.tick(moment)?;
         self.give_calling(&given, scene)?;
         self.tell_over(call, &mut scene.tale)?;
@@ -235,29 +236,24 @@ impl Stage {
         }
     }
 
-    /// The timers act in a tick at this moment that does: what they do is told, or told of what they give again.
-    fn act(&mut self, moment: u64, tale: &mut Tale) -> Result<(), NoMemory>
-        ensures gateway { self.new.gateway ≡ self.old.gateway }
-        ensures theirs { self.new.calling.theirs ≡ self.old.calling.theirs }
-        ensures ours { self.new.calling.ours ≡ self.old.calling.ours }
-        ensures called { self.new.called.theirs ≡ self.old.called.theirs }
-        ensures giving { self.new.called.ours ≡ self.old.called.ours }
-        ensures told { OnOk result (TimersAct self.old.gateway moment tale.old tale.new) }
+    /// The timers that act in a tick at this moment are told.
+    fn tell_timers(&self, moment: u64, tale: &mut Tale) -> Result<(), NoMemory>
+        ensures { OnOk result (TimersAct self.now.gateway moment tale.old tale.new) }
     {
-        self.called.act(self.gateway.called_acting(moment));
         let state = self.gateway.calling_state();
-        self.calling
-            .act(self.gateway.calling_acting(moment), state, tale)
+        tell_calling_timer(self.gateway.calling_acting(moment), state, tale)?;
+        tell_called_timer(self.gateway.called_acting(moment), tale)
     }
 
-    /// What a tick gives on the calling leg is told, and why it refuses a page, where it does: after the RTN. The page that it
-    /// confirms is kept, where it confirms one.
+    /// What a tick gives on the calling leg is told, and after it the page that it confirms, or why it refuses one. The page that it
+    /// confirms is kept.
     fn give_calling(&mut self, given: &Given, scene: &mut Scene) -> Result<(), NoMemory>
         ensures gateway { self.new.gateway ≡ self.old.gateway }
         ensures theirs { self.new.calling.theirs ≡ self.old.calling.theirs }
         ensures called { self.new.called ≡ self.old.called }
         ensures told { OnOk result (EachGiven self.old.calling.ours (λ ear arrived.
-            TellsGiving ear arrived given.now.calling given.now.refused scene.old.tale scene.new.tale)) }
+            TellsGiving ear arrived given.now.calling given.now.kept self.new.calling.pages given.now.refused scene.old.tale scene.new.tale)) }
+        ensures pages { OnOk result (self.new.calling.pages ≡ next_if given.now.kept self.old.calling.pages) }
         ensures hearing { OnOk result (EachHearing self.old.calling.ours (λ arrived.
             IsHearing (arrived_after arrived given.now.calling) self.new.calling.ours)) }
         ensures ear { OnOk result (KeepsEar self.old.calling.ours self.new.calling.ours) }
@@ -266,6 +262,7 @@ impl Stage {
         let mut after = Tale::new(self.alloc);
         let page = self.confirmed_page(given)?;
         let found = self.calling.give(given, page, &mut after)?;
+        self.calling.tell_page(given.kept, &mut after)?;
         keep_found(&mut scene.pages, found)?;
         tell_refusal(self.alloc, given, &mut after)?;
         scene.tale.append(after)
@@ -370,13 +367,13 @@ impl Stage {
         ensures calling { self.new.calling ≡ self.old.calling }
         ensures theirs { self.new.called.theirs ≡ self.old.called.theirs }
         ensures ours { self.new.called.ours ≡ self.old.called.ours }
-        ensures told { OnOk result (TellsReport given.now.report tale.old tale.new) }
+        ensures told { OnOk result (tale.new ≡ tale.old ++ report_tellings given.now.report) }
     {
         let Some(report) = &given.report else {
             return Ok(());
         };
         self.called.end(report.pages);
-        let why = why_ended(self.alloc, report.outcome, self.called.unanswered())?;
+        let why = why_ended(report.outcome);
         let words = format!(in self.alloc; "{report}{why}")?;
         tale.tell(Lane::Inside, words.as_str())
     }

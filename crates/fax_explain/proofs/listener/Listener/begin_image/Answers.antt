@@ -16,5 +16,5 @@ returns-clause-told c =
     let mark = c.next_mark-signal.ensures.mark ∙ ap (λ (usual : Mark). first_mark usual (marks_left old)) is_ear.usual in
     hears_told ear _ c.as_str.result.now _ _ _ _ _
     (record { lane = now.lane; is_outside = now.is_outside; usual = now.usual }) (record { lane = now.lane; is_outside = now.is_outside; usual = now.usual })
-    (ap (λ (l : Listener). l.receiver) left) (ap (λ (l : Listener). l.frames.items) left)
+    (ap (λ (l : Listener). l.receiver) left)
     (says_first _ _ c.as_str.result.now (named ∙ ap (λ (m : Mark). signal_name m.signal ++ (codes " begins, " ++ kind_name c.args.kind)) mark)) line)

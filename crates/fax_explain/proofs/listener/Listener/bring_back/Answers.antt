@@ -9,6 +9,6 @@ returns c =
     let a = c.args in
     ok_then c.tell.result c.tell.ensures (λ line ear is_ear.
     subst (λ (os : List Opening). Hears ear os a.self.now a.self.now a.tale.now c.tell.new.tale) (sym (back_line a.from a.number c.if-from-number.false))
-    (hears_told ear _ c.as_str.result.now a.self.now a.self.now a.self.now a.tale.now c.tell.new.tale is_ear is_ear refl refl
+    (hears_told ear _ c.as_str.result.now a.self.now a.self.now a.self.now a.tale.now c.tell.new.tale is_ear is_ear refl
     (begins_as _ c.as_str.result.now (c.as_str.ensures.value ∙ c.in_ok-words.ensures.ok
     ∙ ap (λ (n : List ℕ). codes "lost: " ++ (n ++ (codes ", brought back by " ++ decimal a.number))) c.in_ok-numbers.ensures)) line))

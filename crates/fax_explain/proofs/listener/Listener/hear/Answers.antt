@@ -1,4 +1,4 @@
-use Rattle.std.proofs.Common.{false, refl, ◌∙◌, ap, arith, length, string_bytes, subst, sym}
+use Rattle.std.proofs.Common.{refl, ◌∙◌, string_bytes, subst, sym}
 use Rattle.fax_udptl.specs.Slots.{newest_slots}
 use Rattle.fax_udptl.specs.Taking.{Takes}
 use Rattle.fax_explain.specs.Listening.{marks_left}
@@ -26,14 +26,9 @@ pub returns-clause-ear : goal.returns-clause-ear
 returns-clause-ear c = ok_then c.hear_decided.result c.hear_decided.ensures.told (λ told ear is_ear arrived h.
     (told ear (same_ear ear c.args.self.now _ refl refl refl is_ear) (newest_slots arrived) (record { tracked = h.heard.tracked; counted = h.heard.counted })).is_ear)
 
-pub returns-clause-frames : goal.returns-clause-frames
-returns-clause-frames c = ok_then c.hear_decided.result c.hear_decided.ensures.told (λ told arrived h.
-    let old = c.args.self.now in
-    omega (arith, ap length c.clear.ensures.items, (told (ear_of old) (same_ear (ear_of old) old _ refl refl refl (has_ear old)) (newest_slots arrived) (record { tracked = h.heard.tracked; counted = h.heard.counted })).frames))
-
 pub returns-in-Err-clause-told : goal.returns-in-Err-clause-told
 returns-in-Err-clause-told c = ok_then c.tell.result c.tell.ensures (λ line ear is_ear arrived h.
-    let now : Listener = record c.args.self.now { frames = c.clear.new.self; is_asked_again = false } in
+    let now : Listener = record c.args.self.now { frames = c.clear.new.self } in
     unread_told ear (marks_left c.args.self.now) arrived c.args.octets.now c.in-Err.fault c.args.tale.now c.tell.new.tale c.in-Err.ensures
     (adds_line ear unread_opening c.as_str-in-Err.result.now now c.args.tale.now c.tell.new.tale (same_ear ear c.args.self.now now refl refl refl is_ear)
     (begins_more _ (string_bytes c.in_ok-words-in-Err.words) c.as_str.result.now c.as_str-in-Err.result.now

@@ -16,7 +16,7 @@ returns-clause-told c = ok_then c.tell_lacking.result c.tell_lacking.ensures (λ
     let head = c.in_ok-ends.ensures.told ear is_ear in
     packet_heard ear marks slots c.args.number c.args.packet.now c.in_ok-pieces.pieces c.in_ok-ends.ends c.lacking-lacking.result c.args.self.now c.hear_head.new.self
     at c.hear_pieces.new.self c.args.tale.now c.hear_head.new.tale c.hear_pieces.new.tale c.tell_lacking.new.tale
-    head c.in_ok-ends.ensures.stays h c.in_ok-pieces.ensures.pieces refl refl
+    head c.in_ok-ends.ensures.stays h c.in_ok-pieces.ensures.pieces refl
     (λ before n. subst (λ (ms : List Mark). Hears ear (pieces_openings ear ms before c.in_ok-pieces.pieces) at c.hear_pieces.new.self c.hear_head.new.tale c.hear_pieces.new.tale) c.in_ok-ends.ensures.marks
     (subst (λ (ps : List Piece). Hears ear (pieces_openings ear (marks_left c.hear_head.new.self) before ps) at c.hear_pieces.new.self c.hear_head.new.tale c.hear_pieces.new.tale) c.as_slice.ensures
     (c.in_ok-hear_pieces.ensures.told ear (same_ear ear c.hear_head.new.self at refl refl refl head.is_ear) before n)))

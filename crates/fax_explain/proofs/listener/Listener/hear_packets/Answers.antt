@@ -41,7 +41,7 @@ pub loop-packet-init : goal.loop-packet-init
 unfolding packets_past
 loop-packet-init c = record {
   at = search rules;
-  told = λ ear is_ear slots h. hears_none ear c.args.self.now c.args.self.now c.args.tale.now c.args.tale.now is_ear refl refl refl;
+  told = λ ear is_ear slots h. hears_none ear c.args.self.now c.args.self.now c.args.tale.now c.args.tale.now is_ear refl refl;
   heard = λ slots h. h;
   marks = λ slots h. refl;
 }

@@ -18,7 +18,7 @@ returns-clause-told c = always c.miss.result (λ ear is_ear.
     subst (λ (os : List Opening). Hears ear os old c.miss.new.self c.args.tale.now c.tell.new.tale) (sym (lost_line c.args.from c.args.count c.if-count-eq0.false))
     (hears_told ear _ c.as_str.result.now old at c.miss.new.self c.args.tale.now c.tell.new.tale (same_ear ear old at refl refl refl is_ear)
     (same_ear ear old c.miss.new.self (ap (λ (l : Listener). l.lane) left) (ap (λ (l : Listener). l.is_outside) left) (ap (λ (l : Listener). l.usual) left) is_ear)
-    (ap (λ (l : Listener). l.receiver) left) (ap (λ (l : Listener). l.frames.items) left)
+    (ap (λ (l : Listener). l.receiver) left)
     (begins_as _ c.as_str.result.now (c.as_str.ensures.value ∙ c.in_ok-words.ensures.ok ∙ ap (λ (n : List ℕ). codes "lost: " ++ n) c.in_ok-numbers.ensures)) c.in_ok-tell.ensures))
 
 pub returns-clause-heard : goal.returns-clause-heard

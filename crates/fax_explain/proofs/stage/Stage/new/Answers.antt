@@ -14,4 +14,5 @@ returns-clause-new c = λ setup writes set. record {
   called_outside = outside_new FromCalled _ c.new-2.ensures.ear c.new-2.ensures.hearing;
   gives = (c.new.ensures.ours, c.new.ensures.giving);
   gives_job = (c.new-2.ensures.ours, c.new-2.ensures.giving);
+  pages = c.new.ensures.pages;
 }

@@ -24,13 +24,14 @@ returns-in_ok-words-in-Ok c = OnOk-then c.tell.result c.tell.ensures (λ told se
       called_outside = reached.called_outside;
       gives = gives_rung setup (calling_leg setup old.trace) _ c.args.moment c.in-Ok.call _ c.new.ensures.ours c.new.ensures.giving;
       gives_job = reached.gives_job;
+      pages = c.new.ensures.pages;
     }))
 
 pub returns-in-Err-Busy : goal.returns-in-Err-Busy
 returns-in-Err-Busy c = OnOk-then c.tell-in-Err-Busy.result c.tell-in-Err-Busy.ensures (λ told setup writes old at reached.
     let busy = (c.in-Err-Busy.ensures.busy setup writes old.trace reached.reached).0 (ap Err c.in-Err-Busy.field-0-is) in
     refused_on setup writes old script.Ring _ _ (codes "ring refused 1 Busy") (codes ": a call is on") (inl (busy, refl))
-    (told ∙ ap (λ (a : List Description). a ++ inside (codes "ring refused 1 Busy: a call is on") ∷ []) c.requires) (record { reached = rw c.in-Err-Busy.ensures.err reached.reached; hears = reached.hears; hears_job = reached.hears_job; caller_outside = reached.caller_outside; called_outside = reached.called_outside; gives = reached.gives; gives_job = reached.gives_job }))
+    (told ∙ ap (λ (a : List Description). a ++ inside (codes "ring refused 1 Busy: a call is on") ∷ []) c.requires) (record { reached = rw c.in-Err-Busy.ensures.err reached.reached; hears = reached.hears; hears_job = reached.hears_job; caller_outside = reached.caller_outside; called_outside = reached.called_outside; gives = reached.gives; gives_job = reached.gives_job; pages = reached.pages }))
 
 -- a test that is never false is true
 true_if_never : (b : Bool) → (b ≡ false → ⊥) → b ≡ true
@@ -45,4 +46,4 @@ returns-in-Err-NoNumber c = OnOk-then c.tell-in-Err-NoNumber.result c.tell-in-Er
     true_if_never (idle_after (calling_leg setup old.trace)) (λ busy. let told = (c.in-Err-NoNumber.ensures.busy setup writes old.trace reached.reached).1 busy in cc) in
     let none = (c.in-Err-NoNumber.ensures.no_number setup writes old.trace reached.reached idle).0 cause in
     refused_on setup writes old script.Ring _ _ line [] (inr (idle, none, refl))
-    (told ∙ ap₂ (λ (a : List Description) (b : List ℕ). a ++ inside b ∷ []) c.requires (sym (append-nil line))) (record { reached = rw c.in-Err-NoNumber.ensures.err reached.reached; hears = reached.hears; hears_job = reached.hears_job; caller_outside = reached.caller_outside; called_outside = reached.called_outside; gives = reached.gives; gives_job = reached.gives_job }))
+    (told ∙ ap₂ (λ (a : List Description) (b : List ℕ). a ++ inside b ∷ []) c.requires (sym (append-nil line))) (record { reached = rw c.in-Err-NoNumber.ensures.err reached.reached; hears = reached.hears; hears_job = reached.hears_job; caller_outside = reached.caller_outside; called_outside = reached.called_outside; gives = reached.gives; gives_job = reached.gives_job; pages = reached.pages }))
