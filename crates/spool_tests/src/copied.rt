@@ -1,47 +1,21 @@
 //! A page that does not go: what waits is put again, and the file that it kept is cleared.
+use crate::steps::{change, clear, ended, new_spool, put, put_again, reopen};
 use fax_jobs::Outcome;
-use fax_restarts::open_over;
-use fax_runcodes::{Format, Width};
-use fax_spool::{EndedRecord, OpenedSpool, PageRecord, Spool};
+use fax_spool::{OpenedSpool, Spool};
 use sqlite_disk::Memory;
 use std::alloc::Global;
 use std::io;
 use std::rt::HostRuntime;
 use std::test::Fail;
 
-const FORMAT: Format = Format {
-    width: Width::W1728,
-    fine: false,
-};
-
 /// The page of this number is put.
-fn put(spool: &mut Spool<Memory>, alloc: Global, number: u32) -> io::Result<()> {
-    let page = PageRecord {
-        life: 1,
-        call: 0,
-        number,
-        format: FORMAT,
-        closes: true,
-        line: b"a1",
-        tag: b"t",
-        text: b"text",
-    };
-    spool.put(alloc, &page)
+fn put_page(spool: &mut Spool<Memory>, alloc: Global, number: u32) -> io::Result<()> {
+    put(spool, alloc, number, b"text")
 }
 
 /// Its job ends.
 fn end(spool: &mut Spool<Memory>, alloc: Global, number: u32) -> io::Result<()> {
-    let ended = EndedRecord {
-        life: 1,
-        call: 0,
-        first: number,
-        pages: 1,
-        delivered: 1,
-        format: FORMAT,
-        outcome: Outcome::Delivered,
-        line: b"a1",
-    };
-    spool.end(alloc, &ended)
+    spool.end(alloc, &ended(number, Outcome::Delivered, 1))
 }
 
 /// Whether just these pages are told, in this order, and nothing is damaged.
@@ -53,26 +27,53 @@ fn tells_pages(opened: &OpenedSpool<Memory>, first: u32, second: u32) -> bool {
     }
 }
 
-/// Page 1 stays, and page 7 comes after others whose jobs ended: both are put again, and all that was there is cleared.
+/// Page 1 stays in the older file, and page 7 comes after others whose jobs ended. It answers whether the files took turns.
+fn fill(spool: &mut Spool<Memory>, alloc: Global) -> io::Result<bool> {
+    put_page(spool, alloc, 1)?;
+    let has_changed = change(spool, alloc)?;
+    for number in 2..7 {
+        put_page(spool, alloc, number)?;
+        end(spool, alloc, number)?;
+    }
+    put_page(spool, alloc, 7)?;
+    Ok(has_changed)
+}
+
+/// What is done of the steps in which both pages are put again: nothing while page 1 waits in the older file, and while they have more
+/// octets than are allowed.
+const STEPS: [bool; 7] = [false, false, true, true, true, true, true];
+
+/// These steps.
+fn copy_forward(spool: &mut Spool<Memory>, alloc: Global) -> io::Result<[bool; 7]> {
+    Ok([
+        clear(spool)?,
+        put_again(spool, alloc, 10)?,
+        put_again(spool, alloc, 1000)?,
+        clear(spool)?,
+        change(spool, alloc)?,
+        put_again(spool, alloc, 1000)?,
+        clear(spool)?,
+    ])
+}
+
+/// Whether both pages are in the newer file alone.
+fn is_left(spool: Spool<Memory>, alloc: Global) -> io::Result<bool> {
+    let again = reopen(spool, alloc)?;
+    let [older, newer] = again.ends;
+    Ok(older == 0 && newer < 1000 && tells_pages(&again.opened, 1, 7))
+}
+
+/// Whether page 1, which stays, and page 7 are put again, and all that was there is cleared.
+fn is_copied_forward(alloc: Global) -> io::Result<bool> {
+    let mut spool = new_spool(alloc)?;
+    let has_changed = fill(&mut spool, alloc)?;
+    let steps = copy_forward(&mut spool, alloc)?;
+    let is_left = is_left(spool, alloc)?;
+    Ok(has_changed && steps == STEPS && is_left)
+}
+
 #[test]
 fn what_waits_is_copied_forward(rt: HostRuntime) -> Result<(), Fail> {
-    let alloc = rt.alloc();
-    let mut spool = open_over(alloc, &[], &[])?.spool;
-    put(&mut spool, alloc, 1)?;
-    assert!(rt; spool.change(alloc)?);
-    for number in 2..7 {
-        put(&mut spool, alloc, number)?;
-        end(&mut spool, alloc, number)?;
-    }
-    put(&mut spool, alloc, 7)?;
-    assert!(rt; !spool.clear()?);
-    assert!(rt; !spool.put_again(alloc, 10)?);
-    assert!(rt; spool.put_again(alloc, 1000)?);
-    assert!(rt; spool.clear()? && spool.change(alloc)?);
-    assert!(rt; spool.put_again(alloc, 1000)? && spool.clear()?);
-    let (older, newer) = spool.into_files();
-    assert!(rt; older.end == 0 && newer.end < 1000);
-    let found = open_over(alloc, older.disk.bytes(), newer.disk.bytes())?;
-    assert!(rt; tells_pages(&found, 1, 7));
+    assert!(rt; is_copied_forward(rt.alloc())?);
     Ok(())
 }

@@ -3,7 +3,7 @@
 //! folder.
 use fax_jobs::Outcome;
 use fax_runcodes::{Format, Width};
-use fax_spool::{EndedRecord, PageRecord, Spool, WaitingPage};
+use fax_spool::{CallName, EndedRecord, PageRecord, Spool, WaitingPage};
 use fax_spool_folder::{SpoolFolderFile, open_folder};
 use sqlite_disk::Unknown;
 use std::alloc::{AllocError, Global};
@@ -99,6 +99,30 @@ fn copy_forward(spool: &mut Spool<SpoolFolderFile<Unknown>>, alloc: Global) -> i
     Ok(())
 }
 
+/// Reads the job of the page of this number of a life back, and tells how many pages came and the nanoseconds that it took.
+fn read_and_tell(
+    rt: &HostRuntime,
+    spool: &mut Spool<SpoolFolderFile<Unknown>>,
+    life: u32,
+    number: u32,
+) -> Result<(), Fail> {
+    let ended = EndedRecord {
+        life,
+        call: 0,
+        first: number,
+        pages: 1,
+        delivered: 0,
+        format: FORMAT,
+        outcome: Outcome::NoAnswer,
+        line: b"a1",
+    };
+    let start = Instant::now(rt)?;
+    let pages = spool.pages_ended_by(rt.alloc(), &ended)?;
+    let took = start.elapsed(rt)?.as_nanos();
+    println!(rt; "read {} {took}", pages.len())?;
+    Ok(())
+}
+
 /// Opens a folder, reads the job of one page of it back, and tells how many pages came and the nanoseconds that it took. `SPOOL_READ`:
 /// of which number the page is.
 #[test]
@@ -108,23 +132,110 @@ fn reads_a_page(rt: HostRuntime) -> Result<(), Fail> {
     };
     let opened = open_folder(&rt, folder.as_str(), Unknown)?;
     let mut spool = opened.spool;
-    let [first, ..] = opened.pages.as_slice() else {
-        return Ok(());
-    };
-    let ended = EndedRecord {
-        life: first.life,
-        call: 0,
-        first: number_in(&rt, "SPOOL_READ", 1),
-        pages: 1,
-        delivered: 0,
-        format: FORMAT,
-        outcome: Outcome::NoAnswer,
-        line: b"a1",
-    };
-    let start = Instant::now(&rt)?;
-    let pages = spool.pages_ended_by(rt.alloc(), &ended)?;
-    let took = start.elapsed(&rt)?.as_nanos();
-    println!(rt; "read {} {took}", pages.len())?;
+    match opened.pages.as_slice() {
+        [first, ..] => read_and_tell(&rt, &mut spool, first.life, number_in(&rt, "SPOOL_READ", 1)),
+        [] => Ok(()),
+    }
+}
+
+/// How pages are put, as the environment tells it: how many, of which length, whether their jobs end as more come, and after how many what
+/// waits is copied forward.
+#[derive(Clone, Copy)]
+struct Puts {
+    pages: u32,
+    octets: u32,
+    ends: bool,
+    stays: u32,
+}
+
+/// As it tells it.
+fn puts_in(rt: &HostRuntime) -> Puts {
+    Puts {
+        pages: number_in(rt, "SPOOL_PAGES", 1000),
+        octets: number_in(rt, "SPOOL_OCTETS", 40_000),
+        ends: number_in(rt, "SPOOL_ENDS", 1) == 1,
+        stays: number_in(rt, "SPOOL_STAYS", 0),
+    }
+}
+
+/// The job of the page of a number of a life ends, and that is told.
+fn end_and_tell(
+    rt: &HostRuntime,
+    spool: &mut Spool<SpoolFolderFile<Unknown>>,
+    life: u32,
+    number: u32,
+) -> Result<(), Fail> {
+    end(spool, rt.alloc(), life, number)?;
+    println!(rt; "ended {life} {number}")?;
+    Ok(())
+}
+
+/// The jobs of these pages end, but for that of the first one, where it stays. It answers whether the first page is to stay that is put.
+fn end_waiting(
+    rt: &HostRuntime,
+    spool: &mut Spool<SpoolFolderFile<Unknown>>,
+    pages: &[WaitingPage],
+    stays: bool,
+) -> Result<bool, Fail> {
+    let mut first_stays = stays;
+    for page in pages {
+        if first_stays {
+            first_stays = false;
+        } else {
+            end_and_tell(rt, spool, page.life, page.number)?;
+        }
+    }
+    Ok(first_stays)
+}
+
+/// The page of a number is put, of so many octets, and the nanoseconds are told that it took.
+fn put_and_tell(
+    rt: &HostRuntime,
+    spool: &mut Spool<SpoolFolderFile<Unknown>>,
+    life: u32,
+    number: u32,
+    octets: u32,
+) -> Result<(), Fail> {
+    let text = text_of(rt.alloc(), number, octets)?;
+    let start = Instant::now(rt)?;
+    put(spool, rt.alloc(), life, number, text.as_slice())?;
+    let took = start.elapsed(rt)?.as_nanos();
+    println!(rt; "put {number} {took}")?;
+    Ok(())
+}
+
+/// What waits is copied forward, and the nanoseconds are told that it took.
+fn copy_and_tell(
+    rt: &HostRuntime,
+    spool: &mut Spool<SpoolFolderFile<Unknown>>,
+) -> Result<(), Fail> {
+    let start = Instant::now(rt)?;
+    copy_forward(spool, rt.alloc())?;
+    let took = start.elapsed(rt)?.as_nanos();
+    println!(rt; "copied {took}")?;
+    Ok(())
+}
+
+/// The jobs of the pages that wait end, and page after page is put.
+fn put_pages(
+    rt: &HostRuntime,
+    spool: &mut Spool<SpoolFolderFile<Unknown>>,
+    waiting: &[WaitingPage],
+) -> Result<(), Fail> {
+    let puts = puts_in(rt);
+    let life = spool.epoch();
+    println!(rt; "life {life}")?;
+    let first_stays = end_waiting(rt, spool, waiting, puts.stays > 0)?;
+    for number in 1..puts.pages.saturating_add(1) {
+        put_and_tell(rt, spool, life, number, puts.octets)?;
+        if puts.stays > 0 && number % puts.stays == 0 {
+            copy_and_tell(rt, spool)?;
+        }
+        let stays = first_stays && number == MOST_WAITING + 1;
+        if puts.ends && number > MOST_WAITING && !stays {
+            end_and_tell(rt, spool, life, number - MOST_WAITING)?;
+        }
+    }
     Ok(())
 }
 
@@ -136,40 +247,21 @@ fn puts_pages(rt: HostRuntime) -> Result<(), Fail> {
     let Ok(folder) = env::var(&rt, "SPOOL_PUTS") else {
         return Ok(());
     };
-    let octets = number_in(&rt, "SPOOL_OCTETS", 40_000);
-    let ends = number_in(&rt, "SPOOL_ENDS", 1) == 1;
-    let stays = number_in(&rt, "SPOOL_STAYS", 0);
     let opened = open_folder(&rt, folder.as_str(), Unknown)?;
     let mut spool = opened.spool;
-    let life = spool.epoch();
-    println!(rt; "life {life}")?;
-    let mut first_stays = stays > 0;
-    for page in opened.pages.as_slice() {
-        if first_stays {
-            first_stays = false;
-            continue;
-        }
-        end(&mut spool, rt.alloc(), page.life, page.number)?;
-        println!(rt; "ended {} {}", page.life, page.number)?;
-    }
-    for number in 1..number_in(&rt, "SPOOL_PAGES", 1000).saturating_add(1) {
-        let text = text_of(rt.alloc(), number, octets)?;
-        let start = Instant::now(&rt)?;
-        put(&mut spool, rt.alloc(), life, number, text.as_slice())?;
-        let took = start.elapsed(&rt)?.as_nanos();
-        println!(rt; "put {number} {took}")?;
-        if stays > 0 && number % stays == 0 {
-            let start = Instant::now(&rt)?;
-            copy_forward(&mut spool, rt.alloc())?;
-            println!(rt; "copied {}", start.elapsed(&rt)?.as_nanos())?;
-        }
-        if first_stays && number == MOST_WAITING + 1 {
-            continue;
-        }
-        if ends && number > MOST_WAITING {
-            end(&mut spool, rt.alloc(), life, number - MOST_WAITING)?;
-            println!(rt; "ended {life} {}", number - MOST_WAITING)?;
-        }
+    put_pages(&rt, &mut spool, opened.pages.as_slice())
+}
+
+/// Tells these pages, which wait.
+fn tell_pages(rt: &HostRuntime, pages: &[WaitingPage]) -> Result<(), Fail> {
+    for page in pages {
+        let right = is_right(rt.alloc(), page)?;
+        println!(rt;
+            "waits {} {} {} {right}",
+            page.life,
+            page.number,
+            page.text.len()
+        )?;
     }
     Ok(())
 }
@@ -190,16 +282,7 @@ fn lists_pages(rt: HostRuntime) -> Result<(), Fail> {
         damaged.0,
         damaged.1
     )?;
-    for page in opened.pages.as_slice() {
-        let right = is_right(rt.alloc(), page)?;
-        println!(rt;
-            "waits {} {} {} {right}",
-            page.life,
-            page.number,
-            page.text.len()
-        )?;
-    }
-    Ok(())
+    tell_pages(&rt, opened.pages.as_slice())
 }
 
 /// A page of one of four calls, of two lines.
@@ -307,18 +390,12 @@ fn put_calls(
     Ok(())
 }
 
-/// Puts the pages of four calls into both files of a new folder, and ends a job. `SPOOL_AGAIN`: whether what waits is copied forward then.
-#[test]
-fn puts_calls(rt: HostRuntime) -> Result<(), Fail> {
-    let Ok(folder) = env::var(&rt, "SPOOL_CALLS") else {
-        return Ok(());
-    };
-    let opened = open_folder(&rt, folder.as_str(), Unknown)?;
-    let mut spool = opened.spool;
+/// The pages of four calls are put into both files, and a job ends.
+fn put_all_calls(spool: &mut Spool<SpoolFolderFile<Unknown>>, alloc: Global) -> io::Result<()> {
     let life = spool.epoch();
-    put_calls(&mut spool, rt.alloc(), life, &FIRST)?;
-    spool.change(rt.alloc())?;
-    put_calls(&mut spool, rt.alloc(), life, &SECOND)?;
+    put_calls(spool, alloc, life, &FIRST)?;
+    spool.change(alloc)?;
+    put_calls(spool, alloc, life, &SECOND)?;
     let ended = EndedRecord {
         life,
         call: 2,
@@ -329,7 +406,17 @@ fn puts_calls(rt: HostRuntime) -> Result<(), Fail> {
         outcome: Outcome::Delivered,
         line: b"a1",
     };
-    spool.end(rt.alloc(), &ended)?;
+    spool.end(alloc, &ended)
+}
+
+/// Puts the pages of four calls into both files of a new folder, and ends a job. `SPOOL_AGAIN`: whether what waits is copied forward then.
+#[test]
+fn puts_calls(rt: HostRuntime) -> Result<(), Fail> {
+    let Ok(folder) = env::var(&rt, "SPOOL_CALLS") else {
+        return Ok(());
+    };
+    let mut spool = open_folder(&rt, folder.as_str(), Unknown)?.spool;
+    put_all_calls(&mut spool, rt.alloc())?;
     if number_in(&rt, "SPOOL_AGAIN", 0) == 1 {
         copy_forward(&mut spool, rt.alloc())?;
     }
@@ -341,6 +428,18 @@ fn puts_calls(rt: HostRuntime) -> Result<(), Fail> {
 fn is_right_of_call(alloc: Global, page: &WaitingPage) -> Result<bool, AllocError> {
     let text = text_of(alloc, seed_of(page.call, page.number), 40)?;
     Ok(text.as_slice() == page.text.as_slice())
+}
+
+/// Tells these pages, which wait, and these calls, which lack one.
+fn tell_calls(rt: &HostRuntime, pages: &[WaitingPage], torn: &[CallName]) -> Result<(), Fail> {
+    for page in pages {
+        let right = is_right_of_call(rt.alloc(), page)?;
+        println!(rt; "waits {} {} {} {right}", page.life, page.call, page.number)?;
+    }
+    for name in torn {
+        println!(rt; "torn {} {}", name.life, name.call)?;
+    }
+    Ok(())
 }
 
 /// Tells what a spool of calls was found to hold: damaged records, octets that were passed over, the pages that wait, and the calls that
@@ -357,12 +456,5 @@ fn lists_calls(rt: HostRuntime) -> Result<(), Fail> {
         "damaged {} {} {} {}",
         damaged.0, damaged.1, passed.0, passed.1
     )?;
-    for page in opened.pages.as_slice() {
-        let right = is_right_of_call(rt.alloc(), page)?;
-        println!(rt; "waits {} {} {} {right}", page.life, page.call, page.number)?;
-    }
-    for name in opened.torn.as_slice() {
-        println!(rt; "torn {} {}", name.life, name.call)?;
-    }
-    Ok(())
+    tell_calls(&rt, opened.pages.as_slice(), opened.torn.as_slice())
 }

@@ -11,3 +11,5 @@ mod noted;
 mod read_back;
 #[cfg(test)]
 mod reopened;
+#[cfg(test)]
+mod steps;

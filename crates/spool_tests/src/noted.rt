@@ -1,22 +1,16 @@
 //! Jobs that end: what is noted of them is not found again.
+use crate::steps::{FORMAT, new_spool, reopen};
 use fax_bits::{NoMemory, Octets};
 use fax_gateway::Kept;
 use fax_holding_wire::PageStore;
 use fax_jobs::{Outcome, Report};
 use fax_line::PageToStore;
 use fax_queue::{Queue, Storage};
-use fax_restarts::open_over;
-use fax_runcodes::{Format, Width};
 use fax_spool::OpenedSpool;
 use sqlite_disk::Memory;
 use std::alloc::{AllocError, Global};
 use std::rt::HostRuntime;
 use std::test::Fail;
-
-const FORMAT: Format = Format {
-    width: Width::W1728,
-    fine: false,
-};
 
 /// Of a job of one page.
 const REPORT: Report = Report {
@@ -57,22 +51,32 @@ fn tells_page(opened: &OpenedSpool<Memory>, call: u32, tag: &str) -> bool {
     }
 }
 
+/// The page of this call of the first line is stored.
+fn store(storage: &mut Storage<Memory>, alloc: Global, call: u32) -> Result<(), Fail> {
+    storage.store_all(&[page_of(alloc, call)?])?;
+    Ok(())
+}
+
+/// Two pages are stored, each under the tag of its call, and the job of the first one ends.
+fn store_two(storage: &mut Storage<Memory>, alloc: Global) -> Result<(), Fail> {
+    storage.set_tag(0, "first");
+    store(storage, alloc, 0)?;
+    storage.begin_slot();
+    storage.set_tag(0, "second");
+    store(storage, alloc, 1)?;
+    storage.end(0, REPORT)?;
+    Ok(())
+}
+
 /// What `Storage::end` promises of an `Ok` is not empty: with memory to spare it answers one. The page of the job that ended is not
 /// found again, and the next one is, under the tag of its own call.
 #[test]
 fn ended_job_is_not_found_again(rt: HostRuntime) -> Result<(), Fail> {
     let alloc = rt.alloc();
-    let opened = open_over(alloc, &[], &[])?;
-    let mut storage = Storage::new(alloc, opened.spool, queues_of(alloc)?);
-    storage.set_tag(0, "first");
-    storage.store_all(&[page_of(alloc, 0)?])?;
-    storage.begin_slot();
-    storage.set_tag(0, "second");
-    storage.store_all(&[page_of(alloc, 1)?])?;
-    storage.end(0, REPORT)?;
-    let (older, newer) = storage.into_spool().into_files();
-    let found = open_over(alloc, older.disk.bytes(), newer.disk.bytes())?;
-    assert!(rt; tells_page(&found, 1, "second"));
+    let mut storage = Storage::new(alloc, new_spool(alloc)?, queues_of(alloc)?);
+    store_two(&mut storage, alloc)?;
+    let again = reopen(storage.into_spool(), alloc)?;
+    assert!(rt; tells_page(&again.opened, 1, "second"));
     Ok(())
 }
 
@@ -101,30 +105,33 @@ fn large_page(alloc: Global, call: u32) -> Result<PageToStore, AllocError> {
     })
 }
 
-/// A page of the first line stays, while 80 MiB of the second one come and go: neither file has more than 20 MiB, and the page is found.
+/// The page of this call of the second line is stored, and its job ends.
+fn pass(storage: &mut Storage<Memory>, alloc: Global, call: u32) -> Result<(), Fail> {
+    storage.begin_slot();
+    storage.store_all(&[large_page(alloc, call)?])?;
+    let report = Report { call, ..REPORT };
+    storage.end(1, report)?;
+    Ok(())
+}
+
+/// A page of the first line stays, while 80 MiB of the second one come and go.
+fn store_and_pass(storage: &mut Storage<Memory>, alloc: Global) -> Result<(), Fail> {
+    storage.set_tag(0, "stays");
+    store(storage, alloc, 0)?;
+    for call in 0..80 {
+        pass(storage, alloc, call)?;
+    }
+    Ok(())
+}
+
+/// Neither file has more than 20 MiB then, and the page is found.
 #[test]
 fn a_page_that_stays_keeps_no_file(rt: HostRuntime) -> Result<(), Fail> {
     let alloc = rt.alloc();
-    let opened = open_over(alloc, &[], &[])?;
-    let mut storage = Storage::new(alloc, opened.spool, two_queues(alloc)?);
-    storage.set_tag(0, "stays");
-    storage.store_all(&[page_of(alloc, 0)?])?;
-    for call in 0..80 {
-        storage.begin_slot();
-        storage.store_all(&[large_page(alloc, call)?])?;
-        let report = Report {
-            call,
-            format: FORMAT,
-            pages: 1,
-            delivered: 1,
-            outcome: Outcome::Delivered,
-        };
-        storage.end(1, report)?;
-    }
-    let (older, newer) = storage.into_spool().into_files();
-    assert!(rt; older.disk.bytes().len() < 20 * LARGE);
-    assert!(rt; newer.disk.bytes().len() < 20 * LARGE);
-    let found = open_over(alloc, older.disk.bytes(), newer.disk.bytes())?;
-    assert!(rt; tells_page(&found, 0, "stays"));
+    let mut storage = Storage::new(alloc, new_spool(alloc)?, two_queues(alloc)?);
+    store_and_pass(&mut storage, alloc)?;
+    let again = reopen(storage.into_spool(), alloc)?;
+    let [older, newer] = again.octets;
+    assert!(rt; older < 20 * LARGE && newer < 20 * LARGE && tells_page(&again.opened, 0, "stays"));
     Ok(())
 }

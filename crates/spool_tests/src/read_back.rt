@@ -1,88 +1,94 @@
 //! The pages of jobs, read back one job at a time from a spool that is in use.
+use crate::steps::{change, clear, ended, new_spool, put, put_again, reopen};
 use fax_jobs::Outcome;
-use fax_restarts::open_over;
-use fax_runcodes::{Format, Width};
-use fax_spool::{EndedRecord, PageRecord, Spool};
+use fax_spool::Spool;
 use sqlite_disk::Memory;
 use std::alloc::Global;
 use std::io;
 use std::rt::HostRuntime;
 use std::test::Fail;
 
-const FORMAT: Format = Format {
-    width: Width::W1728,
-    fine: false,
-};
-
 /// The text of a page whose record has no room in memory.
 const LONG: usize = 16 * 1024 * 1024;
 
-/// The page of this number is put, which is a job of its own.
-fn put(spool: &mut Spool<Memory>, alloc: Global, number: u32, text: &[u8]) -> io::Result<()> {
-    let page = PageRecord {
-        life: 1,
-        call: 0,
-        number,
-        format: FORMAT,
-        closes: true,
-        line: b"a1",
-        tag: b"t",
-        text,
-    };
-    spool.put(alloc, &page)
-}
-
 /// Whether the end of the job of this page would end it alone, and it has this text.
 fn reads(spool: &mut Spool<Memory>, alloc: Global, number: u32, text: &[u8]) -> io::Result<bool> {
-    let ended = EndedRecord {
-        life: 1,
-        call: 0,
-        first: number,
-        pages: 1,
-        delivered: 0,
-        format: FORMAT,
-        outcome: Outcome::NoAnswer,
-        line: b"a1",
-    };
-    let pages = spool.pages_ended_by(alloc, &ended)?;
+    let pages = spool.pages_ended_by(alloc, &ended(number, Outcome::NoAnswer, 0))?;
     match pages.as_slice() {
         [page] => Ok(page.number == number && page.text.as_slice() == text),
         _ => Ok(false),
     }
 }
 
-/// Page 1 is in the older file and page 2 in the newer one; then both are put again, and again into the other file.
+/// Whether that is so of pages 1 and 2.
+fn reads_both(spool: &mut Spool<Memory>, alloc: Global) -> io::Result<bool> {
+    Ok(reads(spool, alloc, 1, b"one")? && reads(spool, alloc, 2, b"two")?)
+}
+
+/// Page 1 is put into the older file and page 2 into the newer one; then both are put again, and again into the other file. It answers
+/// what is done, and whether both are read back, step by step.
+fn put_both(spool: &mut Spool<Memory>, alloc: Global) -> io::Result<[bool; 8]> {
+    put(spool, alloc, 1, b"one")?;
+    let has_changed = change(spool, alloc)?;
+    put(spool, alloc, 2, b"two")?;
+    Ok([
+        has_changed,
+        reads_both(spool, alloc)?,
+        put_again(spool, alloc, 1000)?,
+        reads_both(spool, alloc)?,
+        clear(spool)?,
+        change(spool, alloc)?,
+        put_again(spool, alloc, 1000)?,
+        reads_both(spool, alloc)?,
+    ])
+}
+
+/// Whether all of that is so.
+fn are_read_back(alloc: Global) -> io::Result<bool> {
+    let mut spool = new_spool(alloc)?;
+    Ok(put_both(&mut spool, alloc)? == [true; 8])
+}
+
 #[test]
 fn pages_of_both_files_are_read_back(rt: HostRuntime) -> Result<(), Fail> {
-    let alloc = rt.alloc();
-    let mut spool = open_over(alloc, &[], &[])?.spool;
-    put(&mut spool, alloc, 1, b"one")?;
-    assert!(rt; spool.change(alloc)?);
-    put(&mut spool, alloc, 2, b"two")?;
-    assert!(rt; reads(&mut spool, alloc, 1, b"one")? && reads(&mut spool, alloc, 2, b"two")?);
-    assert!(rt; spool.put_again(alloc, 1000)?);
-    assert!(rt; reads(&mut spool, alloc, 1, b"one")? && reads(&mut spool, alloc, 2, b"two")?);
-    assert!(rt; spool.clear()? && spool.change(alloc)?);
-    assert!(rt; spool.put_again(alloc, 1000)?);
-    assert!(rt; reads(&mut spool, alloc, 1, b"one")? && reads(&mut spool, alloc, 2, b"two")?);
+    assert!(rt; are_read_back(rt.alloc())?);
     Ok(())
 }
 
-/// Page 1 has no room in memory, and is read from its file: from the newer one, from the older one after others, and as a start finds it.
+/// Page 1, which has this text, is put between two others, is read, stays as the files take turns, and is read again. It is not put again.
+fn put_long(spool: &mut Spool<Memory>, alloc: Global, long: &[u8]) -> io::Result<[bool; 4]> {
+    put(spool, alloc, 2, b"two")?;
+    put(spool, alloc, 1, long)?;
+    put(spool, alloc, 3, b"three")?;
+    Ok([
+        reads(spool, alloc, 1, long)?,
+        change(spool, alloc)?,
+        !put_again(spool, alloc, usize::MAX)?,
+        reads(spool, alloc, 1, long)?,
+    ])
+}
+
+/// Whether page 1, of this text, and page 3 are read as a start finds them.
+fn are_found(spool: Spool<Memory>, alloc: Global, long: &[u8]) -> io::Result<[bool; 2]> {
+    let mut spool = reopen(spool, alloc)?.opened.spool;
+    Ok([
+        reads(&mut spool, alloc, 1, long)?,
+        reads(&mut spool, alloc, 3, b"three")?,
+    ])
+}
+
+/// Whether all of that is so of a page that has no room in memory, and is read from its file: from the newer one, from the older one after
+/// others, and as a start finds it.
+fn is_long_read(alloc: Global) -> io::Result<bool> {
+    let long = Vec::from_elem(alloc, 7u8, LONG)?;
+    let mut spool = new_spool(alloc)?;
+    let steps = put_long(&mut spool, alloc, long.as_slice())?;
+    let found = are_found(spool, alloc, long.as_slice())?;
+    Ok(steps == [true; 4] && found == [true; 2])
+}
+
 #[test]
 fn long_pages_are_read_from_their_files(rt: HostRuntime) -> Result<(), Fail> {
-    let alloc = rt.alloc();
-    let long = Vec::from_elem(alloc, 7u8, LONG)?;
-    let mut spool = open_over(alloc, &[], &[])?.spool;
-    put(&mut spool, alloc, 2, b"two")?;
-    put(&mut spool, alloc, 1, long.as_slice())?;
-    put(&mut spool, alloc, 3, b"three")?;
-    assert!(rt; reads(&mut spool, alloc, 1, long.as_slice())?);
-    assert!(rt; spool.change(alloc)? && !spool.put_again(alloc, usize::MAX)?);
-    assert!(rt; reads(&mut spool, alloc, 1, long.as_slice())?);
-    let (older, newer) = spool.into_files();
-    let mut spool = open_over(alloc, older.disk.bytes(), newer.disk.bytes())?.spool;
-    assert!(rt; reads(&mut spool, alloc, 1, long.as_slice())?);
-    assert!(rt; reads(&mut spool, alloc, 3, b"three")?);
+    assert!(rt; is_long_read(rt.alloc())?);
     Ok(())
 }

@@ -3,6 +3,8 @@ use fax_restarts::open_again;
 use fax_runcodes::{Format, Width};
 use fax_spool::{Listing, OpenedSpool, PageRecord, list_spool};
 use sqlite_disk::Memory;
+use std::alloc::Global;
+use std::io;
 use std::rt::HostRuntime;
 use std::test::Fail;
 
@@ -33,14 +35,15 @@ fn tells_page(opened: &OpenedSpool<Memory>) -> bool {
 #[test]
 fn a_page_is_told_again(rt: HostRuntime) -> Result<(), Fail> {
     let opened = open_again(rt.alloc(), &PAGE)?;
-    assert!(rt; tells_page(&opened));
-    assert!(rt; opened.spool.epoch() == 2);
+    assert!(rt; tells_page(&opened) && opened.spool.epoch() == 2);
     Ok(())
 }
 
-/// Whether this page alone is listed, closes its job, and nothing is harmed.
+/// Whether this page alone is listed, closes its job, and nothing is harmed or torn.
 fn lists_page(listing: &Listing) -> bool {
-    let is_whole = listing.one.damaged == 0 && listing.other.damaged == 0;
+    let is_whole = listing.one.damaged == 0
+        && listing.other.damaged == 0
+        && listing.torn.is_empty();
     match listing.pages.as_slice() {
         [page] => {
             is_whole
@@ -53,13 +56,17 @@ fn lists_page(listing: &Listing) -> bool {
     }
 }
 
-/// What `list_spool` promises of an `Ok` is not empty: the files tell the page, whichever of them comes first.
+/// Whether the files tell that, whichever of them comes first.
+fn lists_it(alloc: Global) -> io::Result<[bool; 2]> {
+    let (one, other) = open_again(alloc, &PAGE)?.spool.into_files();
+    let listing = list_spool(alloc, one.disk.bytes(), other.disk.bytes())?;
+    let turned = list_spool(alloc, other.disk.bytes(), one.disk.bytes())?;
+    Ok([lists_page(&listing), lists_page(&turned)])
+}
+
+/// What `list_spool` promises of an `Ok` is not empty: the files tell the page.
 #[test]
 fn a_page_is_listed(rt: HostRuntime) -> Result<(), Fail> {
-    let (one, other) = open_again(rt.alloc(), &PAGE)?.spool.into_files();
-    let listing = list_spool(rt.alloc(), one.disk.bytes(), other.disk.bytes())?;
-    let turned = list_spool(rt.alloc(), other.disk.bytes(), one.disk.bytes())?;
-    assert!(rt; lists_page(&listing) && listing.torn.is_empty());
-    assert!(rt; lists_page(&turned) && turned.torn.is_empty());
+    assert!(rt; lists_it(rt.alloc())? == [true; 2]);
     Ok(())
 }
