@@ -24,7 +24,7 @@ use fax_opening::{
 };
 use fax_pace::{RealPace, RedialSide, Seen, SeenLines, SipSide, Watch};
 use fax_queue::{Queue, Storage};
-use fax_spool::{CallName, OpenedSpool, Spool, WaitingPage};
+use fax_spool::{CallName, OpenedSpool, WaitingPage};
 use fax_spool_folder::{Folders, SpoolFolderFile};
 use fax_undelivered::{PairedStore, Undelivered};
 use fax_visitors::Visitors;
@@ -37,6 +37,14 @@ use std::rt::Clock;
 
 /// Milliseconds of a second.
 const SECOND_MS: u64 = 1_000;
+
+/// What stands beside the lines of a server: clients, SIP, where the configuration tells of it, and redial lines.
+#[derive(Drop)]
+struct Sides<I: Read + Drop, O: Write + Drop, P: SipSide + Drop, R: RedialSide + Drop> {
+    clients: Clients<I, O>,
+    sip: Option<P>,
+    redials: R,
+}
 
 /// Serves the lines of a configuration until it is told to stop, or its spool has failed and no line has a call, 10 s after the failure
 /// at the earliest: then it is to be served by another run, over a spool that is opened anew. Words come on the control socket where
@@ -99,7 +107,7 @@ pub fn run_serve<
     }
 }
 
-/// The same with SIP, where the configuration tells of it.
+/// The same with SIP, where the configuration tells of it, and over the sockets of redial lines.
 fn serve_with_sip<
     M: ServiceManager + Drop,
     N: Net + Files + Clock + Folders,
@@ -123,58 +131,22 @@ fn serve_with_sip<
     ensures untold { OnErr result (M.told manager.new ≡ M.told manager.old) }
 {
     let sip = open_sip(system, alloc, config)?;
-    serve_over::<ServedWire, SipFront, M, N, I, O, S, T>(
-        system,
-        alloc,
-        config,
-        clients,
-        sip,
-        spool_failures,
-        manager,
-        start,
-        undelivered,
-    )
-}
-
-/// The same over wires of this type, with SIP of this type, and over the sockets of redial lines.
-fn serve_over<
-    W: SocketWire + Drop,
-    P: SipSide + Drop,
-    M: ServiceManager + Drop,
-    N: Net + Clock + Folders,
-    I: Read + Drop,
-    O: Write + Drop,
-    S: Start,
-    T: Start,
->(
-    system: &N,
-    alloc: Global,
-    config: &Config,
-    clients: Clients<I, O>,
-    sip: Option<P>,
-    spool_failures: u64,
-    manager: &mut M,
-    start: S,
-    undelivered: T,
-) -> Result<RunEnd, ServeFault>
-    ensures alone { OnOk result (ServedAlone (length config.now.lines.items) (is_some config.now.spool)) }
-    ensures kept { OnOk result (is_some config.now.spool ≡ true → ServedOver ⟦<SpoolFolderFile<S> as Disk>⟧.seen ⟦<SpoolFolderFile<S> as Disk>⟧.may_leave ⟦<SpoolFolderFile<S> as Disk>⟧.is_usable ⟦<SpoolFolderFile<S> as Disk>⟧.is_clean ⟦<PairedStore<SpoolFolderFile<S>, SpoolFolderFile<T>> as RunStore>⟧.is_same ⟦<PairedStore<SpoolFolderFile<S>, SpoolFolderFile<T>> as PageStore<PageToStore>>⟧.puts ⟦<PairedStore<SpoolFolderFile<S>, SpoolFolderFile<T>> as RunStore>⟧.notes ⟦<PairedStore<SpoolFolderFile<S>, SpoolFolderFile<T>> as RunStore>⟧.ends (λ store. store.storage.spool) (λ store. store.storage.queues.items) S.db S.log config.now.lines.items) }
-    ensures ready { OnOk result (M.told manager.new ≡ ready_after (length config.now.lines.items) (M.told manager.old)) }
-    ensures untold { OnErr result (M.told manager.new ≡ M.told manager.old) }
-{
     let sockets = open_redials(system, alloc, config.redial.as_slice())?;
     let redials: RedialLines<'_, RedialWire<'_>> = RedialLines::new(
         alloc,
         config,
         sockets.as_slice(),
     )?;
-    serve_beside::<W, P, RedialLines<'_, RedialWire<'_>>, M, N, I, O, S, T>(
-        system,
-        alloc,
-        config,
+    let sides = Sides {
         clients,
         sip,
         redials,
+    };
+    serve_beside::<ServedWire, SipFront, RedialLines<'_, RedialWire<'_>>, M, N, I, O, S, T>(
+        system,
+        alloc,
+        config,
+        sides,
         spool_failures,
         manager,
         start,
@@ -182,7 +154,7 @@ fn serve_over<
     )
 }
 
-/// The same beside redial lines of this type.
+/// The same over wires of this type, beside SIP and redial lines of these types.
 fn serve_beside<
     W: SocketWire + Drop,
     P: SipSide + Drop,
@@ -197,9 +169,7 @@ fn serve_beside<
     system: &N,
     alloc: Global,
     config: &Config,
-    clients: Clients<I, O>,
-    sip: Option<P>,
-    redials: R,
+    sides: Sides<I, O, P, R>,
     spool_failures: u64,
     manager: &mut M,
     start: S,
@@ -212,15 +182,13 @@ fn serve_beside<
 {
     match &config.spool {
         None => serve_in_memory::<W, P, R, M, N, I, O, SpoolFolderFile<S>, SpoolFolderFile<T>>(
-            system, alloc, config, clients, sip, redials, manager,
+            system, alloc, config, sides, manager,
         ),
         Some(folder) => serve_spooled::<W, P, R, M, N, I, O, S, T>(
             system,
             alloc,
             config,
-            clients,
-            sip,
-            redials,
+            sides,
             folder.as_str(),
             spool_failures,
             manager,
@@ -245,9 +213,7 @@ fn serve_in_memory<
     system: &N,
     alloc: Global,
     config: &Config,
-    clients: Clients<I, O>,
-    sip: Option<P>,
-    redials: R,
+    sides: Sides<I, O, P, R>,
     manager: &mut M,
 ) -> Result<RunEnd, ServeFault>
     ensures alone { OnOk result (ServedAlone (length config.now.lines.items) false) }
@@ -260,18 +226,7 @@ fn serve_in_memory<
         lines: &lines,
         store: None,
     };
-    let pace = pace_of(
-        system,
-        alloc,
-        config,
-        clients,
-        sip,
-        &seen,
-        redials,
-        &[],
-        Some(held),
-        0,
-    )?;
+    let pace = pace_of(system, alloc, config, sides, &seen, &[], Some(held), 0)?;
     let mut pace = NoticingPace::begin(pace, manager, lines.len());
     serve_new::<W, P, R, M, N, I, O, D, U>(lines, &mut pace);
     Ok(pace.finish())
@@ -293,9 +248,7 @@ fn serve_spooled<
     system: &N,
     alloc: Global,
     config: &Config,
-    clients: Clients<I, O>,
-    sip: Option<P>,
-    redials: R,
+    sides: Sides<I, O, P, R>,
     folder: &str,
     spool_failures: u64,
     manager: &mut M,
@@ -313,9 +266,7 @@ fn serve_spooled<
         system,
         alloc,
         config,
-        clients,
-        sip,
-        redials,
+        sides,
         opened,
         kept,
         spool_failures,
@@ -338,9 +289,7 @@ fn serve_opened<
     system: &N,
     alloc: Global,
     config: &Config,
-    clients: Clients<I, O>,
-    sip: Option<P>,
-    redials: R,
+    sides: Sides<I, O, P, R>,
     opened: OpenedSpool<D>,
     kept: OpenedSpool<U>,
     spool_failures: u64,
@@ -352,43 +301,32 @@ fn serve_opened<
     ensures untold { OnErr result (M.told manager.new ≡ M.told manager.old) }
 {
     let damage = damage_of(&opened, &kept);
-    let OpenedSpool {
-        spool,
-        pages,
-        torn,
-        older_damaged: _,
-        newer_damaged: _,
-        older_passed_over: _,
-        newer_passed_over: _,
-    } = opened;
     let mut queues = Vec::new(alloc);
     let lines: Lines<HoldingWire<W>> = open_restored_lines(
         system,
         alloc,
         config.lines.as_slice(),
-        pages.as_slice(),
-        torn.as_slice(),
+        opened.pages.as_slice(),
+        opened.torn.as_slice(),
         &mut queues,
     )?;
     let aside = Aside {
         damage,
-        pages: pages.as_slice(),
-        torn: torn.as_slice(),
+        pages: opened.pages.as_slice(),
+        torn: opened.torn.as_slice(),
         queues: queues.as_slice(),
     };
     let pace = pace_beside::<W, P, R, N, I, O, D, U>(
         system,
         alloc,
         config,
-        clients,
-        sip,
-        redials,
+        sides,
         &lines,
         aside,
         &kept,
         spool_failures,
     )?;
-    let store = store_of(alloc, spool, queues, kept)?;
+    let store = store_of(alloc, opened, queues, kept)?;
     let mut pace = NoticingPace::begin(pace, manager, lines.len());
     serve_restored(lines, store, &mut pace);
     Ok(pace.finish())
@@ -418,9 +356,7 @@ fn pace_beside<
     system: &'a N,
     alloc: Global,
     config: &Config,
-    clients: Clients<I, O>,
-    sip: Option<P>,
-    redials: R,
+    sides: Sides<I, O, P, R>,
     lines: &Lines<HoldingWire<W>>,
     aside: Aside<'_>,
     kept: &OpenedSpool<U>,
@@ -433,10 +369,8 @@ fn pace_beside<
         system,
         alloc,
         config,
-        clients,
-        sip,
+        sides,
         &seen,
-        redials,
         aside.queues,
         None,
         spool_failures,
@@ -446,17 +380,18 @@ fn pace_beside<
     Ok(pace)
 }
 
-/// The store of a run over both pairs of files.
+/// The store of a run over both pairs of files that were opened.
 fn store_of<D: Disk + Drop, U: Disk + Drop>(
     alloc: Global,
-    spool: Spool<D>,
+    opened: OpenedSpool<D>,
     queues: Vec<Queue>,
     kept: OpenedSpool<U>,
 ) -> Result<PairedStore<D, U>, NoMemory>
-    ensures spool { IfOk result (λ store. store.storage.spool ≡ spool) }
+    ensures spool { IfOk result (λ store. store.storage.spool ≡ opened.spool) }
     ensures queues { IfOk result (λ store. store.storage.queues.items ≡ queues.items) }
 {
     let undelivered = Undelivered::new(alloc, kept)?;
+    let spool = opened.spool;
     let storage = Storage::new(alloc, spool, queues);
     Ok(PairedStore::new(alloc, storage, Some(undelivered)))
 }
@@ -504,35 +439,64 @@ fn pace_of<
     system: &'a N,
     alloc: Global,
     config: &Config,
-    clients: Clients<I, O>,
-    sip: Option<P>,
+    sides: Sides<I, O, P, R>,
     seen: &L,
-    redials: R,
     queues: &[Queue],
     held: Option<HeldPages>,
     spool_failures: u64,
 ) -> Result<RealPace<'a, N, I, O, R, P>, ServeFault>
     ensures { IfOk result (λ pace. pace.waits ≡ None) }
 {
+    let around = around_of(system, alloc, config, seen, queues)?;
+    Ok(RealPace::new(
+        alloc,
+        around.clock,
+        sides.clients,
+        around.desk,
+        seen.len(),
+        around.settings,
+        around.watch,
+        around.visitors,
+        sides.sip,
+        sides.redials,
+        held,
+        spool_failures,
+    )?)
+}
+
+/// The desk, and what the orders are given by beside it: the clock, the settings of the lines, what watches legs, and who looks at the
+/// server over HTTP.
+#[derive(Drop)]
+struct Around<'a, C: Clock> {
+    desk: Desk,
+    clock: Stopwatch<'a, C>,
+    settings: Vec<Settings>,
+    watch: Option<Watch>,
+    visitors: Option<Visitors>,
+}
+
+/// The same of a configuration, for lines that are seen so, of which these pages wait, from now on.
+fn around_of<'a, L: SeenLines, N: Net + Clock>(
+    system: &'a N,
+    alloc: Global,
+    config: &Config,
+    seen: &L,
+    queues: &[Queue],
+) -> Result<Around<'a, N>, ServeFault>
+    ensures { IfOk result (λ around. around.desk.waits ≡ None) }
+{
     let desk = desk_of(alloc, config, queues)?;
     let clock = clock_of(system)?;
     let watch = Watch::new(system, alloc, seen).ok();
     let visitors = visitors_of(system, alloc, config)?;
     let settings = settings_of_all(alloc, config.lines.as_slice())?;
-    Ok(RealPace::new(
-        alloc,
-        clock,
-        clients,
+    Ok(Around {
         desk,
-        seen.len(),
+        clock,
         settings,
         watch,
         visitors,
-        sip,
-        redials,
-        held,
-        spool_failures,
-    )?)
+    })
 }
 
 /// The settings of the gateways of these lines.

@@ -13,7 +13,7 @@ use std::rt::Clock;
 const WAIT_MS: u64 = 1_000;
 
 /// Whether a word of a client said to stop.
-#[derive(Clone, Copy, PartialEq, Eq, Debug)]
+#[derive(Clone, Copy, PartialEq)]
 enum UnservedWord {
     Stop,
     Nothing,
