@@ -2,7 +2,7 @@
 use crate::agreeing::agreed_on;
 use crate::call::{Asked, CallState, Kept};
 use crate::desk::Desk;
-use crate::offering::ALLOW;
+use crate::offering::{ALLOW, add_line};
 use crate::out::Progress;
 use crate::profile::Profile;
 use fax_dialogs::Agent;
@@ -124,33 +124,14 @@ fn put_answer_fields<'a>(
     interval: &'a [u8],
     agreed: Option<(u32, Agent)>,
 ) -> Result<(), AllocError> {
-    fields.push(Field {
-        name: Name::Contact,
-        value: contact,
-    })?;
-    fields.push(Field {
-        name: Name::Allow,
-        value: ALLOW,
-    })?;
-    fields.push(Field {
-        name: Name::Supported,
-        value: b"timer",
-    })?;
+    add_line(fields, Name::Contact, contact)?;
+    add_line(fields, Name::Allow, ALLOW)?;
+    add_line(fields, Name::Supported, b"timer")?;
     if let Some((_, agent)) = agreed {
-        fields.push(Field {
-            name: Name::SessionExpires,
-            value: interval,
-        })?;
+        add_line(fields, Name::SessionExpires, interval)?;
         if agent == Agent::Uac {
-            fields.push(Field {
-                name: Name::Require,
-                value: b"timer",
-            })?;
+            add_line(fields, Name::Require, b"timer")?;
         }
     }
-    fields.push(Field {
-        name: Name::ContentType,
-        value: b"application/sdp",
-    })?;
-    Ok(())
+    add_line(fields, Name::ContentType, b"application/sdp")
 }

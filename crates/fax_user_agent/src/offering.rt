@@ -53,6 +53,16 @@ fn put_line<'a>(fields: &mut Vec<Field<'a>>, name: Name, value: &'a [u8]) -> Res
     Ok(())
 }
 
+/// A line more, of which nothing is promised: what promises costs each call of it.
+pub(crate) fn add_line<'a>(
+    fields: &mut Vec<Field<'a>>,
+    name: Name,
+    value: &'a [u8],
+) -> Result<(), AllocError> {
+    fields.push(Field { name, value })?;
+    Ok(())
+}
+
 /// The line of credentials, where there are some.
 fn put_credential<'a>(
     fields: &mut Vec<Field<'a>>,

@@ -3,7 +3,7 @@ use crate::answered::challenge_of;
 use crate::client::Purpose;
 use crate::desk::{Desk, written};
 use crate::lane::Lane;
-use crate::offering::{Credential, address_text};
+use crate::offering::{Credential, add_line, address_text};
 use crate::out::Told;
 use crate::profile::Profile;
 use fax_requests::{branch_of, read_seconds};
@@ -174,19 +174,10 @@ fn put_register_fields<'a>(
     seconds: &'a [u8],
     credential: Option<&'a Credential>,
 ) -> Result<(), AllocError> {
-    fields.push(Field {
-        name: Name::Contact,
-        value: contact,
-    })?;
-    fields.push(Field {
-        name: Name::Expires,
-        value: seconds,
-    })?;
+    add_line(fields, Name::Contact, contact)?;
+    add_line(fields, Name::Expires, seconds)?;
     if let Some(credential) = credential {
-        fields.push(Field {
-            name: credential.name,
-            value: credential.value.as_slice(),
-        })?;
+        add_line(fields, credential.name, credential.value.as_slice())?;
     }
     Ok(())
 }
