@@ -8,14 +8,13 @@ use crate::stream::Stream;
 use fax_bits::NoMemory;
 use fax_control::HeardLine;
 use std::alloc::Global;
-use std::io::{Read, Write};
 use std::marker::Model;
 use std::os::fd::RawFd;
 
 /// Who says words and reads answers.
 #[derive(Drop)]
-pub(crate) struct Client<I: Read + Drop, O: Write + Drop> {
-    stream: Stream<I, O>,
+pub(crate) struct Client {
+    stream: Stream,
     inbox: Inbox,
     outbox: Outbox,
     /// How many lines all clients had said when this one said its last, or came in.
@@ -27,7 +26,7 @@ pub(crate) struct Client<I: Read + Drop, O: Write + Drop> {
 }
 
 /// Contracts see what came of it, what it is told, and which line it watches.
-impl<I: Read + Drop, O: Write + Drop> Model for Client<I, O> {
+impl Model for Client {
     ghost use Rattle.fax_clients.specs.Clients.{ClientValue};
 
     ghost Value = { ClientValue };
@@ -35,9 +34,9 @@ impl<I: Read + Drop, O: Write + Drop> Model for Client<I, O> {
     ghost view = { λ c. record { said = c.inbox; told = c.outbox; watches = c.watches } };
 }
 
-impl<I: Read + Drop, O: Write + Drop> Client<I, O> {
+impl Client {
     /// A client that said nothing, which comes in after so many lines of others.
-    pub(crate) fn new(alloc: Global, stream: Stream<I, O>, lines: u64) -> Self
+    pub(crate) fn new(alloc: Global, stream: Stream, lines: u64) -> Self
         ensures { result ≡ silent }
     {
         Client {

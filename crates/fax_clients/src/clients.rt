@@ -10,7 +10,7 @@ use crate::stream::Stream;
 use fax_bits::NoMemory;
 use fax_control::HeardLine;
 use std::alloc::Global;
-use std::io::{Read, Write};
+use std::io::{Stdin, Stdout};
 use std::marker::Model;
 use std::os::fd::AsRawFd;
 use std::os::unix::net::UnixListener;
@@ -57,12 +57,12 @@ impl Asker {
 /// The clients of a control socket, at most 64 at one time; or standard input and output alone. Where one more comes, the one goes that
 /// has been silent longest, of those that want events only where there is no other.
 #[derive(Drop)]
-pub struct Clients<I: Read + Drop, O: Write + Drop> {
+pub struct Clients {
     alloc: Global,
     listener: Option<UnixListener>,
     /// What keeps a record of all events, where something does.
-    journal: Option<Journal<O>>,
-    clients: Vec<Client<I, O>>,
+    journal: Option<Journal>,
+    clients: Vec<Client>,
     ready: Ready,
     /// How many lines were heard of all clients.
     lines: u64,
@@ -71,7 +71,7 @@ pub struct Clients<I: Read + Drop, O: Write + Drop> {
 }
 
 /// Contracts see whether there is a control socket, the record of events, each client, and the count of lost lines.
-impl<I: Read + Drop, O: Write + Drop> Model for Clients<I, O> {
+impl Model for Clients {
     ghost use Rattle.std.specs.Prelude.{◌≤◌, is_some, length};
     ghost use Rattle.fax_clients.specs.Clients.{ClientsValue};
 
@@ -82,9 +82,9 @@ impl<I: Read + Drop, O: Write + Drop> Model for Clients<I, O> {
     ghost invariant = { λ c. length c.clients.items ≤ 64 };
 }
 
-impl<I: Read + Drop, O: Write + Drop> Clients<I, O> {
+impl Clients {
     /// Standard input, which says words, and standard output, which has the answers and all events.
-    pub fn standard(alloc: Global, input: I, output: O) -> Result<Self, NoMemory>
+    pub fn standard(alloc: Global, input: Stdin, output: Stdout) -> Result<Self, NoMemory>
         ensures { IfOk result (λ clients. clients ≡ standard_alone) }
     {
         let mut client = Client::new(alloc, Stream::Standard(input, output), 0);
@@ -107,7 +107,7 @@ impl<I: Read + Drop, O: Write + Drop> Clients<I, O> {
     pub fn of_socket(
         alloc: Global,
         listener: UnixListener,
-        output: Option<O>,
+        output: Option<Stdout>,
     ) -> Result<Self, NoMemory>
         ensures { IfOk result (λ clients. clients ≡ socket_alone (is_some output)) }
     {
@@ -357,11 +357,7 @@ impl<I: Read + Drop, O: Write + Drop> Clients<I, O> {
 
 /// Waits until one of the clients has said something or takes more, at most so many milliseconds; reads and writes what can
 /// be. Where one more comes, and there is no place, one of them is let go.
-fn wait_for<I: Read + Drop, O: Write + Drop>(
-    ready: &mut Ready,
-    clients: &mut [Client<I, O>],
-    most_ms: i32,
-)
+fn wait_for(ready: &mut Ready, clients: &mut [Client], most_ms: i32)
     ensures { AreServed clients.old clients.new }
 {
     let is_waiting = ask(ready, clients);
@@ -373,7 +369,7 @@ fn wait_for<I: Read + Drop, O: Write + Drop>(
 }
 
 /// What the clients are waited for. It answers whether a line may be there that one said.
-fn ask<I: Read + Drop, O: Write + Drop>(ready: &mut Ready, clients: &mut [Client<I, O>]) -> bool
+fn ask(ready: &mut Ready, clients: &mut [Client]) -> bool
     ensures { AllZip IsAsked clients.old clients.new }
 {
     let mut is_waiting = false;
@@ -387,7 +383,7 @@ fn ask<I: Read + Drop, O: Write + Drop>(ready: &mut Ready, clients: &mut [Client
 }
 
 /// Reads and writes what can be, where the clients were waited for one after the other.
-fn serve<I: Read + Drop, O: Write + Drop>(ready: &Ready, clients: &mut [Client<I, O>])
+fn serve(ready: &Ready, clients: &mut [Client])
     ensures { AllZip IsServed clients.old clients.new }
 {
     let mut i = 1usize;
@@ -398,7 +394,7 @@ fn serve<I: Read + Drop, O: Write + Drop>(ready: &Ready, clients: &mut [Client<I
 }
 
 /// How many lines of events the clients lost since this was asked.
-fn take_lost<I: Read + Drop, O: Write + Drop>(clients: &mut [Client<I, O>]) -> u64
+fn take_lost(clients: &mut [Client]) -> u64
     ensures { AllZip IsCounted clients.old clients.new }
 {
     let mut lost = 0u64;
@@ -409,12 +405,12 @@ fn take_lost<I: Read + Drop, O: Write + Drop>(clients: &mut [Client<I, O>]) -> u
 }
 
 /// Whether one more may come in: there is a place, or one of the clients can go.
-fn has_room<I: Read + Drop, O: Write + Drop>(clients: &[Client<I, O>]) -> bool {
+fn has_room(clients: &[Client]) -> bool {
     clients.len() < MOST_CLIENTS || most_silent(clients).is_some()
 }
 
 /// Where there is no place for one more, a client goes.
-fn make_room<I: Read + Drop, O: Write + Drop>(clients: &mut [Client<I, O>])
+fn make_room(clients: &mut [Client])
     ensures { clients.new ≡ clients.old }
 {
     if clients.len() < MOST_CLIENTS {
@@ -429,7 +425,7 @@ fn make_room<I: Read + Drop, O: Write + Drop>(clients: &mut [Client<I, O>])
 
 /// The client that has been silent longest, of those that want events only where there is no other; none where all are heard or told
 /// something now.
-fn most_silent<I: Read + Drop, O: Write + Drop>(clients: &[Client<I, O>]) -> Option<usize> {
+fn most_silent(clients: &[Client]) -> Option<usize> {
     match silent_longest(clients, false) {
         Some(place) => Some(place),
         None => silent_longest(clients, true),
@@ -437,10 +433,7 @@ fn most_silent<I: Read + Drop, O: Write + Drop>(clients: &[Client<I, O>]) -> Opt
 }
 
 /// Of the clients that want events, or of the others, the one that has been silent longest.
-fn silent_longest<I: Read + Drop, O: Write + Drop>(
-    clients: &[Client<I, O>],
-    wants_events: bool,
-) -> Option<usize> {
+fn silent_longest(clients: &[Client], wants_events: bool) -> Option<usize> {
     let mut least = u64::MAX;
     let mut found = None;
     for (place, client) in clients.iter().enumerate() {
@@ -456,10 +449,7 @@ fn silent_longest<I: Read + Drop, O: Write + Drop>(
 }
 
 /// The next line that one of the clients said, after so many that all said, and which one.
-fn hear<I: Read + Drop, O: Write + Drop>(
-    clients: &mut [Client<I, O>],
-    lines: u64,
-) -> Option<(Asker, HeardLine)>
+fn hear(clients: &mut [Client], lines: u64) -> Option<(Asker, HeardLine)>
     ensures none { IfNone result (AllZip HearsNoLine clients.old clients.new) }
     ensures heard { IfSome result (λ said. Hears said.0 said.1 clients.old clients.new) }
 {
@@ -472,7 +462,7 @@ fn hear<I: Read + Drop, O: Write + Drop>(
 }
 
 /// The client at a place is answered, where there is one.
-fn answer<I: Read + Drop, O: Write + Drop>(clients: &mut [Client<I, O>], i: usize, text: Vec<u8>)
+fn answer(clients: &mut [Client], i: usize, text: Vec<u8>)
     ensures { clients.new ≡ changed_at (answered text.items) i clients.old }
 {
     if i < clients.len() {
@@ -481,10 +471,7 @@ fn answer<I: Read + Drop, O: Write + Drop>(clients: &mut [Client<I, O>], i: usiz
 }
 
 /// From now on the client at a place, where there is one, is told events.
-fn want_events<I: Read + Drop, O: Write + Drop>(
-    clients: &mut [Client<I, O>],
-    i: usize,
-) -> Result<(), NoMemory>
+fn want_events(clients: &mut [Client], i: usize) -> Result<(), NoMemory>
     ensures ok { OnOk result (clients.new ≡ changed_at wanting i clients.old) }
     ensures err { OnErr result (clients.new ≡ clients.old) }
 {
@@ -495,7 +482,7 @@ fn want_events<I: Read + Drop, O: Write + Drop>(
 }
 
 /// Each of the clients that wants events is told this line.
-fn tell<I: Read + Drop, O: Write + Drop>(clients: &mut [Client<I, O>], line: &[u8])
+fn tell(clients: &mut [Client], line: &[u8])
     ensures { AllZip (IsTold line.now) clients.old clients.new }
 {
     for client in clients.iter_mut() {
@@ -504,7 +491,7 @@ fn tell<I: Read + Drop, O: Write + Drop>(clients: &mut [Client<I, O>], line: &[u
 }
 
 /// From now on the client at a place, where there is one, watches this line.
-fn watch<I: Read + Drop, O: Write + Drop>(clients: &mut [Client<I, O>], i: usize, line: usize)
+fn watch(clients: &mut [Client], i: usize, line: usize)
     ensures { clients.new ≡ changed_at (watching line) i clients.old }
 {
     if i < clients.len() {
@@ -513,11 +500,7 @@ fn watch<I: Read + Drop, O: Write + Drop>(clients: &mut [Client<I, O>], i: usize
 }
 
 /// Each of the clients that watches this line is told this event.
-fn tell_watchers<I: Read + Drop, O: Write + Drop>(
-    clients: &mut [Client<I, O>],
-    line: usize,
-    event: &[u8],
-)
+fn tell_watchers(clients: &mut [Client], line: usize, event: &[u8])
     ensures { AllZip (IsToldOfLine line event.now) clients.old clients.new }
 {
     for client in clients.iter_mut() {
@@ -526,7 +509,7 @@ fn tell_watchers<I: Read + Drop, O: Write + Drop>(
 }
 
 /// Whether one of the clients is still to be told something.
-fn are_told<I: Read + Drop, O: Write + Drop>(clients: &mut [Client<I, O>]) -> bool {
+fn are_told(clients: &mut [Client]) -> bool {
     for client in clients.iter_mut() {
         if client.told_over().is_some() {
             return true;

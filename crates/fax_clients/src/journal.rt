@@ -6,7 +6,7 @@ use crate::outbox::Outbox;
 use crate::ready::is_writable;
 use fax_bits::NoMemory;
 use std::alloc::Global;
-use std::io::Write;
+use std::io::{Stdout, Write};
 use std::marker::Model;
 use std::os::fd::RawFd;
 
@@ -21,13 +21,13 @@ const MOST_AT_ONCE: usize = 4096;
 
 /// Standard output, which has all events, a line each. It is nobody who hears them, and it says no words.
 #[derive(Drop)]
-pub(crate) struct Journal<O: Write + Drop> {
-    output: Bounded<O>,
+pub(crate) struct Journal {
+    output: Bounded,
     outbox: Outbox,
 }
 
 /// Contracts see what it is still to be told.
-impl<O: Write + Drop> Model for Journal<O> {
+impl Model for Journal {
     ghost use Rattle.fax_clients.specs.Clients.{ClientOutput};
 
     ghost Value = { ClientOutput };
@@ -35,9 +35,9 @@ impl<O: Write + Drop> Model for Journal<O> {
     ghost view = { λ j. j.outbox };
 }
 
-impl<O: Write + Drop> Journal<O> {
+impl Journal {
     /// Standard output, which was told nothing.
-    pub(crate) fn new(alloc: Global, output: O) -> Result<Self, NoMemory>
+    pub(crate) fn new(alloc: Global, output: Stdout) -> Result<Self, NoMemory>
         ensures { IfOk result (λ journal. journal ≡ new_journal) }
     {
         let mut outbox = Outbox::new(alloc);
@@ -88,9 +88,9 @@ impl<O: Write + Drop> Journal<O> {
 
 /// An output to which so much is written at once that it does not wait, where it is ready.
 #[derive(Drop)]
-struct Bounded<O: Write + Drop>(O);
+struct Bounded(Stdout);
 
-impl<O: Write + Drop> Write for Bounded<O> {
+impl Write for Bounded {
     fn write(&mut self, octets: &[u8]) -> std::io::Result<usize> {
         let most = octets.len().min(MOST_AT_ONCE);
         self.0.write(&octets[..most])

@@ -2,7 +2,7 @@
 ghost use Rattle.std.specs.Prelude.{◌≤◌, length, IfOk};
 
 use std::io;
-use std::io::{Read, Write};
+use std::io::{Read, Stdin, Stdout, Write};
 use std::os::fd::{AsRawFd, RawFd};
 use std::os::unix::net::UnixStream;
 
@@ -13,14 +13,14 @@ const STANDARD_OUTPUT: RawFd = 1;
 
 /// Where a client's words come from, and where its answers go.
 #[derive(Drop)]
-pub(crate) enum Stream<I: Read + Drop, O: Write + Drop> {
+pub(crate) enum Stream {
     /// Standard input and output.
-    Standard(I, O),
+    Standard(Stdin, Stdout),
     /// A client of the control socket. It does not wait.
     Socket(UnixStream),
 }
 
-impl<I: Read + Drop, O: Write + Drop> Stream<I, O> {
+impl Stream {
     /// The descriptor that octets come from.
     pub(crate) fn input(&self) -> RawFd {
         match self {
@@ -46,7 +46,7 @@ impl<I: Read + Drop, O: Write + Drop> Stream<I, O> {
     }
 }
 
-impl<I: Read + Drop, O: Write + Drop> Read for Stream<I, O> {
+impl Read for Stream {
     fn read(&mut self, octets: &mut [u8]) -> io::Result<usize> {
         match self {
             Stream::Standard(input, _) => input.read(octets),
@@ -55,7 +55,7 @@ impl<I: Read + Drop, O: Write + Drop> Read for Stream<I, O> {
     }
 }
 
-impl<I: Read + Drop, O: Write + Drop> Write for Stream<I, O> {
+impl Write for Stream {
     fn write(&mut self, octets: &[u8]) -> io::Result<usize> {
         let most = octets.len().min(self.most_at_once());
         let octets = &octets[..most];

@@ -4,11 +4,10 @@ use fax_desk::Desk;
 use fax_events::{PageAside, WhyAside};
 use fax_queue::{Aside, Queue};
 use fax_spool::{CallName, WaitingPage, is_torn};
-use std::io::{Read, Write};
 
 /// Tells those of these pages that are not sent.
-pub(crate) fn tell_pages_aside<I: Read + Drop, O: Write + Drop>(
-    teller: &mut Teller<I, O>,
+pub(crate) fn tell_pages_aside(
+    teller: &mut Teller,
     desk: &Desk,
     pages: &[WaitingPage],
     torn: &[CallName],
@@ -22,11 +21,7 @@ pub(crate) fn tell_pages_aside<I: Read + Drop, O: Write + Drop>(
 }
 
 /// Tells those of these pages whose calls lack a page; a card, which has the number 0, is none.
-pub(crate) fn tell_torn_pages<I: Read + Drop, O: Write + Drop>(
-    teller: &mut Teller<I, O>,
-    pages: &[WaitingPage],
-    torn: &[CallName],
-) {
+pub(crate) fn tell_torn_pages(teller: &mut Teller, pages: &[WaitingPage], torn: &[CallName]) {
     for page in pages {
         if page.number > 0 && is_torn(torn, page) {
             tell_page_aside(teller, page, WhyAside::TornCall);
@@ -58,11 +53,7 @@ fn why_aside(
 }
 
 /// Tells a page that is not sent.
-fn tell_page_aside<I: Read + Drop, O: Write + Drop>(
-    teller: &mut Teller<I, O>,
-    page: &WaitingPage,
-    why: WhyAside,
-) {
+fn tell_page_aside(teller: &mut Teller, page: &WaitingPage, why: WhyAside) {
     let Ok(line) = std::str::from_utf8(page.line.as_slice()) else {
         return;
     };

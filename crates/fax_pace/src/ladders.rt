@@ -11,7 +11,6 @@ use fax_gateway::{Leg, Settings};
 use fax_line::{LineAnswer, LineRequest, Order};
 use fax_trace::ScriptEvent;
 use std::alloc::Global;
-use std::io::{Read, Write};
 
 /// The most lines that are watched at one time.
 const MOST_WATCHED: usize = 8;
@@ -111,12 +110,12 @@ impl Ladders {
     }
 
     /// The line of this name, line i, answered this to what it was asked.
-    pub(crate) fn done<I: Read + Drop, O: Write + Drop>(
+    pub(crate) fn done(
         &mut self,
         i: usize,
         name: &str,
         answer: Option<LineAnswer>,
-        teller: &mut Teller<I, O>,
+        teller: &mut Teller,
     ) {
         let Some(event) = done_event(self.asked, answer, self.latest) else {
             return;
@@ -129,12 +128,12 @@ impl Ladders {
     }
 
     /// The line of this name, line i, had its turn, or was left at rest in it. Where nobody watches it any more its ladder is let go.
-    pub(crate) fn see<L: SeenLines, I: Read + Drop, O: Write + Drop>(
+    pub(crate) fn see<L: SeenLines>(
         &mut self,
         i: usize,
         name: &str,
         seen: &L,
-        teller: &mut Teller<I, O>,
+        teller: &mut Teller,
     ) {
         let Some(mut watched) = self.take(i) else {
             return;
@@ -161,13 +160,7 @@ impl Ladders {
 
 impl WatchedLine {
     /// An event is played on its ladder, and what happened is told.
-    fn play<I: Read + Drop, O: Write + Drop>(
-        &mut self,
-        event: &ScriptEvent,
-        at: u64,
-        name: &str,
-        teller: &mut Teller<I, O>,
-    ) {
+    fn play(&mut self, event: &ScriptEvent, at: u64, name: &str, teller: &mut Teller) {
         let Some(ladder) = &mut self.ladder else {
             return;
         };
@@ -178,24 +171,19 @@ impl WatchedLine {
     }
 
     /// Its ladder ends, since memory was refused for it or for the line.
-    fn lose<I: Read + Drop, O: Write + Drop>(
-        &mut self,
-        at: u64,
-        name: &str,
-        teller: &mut Teller<I, O>,
-    ) {
+    fn lose(&mut self, at: u64, name: &str, teller: &mut Teller) {
         self.ladder = None;
         teller.tell_frame(self.line, name, at, Lane::Inside.name(), LOST);
     }
 
     /// What came in its turn is played: the datagrams of the calling leg, those of the called leg, and then the tick.
-    fn play_turn<L: SeenLines, I: Read + Drop, O: Write + Drop>(
+    fn play_turn<L: SeenLines>(
         &mut self,
         alloc: Global,
         at: u64,
         name: &str,
         seen: &L,
-        teller: &mut Teller<I, O>,
+        teller: &mut Teller,
     ) {
         if self.ladder.is_none() {
             return;
@@ -210,14 +198,14 @@ impl WatchedLine {
     }
 
     /// The datagrams that came on a leg in its turn are played.
-    fn play_leg<L: SeenLines, I: Read + Drop, O: Write + Drop>(
+    fn play_leg<L: SeenLines>(
         &mut self,
         alloc: Global,
         leg: Leg,
         at: u64,
         name: &str,
         seen: &L,
-        teller: &mut Teller<I, O>,
+        teller: &mut Teller,
     ) {
         let Some(datagrams) = seen.tapped(self.line, leg) else {
             self.lose(at, name, teller);
@@ -279,13 +267,7 @@ fn done_event(
 }
 
 /// What happened on line i, of this name, is told those who watch it.
-fn tell_tale<I: Read + Drop, O: Write + Drop>(
-    i: usize,
-    name: &str,
-    at: u64,
-    tale: &Tale,
-    teller: &mut Teller<I, O>,
-) {
+fn tell_tale(i: usize, name: &str, at: u64, tale: &Tale, teller: &mut Teller) {
     for k in 0..usize::MAX {
         let Some(told) = tale.told(k) else {
             return;

@@ -37,7 +37,6 @@ use fax_undelivered::PairedStore;
 use fax_visitors::Visitors;
 use sqlite_disk::Disk;
 use std::alloc::{AllocError, Global};
-use std::io::{Read, Write};
 use std::marker::Model;
 use std::rt::Clock;
 
@@ -49,20 +48,13 @@ const MOST_FINISHING: u32 = 10_000;
 
 /// The clock and the clients, the desk at which their words come in, and what stands beside it.
 #[derive(Drop)]
-pub struct RealPace<
-    'a,
-    C: Clock,
-    I: Read + Drop,
-    O: Write + Drop,
-    R: RedialSide + Drop,
-    S: SipSide + Drop,
-> {
+pub struct RealPace<'a, C: Clock, R: RedialSide + Drop, S: SipSide + Drop> {
     alloc: Global,
     clock: Stopwatch<'a, C>,
     rounds: Rounds,
     desk: Desk,
     waking: Waking,
-    teller: Teller<I, O>,
+    teller: Teller,
     /// When the pages of a slot were handed to the spool, in microseconds, where that is to be told.
     put_from: Option<u64>,
     visiting: Visiting,
@@ -77,8 +69,7 @@ pub struct RealPace<
 }
 
 /// Contracts see what the desk waits to be told of.
-impl<'a, C: Clock, I: Read + Drop, O: Write + Drop, R: RedialSide + Drop, S: SipSide + Drop> Model
-    for RealPace<'a, C, I, O, R, S> {
+impl<'a, C: Clock, R: RedialSide + Drop, S: SipSide + Drop> Model for RealPace<'a, C, R, S> {
     ghost use Rattle.fax_runs.specs.Desking.{PaceValue};
 
     ghost Value = { PaceValue };
@@ -86,20 +77,13 @@ impl<'a, C: Clock, I: Read + Drop, O: Write + Drop, R: RedialSide + Drop, S: Sip
     ghost view = { λ p. record { waits = p.desk.waits } };
 }
 
-impl<
-    'a,
-    C: Clock,
-    I: Read + Drop,
-    O: Write + Drop,
-    R: RedialSide + Drop,
-    S: SipSide + Drop,
-> RealPace<'a, C, I, O, R, S> {
+impl<'a, C: Clock, R: RedialSide + Drop, S: SipSide + Drop> RealPace<'a, C, R, S> {
     /// The time begins now, and nothing was ordered of so many lines, whose gateways have these settings, and whose legs are watched so, or
     /// not. The spool has failed so often in runs before this one.
     pub fn new(
         alloc: Global,
         clock: Stopwatch<'a, C>,
-        clients: Clients<I, O>,
+        clients: Clients,
         desk: Desk,
         lines: usize,
         settings: Vec<Settings>,
@@ -404,14 +388,12 @@ impl<
 impl<
     'a,
     C: Clock,
-    I: Read + Drop,
-    O: Write + Drop,
     R: RedialSide + Drop,
     S: SipSide + Drop,
     W: SocketLegs + Drop,
     D: Disk,
     U: Disk,
-> Pace<W, PairedStore<D, U>> for RealPace<'a, C, I, O, R, S> {
+> Pace<W, PairedStore<D, U>> for RealPace<'a, C, R, S> {
     ghost use Rattle.std.specs.Prelude.{None};
     ghost use Rattle.fax_runs.specs.Desking.{GivesOrder, Hears, SeesNothing};
 

@@ -12,7 +12,6 @@ use fax_redial::{BeginFault, RetryEnd, is_owed};
 use fax_spool::CallName;
 use fax_undelivered::UndeliveredCall;
 use std::alloc::{AllocError, Global};
-use std::io::{Read, Write};
 
 /// A word `discard` or `retry`, and who said it.
 #[derive(Drop)]
@@ -124,11 +123,11 @@ impl<R: RedialSide + Drop> Retries<R> {
     }
 
     /// Tells what could not be delivered since that was told last, does what words named, and notes tries and begins others.
-    pub(crate) fn see_kept<K: UndeliveredCalls, I: Read + Drop, O: Write + Drop>(
+    pub(crate) fn see_kept<K: UndeliveredCalls>(
         &mut self,
         kept: &mut K,
         beside: Beside<'_, '_>,
-        teller: &mut Teller<I, O>,
+        teller: &mut Teller,
     ) {
         let news = kept.take_news(self.alloc);
         tell_news(teller, news.as_slice(), kept.calls(), beside.now);
@@ -150,12 +149,12 @@ impl<R: RedialSide + Drop> Retries<R> {
     }
 
     /// Drops the pages of a call, and says how the word is answered.
-    fn do_discard<K: UndeliveredCalls, I: Read + Drop, O: Write + Drop>(
+    fn do_discard<K: UndeliveredCalls>(
         &mut self,
         said: &SaidCall,
         kept: &mut K,
         beside: Beside<'_, '_>,
-        teller: &mut Teller<I, O>,
+        teller: &mut Teller,
     ) -> Answer<'static> {
         let (line, life, call) = (said.line.as_str(), said.life, said.call);
         let calls = kept.calls();
@@ -180,11 +179,11 @@ impl<R: RedialSide + Drop> Retries<R> {
     }
 
     /// Notes how a try ended, and tells what waits still. What could not be noted is noted later.
-    fn note_end<K: UndeliveredCalls, I: Read + Drop, O: Write + Drop>(
+    fn note_end<K: UndeliveredCalls>(
         &mut self,
         kept: &mut K,
         beside: Beside<'_, '_>,
-        teller: &mut Teller<I, O>,
+        teller: &mut Teller,
     ) {
         let Some(end) = self.redials.take_end() else {
             return;
@@ -248,12 +247,12 @@ impl<R: RedialSide + Drop> Retries<R> {
     }
 
     /// Tries those whose time has come by this second since 1970, while a redial line is idle.
-    fn try_due<K: UndeliveredCalls, I: Read + Drop, O: Write + Drop>(
+    fn try_due<K: UndeliveredCalls>(
         &mut self,
         day: u64,
         kept: &mut K,
         beside: Beside<'_, '_>,
-        teller: &mut Teller<I, O>,
+        teller: &mut Teller,
     ) {
         let has_failed = beside.has_failed || kept.refuses();
         if beside.is_stopping || has_failed || self.redials.has_end() {
@@ -298,12 +297,12 @@ impl<R: RedialSide + Drop> Retries<R> {
     }
 
     /// No try of call k can begin: that counts as one, so that it waits for its next time.
-    fn give_up<K: UndeliveredCalls, I: Read + Drop, O: Write + Drop>(
+    fn give_up<K: UndeliveredCalls>(
         &mut self,
         k: usize,
         kept: &mut K,
         beside: Beside<'_, '_>,
-        teller: &mut Teller<I, O>,
+        teller: &mut Teller,
     ) {
         if let Ok(name) = name_at(self.alloc, kept.calls(), k) {
             self.redials.keep_end(RetryEnd {
@@ -319,12 +318,7 @@ impl<R: RedialSide + Drop> Retries<R> {
 }
 
 /// Tells that pages of these calls are kept, each of which is one of those.
-fn tell_news<I: Read + Drop, O: Write + Drop>(
-    teller: &mut Teller<I, O>,
-    news: &[CallName],
-    calls: &[UndeliveredCall],
-    now: u64,
-) {
+fn tell_news(teller: &mut Teller, news: &[CallName], calls: &[UndeliveredCall], now: u64) {
     for name in news {
         if let Some(k) = place_of(calls, name.line.as_slice(), name.life, name.call)
             && let Some(call) = calls.get(k)
@@ -335,12 +329,7 @@ fn tell_news<I: Read + Drop, O: Write + Drop>(
 }
 
 /// Tells that the pages of a call wait still, where they do.
-fn tell_try<I: Read + Drop, O: Write + Drop>(
-    teller: &mut Teller<I, O>,
-    name: &CallName,
-    calls: &[UndeliveredCall],
-    now: u64,
-) {
+fn tell_try(teller: &mut Teller, name: &CallName, calls: &[UndeliveredCall], now: u64) {
     if let Some(k) = place_of(calls, name.line.as_slice(), name.life, name.call)
         && let Some(call) = calls.get(k)
     {

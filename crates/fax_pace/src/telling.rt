@@ -14,7 +14,6 @@ use fax_events::{Counters, Event, PageAside, What, write_event};
 use fax_jobs::{Outcome, Report};
 use fax_undelivered::UndeliveredCall;
 use std::alloc::{AllocError, Global};
-use std::io::{Read, Write};
 
 /// The most jobs that are kept for a page.
 const MOST_JOBS: usize = 20;
@@ -24,9 +23,9 @@ const MOST_NEWS: usize = 16;
 
 /// Counts, and tells the clients that want events.
 #[derive(Drop)]
-pub(crate) struct Teller<I: Read + Drop, O: Write + Drop> {
+pub(crate) struct Teller {
     alloc: Global,
-    clients: Clients<I, O>,
+    clients: Clients,
     pub counters: Counters,
     /// Events that were lost for want of memory.
     lost: u64,
@@ -42,11 +41,11 @@ pub(crate) struct Teller<I: Read + Drop, O: Write + Drop> {
     news: Option<Vec<LineEvent>>,
 }
 
-impl<I: Read + Drop, O: Write + Drop> Teller<I, O> {
+impl Teller {
     /// Nothing was told; there are so many lines, and the spool has failed so often before.
     pub(crate) fn new(
         alloc: Global,
-        clients: Clients<I, O>,
+        clients: Clients,
         lines: usize,
         spool_failures: u64,
         keeps_news: bool,
@@ -353,7 +352,7 @@ impl<I: Read + Drop, O: Write + Drop> Teller<I, O> {
 }
 
 /// It is counted, and told those who hear events. What they read is not told of clients.
-impl<I: Read + Drop, O: Write + Drop> Listener for Teller<I, O> {
+impl Listener for Teller {
     ghost tells = { λ line at what old new. Unit {0} };
 
     fn tell(&mut self, line: &str, at: u64, what: LineEvent) {

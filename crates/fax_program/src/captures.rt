@@ -1,61 +1,62 @@
 //! What is told of the datagrams of a capture.
+use crate::console::Console;
 use crate::failures::tell;
 use fax_capture::{Address, CaptureOptions, Counts, Host, Machines};
 use std::net::{IpAddr, SocketAddr};
 
 /// Tells which machines were found, or each of the two addresses of which nothing came, how many calls there are, where it is not one, what was passed over, where
 /// anything was, and that the addresses seem to be exchanged.
-pub(crate) fn tell_counts<E: Eprint>(rt: &E, options: CaptureOptions, counts: Counts) {
+pub(crate) fn tell_counts(console: &Console, options: CaptureOptions, counts: Counts) {
     if options.machines == Machines::Unknown {
-        tell_found(rt, counts.machines);
+        tell_found(console, counts.machines);
     }
     if let Some(caller) = options.machines.caller() {
-        tell_machine(rt, "caller", caller, counts.from_caller);
+        tell_machine(console, "caller", caller, counts.from_caller);
     }
     if let Some(called) = options.machines.called() {
-        tell_machine(rt, "called", called, counts.from_called);
+        tell_machine(console, "called", called, counts.from_called);
     }
-    tell_calls(rt, counts);
+    tell_calls(console, counts);
     tell_passed_over(
-        rt,
+        console,
         counts.in_fragments,
         "the two machines that went in fragments",
     );
-    tell_passed_over(rt, counts.passed_over, "other hosts or ports");
+    tell_passed_over(console, counts.passed_over, "other hosts or ports");
     if counts.exchanged > 0 {
         tell(
-            rt,
+            console,
             "the caller answers calls (CED), or the called machine makes them (CNG): are both addresses exchanged?",
         );
     }
 }
 
 /// Tells which machines were found.
-fn tell_found<E: Eprint>(rt: &E, machines: Machines) {
+fn tell_found(console: &Console, machines: Machines) {
     match machines {
         Machines::Known(caller, called) => {
             let caller = socket_of(caller);
             let called = socket_of(called);
             tell(
-                rt,
+                console,
                 format_args!("found --caller {caller} --called {called}"),
             )
         }
         Machines::CallerKnown(caller, _) => {
             let caller = socket_of(caller);
             tell(
-                rt,
+                console,
                 format_args!("found --caller {caller}, and no called machine"),
             )
         }
-        Machines::Unknown => tell(rt, "no machine was found: none sent CNG or CED"),
+        Machines::Unknown => tell(console, "no machine was found: none sent CNG or CED"),
     }
 }
 
 /// Tells an address of which no datagram came.
-fn tell_machine<E: Eprint>(rt: &E, option: &str, address: Address, count: u64) {
+fn tell_machine(console: &Console, option: &str, address: Address, count: u64) {
     if count == 0 {
-        tell_silence(rt, option, address);
+        tell_silence(console, option, address);
     }
 }
 
@@ -65,38 +66,44 @@ fn socket_of(address: Address) -> SocketAddr {
 }
 
 /// Tells how many calls the caller made, where it is not one, and what was passed over of others than the one that is asked for.
-fn tell_calls<E: Eprint>(rt: &E, counts: Counts) {
+fn tell_calls(console: &Console, counts: Counts) {
     if counts.calls > 1 {
-        tell(rt, format_args!("the caller made {} calls", counts.calls));
+        tell(
+            console,
+            format_args!("the caller made {} calls", counts.calls),
+        );
     }
-    tell_passed_over(rt, counts.of_other_calls, "other calls");
+    tell_passed_over(console, counts.of_other_calls, "other calls");
 }
 
 /// Tells how many datagrams of someone were passed over, where any was.
-fn tell_passed_over<E: Eprint>(rt: &E, count: u64, whose: &str) {
+fn tell_passed_over(console: &Console, count: u64, whose: &str) {
     match count {
         0 => {}
-        1 => tell(rt, format_args!("1 datagram of {whose} was passed over")),
+        1 => tell(
+            console,
+            format_args!("1 datagram of {whose} was passed over"),
+        ),
         count => tell(
-            rt,
+            console,
             format_args!("{count} datagrams of {whose} were passed over"),
         ),
     }
 }
 
 /// Tells an address of which no datagram came.
-fn tell_silence<E: Eprint>(rt: &E, option: &str, address: Address) {
+fn tell_silence(console: &Console, option: &str, address: Address) {
     let host = ip_of(address.host);
     match address.port {
         Some(port) => {
             let address = SocketAddr::new(host, port);
             tell(
-                rt,
+                console,
                 format_args!("--{option} {address}: no datagram came from there"),
             )
         }
         None => tell(
-            rt,
+            console,
             format_args!("--{option} {host}: no datagram came from there"),
         ),
     }

@@ -1,8 +1,9 @@
-//! What a run of the program does, over any runtime: it reads the words of the command line, does what they ask for over the
-//! streams, files, sockets and the clock that it is handed, and tells what failed on the standard error.
+//! What a run of the program does: it reads the words of the command line, does what they ask for over the streams, files, sockets
+//! and the clock that it is handed, and tells what failed on the standard error.
 #![tactic(auto)]
 
 mod captures;
+mod console;
 mod descriptors;
 mod failures;
 mod looking;
@@ -16,6 +17,7 @@ mod serving;
 mod streams;
 mod terminals;
 
+pub use console::Console;
 pub use descriptors::most_descriptors;
 pub use failures::tell_loop;
 pub use run::{RunOutcome, run_words};

@@ -1,41 +1,43 @@
 //! `faxgate spool`.
+use crate::console::Console;
 use crate::failures::tell;
 use crate::refusals::tell_no_memory;
 use fax_command::{Status, StdSink, StdSource, StreamFault, fault_of_streams};
 use fax_listing::{FileFault, PictureFiles, SpoolOptions, run_spool};
 use std::alloc::{AllocError, Global};
 use std::fs::OpenOptions;
-use std::io::{Read, Write};
+use std::io::{Read, Stdout, Write};
 use std::rt::Files;
 use std::{fs, io};
 
 /// Lists what waits in a spool, and makes pictures of its pages, or one TIFF, where they are wanted. What is harmed, and what failed,
 /// is told on the standard error.
-pub(crate) fn look_into_spool<R: Print + Eprint + AllocGlobal, H: Files>(
-    rt: &R,
+pub(crate) fn look_into_spool<H: Files>(
+    console: &Console,
     host: &H,
     options: SpoolOptions<'_>,
 ) -> Status {
-    let Ok(paths) = Paths::of(rt, options.folder) else {
-        return tell_no_memory(rt);
+    let Ok(paths) = Paths::of(console, options.folder) else {
+        return tell_no_memory(console);
     };
-    let Some((one, other)) = open_both(rt, host, paths.one.as_str(), paths.other.as_str()) else {
+    let Some((one, other)) = open_both(console, host, paths.one.as_str(), paths.other.as_str())
+    else {
         return Status::Stream;
     };
-    let Some(kept_one) = open_if_there(rt, host, paths.kept_one.as_str()) else {
+    let Some(kept_one) = open_if_there(console, host, paths.kept_one.as_str()) else {
         return Status::Stream;
     };
-    let Some(kept_other) = open_if_there(rt, host, paths.kept_other.as_str()) else {
+    let Some(kept_other) = open_if_there(console, host, paths.kept_other.as_str()) else {
         return Status::Stream;
     };
     let mut one = StdSource::new(one);
     let mut other = StdSource::new(other);
     let mut kept_one = StdSource::new(kept_one);
     let mut kept_other = StdSource::new(kept_other);
-    let mut sink = StdSink::new(io::writer(rt));
-    let mut pictures = NewPictures::new(rt, host, rt.alloc());
+    let mut sink = StdSink::new(console.output());
+    let mut pictures = NewPictures::new(console, host, console.alloc());
     let looked = run_spool(
-        rt.alloc(),
+        console.alloc(),
         &mut one,
         &mut other,
         &mut kept_one,
@@ -44,13 +46,13 @@ pub(crate) fn look_into_spool<R: Print + Eprint + AllocGlobal, H: Files>(
         &mut pictures,
         options,
     );
-    let _ = rt.eprint(looked.told.as_str());
+    let _ = console.eprint(looked.told.as_str());
     if looked.status == Status::Stream {
-        tell_unread(rt, paths.one.as_str(), &one, &sink);
-        tell_unread(rt, paths.other.as_str(), &other, &sink);
-        tell_unread(rt, paths.kept_one.as_str(), &kept_one, &sink);
-        tell_unread(rt, paths.kept_other.as_str(), &kept_other, &sink);
-        tell_unwritten(rt, &one, &sink);
+        tell_unread(console, paths.one.as_str(), &one, &sink);
+        tell_unread(console, paths.other.as_str(), &other, &sink);
+        tell_unread(console, paths.kept_one.as_str(), &kept_one, &sink);
+        tell_unread(console, paths.kept_other.as_str(), &kept_other, &sink);
+        tell_unwritten(console, &one, &sink);
     }
     looked.status
 }
@@ -66,12 +68,12 @@ struct Paths {
 
 impl Paths {
     /// Of the spool of this folder.
-    fn of<R: AllocGlobal>(rt: &R, folder: &str) -> Result<Self, AllocError> {
+    fn of(console: &Console, folder: &str) -> Result<Self, AllocError> {
         Ok(Paths {
-            one: format!(in rt.alloc(); "{folder}/pages")?,
-            other: format!(in rt.alloc(); "{folder}/pages-wal")?,
-            kept_one: format!(in rt.alloc(); "{folder}/undelivered")?,
-            kept_other: format!(in rt.alloc(); "{folder}/undelivered-wal")?,
+            one: format!(in console.alloc(); "{folder}/pages")?,
+            other: format!(in console.alloc(); "{folder}/pages-wal")?,
+            kept_one: format!(in console.alloc(); "{folder}/undelivered")?,
+            kept_other: format!(in console.alloc(); "{folder}/undelivered-wal")?,
         })
     }
 }
@@ -95,57 +97,57 @@ impl<F: Read> Read for SpoolFile<F> {
 }
 
 /// Opens both files of a spool, of which one may be absent. Where that fails, it is told.
-fn open_both<E: Eprint, H: Files>(
-    rt: &E,
+fn open_both<H: Files>(
+    console: &Console,
     host: &H,
     path: &str,
     other_path: &str,
 ) -> Option<(SpoolFile<H::File>, SpoolFile<H::File>)> {
-    let one = open_if_there(rt, host, path)?;
-    let other = open_if_there(rt, host, other_path)?;
+    let one = open_if_there(console, host, path)?;
+    let other = open_if_there(console, host, other_path)?;
     if let (SpoolFile::Absent(error), SpoolFile::Absent(_)) = (&one, &other) {
-        tell(rt, format_args!("{path}: {error}"));
+        tell(console, format_args!("{path}: {error}"));
         return None;
     }
     Some((one, other))
 }
 
 /// Opens a file, which may be absent. Where that fails, it is told.
-fn open_if_there<E: Eprint, H: Files>(rt: &E, host: &H, path: &str) -> Option<SpoolFile<H::File>> {
+fn open_if_there<H: Files>(console: &Console, host: &H, path: &str) -> Option<SpoolFile<H::File>> {
     match fs::open(host, path) {
         Ok(file) => Some(SpoolFile::There(file)),
         Err(error) if error.kind() == io::ErrorKind::NotFound => Some(SpoolFile::Absent(error)),
         Err(error) => {
-            tell(rt, format_args!("{path}: {error}"));
+            tell(console, format_args!("{path}: {error}"));
             None
         }
     }
 }
 
 /// Tells why a file could not be read, where that is so.
-fn tell_unread<E: Eprint, R: Read, W: Write>(
-    rt: &E,
+fn tell_unread<R: Read>(
+    console: &Console,
     path: &str,
     source: &StdSource<R>,
-    sink: &StdSink<W>,
+    sink: &StdSink<Stdout>,
 ) {
     if let Some(StreamFault::Unread(error)) = fault_of_streams(source, sink) {
-        tell(rt, format_args!("{path}: {error}"));
+        tell(console, format_args!("{path}: {error}"));
     }
 }
 
 /// Tells why the standard output failed, where it did and the source did not.
-fn tell_unwritten<E: Eprint, R: Read, W: Write>(rt: &E, source: &StdSource<R>, sink: &StdSink<W>) {
+fn tell_unwritten<R: Read>(console: &Console, source: &StdSource<R>, sink: &StdSink<Stdout>) {
     if let Some(StreamFault::Unwritten(error)) = fault_of_streams(source, sink) {
-        tell(rt, StreamFault::Unwritten(error));
+        tell(console, StreamFault::Unwritten(error));
     }
 }
 
 /// Makes files of the system, none over one that was there, and tells where that fails. A page that stands in both pairs of files, since a
 /// crash came between, has one picture.
 #[derive(Drop)]
-struct NewPictures<'a, E: Eprint, H: Files> {
-    stderr: &'a E,
+struct NewPictures<'a, H: Files> {
+    console: &'a Console,
     host: &'a H,
     alloc: Global,
     /// The names of those that were made.
@@ -153,11 +155,11 @@ struct NewPictures<'a, E: Eprint, H: Files> {
     failed: bool,
 }
 
-impl<'a, E: Eprint, H: Files> NewPictures<'a, E, H> {
+impl<'a, H: Files> NewPictures<'a, H> {
     /// None was made.
-    fn new(stderr: &'a E, host: &'a H, alloc: Global) -> Self {
+    fn new(console: &'a Console, host: &'a H, alloc: Global) -> Self {
         NewPictures {
-            stderr,
+            console,
             host,
             alloc,
             names: Vec::new(alloc),
@@ -187,7 +189,7 @@ fn note(names: &mut Vec<String>, alloc: Global, name: &str) {
     }
 }
 
-impl<E: Eprint, H: Files> PictureFiles for NewPictures<'_, E, H> {
+impl<H: Files> PictureFiles for NewPictures<'_, H> {
     ghost use Rattle.std.specs.Prelude.{None};
 
     ghost made = { λ pictures. None };
@@ -204,7 +206,7 @@ impl<E: Eprint, H: Files> PictureFiles for NewPictures<'_, E, H> {
                 Ok(())
             }
             Err(error) => {
-                tell(self.stderr, format_args!("{name}: {error}"));
+                tell(self.console, format_args!("{name}: {error}"));
                 self.failed = true;
                 Err(FileFault)
             }

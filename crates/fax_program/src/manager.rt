@@ -1,4 +1,5 @@
 //! A service manager, as the environment names it.
+use crate::console::Console;
 use crate::failures::tell;
 use fax_notify::{LocalSockets, Notice, ServiceManager, send_notice};
 use std::alloc::Global;
@@ -12,27 +13,27 @@ const VARIABLE: &str = "NOTIFY_SOCKET";
 
 /// The service manager whose socket has this name, or nobody. What fails is told in a line on the standard error.
 #[derive(Drop)]
-pub(crate) struct NamedManager<'e, 'n, 's, E: Eprint, N: Net> {
-    pub stderr: &'e E,
+pub(crate) struct NamedManager<'e, 'n, 's, N: Net> {
+    pub console: &'e Console,
     pub net: &'n N,
     pub alloc: Global,
     pub name: Option<&'s str>,
 }
 
-impl<'e, 'n, 's, E: Eprint, N: Net> ServiceManager for NamedManager<'e, 'n, 's, E, N> {
+impl<'e, 'n, 's, N: Net> ServiceManager for NamedManager<'e, 'n, 's, N> {
     fn tell(&mut self, notice: Notice) {
         let Some(name) = self.name else {
             return;
         };
         let mut sockets = LocalSockets { net: self.net };
         if let Err(fault) = send_notice(self.alloc, &mut sockets, name, notice) {
-            tell(self.stderr, format_args!("{VARIABLE}: {name}: {fault}"));
+            tell(self.console, format_args!("{VARIABLE}: {name}: {fault}"));
         }
     }
 
     fn another(&self) -> Self {
         NamedManager {
-            stderr: self.stderr,
+            console: self.console,
             net: self.net,
             alloc: self.alloc,
             name: self.name,
@@ -42,12 +43,12 @@ impl<'e, 'n, 's, E: Eprint, N: Net> ServiceManager for NamedManager<'e, 'n, 's, 
 
 /// The name of the socket of a service manager, where the environment has one. Why it cannot be read is told in a line on the standard
 /// error.
-pub(crate) fn manager_name<R: Eprint + Env + AllocGlobal>(rt: &R) -> Option<String> {
-    match env::var(rt, VARIABLE) {
+pub(crate) fn manager_name<E: Env + AllocGlobal>(console: &Console, system: &E) -> Option<String> {
+    match env::var(system, VARIABLE) {
         Ok(name) => { if name.is_empty() { None } else { Some(name) } }
         Err(VarError::NotPresent) => None,
         Err(fault) => {
-            tell(rt, format_args!("{VARIABLE}: {fault}"));
+            tell(console, format_args!("{VARIABLE}: {fault}"));
             None
         }
     }

@@ -1,6 +1,7 @@
 //! Pages that become pictures, in files.
 ghost use Rattle.std.specs.Prelude.{◌≡◌};
 
+use crate::console::Console;
 use crate::failures::tell;
 use fax_explain::{PageStore, Place, StoreFault};
 use fax_gateway::Leg;
@@ -12,19 +13,19 @@ use std::rt::Files;
 
 /// Writes pages as pictures into files that are named for the call and the page, and says whether one was not written.
 #[derive(Drop)]
-pub(crate) struct Pictures<'a, E: Eprint, H: Files> {
-    stderr: &'a E,
+pub(crate) struct Pictures<'a, H: Files> {
+    console: &'a Console,
     host: &'a H,
     alloc: Global,
     prefix: &'a str,
     failed: bool,
 }
 
-impl<'a, E: Eprint, H: Files> Pictures<'a, E, H> {
+impl<'a, H: Files> Pictures<'a, H> {
     /// Pictures whose files' names begin so. None was written.
-    pub(crate) fn new(stderr: &'a E, host: &'a H, alloc: Global, prefix: &'a str) -> Self {
+    pub(crate) fn new(console: &'a Console, host: &'a H, alloc: Global, prefix: &'a str) -> Self {
         Pictures {
-            stderr,
+            console,
             host,
             alloc,
             prefix,
@@ -35,24 +36,24 @@ impl<'a, E: Eprint, H: Files> Pictures<'a, E, H> {
     /// Writes the picture of a page, and tells where that fails.
     fn write(&self, place: Place, page: &Page<PackedRows>) -> Result<(), StoreFault> {
         let Ok(path) = path_of(self.alloc, self.prefix, place) else {
-            tell(self.stderr, "a picture: no memory");
+            tell(self.console, "a picture: no memory");
             return Err(StoreFault);
         };
         let Ok(octets) = write_pbm(self.alloc, page) else {
-            tell(self.stderr, format_args!("{path}: no memory"));
+            tell(self.console, format_args!("{path}: no memory"));
             return Err(StoreFault);
         };
         match fs::write(self.host, path.as_str(), octets.as_slice()) {
             Ok(()) => Ok(()),
             Err(error) => {
-                tell(self.stderr, format_args!("{path}: {error}"));
+                tell(self.console, format_args!("{path}: {error}"));
                 Err(StoreFault)
             }
         }
     }
 }
 
-impl<E: Eprint, H: Files> PageStore for Pictures<'_, E, H> {
+impl<H: Files> PageStore for Pictures<'_, H> {
     ghost failed = { λ pictures. pictures.failed };
 
     fn keep(&mut self, place: Place, page: &Page<PackedRows>) -> Result<(), StoreFault> {

@@ -2,6 +2,7 @@
 ghost use Rattle.std.specs.Prelude.{◌≤◌, IfOk, length};
 ghost use Rattle.fax_program.specs.Statuses.{IsEndedBy, IsToldAs};
 
+use crate::console::Console;
 use crate::descriptors::{descriptor_limit, most_descriptors};
 use crate::failures::tell_unprinted;
 use crate::manager::{NamedManager, manager_name};
@@ -37,20 +38,21 @@ pub struct Service {
 impl Service {
     /// Serves the lines until one says `stop`, or the spool has failed and no line has a call. It answers with which status the process
     /// ends. `None`: the lines are to be served once more, by another run, over files of its own (`S` stands for what those of its spool hold, and
-    /// `T` for what those of the pages hold that could not be delivered). Faults
-    /// are told in one line on the standard error.
-    pub fn run<
-        R: Print + Eprint + Input + AllocGlobal,
-        N: Net + Files + Clock + Folders,
-        S: Start,
-        T: Start,
-    >(&mut self, rt: &R, system: &N, start: S, undelivered: T) -> Option<u8> {
-        if let Some(status) = self.tell_shared(rt, system) {
+    /// `T` for what those of the pages hold that could not be delivered). Words come on the input where there is no control socket, and events go
+    /// to the output. Faults are told in one line on the standard error.
+    pub fn run<N: Net + Files + Clock + Folders, S: Start, T: Start>(
+        &mut self,
+        console: &Console,
+        system: &N,
+        start: S,
+        undelivered: T,
+    ) -> Option<u8> {
+        if let Some(status) = self.tell_shared(console, system) {
             return Some(status.code());
         }
-        let ended = match self.serve(rt, system, start, undelivered) {
-            Ok(end) => self.end(rt, end),
-            Err(fault) => self.fail(rt, system, fault),
+        let ended = match self.serve(console, system, start, undelivered) {
+            Ok(end) => self.end(console, end),
+            Err(fault) => self.fail(console, system, fault),
         };
         match ended {
             Some(status) => Some(status.code()),
@@ -59,28 +61,29 @@ impl Service {
     }
 
     /// The run.
-    fn serve<
-        R: Print + Eprint + Input + AllocGlobal,
-        N: Net + Files + Clock + Folders,
-        S: Start,
-        T: Start,
-    >(&self, rt: &R, system: &N, start: S, undelivered: T) -> Result<RunEnd, ServeFault> {
+    fn serve<N: Net + Files + Clock + Folders, S: Start, T: Start>(
+        &self,
+        console: &Console,
+        system: &N,
+        start: S,
+        undelivered: T,
+    ) -> Result<RunEnd, ServeFault> {
         let name = match &self.manager {
             Some(name) => Some(name.as_str()),
             None => None,
         };
         let mut manager = NamedManager {
-            stderr: rt,
+            console,
             net: system,
-            alloc: rt.alloc(),
+            alloc: console.alloc(),
             name,
         };
         run_serve(
             system,
-            rt.alloc(),
+            console.alloc(),
             &self.config,
-            rt.reader(),
-            io::writer(rt),
+            console.input(),
+            console.output(),
             self.failures,
             &mut manager,
             start,
@@ -90,9 +93,9 @@ impl Service {
 
     /// Where others may write to the folder of the spool, or read its files, and that cannot be changed, it is told, and the status
     /// that says it. A folder that is not there, and a disk that has failed before, are told when the spool is opened.
-    fn tell_shared<R: Eprint + AllocGlobal, N: Files>(&self, rt: &R, system: &N) -> Option<Status> {
+    fn tell_shared<N: Files>(&self, console: &Console, system: &N) -> Option<Status> {
         let folder = self.config.spool.as_ref()?.as_str();
-        let fault = match keep_from_others(system, rt.alloc(), folder) {
+        let fault = match keep_from_others(system, console.alloc(), folder) {
             Ok(()) => return None,
             Err(RightsFault::Io(error))
                 if self.failures > 0 || error.kind() == io::ErrorKind::NotFound => {
@@ -101,66 +104,76 @@ impl Service {
             Err(fault) => fault,
         };
         let told = format_args!("spool: {folder}: {fault}");
-        Some(tell(rt, self.path.as_str(), told, Status::Usage))
+        Some(tell(console, self.path.as_str(), told, Status::Usage))
     }
 
     /// A run over a spool that was opened has ended so.
-    fn end<R: Eprint>(&mut self, rt: &R, end: RunEnd) -> Option<Status> {
+    fn end(&mut self, console: &Console, end: RunEnd) -> Option<Status> {
         self.told.clear();
         if end == RunEnd::SpoolFailed {
             self.failures = self.failures.saturating_add(1);
         }
-        ended_by(rt, self.path.as_str(), self.config.control.is_some(), end)
+        ended_by(
+            console,
+            self.path.as_str(),
+            self.config.control.is_some(),
+            end,
+        )
     }
 
     /// A run did not begin, for this fault: one of a spool that was open before passes.
-    fn fail<R: Eprint + AllocGlobal, N: Net + Files + Clock>(
+    fn fail<N: Net + Files + Clock>(
         &mut self,
-        rt: &R,
+        console: &Console,
         system: &N,
         fault: ServeFault,
     ) -> Option<Status> {
         if self.failures == 0 {
-            return Some(self.tell_fault(rt, fault));
+            return Some(self.tell_fault(console, fault));
         }
         match fault {
-            ServeFault::Spool(fault) => self.wait(rt, system, fault),
-            fault => Some(self.tell_fault(rt, fault)),
+            ServeFault::Spool(fault) => self.wait(console, system, fault),
+            fault => Some(self.tell_fault(console, fault)),
         }
     }
 
     /// The spool could not be opened anew. That is told once; and until it is tried again, what clients say is refused.
-    fn wait<R: Eprint + AllocGlobal, N: Net + Files + Clock>(
+    fn wait<N: Net + Files + Clock>(
         &mut self,
-        rt: &R,
+        console: &Console,
         system: &N,
         fault: FolderFault,
     ) -> Option<Status> {
-        self.tell_once(rt, fault);
+        self.tell_once(console, fault);
         let Some(control) = &self.config.control else {
             return Some(Status::Usage);
         };
-        match answer_unserved(system, rt.alloc(), control.as_str(), BETWEEN_OPENINGS_MS) {
+        match answer_unserved(
+            system,
+            console.alloc(),
+            control.as_str(),
+            BETWEEN_OPENINGS_MS,
+        ) {
             Ok(true) => Some(Status::Done),
             Ok(false) => None,
-            Err(fault) => Some(self.tell_fault(rt, fault)),
+            Err(fault) => Some(self.tell_fault(console, fault)),
         }
     }
 
     /// Tells why the spool could not be opened anew, where that is another fault than the one that was told last.
-    fn tell_once<R: Eprint + AllocGlobal>(&mut self, rt: &R, fault: FolderFault) {
-        let text = match format!(in rt.alloc(); "{fault}") {
+    fn tell_once(&mut self, console: &Console, fault: FolderFault) {
+        let text = match format!(in console.alloc(); "{fault}") {
             Ok(text) => text,
-            Err(_) => String::new(rt.alloc()),
+            Err(_) => String::new(console.alloc()),
         };
         if text.is_empty() || self.told.as_str() != text.as_str() {
-            let _ = self.tell_fault(rt, ServeFault::Spool(fault));
+            let _ = self.tell_fault(console, ServeFault::Spool(fault));
         }
         self.told = text;
     }
 
     /// Tells why a run did not begin, and gives the status that says it.
-    fn tell_fault<R: Eprint>(&self, rt: &R, fault: ServeFault) -> Status {
+    fn tell_fault(&self, console: &Console, fault: ServeFault) -> Status {
         let status = match &fault {
             ServeFault::NoMemory => Status::NoMemory,
             ServeFault::Spool(_) => Status::Usage,
@@ -170,61 +183,57 @@ impl Service {
             fault: &fault,
             config: &self.config,
         };
-        tell(rt, self.path.as_str(), named, status)
+        tell(console, self.path.as_str(), named, status)
     }
 }
 
 /// The lines of the configuration in the file at this path. An `Err` is the status after a fault that was told.
-pub(crate) fn service_of<R: Print + Eprint + Env + AllocGlobal, N: Files + AllocGlobal>(
-    rt: &R,
+pub(crate) fn service_of<N: Files + Env + AllocGlobal>(
+    console: &Console,
     system: &N,
     path: &str,
 ) -> Result<Service, Status> {
-    let config = config_at(rt, system, path)?;
-    if let Some(status) = tell_too_few(rt, path, most_descriptors(&config)) {
+    let config = config_at(console, system, path)?;
+    if let Some(status) = tell_too_few(console, path, most_descriptors(&config)) {
         return Err(status);
     }
     if config.spool.is_none()
-        && let Err(error) = rt.print("pages are kept in memory alone: no spool is set\n")
+        && let Err(error) = console.print("pages are kept in memory alone: no spool is set\n")
     {
-        return Err(tell_unprinted(rt, error));
+        return Err(tell_unprinted(console, error));
     }
-    match String::from_str(rt.alloc(), path) {
+    match String::from_str(console.alloc(), path) {
         Ok(path) => Ok(Service {
             path,
             config,
             failures: 0,
-            manager: manager_name(rt),
-            told: String::new(rt.alloc()),
+            manager: manager_name(console, system),
+            told: String::new(console.alloc()),
         }),
-        Err(_) => Err(tell_no_memory(rt, path)),
+        Err(_) => Err(tell_no_memory(console, path)),
     }
 }
 
 /// Reads the configuration at this path, and says how many lines it has, and how many descriptors its server wants.
-pub(crate) fn check<R: Print + Eprint + AllocGlobal, N: Files + AllocGlobal>(
-    rt: &R,
-    system: &N,
-    path: &str,
-) -> Status {
-    let config = match config_at(rt, system, path) {
+pub(crate) fn check<N: Files + AllocGlobal>(console: &Console, system: &N, path: &str) -> Status {
+    let config = match config_at(console, system, path) {
         Ok(config) => config,
         Err(status) => return status,
     };
     let lines = config.lines.len();
     let wanted = most_descriptors(&config);
-    if let Err(error) = rt.print(format_args!("lines {lines}\ndescriptors {wanted}\n")) {
-        return tell_unprinted(rt, error);
+    if let Err(error) = console.print(format_args!("lines {lines}\ndescriptors {wanted}\n")) {
+        return tell_unprinted(console, error);
     }
-    match tell_too_few(rt, path, wanted) {
+    match tell_too_few(console, path, wanted) {
         Some(status) => status,
         None => Status::Done,
     }
 }
 
 /// The configuration in the file at this path. An `Err` is the status after a fault that was told.
-fn config_at<R: Eprint + AllocGlobal, N: Files + AllocGlobal>(
-    rt: &R,
+fn config_at<N: Files + AllocGlobal>(
+    console: &Console,
     system: &N,
     path: &str,
 ) -> Result<Config, Status>
@@ -233,49 +242,49 @@ fn config_at<R: Eprint + AllocGlobal, N: Files + AllocGlobal>(
 {
     let text = match fs::read_to_string(system, path) {
         Ok(text) => text,
-        Err(error) => return Err(tell(rt, path, error, Status::Stream)),
+        Err(error) => return Err(tell(console, path, error, Status::Stream)),
     };
-    match read_config(rt.alloc(), text.as_str()) {
+    match read_config(console.alloc(), text.as_str()) {
         Ok(config) => Ok(config),
-        Err(ConfigFault::Misfit(Misfit::NoMemory)) => Err(tell_no_memory(rt, path)),
-        Err(fault) => Err(tell(rt, path, fault, Status::Usage)),
+        Err(ConfigFault::Misfit(Misfit::NoMemory)) => Err(tell_no_memory(console, path)),
+        Err(fault) => Err(tell(console, path, fault, Status::Usage)),
     }
 }
 
 /// Where this process cannot open so many descriptors that is told, and the status that says it.
-fn tell_too_few<R: Eprint>(rt: &R, path: &str, wanted: usize) -> Option<Status> {
+fn tell_too_few(console: &Console, path: &str, wanted: usize) -> Option<Status> {
     let most = descriptor_limit()?;
     if wanted as u64 <= most {
         return None;
     }
     let fault = format_args!("{wanted} descriptors are wanted, and {most} can be had (ulimit -n)");
-    Some(tell(rt, path, fault, Status::Stream))
+    Some(tell(console, path, fault, Status::Stream))
 }
 
 /// A run of the configuration at this path has ended so, whose words come on a control socket or not: with which status the process
 /// ends, or that it serves once more. That the spool has failed is told.
-fn ended_by<R: Eprint>(rt: &R, path: &str, has_control: bool, end: RunEnd) -> Option<Status>
+fn ended_by(console: &Console, path: &str, has_control: bool, end: RunEnd) -> Option<Status>
     ensures { IsEndedBy end has_control result }
 {
     if end == RunEnd::Stopped {
         return Some(Status::Done);
     }
-    let status = tell(rt, path, "spool: its disk failed", Status::Usage);
+    let status = tell(console, path, "spool: its disk failed", Status::Usage);
     if has_control { None } else { Some(status) }
 }
 
 /// Tells that memory was wanted and refused.
-fn tell_no_memory<R: Eprint>(rt: &R, path: &str) -> Status
+fn tell_no_memory(console: &Console, path: &str) -> Status
     ensures { IsToldAs Status.NoMemory result }
 {
-    tell(rt, path, "memory was refused", Status::NoMemory)
+    tell(console, path, "memory was refused", Status::NoMemory)
 }
 
 /// Tells a fault of a configuration in one line, and gives the status that says it.
-fn tell<R: Eprint, D: Display + Drop>(rt: &R, path: &str, fault: D, status: Status) -> Status
+fn tell<D: Display + Drop>(console: &Console, path: &str, fault: D, status: Status) -> Status
     ensures { IsToldAs status result }
 {
-    match rt.eprintln(format_args!("faxgate: {path}: {fault}")) {
+    match console.eprintln(format_args!("faxgate: {path}: {fault}")) {
         Ok(()) => status,
         Err(_) => Status::Stream,
     }

@@ -2,6 +2,7 @@
 ghost use Rattle.fax_gateway.specs.Setups.{AreAllowed};
 
 use crate::captures::tell_counts;
+use crate::console::Console;
 use crate::failures::{tell_loop, tell_streams};
 use crate::pictures::Pictures;
 use fax_capture::{CaptureOptions, run_capture};
@@ -16,46 +17,40 @@ use std::net::Net;
 use std::rt::Files;
 
 /// Runs `faxgate page`.
-pub(crate) fn answer_page<R: Print + Eprint + Input + AllocGlobal>(
-    rt: &R,
-    options: PageOptions,
-) -> u8 {
-    let mut source = StdSource::new(rt.reader());
-    let mut sink = StdSink::new(io::writer(rt));
-    let status = run_page(rt.alloc(), &mut source, &mut sink, options);
-    tell_streams(rt, status, &source, &sink)
+pub(crate) fn answer_page(console: &Console, options: PageOptions) -> u8 {
+    let mut source = StdSource::new(console.input());
+    let mut sink = StdSink::new(console.output());
+    let status = run_page(console.alloc(), &mut source, &mut sink, options);
+    tell_streams(console, status, &source, &sink)
 }
 
 /// Runs `faxgate trace`.
-pub(crate) fn answer_trace<R: Print + Eprint + Input + AllocGlobal>(
-    rt: &R,
-    settings: Settings,
-) -> u8
+pub(crate) fn answer_trace(console: &Console, settings: Settings) -> u8
     requires { AreAllowed settings }
 {
-    let mut source = StdSource::new(rt.reader());
-    let mut sink = StdSink::new(io::writer(rt));
-    let status = run_trace(rt.alloc(), &mut source, &mut sink, settings);
-    tell_streams(rt, status, &source, &sink)
+    let mut source = StdSource::new(console.input());
+    let mut sink = StdSink::new(console.output());
+    let status = run_trace(console.alloc(), &mut source, &mut sink, settings);
+    tell_streams(console, status, &source, &sink)
 }
 
 /// Runs `faxgate explain`. A picture that is not written is told.
-pub(crate) fn answer_explain<R: Print + Eprint + Input + AllocGlobal, H: Files>(
-    rt: &R,
+pub(crate) fn answer_explain<H: Files>(
+    console: &Console,
     host: &H,
     options: ExplainOptions<'_>,
 ) -> u8
     requires { AreAllowed options.settings }
 {
-    let mut source = StdSource::new(rt.reader());
-    let mut sink = StdSink::new(io::writer(rt));
-    let status = explain(rt, host, &mut source, &mut sink, options);
-    tell_streams(rt, status, &source, &sink)
+    let mut source = StdSource::new(console.input());
+    let mut sink = StdSink::new(console.output());
+    let status = explain(console, host, &mut source, &mut sink, options);
+    tell_streams(console, status, &source, &sink)
 }
 
 /// Explains the script of a source, with pictures of the pages or without.
-fn explain<R: Eprint + AllocGlobal, H: Files, I: Source, O: Sink>(
-    rt: &R,
+fn explain<H: Files, I: Source, O: Sink>(
+    console: &Console,
     host: &H,
     source: &mut I,
     sink: &mut O,
@@ -65,38 +60,43 @@ fn explain<R: Eprint + AllocGlobal, H: Files, I: Source, O: Sink>(
 {
     match options.pages {
         Some(prefix) => {
-            let mut pictures = Pictures::new(rt, host, rt.alloc(), prefix);
-            run_explain(rt.alloc(), source, sink, &mut pictures, options.settings)
+            let mut pictures = Pictures::new(console, host, console.alloc(), prefix);
+            run_explain(
+                console.alloc(),
+                source,
+                sink,
+                &mut pictures,
+                options.settings,
+            )
         }
-        None => run_explain(rt.alloc(), source, sink, &mut NoPages, options.settings),
+        None => run_explain(
+            console.alloc(),
+            source,
+            sink,
+            &mut NoPages,
+            options.settings,
+        ),
     }
 }
 
 /// Runs `faxgate capture`. An address of which nothing came is told, how many calls there are, and what was passed over.
-pub(crate) fn answer_capture<R: Print + Eprint + Input + AllocGlobal>(
-    rt: &R,
-    options: CaptureOptions,
-) -> u8 {
-    let mut source = StdSource::new(rt.reader());
-    let mut sink = StdSink::new(io::writer(rt));
-    let run = run_capture(rt.alloc(), &mut source, &mut sink, &options);
+pub(crate) fn answer_capture(console: &Console, options: CaptureOptions) -> u8 {
+    let mut source = StdSource::new(console.input());
+    let mut sink = StdSink::new(console.output());
+    let run = run_capture(console.alloc(), &mut source, &mut sink, &options);
     if let Some(counts) = run.counts {
-        tell_counts(rt, options, counts);
+        tell_counts(console, options, counts);
     }
-    tell_streams(rt, run.status, &source, &sink)
+    tell_streams(console, run.status, &source, &sink)
 }
 
 /// Runs `faxgate loop`.
-pub(crate) fn answer_loop<R: Print + Eprint + Input + AllocGlobal, N: Net>(
-    rt: &R,
-    net: &N,
-    settings: Settings,
-) -> u8
+pub(crate) fn answer_loop<N: Net>(console: &Console, net: &N, settings: Settings) -> u8
     requires { AreAllowed settings }
 {
-    let mut source = StdSource::new(rt.reader());
-    let mut sink = StdSink::new(io::writer(rt));
+    let mut source = StdSource::new(console.input());
+    let mut sink = StdSink::new(console.output());
     let lines = SocketLines::over(Loopback::of(net));
-    let ending = play_loop(&lines, rt.alloc(), &mut source, &mut sink, settings);
-    tell_loop(rt, ending, &source, &sink)
+    let ending = play_loop(&lines, console.alloc(), &mut source, &mut sink, settings);
+    tell_loop(console, ending, &source, &sink)
 }

@@ -17,18 +17,18 @@ const WAIT_MS: i32 = 5;
 
 /// The time of a clock, from a start on. Its waits end where a datagram comes.
 #[derive(Drop)]
-pub(crate) struct ClockPace<'a, H: Clock, E: Eprint> {
+pub(crate) struct ClockPace<'a, H: Clock> {
     host: &'a H,
-    watch: &'a Watch<'a, E>,
+    watch: &'a Watch,
     start: Instant,
     descriptor: RawFd,
 }
 
-impl<'a, H: Clock, E: Eprint> ClockPace<'a, H, E> {
+impl<'a, H: Clock> ClockPace<'a, H> {
     /// A time that begins now, whose waits end where a datagram comes to this socket.
     pub(crate) fn new(
         host: &'a H,
-        watch: &'a Watch<'a, E>,
+        watch: &'a Watch,
         socket: &UdpSocket,
     ) -> Result<Self, RunFault<'static>>
         ensures { IfErr result IsClockFault }
@@ -56,7 +56,7 @@ impl<'a, H: Clock, E: Eprint> ClockPace<'a, H, E> {
     }
 }
 
-impl<H: Clock, E: Eprint> Pace for ClockPace<'_, H, E> {
+impl<H: Clock> Pace for ClockPace<'_, H> {
     fn wait(&mut self) -> Option<u64> {
         self.wait_for(WAIT_MS)
     }

@@ -16,9 +16,9 @@ use std::marker::Model;
 /// Writes the pages of calls as pictures or as TIFFs, into files that are named for the call and for their number in it. No file that
 /// is there is written over.
 #[derive(Drop)]
-pub struct PageFiles<'a, F: NamedFiles + Drop, E: Eprint> {
+pub struct PageFiles<'a, F: NamedFiles + Drop> {
     files: F,
-    watch: &'a Watch<'a, E>,
+    watch: &'a Watch,
     alloc: Global,
     naming: PageNaming<'a>,
     call: u32,
@@ -29,7 +29,7 @@ pub struct PageFiles<'a, F: NamedFiles + Drop, E: Eprint> {
 }
 
 /// Seen as the call that is on, and the files that were made.
-impl<'a, F: NamedFiles + Drop, E: Eprint> Model for PageFiles<'a, F, E> {
+impl<'a, F: NamedFiles + Drop> Model for PageFiles<'a, F> {
     ghost use Rattle.fax_send_receive.specs.Naming.{naming_of};
     ghost use Rattle.fax_send_receive.specs.Storing.{FilingValue};
 
@@ -38,9 +38,9 @@ impl<'a, F: NamedFiles + Drop, E: Eprint> Model for PageFiles<'a, F, E> {
     ghost view = { λ p. record { naming = naming_of p.naming; call = p.call; pages = p.pages; made = F.made p.files } };
 }
 
-impl<'a, F: NamedFiles + Drop, E: Eprint> PageFiles<'a, F, E> {
+impl<'a, F: NamedFiles + Drop> PageFiles<'a, F> {
     /// These files, before the first call.
-    pub fn new(files: F, watch: &'a Watch<'a, E>, alloc: Global) -> Self
+    pub fn new(files: F, watch: &'a Watch, alloc: Global) -> Self
         ensures { result.made ≡ F.made files }
     {
         PageFiles {
@@ -91,7 +91,7 @@ impl<'a, F: NamedFiles + Drop, E: Eprint> PageFiles<'a, F, E> {
     }
 }
 
-impl<F: NamedFiles + Drop, E: Eprint> PageStore<PackedRows> for PageFiles<'_, F, E> {
+impl<F: NamedFiles + Drop> PageStore<PackedRows> for PageFiles<'_, F> {
     ghost use Rattle.fax_send_receive.specs.Storing.{StoresPage};
 
     ghost keeps = { StoresPage };

@@ -36,9 +36,9 @@ pub struct ReceiveOptions<'a> {
 }
 
 /// Answers calls, one after another, and writes each page that it confirms into a file of the system, as `receive_pages`. No contract says what stands in a file of the system.
-pub fn run_receive<'a, H: Net + Clock + Files, E: Eprint>(
+pub fn run_receive<'a, H: Net + Clock + Files>(
     host: &'a H,
-    watch: &'a Watch<'a, E>,
+    watch: &'a Watch,
     alloc: Global,
     options: ReceiveOptions<'a>,
 ) -> Result<(), RunFault<'a>>
@@ -51,12 +51,12 @@ pub fn run_receive<'a, H: Net + Clock + Files, E: Eprint>(
 
 /// Answers calls, one after another, and writes each page that it confirms as a P4 picture or as a TIFF of class F, before its MCF is
 /// sent: page i of a call into file i of the call. Calls have the numbers from 0 on of which no file is there. No contract says what comes over a socket.
-pub fn receive_pages<'a, H: Net + Clock, F: NamedFiles + Drop, E: Eprint>(
+pub fn receive_pages<'a, H: Net + Clock, F: NamedFiles + Drop>(
     host: &'a H,
-    watch: &'a Watch<'a, E>,
+    watch: &'a Watch,
     alloc: Global,
     options: ReceiveOptions<'a>,
-    pages: &mut PageFiles<'a, F, E>,
+    pages: &mut PageFiles<'a, F>,
 ) -> Result<(), RunFault<'a>>
     requires { AreAllowed options.settings }
     ensures files { AddsFiles (HasRun options.entry result) pages.old.made pages.new.made }
@@ -68,13 +68,13 @@ pub fn receive_pages<'a, H: Net + Clock, F: NamedFiles + Drop, E: Eprint>(
 }
 
 /// Answers calls at this port.
-fn answer_calls<'a, H: Clock, F: NamedFiles + Drop, E: Eprint>(
+fn answer_calls<'a, H: Clock, F: NamedFiles + Drop>(
     host: &'a H,
-    watch: &'a Watch<'a, E>,
+    watch: &'a Watch,
     alloc: Global,
     options: ReceiveOptions<'a>,
     port: &Port,
-    pages: &mut PageFiles<'a, F, E>,
+    pages: &mut PageFiles<'a, F>,
 ) -> Result<(), RunFault<'a>>
     requires { AreAllowed options.settings }
     ensures files { AddsFiles (HasRun options.entry result) pages.old.made pages.new.made }
@@ -107,10 +107,10 @@ fn answer_calls<'a, H: Clock, F: NamedFiles + Drop, E: Eprint>(
 }
 
 /// Why a call goes no further, whose pages are in these files.
-fn fault_of<'a, F: NamedFiles + Drop, E: Eprint>(
+fn fault_of<'a, F: NamedFiles + Drop>(
     fault: TerminalFault,
     naming: PageNaming<'a>,
-    pages: &mut PageFiles<'_, F, E>,
+    pages: &mut PageFiles<'_, F>,
 ) -> RunFault<'a>
     ensures fault { IsClockFault result ⊎ IsStoreFault (naming_of naming.entry) result }
     ensures storage { fault ≡ TerminalFault.Storing → IsStoreFault (naming_of naming.entry) result }

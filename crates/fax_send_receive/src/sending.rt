@@ -39,9 +39,9 @@ pub struct SendOptions<'a> {
 
 /// Calls a machine and sends the pages in the files of the system at these paths, as `send_files`. No contract says what stands in
 /// a file of the system.
-pub fn run_send<'a, H: Net + Clock + Files, E: Eprint>(
+pub fn run_send<'a, H: Net + Clock + Files>(
     host: &H,
-    watch: &Watch<'_, E>,
+    watch: &Watch,
     alloc: Global,
     options: SendOptions<'a>,
     files: &[&'a str],
@@ -56,9 +56,9 @@ pub fn run_send<'a, H: Net + Clock + Files, E: Eprint>(
 /// Calls a machine and sends the pages in the files of these names, each a P4 picture or the hex text of a page: page i of the job is
 /// that of file i. It reports how the call ended. Where it was not delivered, and sends or receives failed, that is told. An `Err`
 /// names what is at fault.
-pub fn send_files<'a, H: Net + Clock, F: NamedFiles, E: Eprint>(
+pub fn send_files<'a, H: Net + Clock, F: NamedFiles>(
     host: &H,
-    watch: &Watch<'_, E>,
+    watch: &Watch,
     alloc: Global,
     options: SendOptions<'a>,
     files: &F,

@@ -59,7 +59,7 @@ impl Port {
     }
 
     /// Tells the failures at this address, if there were any.
-    pub(crate) fn tell<E: Eprint>(&self, watch: &Watch<'_, E>, address: &str) {
+    pub(crate) fn tell(&self, watch: &Watch, address: &str) {
         if let Some(kind) = self.last.get() {
             let count = self.count.get();
             watch.tell_trouble(format_args!(
@@ -185,9 +185,9 @@ pub(crate) struct LastCall<W: TimedWire + Drop> {
 /// Awaits the first datagram of a call, while what is left of the last call is sent again. It stands at the front of the
 /// buffer. Within 3 s after the last call a datagram of the same peer begins another call only if it is numbered as the first
 /// of one. `None`: there is no time any more.
-pub(crate) fn await_call<W: TimedWire + Drop, H: Clock, E: Eprint>(
+pub(crate) fn await_call<W: TimedWire + Drop, H: Clock>(
     port: &Port,
-    pace: &mut ClockPace<'_, H, E>,
+    pace: &mut ClockPace<'_, H>,
     last: &mut Option<LastCall<W>>,
     buffer: &mut [u8],
 ) -> Option<Call>
@@ -234,8 +234,8 @@ fn is_numbered_first(octets: &[u8]) -> bool
 
 /// Sends again what is left of a call, until nothing of it is to be sent again, or there is no time any more. What comes is
 /// dropped.
-pub(crate) fn keep_repeating<W: TimedWire + Drop, H: Clock, E: Eprint>(
-    pace: &mut ClockPace<'_, H, E>,
+pub(crate) fn keep_repeating<W: TimedWire + Drop, H: Clock>(
+    pace: &mut ClockPace<'_, H>,
     wire: &mut W,
 ) {
     let mut buffer = [0; 1];

@@ -1,17 +1,18 @@
 //! Who watches a terminal on the standard error.
 use libc::{STDERR_FILENO, isatty};
 use std::fmt::Display;
+use std::io::Stderr;
 
 /// Who watches a terminal on the standard error. Nothing depends on what is told.
 #[derive(Drop)]
-pub struct Watch<'a, E: Eprint> {
-    stderr: &'a E,
+pub struct Watch {
+    stderr: Stderr,
     is_watched: bool,
 }
 
-impl<'a, E: Eprint> Watch<'a, E> {
+impl Watch {
     /// Progress is told where the standard error is a screen. No contract says so, since none can say what the standard error is.
-    pub fn new(stderr: &'a E) -> Self {
+    pub fn new(stderr: Stderr) -> Self {
         Watch {
             stderr,
             is_watched: isatty(STDERR_FILENO) == 1,

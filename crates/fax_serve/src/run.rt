@@ -31,7 +31,7 @@ use fax_visitors::Visitors;
 use sqlite_disk::{Disk, Start};
 use std::alloc::{AllocError, Global};
 use std::fs::Files;
-use std::io::{Read, Write};
+use std::io::{Stdin, Stdout};
 use std::net::{Net, SocketAddr};
 use std::rt::Clock;
 
@@ -40,8 +40,8 @@ const SECOND_MS: u64 = 1_000;
 
 /// What stands beside the lines of a server: clients, SIP, where the configuration tells of it, and redial lines.
 #[derive(Drop)]
-struct Sides<I: Read + Drop, O: Write + Drop, P: SipSide + Drop, R: RedialSide + Drop> {
-    clients: Clients<I, O>,
+struct Sides<P: SipSide + Drop, R: RedialSide + Drop> {
+    clients: Clients,
     sip: Option<P>,
     redials: R,
 }
@@ -50,19 +50,12 @@ struct Sides<I: Read + Drop, O: Write + Drop, P: SipSide + Drop, R: RedialSide +
 /// at the earliest: then it is to be served by another run, over a spool that is opened anew. Words come on the control socket where
 /// the configuration has one, and else on the input, whose answers go to the output; events go there in any case. The spool has failed so often in runs
 /// before this one. A service manager is told once all is open, and as the server begins to stop. An `Err` tells why nothing was served.
-pub fn run_serve<
-    M: ServiceManager + Drop,
-    N: Net + Files + Clock + Folders,
-    I: Read + Drop,
-    O: Write + Drop,
-    S: Start,
-    T: Start,
->(
+pub fn run_serve<M: ServiceManager + Drop, N: Net + Files + Clock + Folders, S: Start, T: Start>(
     system: &N,
     alloc: Global,
     config: &Config,
-    input: I,
-    output: O,
+    input: Stdin,
+    output: Stdout,
     spool_failures: u64,
     manager: &mut M,
     start: S,
@@ -77,7 +70,7 @@ pub fn run_serve<
         Some(path) => {
             let path = path.as_str();
             let listener = open_control(system, path)?;
-            let clients: Clients<I, O> = Clients::of_socket(alloc, listener, Some(output))?;
+            let clients: Clients = Clients::of_socket(alloc, listener, Some(output))?;
             let served = serve_with_sip(
                 system,
                 alloc,
@@ -108,18 +101,11 @@ pub fn run_serve<
 }
 
 /// The same with SIP, where the configuration tells of it, and over the sockets of redial lines.
-fn serve_with_sip<
-    M: ServiceManager + Drop,
-    N: Net + Files + Clock + Folders,
-    I: Read + Drop,
-    O: Write + Drop,
-    S: Start,
-    T: Start,
->(
+fn serve_with_sip<M: ServiceManager + Drop, N: Net + Files + Clock + Folders, S: Start, T: Start>(
     system: &N,
     alloc: Global,
     config: &Config,
-    clients: Clients<I, O>,
+    clients: Clients,
     spool_failures: u64,
     manager: &mut M,
     start: S,
@@ -142,7 +128,7 @@ fn serve_with_sip<
         sip,
         redials,
     };
-    serve_beside::<ServedWire, SipFront, RedialLines<'_, RedialWire<'_>>, M, N, I, O, S, T>(
+    serve_beside::<ServedWire, SipFront, RedialLines<'_, RedialWire<'_>>, M, N, S, T>(
         system,
         alloc,
         config,
@@ -161,15 +147,13 @@ fn serve_beside<
     R: RedialSide + Drop,
     M: ServiceManager + Drop,
     N: Net + Clock + Folders,
-    I: Read + Drop,
-    O: Write + Drop,
     S: Start,
     T: Start,
 >(
     system: &N,
     alloc: Global,
     config: &Config,
-    sides: Sides<I, O, P, R>,
+    sides: Sides<P, R>,
     spool_failures: u64,
     manager: &mut M,
     start: S,
@@ -181,10 +165,10 @@ fn serve_beside<
     ensures untold { OnErr result (M.told manager.new ≡ M.told manager.old) }
 {
     match &config.spool {
-        None => serve_in_memory::<W, P, R, M, N, I, O, SpoolFolderFile<S>, SpoolFolderFile<T>>(
+        None => serve_in_memory::<W, P, R, M, N, SpoolFolderFile<S>, SpoolFolderFile<T>>(
             system, alloc, config, sides, manager,
         ),
-        Some(folder) => serve_spooled::<W, P, R, M, N, I, O, S, T>(
+        Some(folder) => serve_spooled::<W, P, R, M, N, S, T>(
             system,
             alloc,
             config,
@@ -205,15 +189,13 @@ fn serve_in_memory<
     R: RedialSide + Drop,
     M: ServiceManager + Drop,
     N: Net + Clock,
-    I: Read + Drop,
-    O: Write + Drop,
     D: Disk + Drop,
     U: Disk + Drop,
 >(
     system: &N,
     alloc: Global,
     config: &Config,
-    sides: Sides<I, O, P, R>,
+    sides: Sides<P, R>,
     manager: &mut M,
 ) -> Result<RunEnd, ServeFault>
     ensures alone { OnOk result (ServedAlone (length config.now.lines.items) false) }
@@ -228,7 +210,7 @@ fn serve_in_memory<
     };
     let pace = pace_of(system, alloc, config, sides, &seen, &[], Some(held), 0)?;
     let mut pace = NoticingPace::begin(pace, manager, lines.len());
-    serve_new::<W, P, R, M, N, I, O, D, U>(lines, &mut pace);
+    serve_new::<W, P, R, M, N, D, U>(lines, &mut pace);
     Ok(pace.finish())
 }
 
@@ -240,15 +222,13 @@ fn serve_spooled<
     R: RedialSide + Drop,
     M: ServiceManager + Drop,
     N: Net + Clock + Folders,
-    I: Read + Drop,
-    O: Write + Drop,
     S: Start,
     T: Start,
 >(
     system: &N,
     alloc: Global,
     config: &Config,
-    sides: Sides<I, O, P, R>,
+    sides: Sides<P, R>,
     folder: &str,
     spool_failures: u64,
     manager: &mut M,
@@ -262,7 +242,7 @@ fn serve_spooled<
 {
     let opened = system.open_spool(folder, start)?;
     let kept = system.open_undelivered(folder, undelivered)?;
-    serve_opened::<W, P, R, M, N, I, O, SpoolFolderFile<S>, SpoolFolderFile<T>>(
+    serve_opened::<W, P, R, M, N, SpoolFolderFile<S>, SpoolFolderFile<T>>(
         system,
         alloc,
         config,
@@ -281,15 +261,13 @@ fn serve_opened<
     R: RedialSide + Drop,
     M: ServiceManager + Drop,
     N: Net + Clock,
-    I: Read + Drop,
-    O: Write + Drop,
     D: Disk + Drop,
     U: Disk + Drop,
 >(
     system: &N,
     alloc: Global,
     config: &Config,
-    sides: Sides<I, O, P, R>,
+    sides: Sides<P, R>,
     opened: OpenedSpool<D>,
     kept: OpenedSpool<U>,
     spool_failures: u64,
@@ -316,7 +294,7 @@ fn serve_opened<
         torn: opened.torn.as_slice(),
         queues: queues.as_slice(),
     };
-    let pace = pace_beside::<W, P, R, N, I, O, D, U>(
+    let pace = pace_beside::<W, P, R, N, D, U>(
         system,
         alloc,
         config,
@@ -348,20 +326,18 @@ fn pace_beside<
     P: SipSide + Drop,
     R: RedialSide + Drop,
     N: Net + Clock,
-    I: Read + Drop,
-    O: Write + Drop,
     D: Disk + Drop,
     U: Disk + Drop,
 >(
     system: &'a N,
     alloc: Global,
     config: &Config,
-    sides: Sides<I, O, P, R>,
+    sides: Sides<P, R>,
     lines: &Lines<HoldingWire<W>>,
     aside: Aside<'_>,
     kept: &OpenedSpool<U>,
     spool_failures: u64,
-) -> Result<RealPace<'a, N, I, O, R, P>, ServeFault>
+) -> Result<RealPace<'a, N, R, P>, ServeFault>
     ensures { IfOk result (λ pace. pace.waits ≡ None) }
 {
     let seen = Seen::<HoldingWire<W>, D, U> { lines, store: None };
@@ -427,24 +403,16 @@ fn held_pages(alloc: Global, configs: &[LineConfig]) -> Result<HeldPages, ServeF
 
 /// What gives the orders to lines that are seen so, of which these pages wait, and whose pages are kept in memory so, or on a spool that has
 /// failed so often before.
-fn pace_of<
-    'a,
-    L: SeenLines,
-    P: SipSide + Drop,
-    R: RedialSide + Drop,
-    N: Net + Clock,
-    I: Read + Drop,
-    O: Write + Drop,
->(
+fn pace_of<'a, L: SeenLines, P: SipSide + Drop, R: RedialSide + Drop, N: Net + Clock>(
     system: &'a N,
     alloc: Global,
     config: &Config,
-    sides: Sides<I, O, P, R>,
+    sides: Sides<P, R>,
     seen: &L,
     queues: &[Queue],
     held: Option<HeldPages>,
     spool_failures: u64,
-) -> Result<RealPace<'a, N, I, O, R, P>, ServeFault>
+) -> Result<RealPace<'a, N, R, P>, ServeFault>
     ensures { IfOk result (λ pace. pace.waits ≡ None) }
 {
     let around = around_of(system, alloc, config, seen, queues)?;
@@ -547,11 +515,9 @@ fn serve_new<
     R: RedialSide + Drop,
     M: ServiceManager + Drop,
     C: Clock,
-    I: Read + Drop,
-    O: Write + Drop,
     D: Disk + Drop,
     U: Disk + Drop,
->(mut lines: Lines<HoldingWire<W>>, pace: &mut NoticingPace<RealPace<'_, C, I, O, R, P>, M>)
+>(mut lines: Lines<HoldingWire<W>>, pace: &mut NoticingPace<RealPace<'_, C, R, P>, M>)
     requires new { AreNew lines.lines }
     requires idle { pace.old.waits ≡ None }
     ensures { ServedAlone (length lines.lines) false }
@@ -567,14 +533,12 @@ fn serve_restored<
     R: RedialSide + Drop,
     M: ServiceManager + Drop,
     C: Clock,
-    I: Read + Drop,
-    O: Write + Drop,
     D: Disk + Drop,
     U: Disk + Drop,
 >(
     mut lines: Lines<HoldingWire<W>>,
     store: PairedStore<D, U>,
-    pace: &mut NoticingPace<RealPace<'_, C, I, O, R, P>, M>,
+    pace: &mut NoticingPace<RealPace<'_, C, R, P>, M>,
 )
     requires begun { AreBegun lines.lines }
     requires first { lines.slot ≡ 0 }

@@ -1,7 +1,6 @@
 //! Whether the server stops, as what gives the orders knows it.
 use fax_desk::RunEnd;
 use fax_pace::{RealPace, RedialSide, SipSide};
-use std::io::{Read, Write};
 use std::rt::Clock;
 
 /// What gives the orders, and knows whether the server was told to stop.
@@ -13,14 +12,7 @@ pub(crate) trait StoppingPace {
     fn finish(&mut self) -> RunEnd;
 }
 
-impl<
-    'a,
-    C: Clock,
-    I: Read + Drop,
-    O: Write + Drop,
-    R: RedialSide + Drop,
-    S: SipSide + Drop,
-> StoppingPace for RealPace<'a, C, I, O, R, S> {
+impl<'a, C: Clock, R: RedialSide + Drop, S: SipSide + Drop> StoppingPace for RealPace<'a, C, R, S> {
     fn is_stopping(&self) -> bool {
         RealPace::is_stopping(self)
     }

@@ -6,7 +6,6 @@ use fax_opening::{ServeFault, Stopwatch, close_control, open_control};
 use std::alloc::Global;
 use std::fs::Files;
 use std::net::Net;
-use std::os::unix::net::UnixStream;
 use std::rt::Clock;
 
 /// Clients are waited for so many milliseconds at once, at most.
@@ -32,7 +31,7 @@ pub fn answer_unserved<N: Net + Files + Clock>(
         Err(error) => return Err(ServeFault::Clock(error)),
     };
     let listener = open_control(system, path)?;
-    let mut clients: Clients<UnixStream, UnixStream> = Clients::of_socket(alloc, listener, None)?;
+    let mut clients: Clients = Clients::of_socket(alloc, listener, None)?;
     let said = answer_until(&watch, alloc, &mut clients, within_ms);
     clients.finish();
     close_control(system, path);
@@ -43,7 +42,7 @@ pub fn answer_unserved<N: Net + Files + Clock>(
 fn answer_until<C: Clock>(
     watch: &Stopwatch<'_, C>,
     alloc: Global,
-    clients: &mut Clients<UnixStream, UnixStream>,
+    clients: &mut Clients,
     within_ms: u64,
 ) -> UnservedWord {
     for _ in 0..u64::MAX {
@@ -63,7 +62,7 @@ fn answer_until<C: Clock>(
 }
 
 /// Answers the words that were said, one of each client.
-fn answer_words(alloc: Global, clients: &mut Clients<UnixStream, UnixStream>) -> UnservedWord {
+fn answer_words(alloc: Global, clients: &mut Clients) -> UnservedWord {
     for _ in 0..MOST_CLIENTS {
         let Some((asker, heard)) = clients.hear() else {
             return UnservedWord::Nothing;

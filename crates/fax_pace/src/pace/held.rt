@@ -9,14 +9,13 @@ use fax_jobs::Report;
 use fax_line::SLOTS;
 use fax_undelivered::Undelivered;
 use std::alloc::Global;
-use std::io::{Read, Write};
 
 /// The oldest calls are dropped while more wait than are kept, but for those that are under way, and that is told.
-pub(super) fn drop_all_beyond<R: RedialSide + Drop, I: Read + Drop, O: Write + Drop>(
+pub(super) fn drop_all_beyond<R: RedialSide + Drop>(
     alloc: Global,
     kept: &mut Undelivered<MemoryFile>,
     retries: &Retries<R>,
-    teller: &mut Teller<I, O>,
+    teller: &mut Teller,
     now: u64,
 ) {
     for _ in 0..kept.len() {
@@ -27,11 +26,11 @@ pub(super) fn drop_all_beyond<R: RedialSide + Drop, I: Read + Drop, O: Write + D
 }
 
 /// The oldest that is not under way is dropped. `false`: none is.
-fn drop_one<R: RedialSide + Drop, I: Read + Drop, O: Write + Drop>(
+fn drop_one<R: RedialSide + Drop>(
     alloc: Global,
     kept: &mut Undelivered<MemoryFile>,
     retries: &Retries<R>,
-    teller: &mut Teller<I, O>,
+    teller: &mut Teller,
     now: u64,
 ) -> bool {
     let Ok(under_way) = retries.redials.names(alloc) else {

@@ -6,7 +6,6 @@ use crate::telling::Teller;
 use fax_clients::Asker;
 use fax_desk::{Desk, LineView, Reply};
 use fax_sip_service::Said;
-use std::io::{Read, Write};
 
 /// Words are waited for so many milliseconds at most where SIP is spoken.
 const BETWEEN_SIP_MS: u64 = 5;
@@ -23,9 +22,9 @@ pub(super) fn most_between_sip<S: SipSide>(sip: &Option<S>) -> u64 {
 }
 
 /// Goes on with SIP, without waiting.
-pub(super) fn serve_sip<L: SeenLines, S: SipSide, I: Read + Drop, O: Write + Drop>(
+pub(super) fn serve_sip<L: SeenLines, S: SipSide>(
     sip: &mut Option<S>,
-    teller: &mut Teller<I, O>,
+    teller: &mut Teller,
     desk: &Desk,
     now: u64,
     seen: &L,
@@ -46,11 +45,7 @@ pub(super) fn serve_sip<L: SeenLines, S: SipSide, I: Read + Drop, O: Write + Dro
 }
 
 /// Tells clients what happened in calls.
-pub(super) fn tell_of_sip<S: SipSide, I: Read + Drop, O: Write + Drop>(
-    sip: &mut S,
-    teller: &mut Teller<I, O>,
-    now: u64,
-) {
+pub(super) fn tell_of_sip<S: SipSide>(sip: &mut S, teller: &mut Teller, now: u64) {
     for _ in 0..MOST_TOLD {
         match sip.next_news(now, teller.takes_events()) {
             SipNews::Nothing => return,
@@ -78,10 +73,10 @@ pub(super) fn next_said<S: SipSide>(sip: &mut Option<S>) -> Option<Said> {
 
 /// SIP says this of a redial line, of which the first is counted so: the word comes in at their desk as one of a client does, where the
 /// call that it is about is on.
-pub(super) fn say_of_redial<S: SipSide, R: RedialSide, I: Read + Drop, O: Write + Drop>(
+pub(super) fn say_of_redial<S: SipSide, R: RedialSide>(
     sip: &mut Option<S>,
     redials: &mut R,
-    teller: &mut Teller<I, O>,
+    teller: &mut Teller,
     said: &Said,
     first: usize,
     now: u64,
@@ -97,10 +92,10 @@ pub(super) fn say_of_redial<S: SipSide, R: RedialSide, I: Read + Drop, O: Write 
 }
 
 /// The same word, and which redial line it came to, and how it is answered.
-fn step_redial<S: SipSide, R: RedialSide, I: Read + Drop, O: Write + Drop>(
+fn step_redial<S: SipSide, R: RedialSide>(
     sip: &S,
     redials: &mut R,
-    teller: &mut Teller<I, O>,
+    teller: &mut Teller,
     said: &Said,
     first: usize,
     now: u64,
@@ -121,12 +116,7 @@ pub(super) fn answer_sip<S: SipSide>(sip: &mut Option<S>, now: u64, reply: Reply
 }
 
 /// What happened on line i is told SIP.
-pub(super) fn tell_sip<S: SipSide, I: Read + Drop, O: Write + Drop>(
-    sip: &mut Option<S>,
-    teller: &mut Teller<I, O>,
-    now: u64,
-    i: usize,
-) {
+pub(super) fn tell_sip<S: SipSide>(sip: &mut Option<S>, teller: &mut Teller, now: u64, i: usize) {
     let Some(sip) = sip else {
         return;
     };
@@ -161,10 +151,10 @@ fn is_try_placed<S: SipSide, R: RedialSide>(sip: &Option<S>, redials: &R, i: usi
 
 /// The redial lines that have a try, the first of which is counted so, have the turn of their next slot, at this moment, and SIP hears what
 /// happened there. The question of one is asked where a client hears events, or where SIP places the call.
-pub(super) fn turn_redials<S: SipSide, R: RedialSide, I: Read + Drop, O: Write + Drop>(
+pub(super) fn turn_redials<S: SipSide, R: RedialSide>(
     sip: &mut Option<S>,
     redials: &mut R,
-    teller: &mut Teller<I, O>,
+    teller: &mut Teller,
     first: usize,
     now: u64,
     moment: u64,

@@ -8,17 +8,9 @@ use crate::seen::SeenLines;
 use crate::sip_side::SipSide;
 use fax_desk::tell_turn;
 use fax_line::SLOTS;
-use std::io::{Read, Write};
 use std::rt::Clock;
 
-impl<
-    'a,
-    C: Clock,
-    I: Read + Drop,
-    O: Write + Drop,
-    R: RedialSide + Drop,
-    S: SipSide + Drop,
-> RealPace<'a, C, I, O, R, S> {
+impl<'a, C: Clock, R: RedialSide + Drop, S: SipSide + Drop> RealPace<'a, C, R, S> {
     /// Tells what the turn that was ordered came to, of each line that was not left at rest in it.
     pub(super) fn tell_turned<L: SeenLines>(&mut self, seen: &L)
         ensures { self.new ≡ self.old }

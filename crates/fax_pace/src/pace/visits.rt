@@ -17,7 +17,6 @@ use fax_http::{
 };
 use fax_undelivered::UndeliveredCall;
 use std::alloc::Global;
-use std::io::{Read, Write};
 use std::rt::Clock;
 
 /// What a request is answered, and whose octets are those of its body.
@@ -28,14 +27,7 @@ struct Told {
     body: Vec<u8>,
 }
 
-impl<
-    'a,
-    C: Clock,
-    I: Read + Drop,
-    O: Write + Drop,
-    R: RedialSide + Drop,
-    S: SipSide + Drop,
-> RealPace<'a, C, I, O, R, S> {
+impl<'a, C: Clock, R: RedialSide + Drop, S: SipSide + Drop> RealPace<'a, C, R, S> {
     /// Goes on with who looks over HTTP, without waiting: one request is answered.
     pub(super) fn serve_visitors<L: SeenLines>(&mut self, seen: &L)
         ensures { self.new ≡ self.old }

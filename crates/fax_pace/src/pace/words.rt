@@ -22,20 +22,12 @@ use fax_control::{Answer, HeardLine, Refusal, Word, read_word};
 use fax_desk::{Desk, LineView, LookOutcome, Next, Order as DeskOrder, OrderEnd, Reply, tell_at};
 use fax_line::{LineAnswer, Order};
 use fax_sip_service::Said;
-use std::io::{Read, Write};
 use std::rt::Clock;
 
 /// The most words that SIP says at a look.
 const MOST_WORDS: u32 = 64;
 
-impl<
-    'a,
-    C: Clock,
-    I: Read + Drop,
-    O: Write + Drop,
-    R: RedialSide + Drop,
-    S: SipSide + Drop,
-> RealPace<'a, C, I, O, R, S> {
+impl<'a, C: Clock, R: RedialSide + Drop, S: SipSide + Drop> RealPace<'a, C, R, S> {
     /// Waits for a word, for so many milliseconds at most. It answers what the word orders of a line.
     pub(super) fn wait<L: SeenLines>(&mut self, most: u64, seen: &L) -> Option<Order>
         requires { self.old.waits ≡ None }

@@ -4,11 +4,11 @@ use Rattle.fax_clients.proofs.ClientLemmas.{first_all, first_next}
 use Rattle.fax_clients.proofs.clients.ask.Goals as goal
 
 pub loop-client-preserved : goal.loop-client-preserved
-loop-client-preserved g c =
+loop-client-preserved c =
     let within : c.loop-client.client-index < length c.loop-client.clients = omega (arith, c.loop-client-test.true, c.loop-client.auto.clients) in
     first_next IsAsked c.loop-client.client-index c.args.clients.now c.loop-client.clients c.told_over.new.self c.client-item.result c.loop-client.invariant within c.told_over.ensures
 
 pub returns : goal.returns
-returns g c =
+returns c =
     let all : length c.loop-client.clients ≤ c.loop-client.client-index = omega (arith, c.loop-client-test.false, c.loop-client.auto.clients) in
     first_all IsAsked c.loop-client.client-index c.args.clients.now c.loop-client.clients c.loop-client.invariant all

@@ -4,4 +4,4 @@ use Rattle.fax_clients.proofs.clients.hear.Given as goal
 
 -- of the clients so far no line was heard
 abbrev pub invariant-loop-i : goal.invariant-loop-i
-invariant-loop-i g l = First HearsNoLine l.i l.initial.clients l.clients
+invariant-loop-i l = First HearsNoLine l.i l.initial.clients l.clients

@@ -5,7 +5,7 @@ use Rattle.fax_clients.proofs.WaitLemmas.{counted_all, slice_back}
 use Rattle.fax_clients.proofs.clients.Clients.forget.Goals as goal
 
 pub returns-clause-clients : goal.returns-clause-clients
-returns-clause-clients g c =
+returns-clause-clients c =
     let old : List ClientValue = c.self.inside.clients.items in
     let new : List ClientValue = c.take_lost-lost.new.clients in
     let whole : c.self.inside.clients.len ≡ length old = omega (arith, c.as_mut_slice.ensures.len, ap length c.as_mut_slice.ensures.value) in

@@ -5,7 +5,7 @@ use Rattle.fax_clients.proofs.WaitLemmas.{slice_back}
 use Rattle.fax_clients.proofs.clients.Clients.hear.Goals as goal
 
 pub returns-clause-told : goal.returns-clause-told
-returns-clause-told g c =
+returns-clause-told c =
     let old : List ClientValue = c.self.inside.clients.items in
     let new : List ClientValue = c.hear-heard.new.clients in
     let whole : c.self.inside.clients.len ≡ length old = omega (arith, c.as_mut_slice.ensures.len, ap length c.as_mut_slice.ensures.value) in

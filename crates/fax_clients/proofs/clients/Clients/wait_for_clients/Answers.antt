@@ -4,7 +4,7 @@ use Rattle.fax_clients.proofs.WaitLemmas.{left_none, left_one, slice_back}
 use Rattle.fax_clients.proofs.clients.Clients.wait_for_clients.Goals as goal
 
 pub returns-then-is_ready-clause-clients : goal.returns-then-is_ready-clause-clients
-returns-then-is_ready-clause-clients g c =
+returns-then-is_ready-clause-clients c =
     let old : List ClientValue = c.self.inside.clients.items in
     let new : List ClientValue = c.wait_for.new.clients in
     let whole : c.self.inside.clients.len ≡ length old = omega (arith, c.as_mut_slice.ensures.len, ap length c.as_mut_slice.ensures.value) in
@@ -15,7 +15,7 @@ returns-then-is_ready-clause-clients g c =
     c.let_in.ensures.one
 
 pub returns-else-is_ready-clause-clients : goal.returns-else-is_ready-clause-clients
-returns-else-is_ready-clause-clients g c =
+returns-else-is_ready-clause-clients c =
     let old : List ClientValue = c.self.inside.clients.items in
     let new : List ClientValue = c.wait_for.new.clients in
     let whole : c.self.inside.clients.len ≡ length old = omega (arith, c.as_mut_slice.ensures.len, ap length c.as_mut_slice.ensures.value) in
