@@ -25,7 +25,6 @@ use std::marker::Model;
 
 /// The answerer of the calls of a leg, one after another (ITU-T T.30, phases B to D of a called terminal). Seen as
 /// what a call has led to: its contracts are told over every history of slots, pieces and ticks.
-#[derive(Drop)]
 pub struct Answerer<S: RowStore> {
     pub(crate) alloc: Global,
     pub(crate) signals: Signals,
@@ -37,6 +36,20 @@ pub struct Answerer<S: RowStore> {
     pub(crate) refused: Option<Refusal>,
     /// The room for the packet of the next tick.
     pub(crate) room: Room,
+}
+
+impl<S: RowStore> Drop for Answerer<S> {
+    fn drop(self) {
+        let Answerer {
+            alloc: _alloc,
+            signals: _signals,
+            procedure: _procedure,
+            image: _image,
+            confirmed: _confirmed,
+            refused: _refused,
+            room: _room,
+        } = self;
+    }
 }
 
 impl<S: RowStore> Model for Answerer<S> {

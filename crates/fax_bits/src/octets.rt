@@ -4,9 +4,15 @@ ghost use Rattle.std.specs.Prelude.{◌≡◌};
 use std::marker::Model;
 
 /// Octets in a vector, which contracts see as their list.
-#[derive(Debug, Drop)]
+#[derive(Debug)]
 pub struct Octets {
     octets: Vec<u8>,
+}
+
+impl Drop for Octets {
+    fn drop(self) {
+        let Octets { octets: _octets } = self;
+    }
 }
 
 impl Model for Octets {

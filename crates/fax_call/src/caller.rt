@@ -31,7 +31,6 @@ use std::marker::Model;
 
 /// The caller of the calls of a leg, one after another (ITU-T T.30, phases B to D of a calling terminal). Seen as
 /// what a call has led to: its contracts are told over every history of slots, pieces and ticks.
-#[derive(Drop)]
 pub struct Caller {
     pub(crate) alloc: Global,
     pub(crate) signals: Signals,
@@ -40,6 +39,18 @@ pub struct Caller {
     pub(crate) writer: PageWriter,
     /// Room for an indicator, where it was reserved.
     room: Room,
+}
+
+impl Drop for Caller {
+    fn drop(self) {
+        let Caller {
+            alloc: _alloc,
+            signals: _signals,
+            procedure: _procedure,
+            writer: _writer,
+            room: _room,
+        } = self;
+    }
 }
 
 impl Model for Caller {

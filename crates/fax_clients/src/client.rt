@@ -12,7 +12,6 @@ use std::marker::Model;
 use std::os::fd::RawFd;
 
 /// Who says words and reads answers.
-#[derive(Drop)]
 pub(crate) struct Client {
     stream: Stream,
     inbox: Inbox,
@@ -23,6 +22,19 @@ pub(crate) struct Client {
     is_let_go: bool,
     /// The number of the line that it watches.
     watches: Option<usize>,
+}
+
+impl Drop for Client {
+    fn drop(self) {
+        let Client {
+            stream: _stream,
+            inbox: _inbox,
+            outbox: _outbox,
+            last_line: _last_line,
+            is_let_go: _is_let_go,
+            watches: _watches,
+        } = self;
+    }
 }
 
 /// Contracts see what came of it, what it is told, and which line it watches.

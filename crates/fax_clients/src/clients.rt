@@ -56,7 +56,6 @@ impl Asker {
 
 /// The clients of a control socket, at most 64 at one time; or standard input and output alone. Where one more comes, the one goes that
 /// has been silent longest, of those that want events only where there is no other.
-#[derive(Drop)]
 pub struct Clients {
     alloc: Global,
     listener: Option<UnixListener>,
@@ -68,6 +67,20 @@ pub struct Clients {
     lines: u64,
     /// How many lines of events were lost by clients that are gone.
     lost: u64,
+}
+
+impl Drop for Clients {
+    fn drop(self) {
+        let Clients {
+            alloc: _alloc,
+            listener: _listener,
+            journal: _journal,
+            clients: _clients,
+            ready: _ready,
+            lines: _lines,
+            lost: _lost,
+        } = self;
+    }
 }
 
 /// Contracts see whether there is a control socket, the record of events, each client, and the count of lost lines.

@@ -10,7 +10,6 @@ use std::marker::Model;
 const ROOM: usize = 512;
 
 /// The octets that were read last, and what has come of a line.
-#[derive(Drop)]
 pub(crate) struct Inbox {
     octets: [u8; 512],
     /// The octets from here up to the end were not heard yet.
@@ -19,6 +18,18 @@ pub(crate) struct Inbox {
     lines: ClientLines,
     /// Whether more may come.
     is_open: bool,
+}
+
+impl Drop for Inbox {
+    fn drop(self) {
+        let Inbox {
+            octets: _octets,
+            start: _start,
+            end: _end,
+            lines: _lines,
+            is_open: _is_open,
+        } = self;
+    }
 }
 
 /// Contracts see whether more may come, the octets that were not heard yet, and what has come of a line.

@@ -20,10 +20,18 @@ const MOST_LINES: u8 = 64;
 const MOST_AT_ONCE: usize = 4096;
 
 /// Standard output, which has all events, a line each. It is nobody who hears them, and it says no words.
-#[derive(Drop)]
 pub(crate) struct Journal {
     output: Bounded,
     outbox: Outbox,
+}
+
+impl Drop for Journal {
+    fn drop(self) {
+        let Journal {
+            output: _output,
+            outbox: _outbox,
+        } = self;
+    }
 }
 
 /// Contracts see what it is still to be told.

@@ -11,7 +11,6 @@ use std::io::Write;
 use std::marker::Model;
 
 /// The text that is being written, and the lines of events that wait after it.
-#[derive(Drop)]
 pub(crate) struct Outbox {
     alloc: Global,
     text: Vec<u8>,
@@ -22,6 +21,19 @@ pub(crate) struct Outbox {
     lost: u64,
     /// Whether the stream takes more.
     is_open: bool,
+}
+
+impl Drop for Outbox {
+    fn drop(self) {
+        let Outbox {
+            alloc: _alloc,
+            text: _text,
+            written: _written,
+            events: _events,
+            lost: _lost,
+            is_open: _is_open,
+        } = self;
+    }
 }
 
 /// Contracts see what is left of the text, the events as they wait for their reader, and how many were lost.

@@ -8,9 +8,14 @@ use std::os::fd::RawFd;
 const MOST: usize = 129;
 
 /// What is waited for, and whether it came: descriptors in the order in which they were added.
-#[derive(Drop)]
 pub(crate) struct Ready {
     asked: Vec<pollfd>,
+}
+
+impl Drop for Ready {
+    fn drop(self) {
+        let Ready { asked: _asked } = self;
+    }
 }
 
 impl Ready {

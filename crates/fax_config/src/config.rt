@@ -68,7 +68,6 @@ pub struct LegConfig {
 }
 
 /// A line.
-#[derive(Drop)]
 pub struct LineConfig {
     pub name: String,
     pub calling: LegConfig,
@@ -86,22 +85,52 @@ pub struct LineConfig {
     pub most_waiting: u32,
 }
 
+impl Drop for LineConfig {
+    fn drop(self) {
+        let LineConfig {
+            name: _name,
+            calling: _calling,
+            called: _called,
+            redundancy: _redundancy,
+            preamble_ms: _preamble_ms,
+            repeat: _repeat,
+            dial_seconds: _dial_seconds,
+            line_memory: _line_memory,
+            most_waiting: _most_waiting,
+        } = self;
+    }
+}
+
 /// A redial line: a line without a calling leg, over which jobs that could not be delivered are tried again.
-#[derive(Drop)]
 pub struct RedialConfig {
     pub name: String,
     pub called: LegConfig,
 }
 
+impl Drop for RedialConfig {
+    fn drop(self) {
+        let RedialConfig {
+            name: _name,
+            called: _called,
+        } = self;
+    }
+}
+
 /// When a job that could not be delivered is tried again.
-#[derive(Drop)]
 pub struct RetryConfig {
     /// How long after its end, for each time in turn: at most 16, each 1 to 604,800 seconds.
     pub after_seconds: Vec<u32>,
 }
 
+impl Drop for RetryConfig {
+    fn drop(self) {
+        let RetryConfig {
+            after_seconds: _after_seconds,
+        } = self;
+    }
+}
+
 /// A configuration.
-#[derive(Drop)]
 pub struct Config {
     /// The path of the control socket.
     pub control: Option<String>,
@@ -118,4 +147,20 @@ pub struct Config {
     pub redial: Vec<RedialConfig>,
     /// How SIP is spoken, where it is.
     pub sip: Option<SipConfig>,
+}
+
+impl Drop for Config {
+    fn drop(self) {
+        let Config {
+            control: _control,
+            spool: _spool,
+            http: _http,
+            stop_seconds: _stop_seconds,
+            memory: _memory,
+            lines: _lines,
+            retry: _retry,
+            redial: _redial,
+            sip: _sip,
+        } = self;
+    }
 }

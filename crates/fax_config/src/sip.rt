@@ -28,7 +28,6 @@ pub enum CallWith {
 }
 
 /// A trunk: who is called, and who may call from there.
-#[derive(Drop)]
 pub struct TrunkConfig {
     pub name: String,
     /// Where requests are sent to.
@@ -46,8 +45,22 @@ pub struct TrunkConfig {
     pub calls: u32,
 }
 
+impl Drop for TrunkConfig {
+    fn drop(self) {
+        let TrunkConfig {
+            name: _name,
+            address: _address,
+            allow: _allow,
+            user: _user,
+            password_file: _password_file,
+            registers: _registers,
+            call_with: _call_with,
+            calls: _calls,
+        } = self;
+    }
+}
+
 /// Numbers that begin with a prefix are placed over a trunk.
-#[derive(Drop)]
 pub struct RouteConfig {
     /// An optional `+` and digits.
     pub prefix: String,
@@ -59,8 +72,18 @@ pub struct RouteConfig {
     pub add: String,
 }
 
+impl Drop for RouteConfig {
+    fn drop(self) {
+        let RouteConfig {
+            prefix: _prefix,
+            trunk: _trunk,
+            strip: _strip,
+            add: _add,
+        } = self;
+    }
+}
+
 /// How SIP is spoken.
-#[derive(Drop)]
 pub struct SipConfig {
     /// The address of SIP.
     pub local: SocketAddr,
@@ -70,4 +93,16 @@ pub struct SipConfig {
     pub ring_seconds: u32,
     pub trunks: Vec<TrunkConfig>,
     pub routes: Vec<RouteConfig>,
+}
+
+impl Drop for SipConfig {
+    fn drop(self) {
+        let SipConfig {
+            local: _local,
+            audio: _audio,
+            ring_seconds: _ring_seconds,
+            trunks: _trunks,
+            routes: _routes,
+        } = self;
+    }
 }

@@ -16,9 +16,14 @@ pub enum HeardLine {
 }
 
 /// What has come of a client's next line.
-#[derive(Drop)]
 pub struct ClientLines {
     waiting: Option<ArrayVec<u8, MOST_OCTETS>>,
+}
+
+impl Drop for ClientLines {
+    fn drop(self) {
+        let ClientLines { waiting: _waiting } = self;
+    }
 }
 
 /// Contracts see the octets after the last line feed, or none where they are more than 256.

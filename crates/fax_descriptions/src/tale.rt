@@ -24,10 +24,18 @@ pub struct Told<'a> {
 }
 
 /// What happened at an event, in the order in which it happened. Nothing is promised of a tale after an `Err`.
-#[derive(Drop)]
 pub struct Tale {
     alloc: Global,
     entries: Vec<Entry>,
+}
+
+impl Drop for Tale {
+    fn drop(self) {
+        let Tale {
+            alloc: _alloc,
+            entries: _entries,
+        } = self;
+    }
 }
 
 /// Contracts see the list of what is told: where each thing happened, and its words.

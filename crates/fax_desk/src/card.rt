@@ -56,7 +56,6 @@ pub struct LineLimits {
 }
 
 /// What is known of a line.
-#[derive(Drop)]
 pub struct Card {
     /// The tags of the last calls, the newest first.
     pub tags: HeapCircularBuffer<TaggedCall>,
@@ -75,6 +74,24 @@ pub struct Card {
     /// How many pages of it wait: they were confirmed, and their jobs have not ended.
     pub waiting: u64,
     pub limits: LineLimits,
+}
+
+impl Drop for Card {
+    fn drop(self) {
+        let Card {
+            tags: _tags,
+            counts: _counts,
+            pages_in_call: _pages_in_call,
+            is_closed: _is_closed,
+            jobs: _jobs,
+            restored_jobs: _restored_jobs,
+            dial_seconds: _dial_seconds,
+            question: _question,
+            refused: _refused,
+            waiting: _waiting,
+            limits: _limits,
+        } = self;
+    }
 }
 
 impl Card {

@@ -51,7 +51,6 @@ pub enum LookOutcome {
 }
 
 /// The desk of a server.
-#[derive(Drop)]
 pub struct Desk {
     /// The lines' names.
     pub names: Vec<String>,
@@ -72,6 +71,24 @@ pub struct Desk {
     pub any_from: usize,
     /// How many octets all lines together may hold of pages. `None`: as many as each for itself.
     pub memory: Option<u64>,
+}
+
+impl Drop for Desk {
+    fn drop(self) {
+        let Desk {
+            names: _names,
+            cards: _cards,
+            stop: _stop,
+            stop_ms: _stop_ms,
+            damage: _damage,
+            failed: _failed,
+            time: _time,
+            is_heard: _is_heard,
+            waits: _waits,
+            any_from: _any_from,
+            memory: _memory,
+        } = self;
+    }
 }
 
 impl Desk {

@@ -13,7 +13,6 @@ use std::marker::Model;
 
 /// A dialog (RFC 3261, 12): its Call-ID and both tags, which are its name; both addresses; the numbers of the requests of both ends; the
 /// target of ours, and their route.
-#[derive(Drop)]
 pub struct Dialog {
     pub(crate) role: Role,
     pub(crate) ends: Ends,
@@ -21,6 +20,19 @@ pub struct Dialog {
     pub(crate) remote_number: Option<u32>,
     pub(crate) target: Text,
     pub(crate) routes: Routes,
+}
+
+impl Drop for Dialog {
+    fn drop(self) {
+        let Dialog {
+            role: _role,
+            ends: _ends,
+            local_number: _local_number,
+            remote_number: _remote_number,
+            target: _target,
+            routes: _routes,
+        } = self;
+    }
 }
 
 impl Model for Dialog {

@@ -26,11 +26,19 @@ pub struct WaitingLine {
 
 /// The lines that wait for a reader, oldest first: at most 1,024. A line that comes while so many wait is lost, and
 /// the reader is told at its place how many were.
-#[derive(Drop)]
 pub struct EventQueue {
     waiting: HeapCircularBuffer<WaitingLine>,
     lost: u64,
     ghost room: { waiting.capacity ≡ 1024 },
+}
+
+impl Drop for EventQueue {
+    fn drop(self) {
+        let EventQueue {
+            waiting: _waiting,
+            lost: _lost,
+        } = self;
+    }
 }
 
 impl EventQueue {

@@ -14,10 +14,18 @@ use fax_trace::{Answer, ScriptEvent, ScriptFault, event_of_line, push_fault};
 use std::alloc::Global;
 
 /// What is answered to a script, and the pages that were confirmed or sent in it.
-#[derive(Drop)]
 pub(crate) struct Explanation {
     pub answer: Answer,
     pub pages: Vec<FoundPage>,
+}
+
+impl Drop for Explanation {
+    fn drop(self) {
+        let Explanation {
+            answer: _answer,
+            pages: _pages,
+        } = self;
+    }
 }
 
 /// Explains a script.

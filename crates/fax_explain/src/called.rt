@@ -20,7 +20,6 @@ use fax_gateway::{Given, Leg};
 use std::alloc::Global;
 
 /// What is heard on the called leg.
-#[derive(Drop)]
 pub(crate) struct CalledLeg {
     alloc: Global,
     theirs: Listener,
@@ -30,6 +29,19 @@ pub(crate) struct CalledLeg {
     before: u32,
     /// How many pages of the job were delivered.
     delivered: u32,
+}
+
+impl Drop for CalledLeg {
+    fn drop(self) {
+        let CalledLeg {
+            alloc: _alloc,
+            theirs: _theirs,
+            ours: _ours,
+            call: _call,
+            before: _before,
+            delivered: _delivered,
+        } = self;
+    }
 }
 
 impl CalledLeg {

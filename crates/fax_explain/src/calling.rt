@@ -19,13 +19,23 @@ use fax_pagestore::{PackedRows, Page};
 use std::alloc::Global;
 
 /// What is heard on the calling leg in one call.
-#[derive(Drop)]
 pub(crate) struct CallingLeg {
     alloc: Global,
     theirs: Listener,
     ours: Listener,
     /// How many pages were confirmed.
     pages: u32,
+}
+
+impl Drop for CallingLeg {
+    fn drop(self) {
+        let CallingLeg {
+            alloc: _alloc,
+            theirs: _theirs,
+            ours: _ours,
+            pages: _pages,
+        } = self;
+    }
 }
 
 impl CallingLeg {

@@ -9,7 +9,6 @@ use fax_pagestore::{PackedRows, Page, PageFault, PageReader};
 use std::alloc::Global;
 
 /// An image signal, as far as it has come: a training check or a page (ITU-T T.30, 5.3.6.2).
-#[derive(Drop)]
 pub(crate) struct Image {
     alloc: Global,
     octets: u64,
@@ -20,6 +19,19 @@ pub(crate) struct Image {
     missing: String,
     /// What its octets mean as a page, where one is due.
     reader: Option<PageReader<PackedRows>>,
+}
+
+impl Drop for Image {
+    fn drop(self) {
+        let Image {
+            alloc: _alloc,
+            octets: _octets,
+            run: _run,
+            longest: _longest,
+            missing: _missing,
+            reader: _reader,
+        } = self;
+    }
 }
 
 impl Image {

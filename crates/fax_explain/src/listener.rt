@@ -25,7 +25,6 @@ use fax_udptl::{Decided, Packets, Receiver, read};
 use std::alloc::Global;
 
 /// What is read of the datagrams of one direction of a leg, in one call.
-#[derive(Drop)]
 pub(crate) struct Listener {
     alloc: Global,
     lane: Lane,
@@ -46,6 +45,25 @@ pub(crate) struct Listener {
     dis: Option<Dis>,
     /// The frames of the last datagram that were not passed over.
     frames: Vec<Frame>,
+}
+
+impl Drop for Listener {
+    fn drop(self) {
+        let Listener {
+            alloc: _alloc,
+            lane: _lane,
+            receiver: _receiver,
+            signals: _signals,
+            is_outside: _is_outside,
+            marks: _marks,
+            taken: _taken,
+            usual: _usual,
+            image: _image,
+            page: _page,
+            dis: _dis,
+            frames: _frames,
+        } = self;
+    }
 }
 
 impl Listener {

@@ -11,9 +11,14 @@ use fax_trace::ScriptEvent;
 use std::alloc::Global;
 
 /// A gateway of its own on which is played what came to another one, as it comes, and told as `run_explain` tells a script.
-#[derive(Drop)]
 pub struct LiveLadder {
     stage: Stage,
+}
+
+impl Drop for LiveLadder {
+    fn drop(self) {
+        let LiveLadder { stage: _stage } = self;
+    }
 }
 
 impl LiveLadder {

@@ -29,10 +29,18 @@ use fax_trace::ScriptEvent;
 use std::alloc::Global;
 
 /// A page that was confirmed or sent, and where.
-#[derive(Drop)]
 pub(crate) struct FoundPage {
     pub place: Place,
     pub page: Page<PackedRows>,
+}
+
+impl Drop for FoundPage {
+    fn drop(self) {
+        let FoundPage {
+            place: _place,
+            page: _page,
+        } = self;
+    }
 }
 
 /// What happened at an event: what is told of it, and the pages that were confirmed or sent.
@@ -55,12 +63,22 @@ impl Scene {
 }
 
 /// A gateway on which a script is played, and what was heard on its legs.
-#[derive(Drop)]
 pub(crate) struct Stage {
     alloc: Global,
     gateway: Gateway<PackedRows>,
     calling: CallingLeg,
     called: CalledLeg,
+}
+
+impl Drop for Stage {
+    fn drop(self) {
+        let Stage {
+            alloc: _alloc,
+            gateway: _gateway,
+            calling: _calling,
+            called: _called,
+        } = self;
+    }
 }
 
 impl Stage {

@@ -19,10 +19,18 @@ use std::alloc::Global;
 use std::marker::Model;
 
 /// What drives a gateway over a wire: an engine with a buffer of its own.
-#[derive(Drop)]
 pub struct Driver {
     engine: Engine,
     buffer: Buffer,
+}
+
+impl Drop for Driver {
+    fn drop(self) {
+        let Driver {
+            engine: _engine,
+            buffer: _buffer,
+        } = self;
+    }
 }
 
 impl Model for Driver {

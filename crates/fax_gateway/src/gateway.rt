@@ -41,7 +41,6 @@ use std::marker::Model;
 /// A gateway between two legs: it answers the calls of the calling leg, and sends the pages that it confirmed there on
 /// the called leg, in calls of its own. Moments are milliseconds; one that lies before another that was handed in reads
 /// as the latest. Seen as what a trace has led to: its contracts are told over every trace of events with their answers.
-#[derive(Drop)]
 pub struct Gateway<S: RowStore> {
     alloc: Global,
     settings: Settings,
@@ -53,6 +52,21 @@ pub struct Gateway<S: RowStore> {
     calling: CallingEndpoint<S>,
     called: CalledEndpoint,
     jobs: Jobs<S>,
+}
+
+impl<S: RowStore> Drop for Gateway<S> {
+    fn drop(self) {
+        let Gateway {
+            alloc: _alloc,
+            settings: _settings,
+            clock: _clock,
+            rings: _rings,
+            refusals: _refusals,
+            calling: _calling,
+            called: _called,
+            jobs: _jobs,
+        } = self;
+    }
 }
 
 impl<S: RowStore> Model for Gateway<S> {

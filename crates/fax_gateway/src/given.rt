@@ -9,7 +9,6 @@ use fax_pagestore::Format;
 
 /// What a tick gives: the octets of a datagram on each leg, where there is one, and the report of the job that ended in it;
 /// and what it did on the calling leg.
-#[derive(Drop)]
 pub struct Given {
     pub calling: Option<Octets>,
     pub called: Option<Octets>,
@@ -20,6 +19,19 @@ pub struct Given {
     pub refused: Option<RefusedPage>,
     /// The number of the calling leg's call where it ended that: T1 or T2 was due (ITU-T T.30, 5.4.3), and our DCN is given.
     pub gave_up: Option<u32>,
+}
+
+impl Drop for Given {
+    fn drop(self) {
+        let Given {
+            calling: _calling,
+            called: _called,
+            report: _report,
+            kept: _kept,
+            refused: _refused,
+            gave_up: _gave_up,
+        } = self;
+    }
 }
 
 /// A page that was confirmed.

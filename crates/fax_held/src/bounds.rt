@@ -17,11 +17,19 @@ use std::io;
 pub const MOST_CALLS: usize = 64;
 
 /// A call that was dropped.
-#[derive(Drop)]
 pub struct DroppedCall {
     pub name: CallName,
     /// Its tag: no octets where it had none.
     pub tag: Vec<u8>,
+}
+
+impl Drop for DroppedCall {
+    fn drop(self) {
+        let DroppedCall {
+            name: _name,
+            tag: _tag,
+        } = self;
+    }
 }
 
 /// Where more than 64 calls wait, the oldest of which no try is under way waits no more, and is told. `None`: no more than 64 wait, or a try

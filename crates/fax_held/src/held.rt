@@ -16,7 +16,6 @@ use std::alloc::Global;
 use std::mem;
 
 /// The pages of lines, which are counted from 0, that wait in memory, and those of jobs that failed.
-#[derive(Drop)]
 pub struct HeldPages {
     alloc: Global,
     /// Which pages of each line wait.
@@ -25,6 +24,17 @@ pub struct HeldPages {
     texts: Vec<HeldTexts>,
     /// The pages of jobs that failed.
     pub undelivered: Undelivered<MemoryFile>,
+}
+
+impl Drop for HeldPages {
+    fn drop(self) {
+        let HeldPages {
+            alloc: _alloc,
+            queues: _queues,
+            texts: _texts,
+            undelivered: _undelivered,
+        } = self;
+    }
 }
 
 impl HeldPages {

@@ -9,11 +9,20 @@ use std::alloc::{AllocError, Global};
 use std::io;
 
 /// A file in memory, which is gone with its process: what is written is there at once, and a sync does nothing.
-#[derive(Drop)]
 pub struct MemoryFile {
     octets: Vec<u8>,
     faults: u64,
     caught: u64,
+}
+
+impl Drop for MemoryFile {
+    fn drop(self) {
+        let MemoryFile {
+            octets: _octets,
+            faults: _faults,
+            caught: _caught,
+        } = self;
+    }
 }
 
 impl MemoryFile {

@@ -28,9 +28,14 @@ pub struct JobEnd<'a> {
 
 /// The pages of a line that wait and whose texts are there, in the order in which they were confirmed; beside them the queue tells which
 /// pages of the line wait.
-#[derive(Drop)]
 pub struct HeldTexts {
     pages: Vec<WaitingPage>,
+}
+
+impl Drop for HeldTexts {
+    fn drop(self) {
+        let HeldTexts { pages: _pages } = self;
+    }
 }
 
 impl Model for HeldTexts {

@@ -17,7 +17,6 @@ use std::marker::Model;
 ///
 /// What is told of it is how many of its calls failed, and what it received; of what it was handed to send nothing is told, since
 /// that may never leave.
-#[derive(Drop)]
 pub struct HoldingWire<W: TimedWire + Drop> {
     wire: W,
     alloc: Global,
@@ -26,6 +25,18 @@ pub struct HoldingWire<W: TimedWire + Drop> {
     is_silenced: bool,
     /// How many receives and sends failed. That a datagram failed to leave when it was released is not among them.
     failures: u64,
+}
+
+impl<W: TimedWire + Drop> Drop for HoldingWire<W> {
+    fn drop(self) {
+        let HoldingWire {
+            wire: _wire,
+            alloc: _alloc,
+            held: _held,
+            is_silenced: _is_silenced,
+            failures: _failures,
+        } = self;
+    }
 }
 
 impl<W: TimedWire + Drop> Model for HoldingWire<W> {

@@ -11,7 +11,6 @@ use std::marker::Model;
 
 /// One connection, for one request: what came of its head, what that asks for, and what is left of its answer. It takes memory for a head
 /// of at most [`MOST_HEAD`] octets, and for its answer.
-#[derive(Drop)]
 pub struct Connection {
     alloc: Global,
     heard: Vec<u8>,
@@ -20,6 +19,19 @@ pub struct Connection {
     answer: Vec<u8>,
     /// How much of the answer was written.
     written: usize,
+}
+
+impl Drop for Connection {
+    fn drop(self) {
+        let Connection {
+            alloc: _alloc,
+            heard: _heard,
+            question: _question,
+            is_answered: _is_answered,
+            answer: _answer,
+            written: _written,
+        } = self;
+    }
 }
 
 /// Contracts see the octets that came, as far as they count, what they ask for, whether that was answered, and what is left of the answer.

@@ -11,13 +11,23 @@ use std::marker::Model;
 
 /// The pages of one call that go out in one call of our own: 1 to 999 of them, of any formats. Seen as these, with the
 /// number of the call that they came in and the format of the first.
-#[derive(Drop)]
 pub struct Job<S: RowStore> {
     call: u32,
     format: Format,
     pages: Pages<S>,
     /// How many octets its pages hold in memory.
     held: u64,
+}
+
+impl<S: RowStore> Drop for Job<S> {
+    fn drop(self) {
+        let Job {
+            call: _call,
+            format: _format,
+            pages: _pages,
+            held: _held,
+        } = self;
+    }
 }
 
 impl<S: RowStore> Model for Job<S> {

@@ -22,7 +22,6 @@ const MOST_PAGES: u32 = 999;
 /// The jobs of a gateway: the one that pages still join, those that wait, the one that is being sent, and the reports of
 /// the last 64 that ended. Memory is asked for where a book is made and where a page comes, or before that by `reserve`;
 /// closing a job, sending it and ending it take none and cannot fail.
-#[derive(Drop)]
 pub struct Jobs<S: RowStore> {
     alloc: Global,
     open_job: Option<Job<S>>,
@@ -39,6 +38,22 @@ pub struct Jobs<S: RowStore> {
     larger: Vec<Page<S>>,
     /// For how many pages there surely is room, 1 or 0.
     spare: usize,
+}
+
+impl<S: RowStore> Drop for Jobs<S> {
+    fn drop(self) {
+        let Jobs {
+            alloc: _alloc,
+            open_job: _open_job,
+            waiting: _waiting,
+            sending: _sending,
+            held: _held,
+            reports: _reports,
+            first: _first,
+            larger: _larger,
+            spare: _spare,
+        } = self;
+    }
 }
 
 impl<S: RowStore> Model for Jobs<S> {

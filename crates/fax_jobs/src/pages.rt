@@ -6,9 +6,14 @@ use std::marker::Model;
 use std::mem;
 
 /// Pages in a vector, which contracts see as their list.
-#[derive(Drop)]
 pub struct Pages<S: RowStore> {
     pages: Vec<Page<S>>,
+}
+
+impl<S: RowStore> Drop for Pages<S> {
+    fn drop(self) {
+        let Pages { pages: _pages } = self;
+    }
 }
 
 impl<S: RowStore> Model for Pages<S> {

@@ -45,7 +45,6 @@ pub struct LegCounts {
 }
 
 /// The socket of a leg. It is connected to its peer once that is known, and does not wait.
-#[derive(Drop)]
 pub struct LegSocket<S: DatagramSocket + Drop> {
     socket: S,
     peer: LegPeer,
@@ -62,6 +61,22 @@ pub struct LegSocket<S: DatagramSocket + Drop> {
     counts: LegCounts,
     /// What it hands out, where that can be tapped.
     tap: Option<Tap>,
+}
+
+impl<S: DatagramSocket + Drop> Drop for LegSocket<S> {
+    fn drop(self) {
+        let LegSocket {
+            socket: _socket,
+            peer: _peer,
+            handed: _handed,
+            redundancy: _redundancy,
+            is_watched: _is_watched,
+            may_have_come: _may_have_come,
+            received: _received,
+            counts: _counts,
+            tap: _tap,
+        } = self;
+    }
 }
 
 /// Contracts see all but whether the system is asked at all, and what is tapped.

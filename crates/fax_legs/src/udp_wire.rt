@@ -13,12 +13,21 @@ use std::io;
 use std::marker::Model;
 
 /// Two sockets, one for each leg of a line.
-#[derive(Drop)]
 pub struct UdpWire<S: DatagramSocket + Drop> {
     calling: LegSocket<S>,
     called: LegSocket<S>,
     /// How many receives and sends failed.
     failures: u64,
+}
+
+impl<S: DatagramSocket + Drop> Drop for UdpWire<S> {
+    fn drop(self) {
+        let UdpWire {
+            calling: _calling,
+            called: _called,
+            failures: _failures,
+        } = self;
+    }
 }
 
 /// Contracts see both legs, and how many calls failed.

@@ -38,13 +38,23 @@ use std::alloc::Global;
 use std::marker::Model;
 
 /// A gateway, what drives it, and its wire.
-#[derive(Drop)]
 pub struct Line<W: LineWire + Drop> {
     gateway: Gateway<PackedRows>,
     engine: Engine,
     wire: W,
     /// What the last turn told.
     turned: TurnReport,
+}
+
+impl<W: LineWire + Drop> Drop for Line<W> {
+    fn drop(self) {
+        let Line {
+            gateway: _gateway,
+            engine: _engine,
+            wire: _wire,
+            turned: _turned,
+        } = self;
+    }
 }
 
 impl<W: LineWire + Drop> Model for Line<W> {

@@ -28,13 +28,23 @@ pub const SLOTS: usize = 40;
 /// The lines of a server. Line i stands in slot i mod 40; a slot has its turn each millisecond, one after the other, so that
 /// each line has one each 40 ms: there it is turned, or left at rest where nothing is due on it and it was not woken since it
 /// was turned last. All share one buffer, which is lent to the line whose turn it is.
-#[derive(Drop)]
 pub struct Lines<W: LineWire + Drop> {
     places: Vec<Place<W>>,
     alloc: Global,
     buffer: Buffer,
     /// The slot that has the next turn.
     slot: usize,
+}
+
+impl<W: LineWire + Drop> Drop for Lines<W> {
+    fn drop(self) {
+        let Lines {
+            places: _places,
+            alloc: _alloc,
+            buffer: _buffer,
+            slot: _slot,
+        } = self;
+    }
 }
 
 impl<W: LineWire + Drop> Model for Lines<W> {

@@ -19,7 +19,6 @@ use std::marker::Model;
 
 /// A line in its slot, and when it is left at rest. What is looked at in each turn stands here, so that a line at rest costs
 /// a look at a few octets; the line itself lies elsewhere.
-#[derive(Drop)]
 pub(crate) struct Place<W: LineWire + Drop> {
     /// From which moment on something is due on it. `None`: nothing is until something comes.
     due: Option<u64>,
@@ -28,6 +27,17 @@ pub(crate) struct Place<W: LineWire + Drop> {
     /// Whether it was turned in the last turn of its slot.
     has_turned: bool,
     line: Box<Line<W>>,
+}
+
+impl<W: LineWire + Drop> Drop for Place<W> {
+    fn drop(self) {
+        let Place {
+            due: _due,
+            is_awake: _is_awake,
+            has_turned: _has_turned,
+            line: _line,
+        } = self;
+    }
 }
 
 impl<W: LineWire + Drop> Model for Place<W> {

@@ -27,7 +27,6 @@ const MOST_PREAMBLE_MS: u16 = 2_000;
 const LOST: &str = "memory is refused: no more is told until the line has no call and no job";
 
 /// A line that is watched.
-#[derive(Drop)]
 struct WatchedLine {
     line: usize,
     /// Its ladder. `None`: it begins once the line has no call and no job.
@@ -36,8 +35,17 @@ struct WatchedLine {
     refusals: u64,
 }
 
+impl Drop for WatchedLine {
+    fn drop(self) {
+        let WatchedLine {
+            line: _line,
+            ladder: _ladder,
+            refusals: _refusals,
+        } = self;
+    }
+}
+
 /// The lines that are watched, and what was ordered last.
-#[derive(Drop)]
 pub(crate) struct Ladders {
     alloc: Global,
     /// The settings of the gateway of each line.
@@ -47,6 +55,18 @@ pub(crate) struct Ladders {
     latest: u64,
     /// What a line was asked last.
     asked: Option<LineRequest>,
+}
+
+impl Drop for Ladders {
+    fn drop(self) {
+        let Ladders {
+            alloc: _alloc,
+            settings: _settings,
+            watched: _watched,
+            latest: _latest,
+            asked: _asked,
+        } = self;
+    }
 }
 
 impl Ladders {

@@ -47,7 +47,6 @@ const MOST_WAKES: u32 = 100_000;
 const MOST_FINISHING: u32 = 10_000;
 
 /// The clock and the clients, the desk at which their words come in, and what stands beside it.
-#[derive(Drop)]
 pub struct RealPace<'a, C: Clock, R: RedialSide + Drop, S: SipSide + Drop> {
     alloc: Global,
     clock: Stopwatch<'a, C>,
@@ -66,6 +65,25 @@ pub struct RealPace<'a, C: Clock, R: RedialSide + Drop, S: SipSide + Drop> {
     held: Option<HeldPages>,
     /// The ladders of lines that are watched.
     ladders: Ladders,
+}
+
+impl<C: Clock, R: RedialSide + Drop, S: SipSide + Drop> Drop for RealPace<'_, C, R, S> {
+    fn drop(self) {
+        let RealPace {
+            alloc: _alloc,
+            clock: _clock,
+            rounds: _rounds,
+            desk: _desk,
+            waking: _waking,
+            teller: _teller,
+            put_from: _put_from,
+            visiting: _visiting,
+            sip: _sip,
+            retries: _retries,
+            held: _held,
+            ladders: _ladders,
+        } = self;
+    }
 }
 
 /// Contracts see what the desk waits to be told of.

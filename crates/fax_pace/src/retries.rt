@@ -14,12 +14,22 @@ use fax_undelivered::UndeliveredCall;
 use std::alloc::{AllocError, Global};
 
 /// A word `discard` or `retry`, and who said it.
-#[derive(Drop)]
 pub(crate) struct SaidCall {
     asker: Asker,
     line: String,
     life: u32,
     call: u32,
+}
+
+impl Drop for SaidCall {
+    fn drop(self) {
+        let SaidCall {
+            asker: _asker,
+            line: _line,
+            life: _life,
+            call: _call,
+        } = self;
+    }
 }
 
 impl SaidCall {
@@ -52,12 +62,22 @@ pub(crate) struct Beside<'a, 'b> {
 }
 
 /// Redial lines, and the words about calls that are done at the end of the next turn. No other word is heard before that.
-#[derive(Drop)]
 pub(crate) struct Retries<R: RedialSide + Drop> {
     alloc: Global,
     pub redials: R,
     discard: Option<SaidCall>,
     retry: Option<SaidCall>,
+}
+
+impl<R: RedialSide + Drop> Drop for Retries<R> {
+    fn drop(self) {
+        let Retries {
+            alloc: _alloc,
+            redials: _redials,
+            discard: _discard,
+            retry: _retry,
+        } = self;
+    }
 }
 
 impl<R: RedialSide + Drop> Retries<R> {

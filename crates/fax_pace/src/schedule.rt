@@ -5,12 +5,20 @@ ghost use Rattle.std.specs.Prelude.{◌≡◌, ◌+◌, ◌-◌, ◌≤◌, ◌<
 const MOST_AFTER_MS: u64 = 1_000;
 
 /// A slot has its turn each millisecond.
-#[derive(Drop)]
 pub struct Schedule {
     /// The moment of the next turn, in milliseconds.
     due: u64,
     /// By how many milliseconds turns were left out.
     skipped: u64,
+}
+
+impl Drop for Schedule {
+    fn drop(self) {
+        let Schedule {
+            due: _due,
+            skipped: _skipped,
+        } = self;
+    }
 }
 
 impl Schedule {

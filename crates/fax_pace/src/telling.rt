@@ -22,7 +22,6 @@ const MOST_JOBS: usize = 20;
 const MOST_NEWS: usize = 16;
 
 /// Counts, and tells the clients that want events.
-#[derive(Drop)]
 pub(crate) struct Teller {
     alloc: Global,
     clients: Clients,
@@ -39,6 +38,22 @@ pub(crate) struct Teller {
     jobs: Vec<EndedJob>,
     /// What happened on the line that was told of last, where SIP is to hear it.
     news: Option<Vec<LineEvent>>,
+}
+
+impl Drop for Teller {
+    fn drop(self) {
+        let Teller {
+            alloc: _alloc,
+            clients: _clients,
+            counters: _counters,
+            lost: _lost,
+            aside: _aside,
+            failures: _failures,
+            refusals: _refusals,
+            jobs: _jobs,
+            news: _news,
+        } = self;
+    }
 }
 
 impl Teller {

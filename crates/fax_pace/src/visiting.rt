@@ -37,13 +37,22 @@ enum Pictured {
 }
 
 /// Who looks over HTTP, where that is configured.
-#[derive(Drop)]
 pub(crate) struct Visiting {
     visitors: Option<Visitors>,
     /// From which moment on they are served again.
     visits_from: u64,
     /// From which moment on the next picture may be made.
     pictures_from: u64,
+}
+
+impl Drop for Visiting {
+    fn drop(self) {
+        let Visiting {
+            visitors: _visitors,
+            visits_from: _visits_from,
+            pictures_from: _pictures_from,
+        } = self;
+    }
 }
 
 impl Visiting {

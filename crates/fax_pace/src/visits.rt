@@ -20,7 +20,6 @@ const MOST_LINES: usize = 100;
 const MOST_UNDELIVERED: usize = 100;
 
 /// A job that ended: the name of its line, its report, its tag, and how it ended, in words.
-#[derive(Drop)]
 pub(crate) struct EndedJob {
     pub line: String,
     pub report: Report,
@@ -28,8 +27,18 @@ pub(crate) struct EndedJob {
     pub words: String,
 }
 
+impl Drop for EndedJob {
+    fn drop(self) {
+        let EndedJob {
+            line: _line,
+            report: _report,
+            tag: _tag,
+            words: _words,
+        } = self;
+    }
+}
+
 /// A line on which something is under way.
-#[derive(Drop)]
 struct LineOn {
     name: String,
     seen: LineSeen,
@@ -37,8 +46,18 @@ struct LineOn {
     waiting: u64,
 }
 
+impl Drop for LineOn {
+    fn drop(self) {
+        let LineOn {
+            name: _name,
+            seen: _seen,
+            tags: _tags,
+            waiting: _waiting,
+        } = self;
+    }
+}
+
 /// A call of which pages could not be delivered, and how its job ended, in words.
-#[derive(Drop)]
 struct FailedCall {
     line: String,
     life: u32,
@@ -49,6 +68,21 @@ struct FailedCall {
     /// When it was tried last, in words.
     at: String,
     words: String,
+}
+
+impl Drop for FailedCall {
+    fn drop(self) {
+        let FailedCall {
+            line: _line,
+            life: _life,
+            call: _call,
+            tag: _tag,
+            pages: _pages,
+            tries: _tries,
+            at: _at,
+            words: _words,
+        } = self;
+    }
 }
 
 /// The page of a server that is so, of which these jobs ended last, and pages of these calls could not be delivered.

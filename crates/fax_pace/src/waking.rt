@@ -6,7 +6,6 @@ use fax_line::{SLOTS, SlotEnd};
 use std::alloc::{AllocError, Global};
 
 /// What is to be done on lines before their next turns.
-#[derive(Drop)]
 pub(crate) struct Waking {
     /// What tells which legs have datagrams, where the system gives it.
     watch: Option<Watch>,
@@ -16,6 +15,17 @@ pub(crate) struct Waking {
     pub to_ask: Vec<usize>,
     /// The lines whose pages could not be stored in the turn that was ordered.
     not_stored: Vec<usize>,
+}
+
+impl Drop for Waking {
+    fn drop(self) {
+        let Waking {
+            watch: _watch,
+            woken: _woken,
+            to_ask: _to_ask,
+            not_stored: _not_stored,
+        } = self;
+    }
 }
 
 impl Waking {

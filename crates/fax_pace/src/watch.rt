@@ -16,10 +16,18 @@ const MOST_EVENTS: usize = 1_024;
 
 /// Watches the legs of lines. The socket of a leg that is watched is asked for a datagram only where the system told that
 /// one came, so that a leg on which nothing comes costs no call of the system.
-#[derive(Drop)]
 pub struct Watch {
     poll: Poll,
     events: Events,
+}
+
+impl Drop for Watch {
+    fn drop(self) {
+        let Watch {
+            poll: _poll,
+            events: _events,
+        } = self;
+    }
 }
 
 impl Watch {

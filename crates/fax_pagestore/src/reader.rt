@@ -34,7 +34,6 @@ use std::mem;
 /// their number (ITU-T T.4, 4.1.3). A line is read once the EOL after it is there, and room for lines is taken only while some
 /// are read. Of a long line in one dimension, which may have any number of empty runs, the runs so far are written anew, so
 /// that at most 8,192 octets are kept.
-#[derive(Drop)]
 pub struct PageReader<S: RowStore> {
     format: Format,
     coding: Coding,
@@ -49,6 +48,21 @@ pub struct PageReader<S: RowStore> {
     zeros: u32,
     /// What the octets are, where that stays so whatever follows.
     settled: Option<Settled>,
+}
+
+impl<S: RowStore> Drop for PageReader<S> {
+    fn drop(self) {
+        let PageReader {
+            format: _format,
+            coding: _coding,
+            rows: _rows,
+            octets: _octets,
+            used: _used,
+            tag: _tag,
+            zeros: _zeros,
+            settled: _settled,
+        } = self;
+    }
 }
 
 impl<S: RowStore> Model for PageReader<S> {
@@ -209,12 +223,30 @@ impl<S: RowStore> PageReader<S> {
         ensures fails { (octets : List ℕ) (fault : PageFault) → HasRead octets self.old → FailsPage (elements_of self.old.format.width) self.old.coding octets fault → result ≡ Err fault }
     {
         let fault = self.fault();
-        let fresh = PageReader::new(*self.octets.allocator(), self.format, self.coding);
-        let PageReader { format, rows, .. } = mem::replace(self, fresh);
+        let format = self.format;
+        let fresh = PageReader::new(*self.octets.allocator(), format, self.coding);
+        let rows = mem::replace(self, fresh).into_rows();
         match fault {
             None => Ok(Page::new(format, rows)),
             Some(fault) => Err(fault),
         }
+    }
+
+    /// The rows that are read.
+    fn into_rows(self) -> S
+        ensures { S.rows result ≡ self.rows }
+    {
+        let PageReader {
+            format: _format,
+            coding: _coding,
+            rows,
+            octets: _octets,
+            used: _used,
+            tag: _tag,
+            zeros: _zeros,
+            settled: _settled,
+        } = self;
+        rows
     }
 
     /// A mark of what came so far.

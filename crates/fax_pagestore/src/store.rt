@@ -135,10 +135,18 @@ fn held_by_row(row: &RowRef<'_>) -> u64
 }
 
 /// A page: a format, and 1 to 65,535 rows of its width. Seen as these, whatever the store.
-#[derive(Drop)]
 pub struct Page<S: RowStore> {
     format: Format,
     rows: S,
+}
+
+impl<S: RowStore> Drop for Page<S> {
+    fn drop(self) {
+        let Page {
+            format: _format,
+            rows: _rows,
+        } = self;
+    }
 }
 
 impl<S: RowStore> Model for Page<S> {

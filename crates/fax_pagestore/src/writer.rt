@@ -29,13 +29,24 @@ enum Place {
 
 /// Writes the text of a page piece by piece, as [`crate::write_page`] writes it at once. It keeps a place in
 /// the page, and what it has written of a line and not given yet.
-#[derive(Drop)]
 pub struct PageWriter {
     format: Format,
     coding: Coding,
     least_bits: u32,
     place: Place,
     waiting: Waiting,
+}
+
+impl Drop for PageWriter {
+    fn drop(self) {
+        let PageWriter {
+            format: _format,
+            coding: _coding,
+            least_bits: _least_bits,
+            place: _place,
+            waiting: _waiting,
+        } = self;
+    }
 }
 
 impl Model for PageWriter {

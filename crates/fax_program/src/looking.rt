@@ -58,12 +58,22 @@ pub(crate) fn look_into_spool<H: Files>(
 }
 
 /// The paths of the files of a spool: those of what waits, and those of what could not be delivered.
-#[derive(Drop)]
 struct Paths {
     one: String,
     other: String,
     kept_one: String,
     kept_other: String,
+}
+
+impl Drop for Paths {
+    fn drop(self) {
+        let Paths {
+            one: _one,
+            other: _other,
+            kept_one: _kept_one,
+            kept_other: _kept_other,
+        } = self;
+    }
 }
 
 impl Paths {
@@ -145,7 +155,6 @@ fn tell_unwritten<R: Read>(console: &Console, source: &StdSource<R>, sink: &StdS
 
 /// Makes files of the system, none over one that was there, and tells where that fails. A page that stands in both pairs of files, since a
 /// crash came between, has one picture.
-#[derive(Drop)]
 struct NewPictures<'a, H: Files> {
     console: &'a Console,
     host: &'a H,
@@ -153,6 +162,18 @@ struct NewPictures<'a, H: Files> {
     /// The names of those that were made.
     names: Vec<String>,
     failed: bool,
+}
+
+impl<H: Files> Drop for NewPictures<'_, H> {
+    fn drop(self) {
+        let NewPictures {
+            console: _console,
+            host: _host,
+            alloc: _alloc,
+            names: _names,
+            failed: _failed,
+        } = self;
+    }
 }
 
 impl<'a, H: Files> NewPictures<'a, H> {

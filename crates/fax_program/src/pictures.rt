@@ -12,13 +12,24 @@ use std::fs;
 use std::rt::Files;
 
 /// Writes pages as pictures into files that are named for the call and the page, and says whether one was not written.
-#[derive(Drop)]
 pub(crate) struct Pictures<'a, H: Files> {
     console: &'a Console,
     host: &'a H,
     alloc: Global,
     prefix: &'a str,
     failed: bool,
+}
+
+impl<H: Files> Drop for Pictures<'_, H> {
+    fn drop(self) {
+        let Pictures {
+            console: _console,
+            host: _host,
+            alloc: _alloc,
+            prefix: _prefix,
+            failed: _failed,
+        } = self;
+    }
 }
 
 impl<'a, H: Files> Pictures<'a, H> {

@@ -22,7 +22,6 @@ const BETWEEN_OPENINGS_MS: u64 = 10_000;
 
 /// The lines of a configuration, which are served by one run after the other: a run whose spool has failed ends, and the next one opens
 /// that anew.
-#[derive(Drop)]
 pub struct Service {
     /// The path of the configuration.
     path: String,
@@ -33,6 +32,18 @@ pub struct Service {
     manager: Option<String>,
     /// The fault that was told last for which the spool could not be opened anew, since it was open; else nothing.
     told: String,
+}
+
+impl Drop for Service {
+    fn drop(self) {
+        let Service {
+            path: _path,
+            config: _config,
+            failures: _failures,
+            manager: _manager,
+            told: _told,
+        } = self;
+    }
 }
 
 impl Service {

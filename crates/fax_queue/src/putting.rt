@@ -15,10 +15,18 @@ use std::alloc::Global;
 use std::marker::Model;
 
 /// The tag of the call of a line.
-#[derive(Drop)]
 pub(crate) struct CallTag {
     pub line: usize,
     pub tag: Vec<u8>,
+}
+
+impl Drop for CallTag {
+    fn drop(self) {
+        let CallTag {
+            line: _line,
+            tag: _tag,
+        } = self;
+    }
 }
 
 impl Model for CallTag {

@@ -41,11 +41,20 @@ pub struct EndedJob {
 }
 
 /// The tag of a restored call.
-#[derive(Drop)]
 struct RestoredTag {
     life: u32,
     call: u32,
     tag: String,
+}
+
+impl Drop for RestoredTag {
+    fn drop(self) {
+        let RestoredTag {
+            life: _life,
+            call: _call,
+            tag: _tag,
+        } = self;
+    }
 }
 
 impl Model for RestoredTag {
@@ -58,7 +67,6 @@ impl Model for RestoredTag {
 }
 
 /// The pages of a line that wait, in the order of their jobs.
-#[derive(Drop)]
 pub struct Queue {
     line: String,
     waits: Vec<QueuedPage>,
@@ -69,6 +77,19 @@ pub struct Queue {
     newest: Option<QueuedPage>,
     /// Whether each page was noted, and came after those before it.
     is_whole: bool,
+}
+
+impl Drop for Queue {
+    fn drop(self) {
+        let Queue {
+            line: _line,
+            waits: _waits,
+            tags: _tags,
+            aside: _aside,
+            newest: _newest,
+            is_whole: _is_whole,
+        } = self;
+    }
 }
 
 impl Model for Queue {

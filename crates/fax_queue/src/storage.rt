@@ -35,7 +35,6 @@ const MOST_NAME: usize = 255;
 const RECORD_OCTETS: usize = 64;
 
 /// A spool, and what is known of the pages in it.
-#[derive(Drop)]
 pub struct Storage<D: Disk> {
     alloc: Global,
     spool: Spool<D>,
@@ -49,6 +48,20 @@ pub struct Storage<D: Disk> {
     octets: usize,
     /// How many pages wait on the disk.
     stored: u64,
+}
+
+impl<D: Disk + Drop> Drop for Storage<D> {
+    fn drop(self) {
+        let Storage {
+            alloc: _alloc,
+            spool: _spool,
+            life: _life,
+            queues: _queues,
+            tags: _tags,
+            octets: _octets,
+            stored: _stored,
+        } = self;
+    }
 }
 
 impl<D: Disk> Storage<D> {

@@ -11,9 +11,14 @@ use fax_line::{PageToStore, RunStore};
 use sqlite_disk::Disk;
 
 /// A spool, and what is known of the pages in it, as a run sees them.
-#[derive(Drop)]
 pub struct SpoolStore<D: Disk> {
     pub storage: Storage<D>,
+}
+
+impl<D: Disk + Drop> Drop for SpoolStore<D> {
+    fn drop(self) {
+        let SpoolStore { storage: _storage } = self;
+    }
 }
 
 impl<D: Disk> SpoolStore<D> {

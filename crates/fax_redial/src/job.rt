@@ -18,7 +18,6 @@ pub struct RetryJob {
 }
 
 /// How a try ended.
-#[derive(Drop)]
 pub struct RetryEnd {
     /// The call that the pages of its job came in.
     pub name: CallName,
@@ -30,4 +29,16 @@ pub struct RetryEnd {
     pub outcome: Outcome,
     /// For what cause the call was not placed, where it was not.
     pub cause: Option<Cause>,
+}
+
+impl Drop for RetryEnd {
+    fn drop(self) {
+        let RetryEnd {
+            name: _name,
+            numbers: _numbers,
+            delivered: _delivered,
+            outcome: _outcome,
+            cause: _cause,
+        } = self;
+    }
 }

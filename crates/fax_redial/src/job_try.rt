@@ -20,13 +20,23 @@ use std::alloc::Global;
 use std::marker::Model;
 
 /// A try of a job: a line that was restored with its pages, the only one of lines of its own, and so in slot 0 of them.
-#[derive(Drop)]
 pub struct JobTry<W: TimedWire + Drop> {
     job: RetryJob,
     lines: Lines<HoldingWire<W>>,
     /// The latest moment that they were told.
     moment: u64,
     total: TryTotal,
+}
+
+impl<W: TimedWire + Drop> Drop for JobTry<W> {
+    fn drop(self) {
+        let JobTry {
+            job: _job,
+            lines: _lines,
+            moment: _moment,
+            total: _total,
+        } = self;
+    }
 }
 
 impl<W: TimedWire + Drop> Model for JobTry<W> {
@@ -137,7 +147,12 @@ impl<W: TimedWire + Drop> JobTry<W> {
     pub fn into_end(self) -> RetryEnd
         ensures { result ≡ end_of self }
     {
-        let JobTry { job, total, .. } = self;
+        let JobTry {
+            job,
+            lines: _lines,
+            moment: _moment,
+            total,
+        } = self;
         end_of(job, total)
     }
 }

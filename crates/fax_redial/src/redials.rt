@@ -22,11 +22,20 @@ use std::alloc::Global;
 use std::marker::Model;
 
 /// Redial lines, each with a try of a job at most. No two have a try of one job.
-#[derive(Drop)]
 pub struct Redials<W: TimedWire + Drop> {
     alloc: Global,
     pub(crate) desk: Desk,
     pub(crate) tries: Vec<Option<JobTry<W>>>,
+}
+
+impl<W: TimedWire + Drop> Drop for Redials<W> {
+    fn drop(self) {
+        let Redials {
+            alloc: _alloc,
+            desk: _desk,
+            tries: _tries,
+        } = self;
+    }
 }
 
 impl<W: TimedWire + Drop> Model for Redials<W> {

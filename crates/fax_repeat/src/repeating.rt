@@ -16,7 +16,6 @@ use std::marker::Model;
 /// A wire over another one. What is handed over is sent at once; and the last datagram of each leg is sent again by a policy,
 /// as time goes on, until a newer one is handed over on its leg or a new call begins there. A datagram of more than 1,500
 /// octets is sent once. A send that fails counts as made.
-#[derive(Drop)]
 pub struct RepeatingWire<W: LegWire + Drop> {
     wire: W,
     policy: RepeatPolicy,
@@ -29,6 +28,20 @@ pub struct RepeatingWire<W: LegWire + Drop> {
     /// Whether it tells what it was handed over: no more where two datagrams that followed on a leg had the same octets, or
     /// one had more than are repeated.
     tells: bool,
+}
+
+impl<W: LegWire + Drop> Drop for RepeatingWire<W> {
+    fn drop(self) {
+        let RepeatingWire {
+            wire: _wire,
+            policy: _policy,
+            clock: _clock,
+            calling: _calling,
+            called: _called,
+            failures: _failures,
+            tells: _tells,
+        } = self;
+    }
 }
 
 impl<W: LegWire + Drop> Model for RepeatingWire<W> {

@@ -9,12 +9,21 @@ use fax_control::ClientLines;
 use std::marker::Model;
 
 /// How far the answer to a word has come. It keeps at most 256 octets.
-#[derive(Drop)]
 pub(crate) struct Hearing {
     /// Whether more is waited for after the answer, where the word was done.
     stays: bool,
     lines: ClientLines,
     last: Option<Last>,
+}
+
+impl Drop for Hearing {
+    fn drop(self) {
+        let Hearing {
+            stays: _stays,
+            lines: _lines,
+            last: _last,
+        } = self;
+    }
 }
 
 /// Contracts see what has come of a line, and what the last one said.

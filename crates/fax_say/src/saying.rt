@@ -7,9 +7,15 @@ use fax_control::MOST_OCTETS;
 use std::marker::Model;
 
 /// A control word as it is said: one line of at most 256 octets, its line feed aside.
-#[derive(Debug, Drop)]
+#[derive(Debug)]
 pub struct Saying {
     text: String,
+}
+
+impl Drop for Saying {
+    fn drop(self) {
+        let Saying { text: _text } = self;
+    }
 }
 
 /// Why a text cannot be said.

@@ -6,10 +6,18 @@ use std::io;
 use std::io::{Read, Write};
 
 /// A file that is made: its name, and what writes to it.
-#[derive(Drop)]
 pub struct NewFile<W> {
     pub name: String,
     pub writer: W,
+}
+
+impl<W: Drop> Drop for NewFile<W> {
+    fn drop(self) {
+        let NewFile {
+            name: _name,
+            writer: _writer,
+        } = self;
+    }
 }
 
 /// Files that have names, and are read and written whole.

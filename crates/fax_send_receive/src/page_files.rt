@@ -15,7 +15,6 @@ use std::marker::Model;
 
 /// Writes the pages of calls as pictures or as TIFFs, into files that are named for the call and for their number in it. No file that
 /// is there is written over.
-#[derive(Drop)]
 pub struct PageFiles<'a, F: NamedFiles + Drop> {
     files: F,
     watch: &'a Watch,
@@ -26,6 +25,20 @@ pub struct PageFiles<'a, F: NamedFiles + Drop> {
     pages: u32,
     /// Why the last page was not written, where the system says it.
     fault: Option<io::Error>,
+}
+
+impl<F: NamedFiles + Drop> Drop for PageFiles<'_, F> {
+    fn drop(self) {
+        let PageFiles {
+            files: _files,
+            watch: _watch,
+            alloc: _alloc,
+            naming: _naming,
+            call: _call,
+            pages: _pages,
+            fault: _fault,
+        } = self;
+    }
 }
 
 /// Seen as the call that is on, and the files that were made.

@@ -24,13 +24,22 @@ const IDLE_MS: i32 = 1_000;
 const MOST_FOREIGN: u8 = 64;
 
 /// The socket of a run, which does not wait, and what failed at it.
-#[derive(Drop)]
 pub(crate) struct Port {
     socket: UdpSocket,
     /// How many sends and receives failed.
     count: Cell<u64>,
     /// What the last failure was.
     last: Cell<Option<ErrorKind>>,
+}
+
+impl Drop for Port {
+    fn drop(self) {
+        let Port {
+            socket: _socket,
+            count: _count,
+            last: _last,
+        } = self;
+    }
 }
 
 impl Port {
@@ -70,12 +79,21 @@ impl Port {
 }
 
 /// A leg over a socket, with one peer. What others send is dropped.
-#[derive(Drop)]
 pub(crate) struct UdpLeg<'a> {
     port: &'a Port,
     peer: SocketAddr,
     /// How many receives and sends failed.
     failures: u64,
+}
+
+impl Drop for UdpLeg<'_> {
+    fn drop(self) {
+        let UdpLeg {
+            port: _port,
+            peer: _peer,
+            failures: _failures,
+        } = self;
+    }
 }
 
 impl<'a> UdpLeg<'a> {

@@ -4,10 +4,18 @@ use std::fmt::Display;
 use std::io::Stderr;
 
 /// Who watches a terminal on the standard error. Nothing depends on what is told.
-#[derive(Drop)]
 pub struct Watch {
     stderr: Stderr,
     is_watched: bool,
+}
+
+impl Drop for Watch {
+    fn drop(self) {
+        let Watch {
+            stderr: _stderr,
+            is_watched: _is_watched,
+        } = self;
+    }
 }
 
 impl Watch {

@@ -57,7 +57,6 @@ impl<'a> TryWire<'a> for RepeatingWire<UdpWire<LentSocket<'a>>> {
 }
 
 /// Redial lines, and what is known of their tries.
-#[derive(Drop)]
 pub(crate) struct RedialLines<'a, W: TimedWire + Drop> {
     alloc: Global,
     redials: Redials<W>,
@@ -75,6 +74,23 @@ pub(crate) struct RedialLines<'a, W: TimedWire + Drop> {
     ended: Option<RetryEnd>,
     /// From which moment on it is looked again what is due.
     look_from: u64,
+}
+
+impl<W: TimedWire + Drop> Drop for RedialLines<'_, W> {
+    fn drop(self) {
+        let RedialLines {
+            alloc: _alloc,
+            redials: _redials,
+            configs: _configs,
+            sockets: _sockets,
+            after_seconds: _after_seconds,
+            on: _on,
+            may_end: _may_end,
+            torn: _torn,
+            ended: _ended,
+            look_from: _look_from,
+        } = self;
+    }
 }
 
 /// Opens the sockets of redial lines. An `Err` names the redial line whose socket could not be opened, or whose peer the system does not take.

@@ -39,11 +39,20 @@ use std::rt::Clock;
 const SECOND_MS: u64 = 1_000;
 
 /// What stands beside the lines of a server: clients, SIP, where the configuration tells of it, and redial lines.
-#[derive(Drop)]
 struct Sides<P: SipSide + Drop, R: RedialSide + Drop> {
     clients: Clients,
     sip: Option<P>,
     redials: R,
+}
+
+impl<P: SipSide + Drop, R: RedialSide + Drop> Drop for Sides<P, R> {
+    fn drop(self) {
+        let Sides {
+            clients: _clients,
+            sip: _sip,
+            redials: _redials,
+        } = self;
+    }
 }
 
 /// Serves the lines of a configuration until it is told to stop, or its spool has failed and no line has a call, 10 s after the failure
@@ -416,20 +425,42 @@ fn pace_of<'a, L: SeenLines, P: SipSide + Drop, R: RedialSide + Drop, N: Net + C
     ensures { IfOk result (λ pace. pace.waits ≡ None) }
 {
     let around = around_of(system, alloc, config, seen, queues)?;
-    Ok(RealPace::new(
-        alloc,
-        around.clock,
-        sides.clients,
-        around.desk,
-        seen.len(),
-        around.settings,
-        around.watch,
-        around.visitors,
-        sides.sip,
-        sides.redials,
-        held,
-        spool_failures,
-    )?)
+    sides.into_pace(alloc, around, seen.len(), held, spool_failures)
+}
+
+impl<P: SipSide + Drop, R: RedialSide + Drop> Sides<P, R> {
+    /// What gives the orders beside these, by what stands around it, to so many lines.
+    fn into_pace<'a, C: Clock>(
+        self,
+        alloc: Global,
+        around: Around<'a, C>,
+        lines: usize,
+        held: Option<HeldPages>,
+        spool_failures: u64,
+    ) -> Result<RealPace<'a, C, R, P>, ServeFault>
+        requires { around.desk.waits ≡ None }
+        ensures { IfOk result (λ pace. pace.waits ≡ None) }
+    {
+        let Sides {
+            clients,
+            sip,
+            redials,
+        } = self;
+        Ok(RealPace::new(
+            alloc,
+            around.clock,
+            clients,
+            around.desk,
+            lines,
+            around.settings,
+            around.watch,
+            around.visitors,
+            sip,
+            redials,
+            held,
+            spool_failures,
+        )?)
+    }
 }
 
 /// The desk, and what the orders are given by beside it: the clock, the settings of the lines, what watches legs, and who looks at the

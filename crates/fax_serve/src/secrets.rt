@@ -21,10 +21,18 @@ const MOST_READ: usize = 258;
 const MOST_READS: usize = 64;
 
 /// The passwords of the trunks, and a seed.
-#[derive(Drop)]
 pub(crate) struct Secrets {
     pub passwords: Passwords,
     pub seed: [u8; 32],
+}
+
+impl Drop for Secrets {
+    fn drop(self) {
+        let Secrets {
+            passwords: _passwords,
+            seed: _seed,
+        } = self;
+    }
 }
 
 /// Reads what nobody is told.

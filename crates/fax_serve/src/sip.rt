@@ -33,7 +33,6 @@ const MOST_OCTETS: usize = 65_535;
 const COUNTS_END: &str = "# EOF\n";
 
 /// SIP, and the sockets over which it and all audio go.
-#[derive(Drop)]
 pub(crate) struct SipFront {
     alloc: Global,
     service: SipService,
@@ -45,6 +44,21 @@ pub(crate) struct SipFront {
     open_due: u64,
     /// How many orders SIP gave since clients were heard before it.
     orders: u32,
+}
+
+impl Drop for SipFront {
+    fn drop(self) {
+        let SipFront {
+            alloc: _alloc,
+            service: _service,
+            sip: _sip,
+            audio: _audio,
+            buffer: _buffer,
+            due: _due,
+            open_due: _open_due,
+            orders: _orders,
+        } = self;
+    }
 }
 
 /// A socket that does not wait.

@@ -8,11 +8,20 @@ use std::alloc::{AllocError, Global};
 use std::net::SocketAddr;
 
 /// A line: its name, and where its legs are heard.
-#[derive(Drop)]
 pub struct SipLine {
     pub name: String,
     pub calling: SocketAddr,
     pub called: SocketAddr,
+}
+
+impl Drop for SipLine {
+    fn drop(self) {
+        let SipLine {
+            name: _name,
+            calling: _calling,
+            called: _called,
+        } = self;
+    }
 }
 
 impl SipLine {

@@ -56,7 +56,6 @@ pub(crate) struct Dropped {
 ///
 /// What it does takes memory; where that is refused, this is counted, and goes on as the definitions say: a word that was to be said was refused, a leg is not
 /// ended as the server stops, something is not told.
-#[derive(Drop)]
 pub struct SipService {
     pub(crate) alloc: Global,
     pub(crate) agent: UserAgent,
@@ -73,6 +72,25 @@ pub struct SipService {
     news: VecDeque<Told>,
     pub(crate) dropped: Dropped,
     is_leaving: bool,
+}
+
+impl Drop for SipService {
+    fn drop(self) {
+        let SipService {
+            alloc: _alloc,
+            agent: _agent,
+            routes: _routes,
+            lines: _lines,
+            trunks: _trunks,
+            to_say: _to_say,
+            waits: _waits,
+            sounds: _sounds,
+            places: _places,
+            news: _news,
+            dropped: _dropped,
+            is_leaving: _is_leaving,
+        } = self;
+    }
 }
 
 /// Contracts see all but its audio, and what is counted of trunks and of datagrams that were dropped.

@@ -40,9 +40,16 @@ impl<T: Drop> From<AllocFailed<T>> for SetupFault {
 }
 
 /// The passwords of the trunks, in their order; empty: none. They are told nobody.
-#[derive(Drop)]
 pub struct Passwords {
     pub of_trunks: Vec<String>,
+}
+
+impl Drop for Passwords {
+    fn drop(self) {
+        let Passwords {
+            of_trunks: _of_trunks,
+        } = self;
+    }
 }
 
 /// What is set for the user agent.

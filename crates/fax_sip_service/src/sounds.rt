@@ -23,10 +23,18 @@ struct Sound {
 }
 
 /// The audio of all calls.
-#[derive(Drop)]
 pub(crate) struct Sounds {
     sounds: Vec<Sound>,
     generator: ChaCha20Rng,
+}
+
+impl Drop for Sounds {
+    fn drop(self) {
+        let Sounds {
+            sounds: _sounds,
+            generator: _generator,
+        } = self;
+    }
 }
 
 /// How a call's audio is coded.

@@ -27,7 +27,6 @@ impl CallCounts {
 }
 
 /// A trunk: its name, and what is known of it.
-#[derive(Drop)]
 pub(crate) struct SipTrunk {
     pub name: String,
     /// Whether it is to be registered with, and whether it is.
@@ -35,6 +34,18 @@ pub(crate) struct SipTrunk {
     pub is_registered: bool,
     pub calls_in: CallCounts,
     pub calls_out: CallCounts,
+}
+
+impl Drop for SipTrunk {
+    fn drop(self) {
+        let SipTrunk {
+            name: _name,
+            registers: _registers,
+            is_registered: _is_registered,
+            calls_in: _calls_in,
+            calls_out: _calls_out,
+        } = self;
+    }
 }
 
 impl SipTrunk {

@@ -35,7 +35,6 @@ const MOST_KEPT: usize = 16 * 1024 * 1024;
 ///
 /// At an `Err` of the disk what was to be put is on the disk or not, and the spool refuses everything from then on (`Refuses`), until
 /// another is begun. At any other `Err` nothing has changed (`Does`).
-#[derive(Drop)]
 pub struct Spool<D: Disk> {
     older: RecordFile<D>,
     newer: RecordFile<D>,
@@ -49,6 +48,20 @@ pub struct Spool<D: Disk> {
     epoch: u32,
     /// A call of the disk has failed.
     refuses: bool,
+}
+
+impl<D: Disk + Drop> Drop for Spool<D> {
+    fn drop(self) {
+        let Spool {
+            older: _older,
+            newer: _newer,
+            older_pages: _older_pages,
+            newer_pages: _newer_pages,
+            room: _room,
+            epoch: _epoch,
+            refuses: _refuses,
+        } = self;
+    }
 }
 
 impl<D: Disk + Drop> Spool<D> {

@@ -8,7 +8,6 @@ use std::alloc::{AllocError, Global};
 use std::marker::Model;
 
 /// Which call of all: in which life it came, under which number, and on which line.
-#[derive(Drop)]
 pub struct CallName {
     /// The life of the process.
     pub life: u32,
@@ -16,6 +15,16 @@ pub struct CallName {
     pub call: u32,
     /// The name of its line.
     pub line: Vec<u8>,
+}
+
+impl Drop for CallName {
+    fn drop(self) {
+        let CallName {
+            life: _life,
+            call: _call,
+            line: _line,
+        } = self;
+    }
 }
 
 impl Model for CallName {

@@ -8,7 +8,6 @@ use std::alloc::{AllocError, Global};
 use std::marker::Model;
 
 /// A page that waits: what its record says, in memory of its own.
-#[derive(Drop)]
 pub struct WaitingPage {
     /// In which life of the process it was confirmed.
     pub life: u32,
@@ -26,6 +25,21 @@ pub struct WaitingPage {
     pub tag: Vec<u8>,
     /// Its text in two-dimensional coding, without fill.
     pub text: Vec<u8>,
+}
+
+impl Drop for WaitingPage {
+    fn drop(self) {
+        let WaitingPage {
+            life: _life,
+            call: _call,
+            number: _number,
+            format: _format,
+            closes: _closes,
+            line: _line,
+            tag: _tag,
+            text: _text,
+        } = self;
+    }
 }
 
 impl Model for WaitingPage {

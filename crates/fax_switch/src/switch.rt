@@ -10,11 +10,20 @@ use std::alloc::{AllocError, Global};
 use std::marker::Model;
 
 /// All calls, each with what is to be done for it, of so many at most.
-#[derive(Drop)]
 pub struct Switch {
     entries: Vec<Entry>,
     next: u64,
     most: usize,
+}
+
+impl Drop for Switch {
+    fn drop(self) {
+        let Switch {
+            entries: _entries,
+            next: _next,
+            most: _most,
+        } = self;
+    }
 }
 
 /// Contracts see the entries, the number of the next call, and how many there may be.

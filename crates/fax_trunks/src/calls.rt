@@ -5,10 +5,18 @@ ghost use Rattle.fax_trunks.specs.CallCounts.{after_release, after_take};
 use std::marker::Model;
 
 /// How many calls are on a trunk, of so many at most.
-#[derive(Drop)]
 pub struct Calls {
     on: u32,
     most: u32,
+}
+
+impl Drop for Calls {
+    fn drop(self) {
+        let Calls {
+            on: _on,
+            most: _most,
+        } = self;
+    }
 }
 
 /// Contracts see how many there are, and how many at most; never more.

@@ -13,9 +13,14 @@ pub const MOST_OCTETS: usize = 32;
 
 /// A number: an optional `+`, which marks an international one (ITU-T E.123), and digits, one at least; 32 octets at most (this
 /// project's profile: an international number has 15 digits, ITU-T E.164).
-#[derive(Drop)]
 pub struct Number {
     octets: ArrayVec<u8, MOST_OCTETS>,
+}
+
+impl Drop for Number {
+    fn drop(self) {
+        let Number { octets: _octets } = self;
+    }
 }
 
 /// Contracts see the octets.

@@ -9,12 +9,22 @@ use std::marker::Model;
 
 /// A route: the numbers that begin with its prefix are placed over its trunk. Its prefix has a digit, so that no route takes all
 /// numbers.
-#[derive(Drop)]
 pub struct Route {
     prefix: Number,
     trunk: usize,
     strip: u8,
     add: ArrayVec<u8, MOST_OCTETS>,
+}
+
+impl Drop for Route {
+    fn drop(self) {
+        let Route {
+            prefix: _prefix,
+            trunk: _trunk,
+            strip: _strip,
+            add: _add,
+        } = self;
+    }
 }
 
 impl Model for Route {

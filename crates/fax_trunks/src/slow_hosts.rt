@@ -15,9 +15,14 @@ pub const MOST_SLOW_HOSTS: usize = 256;
 
 /// The hosts whose credentials were refused, each once, the one that failed last at the end: 256 at most. Where one more fails the one
 /// that failed longest ago is forgotten.
-#[derive(Drop)]
 pub struct SlowHosts {
     hosts: ArrayVec<SlowHost, MOST_SLOW_HOSTS>,
+}
+
+impl Drop for SlowHosts {
+    fn drop(self) {
+        let SlowHosts { hosts: _hosts } = self;
+    }
 }
 
 /// Contracts see the list.

@@ -122,9 +122,16 @@ impl<'a> Decided<'a> {
 
 /// Takes the datagrams of a call in the order in which they come. Seen as the number that it expects next,
 /// which is none before the first.
-#[derive(Drop)]
 pub struct Receiver {
     expected: Option<u16>,
+}
+
+impl Drop for Receiver {
+    fn drop(self) {
+        let Receiver {
+            expected: _expected,
+        } = self;
+    }
 }
 
 impl Model for Receiver {

@@ -16,7 +16,6 @@ const FRAME_SIZE: usize = 4;
 /// Numbers the packets of a call from 0 and sends each with those just before it, as many as its redundancy
 /// says. Seen as its redundancy, how many packets there were, modulo 65,536, the last of them, and `spare`: a
 /// packet of fewer octets is sent without asking for memory.
-#[derive(Drop)]
 pub struct Sender {
     alloc: Global,
     count: u16,
@@ -28,6 +27,19 @@ pub struct Sender {
     copy: Vec<u8>,
     /// One more than the octets of the longest packet for which both surely have room, or 0.
     spare: usize,
+}
+
+impl Drop for Sender {
+    fn drop(self) {
+        let Sender {
+            alloc: _alloc,
+            count: _count,
+            last: _last,
+            datagram: _datagram,
+            copy: _copy,
+            spare: _spare,
+        } = self;
+    }
 }
 
 impl Model for Sender {

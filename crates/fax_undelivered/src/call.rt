@@ -12,7 +12,6 @@ use std::alloc::{AllocError, Global};
 use std::marker::Model;
 
 /// A call of which pages wait that could not be delivered. All of its jobs are one.
-#[derive(Drop)]
 pub struct UndeliveredCall {
     /// The name of its line.
     pub line: Vec<u8>,
@@ -28,6 +27,20 @@ pub struct UndeliveredCall {
     pub numbers: Vec<u32>,
     /// How its last job ended.
     pub card: Card,
+}
+
+impl Drop for UndeliveredCall {
+    fn drop(self) {
+        let UndeliveredCall {
+            line: _line,
+            life: _life,
+            call: _call,
+            tag: _tag,
+            pages: _pages,
+            numbers: _numbers,
+            card: _card,
+        } = self;
+    }
 }
 
 impl Model for UndeliveredCall {

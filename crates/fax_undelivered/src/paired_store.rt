@@ -20,10 +20,18 @@ use std::marker::Model;
 const MOST_CAUSE: usize = 64;
 
 /// Why the job of a line ended.
-#[derive(Drop)]
 struct LineCause {
     line: usize,
     cause: Vec<u8>,
+}
+
+impl Drop for LineCause {
+    fn drop(self) {
+        let LineCause {
+            line: _line,
+            cause: _cause,
+        } = self;
+    }
 }
 
 impl Model for LineCause {
@@ -45,7 +53,6 @@ struct Ending<'a> {
 
 /// A spool, what is known of the pages in it, and the second pair of files, as a run sees them. The end of a job that failed is noted
 /// only once its pages that were not delivered lie in the second pair.
-#[derive(Drop)]
 pub struct PairedStore<D: Disk, U: Disk> {
     alloc: Global,
     pub storage: Storage<D>,
@@ -55,6 +62,18 @@ pub struct PairedStore<D: Disk, U: Disk> {
     causes: Vec<LineCause>,
     /// The seconds since 1970.
     day: u64,
+}
+
+impl<D: Disk + Drop, U: Disk + Drop> Drop for PairedStore<D, U> {
+    fn drop(self) {
+        let PairedStore {
+            alloc: _alloc,
+            storage: _storage,
+            undelivered: _undelivered,
+            causes: _causes,
+            day: _day,
+        } = self;
+    }
 }
 
 impl<D: Disk, U: Disk> PairedStore<D, U> {

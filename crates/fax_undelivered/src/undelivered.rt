@@ -48,7 +48,6 @@ const CARD_FORMAT: Format = Format {
 
 /// The pages that could not be delivered, in a pair of files of their own, and the calls that they came in. Where a call of the disk
 /// has failed it refuses everything from then on.
-#[derive(Drop)]
 pub struct Undelivered<D: Disk> {
     spool: Spool<D>,
     calls: Vec<UndeliveredCall>,
@@ -56,6 +55,17 @@ pub struct Undelivered<D: Disk> {
     octets: usize,
     /// The calls that came since it was asked last which.
     news: Vec<CallName>,
+}
+
+impl<D: Disk + Drop> Drop for Undelivered<D> {
+    fn drop(self) {
+        let Undelivered {
+            spool: _spool,
+            calls: _calls,
+            octets: _octets,
+            news: _news,
+        } = self;
+    }
 }
 
 impl<D: Disk + Drop> Undelivered<D> {

@@ -35,7 +35,6 @@ const REGISTRATION_SECONDS: u32 = 3_600;
 ///
 /// After each call of it that takes a moment look at `take_datagrams`, `take_orders` and `take_told`. Where one answers `Err`, memory was refused: what came is
 /// as if it had been lost on its way, or some of what was to be done for it is not done.
-#[derive(Drop)]
 pub struct UserAgent {
     alloc: Global,
     profile: Profile,
@@ -43,6 +42,19 @@ pub struct UserAgent {
     book: Book,
     orders: Vec<LineOrder>,
     out: Outbox,
+}
+
+impl Drop for UserAgent {
+    fn drop(self) {
+        let UserAgent {
+            alloc: _alloc,
+            profile: _profile,
+            switch: _switch,
+            book: _book,
+            orders: _orders,
+            out: _out,
+        } = self;
+    }
 }
 
 /// Contracts see its trunks and its routes, the calls of its switch, and what is to come out, of orders the words alone.

@@ -15,11 +15,20 @@ use std::net::{Net, SocketAddr};
 pub const MOST_VISITORS: usize = 16;
 
 /// Who looks at a server over HTTP: at most 16 at one time. Where one more comes, the one goes that has been silent longest.
-#[derive(Drop)]
 pub struct Visitors {
     alloc: Global,
     listener: TcpListener,
     places: Vec<Place>,
+}
+
+impl Drop for Visitors {
+    fn drop(self) {
+        let Visitors {
+            alloc: _alloc,
+            listener: _listener,
+            places: _places,
+        } = self;
+    }
 }
 
 /// Contracts see each place: the connection of who is there.

@@ -20,11 +20,20 @@ use std::alloc::Global;
 use std::rt::Clock;
 
 /// What a request is answered, and whose octets are those of its body.
-#[derive(Drop)]
 struct Told {
     status: Status,
     content: Content,
     body: Vec<u8>,
+}
+
+impl Drop for Told {
+    fn drop(self) {
+        let Told {
+            status: _status,
+            content: _content,
+            body: _body,
+        } = self;
+    }
 }
 
 impl<'a, C: Clock, R: RedialSide + Drop, S: SipSide + Drop> RealPace<'a, C, R, S> {

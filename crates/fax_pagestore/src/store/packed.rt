@@ -9,11 +9,19 @@ use std::marker::Model;
 
 /// A store of rows side by side. A row that is lent to it takes no memory of its own: the two vectors
 /// grow by doubling.
-#[derive(Drop)]
 pub struct PackedRows {
     /// The changing places of all rows, row after row.
     places: Vec<u16>,
     extents: Vec<Extent>,
+}
+
+impl Drop for PackedRows {
+    fn drop(self) {
+        let PackedRows {
+            places: _places,
+            extents: _extents,
+        } = self;
+    }
 }
 
 /// Where a row's changing places stand, and its width in elements.

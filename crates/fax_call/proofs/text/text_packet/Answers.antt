@@ -4,15 +4,15 @@ use Rattle.fax_call.specs.Replies.{part_length}
 use Rattle.fax_call.proofs.PacketLemmas.{last_told, text_put, short_put}
 use Rattle.fax_call.proofs.text.text_packet.Goals as goal
 use Rattle.fax_call.proofs.text.text_packet.Given.{Over}
-use Rattle.fax_call.proofs.text.text_packet.Goals.{After-drop-octets-inside}
+use Rattle.fax_call.proofs.text.text_packet.Goals.{After-drop-octets}
 
-part_is : (g : Over) (c : After-drop-octets-inside g) → c.from-part.result ≡ part_length c.args.dcs
+part_is : (g : Over) (c : After-drop-octets g) → c.from-part.result ≡ part_length c.args.dcs
 part_is g c = c.from-part.ensures ∙ c.part_length.ensures.part
 
-left_is : (g : Over) (c : After-drop-octets-inside g) (left : List ℕ) → HasLeft c.args.page.now left c.args.writer.now → HasLeft c.args.page.now (drop (part_length c.args.dcs) left) c.next.new.self
+left_is : (g : Over) (c : After-drop-octets g) (left : List ℕ) → HasLeft c.args.page.now left c.args.writer.now → HasLeft c.args.page.now (drop (part_length c.args.dcs) left) c.next.new.self
 left_is g c left has = subst (λ (n : ℕ). HasLeft c.args.page.now (drop n left) c.next.new.self) (part_is g c) (c.in_ok-octets.ensures.left left has)
 
-last_is : (g : Over) (c : After-drop-octets-inside g) (left : List ℕ) → HasLeft c.args.page.now left c.args.writer.now → c.ended-is_last.result ≡ nat_le (length left) (part_length c.args.dcs)
+last_is : (g : Over) (c : After-drop-octets g) (left : List ℕ) → HasLeft c.args.page.now left c.args.writer.now → c.ended-is_last.result ≡ nat_le (length left) (part_length c.args.dcs)
 last_is g c left has =
     last_told c.args.dcs left c.ended-is_last.result (c.ended-is_last.ensures.left c.args.page.now (drop (part_length c.args.dcs) left) (left_is g c left has))
 

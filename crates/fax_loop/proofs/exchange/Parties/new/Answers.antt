@@ -1,6 +1,9 @@
 use Rattle.fax_loop.proofs.ExchangeLemmas.{carried_none}
 use Rattle.fax_loop.proofs.exchange.Parties.new.Goals as goal
 
+pub returns-clause-job : goal.returns-clause-job
+returns-clause-job c = c.in_ok-caller.ensures.job
+
 pub returns-clause-begun : goal.returns-clause-begun
 returns-clause-begun c = λ setup writes lines set. record {
   are_rounds = tt;

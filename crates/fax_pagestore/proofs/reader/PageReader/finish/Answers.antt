@@ -7,8 +7,9 @@ use Rattle.fax_pagestore.proofs.reader.PageReader.finish.Goals as goal
 
 pub returns-in-None-clause-reads : goal.returns-in-None-clause-reads
 returns-in-None-clause-reads g c = λ octets page has means.
-    let was = c.rows.view_is ∙ c.replace.ensures.value in
-    let made = c.new.ensures ∙ ap (λ (r : ReaderValue). let p : PageValue = record { format = r.format; rows = r.rows } in p) was in
+    let was = c.into_rows-rows.ensures ∙ ap (λ (r : ReaderValue). r.rows) c.replace.ensures.value in
+    let made = c.new.ensures ∙ ap (λ (r : ReaderValue). let p : PageValue = record { format = r.format; rows = g.S.RowStore.rows c.into_rows-rows.result } in p) c.self.view_is
+    ∙ ap (λ rows. let p : PageValue = record { format = c.args.self.now.format; rows = rows } in p) was in
     ap (λ (p : PageValue). Ok p) (same_page octets c.args.self.now page c.new.result (c.in-None.ensures.judged octets has) means made)
 
 pub returns-in-None-clause-fails : goal.returns-in-None-clause-fails
