@@ -5,24 +5,13 @@
 
 ROOT is a clone of its own, in which nothing else runs and nothing is written meanwhile. 3: a crate below is not kept.
 """
-import importlib.util
 import os
 import sys
 import time
-from importlib.machinery import SourceFileLoader
+
+from rt_module import load
 
 ROOT, JOBS, NAMES = sys.argv[1], sys.argv[2], sys.argv[3:]
-
-
-def load():
-    """`rt` itself, as a module."""
-    sys.path.insert(0, "/opt/rattle/bin")
-    loader = SourceFileLoader("rtmain", "/opt/rattle/bin/rt")
-    made = importlib.util.module_from_spec(importlib.util.spec_from_loader("rtmain", loader))
-    sys.argv = ["rt"]
-    loader.exec_module(made)
-    return made
-
 
 m = load()
 rtlib = m.rtlib

@@ -7,7 +7,6 @@ Everything below is kept in ROOT (prove.py leaves it so). The check writes each 
 time since the one before, the modules of crates below that it is the first to load among it. For a quiet machine.
 """
 import collections
-import importlib.util
 import os
 import re
 import shutil
@@ -15,20 +14,10 @@ import subprocess
 import sys
 import tempfile
 import time
-from importlib.machinery import SourceFileLoader
+
+from rt_module import load
 
 ROOT, NAME, MOST = sys.argv[1], sys.argv[2], int(sys.argv[3]) if len(sys.argv) > 3 else 40
-
-
-def load():
-    """`rt` itself, as a module."""
-    sys.path.insert(0, "/opt/rattle/bin")
-    loader = SourceFileLoader("rtmain", "/opt/rattle/bin/rt")
-    made = importlib.util.module_from_spec(importlib.util.spec_from_loader("rtmain", loader))
-    sys.argv = ["rt"]
-    loader.exec_module(made)
-    return made
-
 
 m = load()
 m.Crate.allowed = m.handles_of(ROOT)
