@@ -4,7 +4,7 @@ ghost use Rattle.std.specs.Prelude.{◌≡◌};
 use fax_frames::{Dcs, Frame};
 
 /// The command after a page (ITU-T T.30, 5.3.6.1.5).
-#[derive(Clone, Copy, PartialEq, Eq, Debug)]
+#[derive(Clone, Copy, PartialEq, Eq)]
 pub enum Command {
     /// End of message: a page of another format follows.
     Eom,
@@ -15,7 +15,7 @@ pub enum Command {
 }
 
 /// What a frame asks of the answerer.
-#[derive(Clone, Copy, PartialEq, Eq, Debug)]
+#[derive(Clone, Copy, PartialEq, Eq)]
 pub enum Order {
     /// A digital command signal: train with it.
     Train(Dcs),

@@ -3,7 +3,7 @@ use crate::Command;
 use fax_frames::Dcs;
 
 /// What is decided at a piece of the call, by the frame that answers it (ITU-T T.30, 5.3.6.1).
-#[derive(Clone, Copy, PartialEq, Eq, Debug)]
+#[derive(Clone, Copy, PartialEq, Eq)]
 pub enum Decision {
     /// Nothing: the piece is passed over, or counted alone.
     PassOver,

@@ -7,9 +7,14 @@ use std::alloc::Global;
 use std::marker::Model;
 
 /// Room for one packet, where it is reserved. Seen as the number of packets that have room.
-#[derive(Drop)]
 pub(crate) struct Room {
     octets: Option<Vec<u8>>,
+}
+
+impl Drop for Room {
+    fn drop(self) {
+        let Room { octets: _octets } = self;
+    }
 }
 
 impl Model for Room {

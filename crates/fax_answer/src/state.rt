@@ -2,7 +2,7 @@
 use fax_frames::Dcs;
 
 /// Where a call stands.
-#[derive(Clone, Copy, PartialEq, Eq, Debug)]
+#[derive(Clone, Copy, PartialEq, Eq)]
 pub enum State {
     /// No call is on.
     Idle,

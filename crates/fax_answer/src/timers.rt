@@ -2,7 +2,7 @@
 use fax_timers::Timer;
 
 /// A timer that acts in a tick (ITU-T T.30, 5.4.3).
-#[derive(Clone, Copy, PartialEq, Eq, Debug)]
+#[derive(Clone, Copy, PartialEq, Eq)]
 pub enum ActingTimer {
     /// No DCS came in time: the call is given up.
     T1,

@@ -17,7 +17,7 @@ pub trait Watcher {
 }
 
 /// Who is told and keeps nothing.
-#[derive(Clone, Copy, PartialEq, Eq, Debug)]
+#[derive(Clone, Copy, PartialEq, Eq)]
 pub struct Unwatched;
 
 impl Watcher for Unwatched {

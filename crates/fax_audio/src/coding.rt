@@ -3,7 +3,7 @@ ghost use Rattle.std.specs.Prelude.{◌≡◌};
 ghost use Rattle.fax_audio.specs.Packets.{payload_type, silence};
 
 /// How samples are coded (ITU-T G.711).
-#[derive(Clone, Copy, PartialEq, Eq, Debug)]
+#[derive(Clone, Copy, PartialEq, Eq)]
 pub enum Coding {
     /// PCMU.
     MuLaw,

@@ -16,7 +16,7 @@ const CNG_ON: u64 = 25;
 const CNG_PERIOD: u64 = 175;
 
 /// What a machine sounds (ITU-T T.30, tonal signals).
-#[derive(Clone, Copy, PartialEq, Eq, Debug)]
+#[derive(Clone, Copy, PartialEq, Eq)]
 pub enum Signal {
     /// The tone of a machine that is called: 2,100 Hz for 2.6 to 4 s, from 1.8 to 2.5 s after it is connected.
     Ced,

@@ -13,7 +13,7 @@ pub const PACKET_MS: u64 = 20;
 pub const LATE_MS: u64 = 200;
 
 /// Where a stream begins. All three are random, so that nobody guesses them (RFC 3550, 5.1).
-#[derive(Clone, Copy, PartialEq, Eq, Debug)]
+#[derive(Clone, Copy, PartialEq, Eq)]
 pub struct Start {
     /// The source.
     pub ssrc: u32,
@@ -24,7 +24,7 @@ pub struct Start {
 }
 
 /// The packets of a call of audio.
-#[derive(Clone, Copy, PartialEq, Eq, Debug)]
+#[derive(Clone, Copy, PartialEq, Eq)]
 pub struct Stream {
     pub coding: Coding,
     pub signal: Signal,

@@ -4,7 +4,6 @@ ghost use Rattle.std.specs.Prelude.{◌≡◌};
 use std::marker::Model;
 
 /// Octets in a vector, which contracts see as their list.
-#[derive(Debug)]
 pub struct Octets {
     octets: Vec<u8>,
 }

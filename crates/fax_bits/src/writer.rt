@@ -11,12 +11,21 @@ use std::marker::Model;
 use std::mem;
 
 /// Holds bits, the most significant bit of an octet first.
-#[derive(Drop)]
 pub struct BitWriter {
     octets: Vec<u8>,
     /// The bits of four octets that are not whole yet, and how many they are.
     pending: u64,
     count: u32,
+}
+
+impl Drop for BitWriter {
+    fn drop(self) {
+        let BitWriter {
+            octets: _octets,
+            pending: _pending,
+            count: _count,
+        } = self;
+    }
 }
 
 impl Model for BitWriter {
@@ -159,13 +168,22 @@ impl BitWriter {
 }
 
 /// Holds bits, as a [`BitWriter`] does, and has room for more: what is put into it takes no memory.
-#[derive(Drop)]
 pub struct RoomyWriter {
     octets: Vec<u8>,
     /// Its low bits are those of four octets that are not whole yet. What stands above them is of no
     /// account.
     pending: u64,
     count: u32,
+}
+
+impl Drop for RoomyWriter {
+    fn drop(self) {
+        let RoomyWriter {
+            octets: _octets,
+            pending: _pending,
+            count: _count,
+        } = self;
+    }
 }
 
 impl Model for RoomyWriter {

@@ -7,7 +7,7 @@ use fax_pagestore::PageFault;
 
 /// What a call tells C.
 #[repr(C)]
-#[derive(Clone, Copy, PartialEq, Eq, Debug, Drop)]
+#[derive(Clone, Copy, PartialEq, Eq, Drop)]
 pub struct Outcome {
     /// 0: done. 1 to 6: the number of the page's fault (no EOL, a line that cannot be read, no return to
     /// control, no line, too many rows, want of memory). 7: the slice has no room. 8: no width of a row.
@@ -22,7 +22,7 @@ pub struct Outcome {
 }
 
 /// What was filled.
-#[derive(Clone, Copy, PartialEq, Eq, Debug)]
+#[derive(Clone, Copy, PartialEq, Eq)]
 pub struct FillCounts {
     pub rows: u32,
     pub items: usize,

@@ -2,7 +2,7 @@
 use fax_jobs::Outcome;
 
 /// What is decided at a piece of the call, by what it brings about (ITU-T T.30, figure 5-1).
-#[derive(Clone, Copy, PartialEq, Eq, Debug)]
+#[derive(Clone, Copy, PartialEq, Eq)]
 pub enum Decision {
     /// Nothing: the piece is passed over.
     PassOver,

@@ -7,10 +7,15 @@ use std::marker::Model;
 use std::mem;
 
 /// Room that was taken before the packet is there which it is for, seen as how many octets it holds.
-#[derive(Drop)]
 pub(crate) struct Room {
     /// It is empty: what is written goes with it.
     octets: Vec<u8>,
+}
+
+impl Drop for Room {
+    fn drop(self) {
+        let Room { octets: _octets } = self;
+    }
 }
 
 impl Model for Room {

@@ -3,7 +3,7 @@ use fax_frames::{Dcs, Dis};
 use fax_jobs::Outcome;
 
 /// Where a call stands (ITU-T T.30, phases B to D of a calling terminal).
-#[derive(Clone, Copy, PartialEq, Eq, Debug)]
+#[derive(Clone, Copy, PartialEq, Eq)]
 pub enum State {
     /// No call is on.
     Idle,

@@ -6,7 +6,7 @@ use crate::machines::Machines;
 use fax_pcap::{Datagram, Endpoint};
 
 /// The address of a host.
-#[derive(Clone, Copy, PartialEq, Eq, Debug)]
+#[derive(Clone, Copy, PartialEq, Eq)]
 pub enum Host {
     V4([u8; 4]),
     V6([u8; 16]),
@@ -33,7 +33,7 @@ impl Host {
 }
 
 /// Where a machine is: its host, and its port, where not every port of the host is meant.
-#[derive(Clone, Copy, PartialEq, Eq, Debug)]
+#[derive(Clone, Copy, PartialEq, Eq)]
 pub struct Address {
     pub host: Host,
     pub port: Option<u16>,
@@ -86,7 +86,7 @@ impl Address {
 }
 
 /// What a datagram is to the two machines.
-#[derive(Clone, Copy, PartialEq, Eq, Debug)]
+#[derive(Clone, Copy, PartialEq, Eq)]
 pub(crate) enum Role {
     FromCaller,
     FromCalled,

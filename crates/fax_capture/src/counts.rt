@@ -7,7 +7,7 @@ use crate::machines::Machines;
 use crate::signal::seems_exchanged;
 
 /// How many datagrams of a capture came from whom. 2^64 - 1 says that there are as many, or more.
-#[derive(Clone, Copy, PartialEq, Eq, Debug)]
+#[derive(Clone, Copy, PartialEq, Eq)]
 pub struct Counts {
     /// The two machines, as far as they are known at the end.
     pub machines: Machines,

@@ -15,7 +15,7 @@ const LONGEST_WAIT: u128 = 60_000_000_000;
 
 /// What was heard last on the calling leg: the UDPTL numbers of a datagram from the caller, and of one to it, in the call that is
 /// on; and when one was captured, in nanoseconds since 1970, where that is known.
-#[derive(Clone, Copy, PartialEq, Eq, Debug)]
+#[derive(Clone, Copy, PartialEq, Eq)]
 pub(crate) struct CallingLeg {
     from_caller: Option<u16>,
     to_caller: Option<u16>,

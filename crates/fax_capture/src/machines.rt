@@ -8,7 +8,7 @@ use crate::signal::{CED, CNG, is_primary};
 use fax_pcap::{Datagram, Endpoint};
 
 /// The machines of a capture that are known.
-#[derive(Clone, Copy, PartialEq, Eq, Debug)]
+#[derive(Clone, Copy, PartialEq, Eq)]
 pub enum Machines {
     /// The caller and the called machine.
     Known(Address, Address),

@@ -4,7 +4,7 @@ use fax_bits::NoMemory;
 use std::alloc::AllocError;
 
 /// Why no script was made of a source.
-#[derive(Clone, Copy, PartialEq, Eq, Debug)]
+#[derive(Clone, Copy, PartialEq, Eq)]
 pub(crate) enum ReadingFault {
     /// A read failed.
     Stream,

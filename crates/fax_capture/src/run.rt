@@ -11,7 +11,7 @@ use fax_command::{Sink, Source, Status, WriteFault};
 use std::alloc::Global;
 
 /// What a run comes to.
-#[derive(Clone, Copy, PartialEq, Eq, Debug)]
+#[derive(Clone, Copy, PartialEq, Eq)]
 pub struct CaptureRun {
     /// The exit status.
     pub status: u8,

@@ -46,10 +46,18 @@ pub(crate) struct Script {
 }
 
 /// A script that was told to its end.
-#[derive(Drop)]
 pub(crate) struct Made {
     pub text: Vec<u8>,
     pub counts: Counts,
+}
+
+impl Drop for Made {
+    fn drop(self) {
+        let Made {
+            text: _text,
+            counts: _counts,
+        } = self;
+    }
 }
 
 impl Script {

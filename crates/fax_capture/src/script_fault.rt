@@ -9,7 +9,7 @@ use fax_command::{MEMORY_LINE, Status};
 use fax_pcap::CaptureFault;
 
 /// Why a capture gives no script.
-#[derive(Clone, Copy, PartialEq, Eq, Debug)]
+#[derive(Clone, Copy, PartialEq, Eq)]
 pub(crate) enum ScriptFault {
     /// What is wrong with the capture, or want of memory.
     Capture(CaptureFault),

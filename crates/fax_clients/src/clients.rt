@@ -24,7 +24,7 @@ const MOST_FINISHING: u8 = 50;
 const FINISHING_MS: i32 = 10;
 
 /// Which client said something. It means the same one until clients are waited for again.
-#[derive(Clone, Copy, PartialEq, Eq, Debug)]
+#[derive(Clone, Copy, PartialEq, Eq)]
 pub struct Asker(usize);
 
 /// Contracts see its place among the clients.

@@ -2,7 +2,7 @@
 use fax_pagestore::{Coding, Format};
 
 /// What is made of an input.
-#[derive(Clone, Copy, PartialEq, Eq, Debug)]
+#[derive(Clone, Copy, PartialEq, Eq)]
 pub enum Output {
     /// The run lengths of a page's rows, a line a row. The input is the page's octets as hex text.
     Runs,
@@ -13,7 +13,7 @@ pub enum Output {
 }
 
 /// What a run is told to do.
-#[derive(Clone, Copy, PartialEq, Eq, Debug)]
+#[derive(Clone, Copy, PartialEq, Eq)]
 pub struct PageOptions {
     /// The width of the page's rows, and its resolution.
     pub format: Format,

@@ -3,7 +3,7 @@ use crate::refusal::Refusal;
 use std::fmt;
 
 /// The answer to a control word, told in one line.
-#[derive(Clone, Copy, PartialEq, Eq, Debug)]
+#[derive(Clone, Copy, PartialEq, Eq)]
 pub enum Answer<'a> {
     /// `ok`.
     Done,

@@ -9,7 +9,7 @@ pub const MOST_OCTETS: usize = 256;
 pub const MOST_TAG_OCTETS: usize = 64;
 
 /// What bounds the datagrams that a leg sends in a call. What is not said is as the line has it.
-#[derive(Clone, Copy, PartialEq, Eq, Debug, Default)]
+#[derive(Clone, Copy, PartialEq, Eq, Default)]
 pub struct Bounds {
     /// How many packets before its own a datagram has at most: 0 to 8.
     pub redundancy: Option<u8>,
@@ -18,7 +18,7 @@ pub struct Bounds {
 }
 
 /// What `ring` says.
-#[derive(Clone, Copy, PartialEq, Eq, Debug)]
+#[derive(Clone, Copy, PartialEq, Eq)]
 pub struct RingWord<'a> {
     /// The name of the line. `None`: any line whose calling leg is idle and has no peer of the configuration.
     pub line: Option<&'a str>,
@@ -28,7 +28,7 @@ pub struct RingWord<'a> {
 }
 
 /// What `peer` says.
-#[derive(Clone, Copy, PartialEq, Eq, Debug)]
+#[derive(Clone, Copy, PartialEq, Eq)]
 pub struct PeerWord<'a> {
     /// The name of the line.
     pub line: &'a str,
@@ -42,7 +42,7 @@ pub struct PeerWord<'a> {
 }
 
 /// Which call `discard` and `retry` are about.
-#[derive(Clone, Copy, PartialEq, Eq, Debug)]
+#[derive(Clone, Copy, PartialEq, Eq)]
 pub struct CallWord<'a> {
     /// The name of the line.
     pub line: &'a str,
@@ -53,7 +53,7 @@ pub struct CallWord<'a> {
 }
 
 /// A control word. Names of lines and tags are as they were said.
-#[derive(Clone, Copy, PartialEq, Eq, Debug)]
+#[derive(Clone, Copy, PartialEq, Eq)]
 pub enum Word<'a> {
     /// Rings the calling leg of a line.
     Ring(RingWord<'a>),

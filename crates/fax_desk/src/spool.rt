@@ -45,7 +45,7 @@ pub struct SpoolTold {
 }
 
 /// How a run of a server ends.
-#[derive(Clone, Copy, PartialEq, Eq, Debug)]
+#[derive(Clone, Copy, PartialEq, Eq)]
 pub enum RunEnd {
     /// It was told to stop.
     Stopped,

@@ -8,7 +8,7 @@ use crate::refresher::Refresher;
 pub const MIN_SE: u32 = 90;
 
 /// Who refreshes a session, as `refresher` of `Session-Expires` tells it of the request that asks for it.
-#[derive(Clone, Copy, PartialEq, Eq, Debug)]
+#[derive(Clone, Copy, PartialEq, Eq)]
 pub enum Agent {
     /// Who sends the request.
     Uac,
@@ -31,7 +31,7 @@ impl Agent {
 }
 
 /// What an INVITE that asks for an interval is answered.
-#[derive(Clone, Copy, PartialEq, Eq, Debug)]
+#[derive(Clone, Copy, PartialEq, Eq)]
 pub enum Agreement {
     /// 422 (Session Interval Too Small), with our `Min-SE`.
     TooSmall,

@@ -6,13 +6,24 @@ use crate::dialog_fault::DialogFault;
 use crate::text::Text;
 
 /// The Call-ID, and the tag and the address of each end.
-#[derive(Drop)]
 pub(crate) struct Ends {
     pub(crate) call_id: Text,
     pub(crate) local_tag: Text,
     pub(crate) remote_tag: Text,
     pub(crate) local_uri: Text,
     pub(crate) remote_uri: Text,
+}
+
+impl Drop for Ends {
+    fn drop(self) {
+        let Ends {
+            call_id: _call_id,
+            local_tag: _local_tag,
+            remote_tag: _remote_tag,
+            local_uri: _local_uri,
+            remote_uri: _remote_uri,
+        } = self;
+    }
 }
 
 impl Ends {

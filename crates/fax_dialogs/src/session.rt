@@ -9,7 +9,7 @@ use crate::spans::{later, longer};
 use fax_transactions::{T1_MS, TIMEOUT_MS};
 
 /// What is done after the ACK of our 2xx.
-#[derive(Clone, Copy, PartialEq, Eq, Debug)]
+#[derive(Clone, Copy, PartialEq, Eq)]
 pub enum Next {
     /// Nothing.
     Stay,
@@ -20,7 +20,7 @@ pub enum Next {
 }
 
 /// The session of a dialog that an INVITE began.
-#[derive(Clone, Copy, PartialEq, Eq, Debug)]
+#[derive(Clone, Copy, PartialEq, Eq)]
 pub enum Session {
     /// No INVITE is under way. Ours is to be sent from this moment on, where there is one.
     Confirmed {

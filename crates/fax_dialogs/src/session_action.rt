@@ -1,7 +1,7 @@
 //! What is to be done in a session.
 
 /// What is to be done in a session.
-#[derive(Clone, Copy, PartialEq, Eq, Debug)]
+#[derive(Clone, Copy, PartialEq, Eq)]
 pub enum SessionAction {
     /// Nothing.
     Nothing,

@@ -1,7 +1,7 @@
 //! What happens in a session.
 
 /// What happens in a session. Repeats of their INVITE are not told (RFC 6026, 7.1).
-#[derive(Clone, Copy, PartialEq, Eq, Debug)]
+#[derive(Clone, Copy, PartialEq, Eq)]
 pub enum SessionEvent {
     /// Time passed.
     TimePassed,

@@ -6,7 +6,7 @@ use crate::refresher::Refresher;
 use crate::spans::later;
 
 /// What happens to the timer of a session.
-#[derive(Clone, Copy, PartialEq, Eq, Debug)]
+#[derive(Clone, Copy, PartialEq, Eq)]
 pub enum TimerEvent {
     /// Time passed.
     TimePassed,
@@ -17,7 +17,7 @@ pub enum TimerEvent {
 }
 
 /// What is to be done for the timer of a session.
-#[derive(Clone, Copy, PartialEq, Eq, Debug)]
+#[derive(Clone, Copy, PartialEq, Eq)]
 pub enum TimerAction {
     /// Nothing.
     Nothing,
@@ -28,7 +28,7 @@ pub enum TimerAction {
 }
 
 /// The timer of a session (RFC 4028, 10).
-#[derive(Clone, Copy, PartialEq, Eq, Debug)]
+#[derive(Clone, Copy, PartialEq, Eq)]
 pub enum SessionTimer {
     /// The session has no interval.
     Off,

@@ -10,9 +10,15 @@ use std::marker::Model;
 pub const MOST_TEXT: usize = 256;
 
 /// A text of at most 256 octets.
-#[derive(Default, Drop)]
+#[derive(Default)]
 pub(crate) struct Text {
     octets: ArrayVec<u8, MOST_TEXT>,
+}
+
+impl Drop for Text {
+    fn drop(self) {
+        let Text { octets: _octets } = self;
+    }
 }
 
 impl Model for Text {

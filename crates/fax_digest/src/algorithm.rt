@@ -7,7 +7,7 @@ use crate::sha256_hash::sha256_hash;
 use std::alloc::{AllocError, Global};
 
 /// What a challenge wants its digests made by.
-#[derive(Clone, Copy, PartialEq, Eq, Debug)]
+#[derive(Clone, Copy, PartialEq, Eq)]
 pub enum Algorithm {
     /// `MD5`, also where a challenge names none.
     Md5,

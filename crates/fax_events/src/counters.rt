@@ -1,7 +1,7 @@
 //! What a gateway counts.
 
 /// What a gateway has counted since it began, over all of its lines.
-#[derive(Clone, Copy, PartialEq, Eq, Debug, Default)]
+#[derive(Clone, Copy, PartialEq, Eq, Default)]
 pub struct Counters {
     /// Lines of the configuration.
     pub lines: u64,

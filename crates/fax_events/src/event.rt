@@ -8,7 +8,7 @@ use fax_jobs::{Outcome, Report};
 use fax_pagestore::Format;
 
 /// Which way datagrams go.
-#[derive(Clone, Copy, PartialEq, Eq, Debug)]
+#[derive(Clone, Copy, PartialEq, Eq)]
 pub enum Direction {
     Receives,
     Sends,
@@ -27,7 +27,7 @@ impl Direction {
 }
 
 /// How a call on the calling leg ended.
-#[derive(Clone, Copy, PartialEq, Eq, Debug)]
+#[derive(Clone, Copy, PartialEq, Eq)]
 pub enum Ending {
     /// The peer said so (DCN, ITU-T T.30, 5.3.6.1.6), or its pages were confirmed and it said no more.
     Done,
@@ -54,7 +54,7 @@ impl Ending {
 }
 
 /// Why a page that was stored in an earlier life is not sent.
-#[derive(Clone, Copy, PartialEq, Eq, Debug)]
+#[derive(Clone, Copy, PartialEq, Eq)]
 pub enum WhyAside {
     /// Its text means no page.
     NoPage,
@@ -78,7 +78,7 @@ impl WhyAside {
 }
 
 /// A page that was stored in an earlier life, and is not sent.
-#[derive(Clone, Copy, PartialEq, Eq, Debug)]
+#[derive(Clone, Copy, PartialEq, Eq)]
 pub struct PageAside {
     /// The number of that life.
     pub life: u32,
@@ -90,7 +90,7 @@ pub struct PageAside {
 }
 
 /// A page that was confirmed.
-#[derive(Clone, Copy, PartialEq, Eq, Debug)]
+#[derive(Clone, Copy, PartialEq, Eq)]
 pub struct PageConfirmed {
     /// The number of its call.
     pub call: u32,
@@ -102,7 +102,7 @@ pub struct PageConfirmed {
 }
 
 /// A job whose call is asked for.
-#[derive(Clone, Copy, PartialEq, Eq, Debug)]
+#[derive(Clone, Copy, PartialEq, Eq)]
 pub struct AskedJob {
     /// The number of the call that its pages came in.
     pub call: u32,
@@ -115,7 +115,7 @@ pub struct AskedJob {
 }
 
 /// A job that could not be delivered, and whose pages are kept: those that its called machine did not confirm.
-#[derive(Clone, Copy, PartialEq, Eq, Debug)]
+#[derive(Clone, Copy, PartialEq, Eq)]
 pub struct UndeliveredJob {
     /// The number of the life in which its pages came.
     pub life: u32,
@@ -132,7 +132,7 @@ pub struct UndeliveredJob {
 }
 
 /// What happened.
-#[derive(Clone, Copy, PartialEq, Eq, Debug)]
+#[derive(Clone, Copy, PartialEq, Eq)]
 pub enum What<'a> {
     /// The calling leg was rung: the number of the call, and its tag.
     Rung(u32, Option<&'a str>),
@@ -206,7 +206,7 @@ impl<'a> What<'a> {
 }
 
 /// Something that happened.
-#[derive(Clone, Copy, PartialEq, Eq, Debug)]
+#[derive(Clone, Copy, PartialEq, Eq)]
 pub struct Event<'a> {
     /// The name of the line; none where it happened to all of them.
     pub line: Option<&'a str>,

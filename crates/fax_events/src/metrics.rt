@@ -7,7 +7,7 @@ use fax_bits::NoMemory;
 use std::alloc::{AllocError, Global};
 
 /// Whether a count may fall.
-#[derive(Clone, Copy, PartialEq, Eq, Debug)]
+#[derive(Clone, Copy, PartialEq, Eq)]
 enum Kind {
     Counter,
     Gauge,

@@ -9,7 +9,7 @@ use std::alloc::Global;
 pub const MOST_WAITING: usize = 1024;
 
 /// What a reader is told next.
-#[derive(Debug, Drop)]
+#[derive(Drop)]
 pub struct Due {
     /// So many lines were lost right here.
     pub lost: u64,

@@ -6,7 +6,7 @@ use fax_gateway::Leg;
 use fax_pagestore::{PackedRows, Page};
 
 /// Where a page stood: on the calling leg, where it was confirmed, or on the called leg, where it was sent.
-#[derive(Clone, Copy, PartialEq, Eq, Debug)]
+#[derive(Clone, Copy, PartialEq, Eq)]
 pub struct Place {
     pub leg: Leg,
     /// The number of the call that the page came in.

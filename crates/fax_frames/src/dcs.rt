@@ -5,7 +5,7 @@ use crate::rate::Rate;
 use fax_runcodes::{Coding, Format, Width};
 
 /// The greatest length of a page (ITU-T T.30, Table 2, bits 19 and 20).
-#[derive(Clone, Copy, PartialEq, Eq, Debug)]
+#[derive(Clone, Copy, PartialEq, Eq)]
 pub enum Length {
     A4,
     A4AndB4,
@@ -13,7 +13,7 @@ pub enum Length {
 }
 
 /// The digital command signal: what the calling machine sends by (ITU-T T.30, Table 2).
-#[derive(Clone, Copy, PartialEq, Eq, Debug)]
+#[derive(Clone, Copy, PartialEq, Eq)]
 pub struct Dcs {
     pub rate: Rate,
     /// 7.7 lines per mm in place of 3.85.

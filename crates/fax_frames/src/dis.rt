@@ -9,7 +9,7 @@ use fax_runcodes::Width;
 
 /// Bits 1 to 24 of a DIS (ITU-T T.30, Table 2), as one number: bit n is the mask `1 << (24 - n)`. The 8
 /// bits above have no meaning: a DIS that is read has none of them, and none is written.
-#[derive(Clone, Copy, PartialEq, Eq, Debug)]
+#[derive(Clone, Copy, PartialEq, Eq)]
 pub struct Caps(pub u32);
 
 bitflag_items! {
@@ -78,7 +78,7 @@ impl Flags for Caps {
 }
 
 /// The digital identification signal: what the called machine can do.
-#[derive(Clone, Copy, PartialEq, Eq, Debug)]
+#[derive(Clone, Copy, PartialEq, Eq)]
 pub struct Dis {
     pub caps: Caps,
 }

@@ -10,7 +10,7 @@ use crate::rate::Rate;
 use fax_runcodes::Width;
 
 /// A frame, by its facsimile control field (ITU-T T.30, 5.3.6.1).
-#[derive(Clone, Copy, PartialEq, Eq, Debug)]
+#[derive(Clone, Copy, PartialEq, Eq)]
 pub enum Frame {
     /// Digital identification signal.
     Dis(Dis),

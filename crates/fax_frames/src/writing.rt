@@ -13,7 +13,7 @@ use fax_runcodes::Width;
 pub type FrameBytes = ArrayVec<u8, 256>;
 
 /// The frames with no information field that are written (ITU-T T.30, 5.3.6.1).
-#[derive(Clone, Copy, PartialEq, Eq, Debug)]
+#[derive(Clone, Copy, PartialEq, Eq)]
 pub enum Plain {
     /// Confirmation to receive.
     Cfr,

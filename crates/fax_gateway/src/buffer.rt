@@ -13,9 +13,14 @@ const OCTETS: usize = 65_536;
 
 /// A buffer of 65,536 octets. No datagram of UDP is longer than it: its length has 16 bits (RFC 768). Seen as its octets,
 /// which may be anything after a datagram.
-#[derive(Drop)]
 pub struct Buffer {
     octets: Vec<u8>,
+}
+
+impl Drop for Buffer {
+    fn drop(self) {
+        let Buffer { octets: _octets } = self;
+    }
 }
 
 impl Model for Buffer {

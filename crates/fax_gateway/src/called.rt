@@ -21,10 +21,18 @@ use fax_pagestore::RowStore;
 use std::alloc::Global;
 
 /// The caller of the called leg.
-#[derive(Drop)]
 pub(crate) struct CalledEndpoint {
     pub caller: Caller,
     pub leg: Endpoint,
+}
+
+impl Drop for CalledEndpoint {
+    fn drop(self) {
+        let CalledEndpoint {
+            caller: _caller,
+            leg: _leg,
+        } = self;
+    }
 }
 
 impl CalledEndpoint {

@@ -23,12 +23,22 @@ use std::marker::Model;
 const MOST_ANSWERED: usize = 12;
 
 /// The answerer of the calling leg, with the number of its last call.
-#[derive(Drop)]
 pub(crate) struct CallingEndpoint<S: RowStore> {
     alloc: Global,
     number: u32,
     answerer: Answerer<S>,
     leg: Endpoint,
+}
+
+impl<S: RowStore> Drop for CallingEndpoint<S> {
+    fn drop(self) {
+        let CallingEndpoint {
+            alloc: _alloc,
+            number: _number,
+            answerer: _answerer,
+            leg: _leg,
+        } = self;
+    }
 }
 
 impl<S: RowStore> Model for CallingEndpoint<S> {

@@ -1,7 +1,7 @@
 //! What a run came to.
 
 /// What a run came to.
-#[derive(Clone, Copy, PartialEq, Eq, Debug)]
+#[derive(Clone, Copy, PartialEq, Eq)]
 pub struct Driven {
     /// How many turns were made.
     pub turns: u32,

@@ -14,10 +14,18 @@ use std::alloc::Global;
 pub(crate) const MOST_OCTETS: usize = 100;
 
 /// A receiver and a sender, which each call has anew.
-#[derive(Drop)]
 pub(crate) struct Endpoint {
     pub receiver: Receiver,
     pub sender: Sender,
+}
+
+impl Drop for Endpoint {
+    fn drop(self) {
+        let Endpoint {
+            receiver: _receiver,
+            sender: _sender,
+        } = self;
+    }
 }
 
 impl Endpoint {

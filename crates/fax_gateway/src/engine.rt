@@ -28,13 +28,23 @@ const MOST_DATAGRAMS: u8 = 16;
 const MOST_FAILED: u8 = 100;
 
 /// What drives a gateway over a wire: of all that it did it keeps counts. Each turn is lent a buffer.
-#[derive(Drop)]
 pub struct Engine {
     /// How many of the last receives failed, one after the other; at most 100.
     failed_in_a_row: u8,
     events_refused: u64,
     receives_failed: u64,
     sends_failed: u64,
+}
+
+impl Drop for Engine {
+    fn drop(self) {
+        let Engine {
+            failed_in_a_row: _failed_in_a_row,
+            events_refused: _events_refused,
+            receives_failed: _receives_failed,
+            sends_failed: _sends_failed,
+        } = self;
+    }
 }
 
 impl Model for Engine {

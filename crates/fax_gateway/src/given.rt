@@ -35,7 +35,7 @@ impl Drop for Given {
 }
 
 /// A page that was confirmed.
-#[derive(Clone, Copy, PartialEq, Eq, Debug)]
+#[derive(Clone, Copy, PartialEq, Eq)]
 pub struct Kept {
     /// The number of the call in which it came.
     pub call: u32,
@@ -47,7 +47,7 @@ pub struct Kept {
 }
 
 /// A page that was refused (RTN, ITU-T T.30, 5.3.6.1.7).
-#[derive(Clone, Copy, PartialEq, Eq, Debug)]
+#[derive(Clone, Copy, PartialEq, Eq)]
 pub struct RefusedPage {
     /// The number of the call in which it came.
     pub call: u32,

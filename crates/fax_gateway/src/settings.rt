@@ -5,7 +5,7 @@ ghost use Rattle.std.specs.Prelude.{◌≡◌};
 pub(crate) const PREAMBLE_MS: u16 = 40;
 
 /// What is set for a gateway, on both legs, and of the calls on the called one.
-#[derive(Clone, Copy, PartialEq, Eq, Debug)]
+#[derive(Clone, Copy, PartialEq, Eq)]
 pub struct Settings {
     /// How many of the packets before its own each datagram has: at most 8.
     pub redundancy: u8,

@@ -4,7 +4,7 @@ use fax_jobs::Report;
 
 /// What a turn told: whether a driver goes on, and what happened on the legs. What its tick did is lacking where that was
 /// refused for want of memory.
-#[derive(Clone, Copy, PartialEq, Eq, Debug)]
+#[derive(Clone, Copy, PartialEq, Eq)]
 pub struct TurnReport {
     /// Whether one of the last 100 receives did not fail.
     pub goes_on: bool,

@@ -2,7 +2,7 @@
 ghost use Rattle.std.specs.Prelude.{◌≡◌};
 
 /// What an indicator tells (T30_INDICATOR). Those from 4 on are trainings: each begins an image.
-#[derive(Clone, Copy, PartialEq, Eq, Debug)]
+#[derive(Clone, Copy, PartialEq, Eq)]
 pub enum Indicator {
     NoSignal = 0,
     Cng = 1,
@@ -61,7 +61,7 @@ impl Indicator {
 }
 
 /// A type of data (T30_DATA): the modulation, and its rate in bits a second.
-#[derive(Clone, Copy, PartialEq, Eq, Debug)]
+#[derive(Clone, Copy, PartialEq, Eq)]
 pub enum DataType {
     V21 = 0,
     V27At2400 = 1,
@@ -106,7 +106,7 @@ impl DataType {
 }
 
 /// The type of a field.
-#[derive(Clone, Copy, PartialEq, Eq, Debug)]
+#[derive(Clone, Copy, PartialEq, Eq)]
 pub enum FieldType {
     /// Octets of a frame.
     HdlcData = 0,

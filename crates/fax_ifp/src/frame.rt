@@ -7,9 +7,14 @@ use std::marker::Model;
 
 /// The octets of hdlc-data since the last boundary, in a fixed place; nothing where one is missing since,
 /// or where they are more than 256.
-#[derive(Drop)]
 pub(crate) struct FrameSoFar {
     octets: Option<FrameBytes>,
+}
+
+impl Drop for FrameSoFar {
+    fn drop(self) {
+        let FrameSoFar { octets: _octets } = self;
+    }
 }
 
 impl Model for FrameSoFar {

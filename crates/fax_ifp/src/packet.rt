@@ -16,7 +16,7 @@ use std::marker::Model;
 
 /// A field of data: the code of its type, from 0 to 7 (see [`crate::FieldType`]), and its octets where it
 /// has some.
-#[derive(Clone, Copy, PartialEq, Eq, Debug)]
+#[derive(Clone, Copy, PartialEq, Eq)]
 pub struct Field<'a> {
     pub what: u8,
     pub octets: Option<&'a [u8]>,
@@ -33,7 +33,7 @@ impl<'a> MadeWith<Global> for Field<'a> {
 
 /// Whether a packet is an indicator or data, and which, by its code (see [`crate::Indicator`] and
 /// [`crate::DataType`]).
-#[derive(Clone, Copy, PartialEq, Eq, Debug)]
+#[derive(Clone, Copy, PartialEq, Eq)]
 pub enum Head {
     Indicator(u8),
     Message { kind: u8 },

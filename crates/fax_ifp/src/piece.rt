@@ -8,7 +8,7 @@ use std::default::MadeWith;
 use std::marker::Model;
 
 /// The place of one packet of a call (ITU-T T.38).
-#[derive(Clone, Copy, Debug)]
+#[derive(Clone, Copy)]
 pub enum Slot<'a> {
     /// The packet is lost.
     Lost,
@@ -17,7 +17,7 @@ pub enum Slot<'a> {
 }
 
 /// A piece of a call.
-#[derive(Debug, Drop)]
+#[derive(Drop)]
 pub enum Piece<'a> {
     /// A frame whose check sequence is right, of 1 to 256 octets.
     Frame(FrameBytes),

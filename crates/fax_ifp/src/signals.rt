@@ -30,11 +30,20 @@ struct OpenImage {
 ///
 /// It keeps the octets of a frame that has not ended, in a fixed place, and of an image that has not
 /// ended none.
-#[derive(Drop)]
 pub struct Signals {
     alloc: Global,
     frame: FrameSoFar,
     image: Option<OpenImage>,
+}
+
+impl Drop for Signals {
+    fn drop(self) {
+        let Signals {
+            alloc: _alloc,
+            frame: _frame,
+            image: _image,
+        } = self;
+    }
 }
 
 impl Model for Signals {

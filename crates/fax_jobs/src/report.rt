@@ -4,7 +4,7 @@ use fax_pagestore::Format;
 use std::fmt;
 
 /// What is told of a job that ended.
-#[derive(Clone, Copy, PartialEq, Eq, Debug)]
+#[derive(Clone, Copy, PartialEq, Eq)]
 pub struct Report {
     /// The number of the call that its pages came in.
     pub call: u32,

@@ -17,7 +17,7 @@ const MOST_COUNT: u8 = 127;
 const FRAME_OCTETS: usize = 4;
 
 /// What bounds the datagrams of a leg.
-#[derive(Clone, Copy, PartialEq, Eq, Debug)]
+#[derive(Clone, Copy, PartialEq, Eq)]
 pub(crate) struct Limits {
     /// How many packets before its own a datagram has at most.
     pub(crate) redundancy: u8,

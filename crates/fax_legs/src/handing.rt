@@ -8,7 +8,7 @@ use crate::hang_up::{is_late, newer};
 const ALL_PACKETS: u16 = u16::MAX;
 
 /// What was handed over on a leg in a call.
-#[derive(Clone, Copy, PartialEq, Eq, Debug)]
+#[derive(Clone, Copy, PartialEq, Eq)]
 pub(crate) struct Handed {
     /// The number of the newest datagram.
     newest: Option<u16>,

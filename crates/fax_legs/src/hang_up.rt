@@ -6,7 +6,7 @@ ghost use Rattle.fax_legs.specs.HangUps.{HandsOut, due_again, goodbye, is_over, 
 pub(crate) const GOODBYE_OCTETS: usize = 14;
 
 /// Whether the peer's call is gone.
-#[derive(Clone, Copy, PartialEq, Eq, Debug)]
+#[derive(Clone, Copy, PartialEq, Eq)]
 pub(crate) enum Standing {
     /// Nothing says so.
     There,
@@ -17,7 +17,7 @@ pub(crate) enum Standing {
 }
 
 /// What is known of the peer's part in the call that is on on a leg.
-#[derive(Clone, Copy, PartialEq, Eq, Debug)]
+#[derive(Clone, Copy, PartialEq, Eq)]
 pub(crate) struct PeerCall {
     /// The number of the newest datagram of the call.
     newest: Option<u16>,

@@ -32,7 +32,7 @@ const MOST_DROPPED: u16 = 4096;
 const MOST_RECEIVED: usize = 16_384;
 
 /// What went over a leg. Counts stop at the greatest `u64`.
-#[derive(Clone, Copy, PartialEq, Eq, Debug, Default)]
+#[derive(Clone, Copy, PartialEq, Eq, Default)]
 pub struct LegCounts {
     /// Datagrams that came.
     pub received: u64,

@@ -8,13 +8,23 @@ use std::cell::Cell;
 
 /// Copies of the datagrams that a leg hands out in a turn, while it is switched on. So it has as many at most, and as many octets, as a
 /// turn receives.
-#[derive(Drop)]
 pub(crate) struct Tap {
     alloc: Global,
     is_on: Cell<bool>,
     datagrams: Vec<Octets>,
     /// Whether memory was refused for one of the turn.
     is_lacking: bool,
+}
+
+impl Drop for Tap {
+    fn drop(self) {
+        let Tap {
+            alloc: _alloc,
+            is_on: _is_on,
+            datagrams: _datagrams,
+            is_lacking: _is_lacking,
+        } = self;
+    }
 }
 
 impl Tap {

@@ -4,7 +4,7 @@ use fax_gateway::{Leg, PlaceFault, RingFault};
 use fax_repeat::{Bounds, Peer};
 
 /// A call rings.
-#[derive(Clone, Copy, PartialEq, Eq, Debug)]
+#[derive(Clone, Copy, PartialEq, Eq)]
 pub struct RingRequest {
     /// What bounds its datagrams.
     pub bounds: Bounds,
@@ -13,26 +13,26 @@ pub struct RingRequest {
 }
 
 /// The peer of a leg is this one.
-#[derive(Clone, Copy, PartialEq, Eq, Debug)]
+#[derive(Clone, Copy, PartialEq, Eq)]
 pub struct PeerRequest {
     pub leg: Leg,
     pub peer: Peer,
 }
 
 /// The called machine has answered, and is this peer.
-#[derive(Clone, Copy, PartialEq, Eq, Debug)]
+#[derive(Clone, Copy, PartialEq, Eq)]
 pub struct ConnectRequest {
     pub peer: Peer,
 }
 
 /// The call of the peer of a leg is gone.
-#[derive(Clone, Copy, PartialEq, Eq, Debug)]
+#[derive(Clone, Copy, PartialEq, Eq)]
 pub struct HangingUp {
     pub leg: Leg,
 }
 
 /// What is asked of a line, at a moment.
-#[derive(Clone, Copy, PartialEq, Eq, Debug)]
+#[derive(Clone, Copy, PartialEq, Eq)]
 pub enum LineRequest {
     /// It rings: a call is to begin on the calling leg.
     Ring(RingRequest),
@@ -48,7 +48,7 @@ pub enum LineRequest {
 }
 
 /// What it answered.
-#[derive(Clone, Copy, PartialEq, Eq, Debug)]
+#[derive(Clone, Copy, PartialEq, Eq)]
 pub enum LineAnswer {
     /// To a ring: the number of the call that begins, or why none does.
     Rung(Result<u32, RingFault>),

@@ -12,7 +12,7 @@ use crate::store::RunStore;
 use fax_holding_wire::LineWire;
 
 /// What is to be done next, and when.
-#[derive(Clone, Copy, PartialEq, Eq, Debug)]
+#[derive(Clone, Copy, PartialEq, Eq)]
 pub enum Order {
     /// The next slot has its turn.
     Turn {

@@ -9,7 +9,7 @@ use std::alloc::{AllocError, Global};
 use std::marker::Model;
 
 /// Which state a job is in.
-#[derive(Clone, Copy, Debug)]
+#[derive(Clone, Copy)]
 pub enum JobState {
     /// It waits to be sent.
     Waits,
@@ -52,7 +52,7 @@ impl<'a> Model for SpooledJob<'a> {
 }
 
 /// The job that is looked at alone.
-#[derive(Clone, Copy, Debug)]
+#[derive(Clone, Copy)]
 pub struct Choice<'a> {
     /// The name of its line.
     pub line: &'a str,

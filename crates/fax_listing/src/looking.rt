@@ -19,7 +19,7 @@ use fax_spool::{CallName, Listing, WaitingPage, list_spool};
 use std::alloc::{AllocError, Global};
 
 /// What is asked of a spool.
-#[derive(Clone, Copy, Debug)]
+#[derive(Clone, Copy)]
 pub struct SpoolOptions<'a> {
     /// Its folder.
     pub folder: &'a str,

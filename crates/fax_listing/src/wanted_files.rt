@@ -1,7 +1,7 @@
 //! What is made of pages that wait.
 
 /// What is made of pages that wait.
-#[derive(Clone, Copy, Debug)]
+#[derive(Clone, Copy)]
 pub enum WantedFiles<'a> {
     /// Nothing: they are listed alone.
     Nothing,

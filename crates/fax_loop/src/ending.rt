@@ -6,7 +6,7 @@ use fax_jobs::Outcome;
 use std::io;
 
 /// How a run of a call through a gateway ended.
-#[derive(Clone, Copy, Debug)]
+#[derive(Clone, Copy)]
 pub enum Ending {
     /// The gateway reported the job, with this outcome.
     Reported(Outcome),

@@ -1,7 +1,7 @@
 //! The modes of two-dimensional coding (ITU-T T.4, 4.2.1.3, table 4/T.4).
 
 /// How far a1 lies from b1, in elements.
-#[derive(Clone, Copy, PartialEq, Eq, Debug)]
+#[derive(Clone, Copy, PartialEq, Eq)]
 pub enum Offset {
     Left3,
     Left2,
@@ -35,7 +35,7 @@ impl Offset {
 }
 
 /// A mode of two-dimensional coding.
-#[derive(Clone, Copy, PartialEq, Eq, Debug)]
+#[derive(Clone, Copy, PartialEq, Eq)]
 pub enum Mode {
     Pass,
     Horizontal,

@@ -8,7 +8,7 @@ use std::alloc::Global;
 use std::marker::Model;
 
 /// What a piece was taken as: where the call stood before it, whether a packet waited, what came, and what was decided at it.
-#[derive(Clone, Copy, PartialEq, Eq, Debug)]
+#[derive(Clone, Copy, PartialEq, Eq)]
 pub struct AnswerNote {
     pub state: State,
     pub waits: bool,

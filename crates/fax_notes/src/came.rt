@@ -6,7 +6,7 @@ ghost use Rattle.fax_notes.specs.Notes.{came_in};
 use fax_ifp::Piece;
 
 /// What came, of a piece that is noted.
-#[derive(Clone, Copy, PartialEq, Eq, Debug)]
+#[derive(Clone, Copy, PartialEq, Eq)]
 pub enum Came {
     /// A frame.
     Frame,

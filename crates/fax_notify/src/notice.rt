@@ -1,7 +1,7 @@
 //! What a service manager is told.
 
 /// What a service manager is told.
-#[derive(Clone, Copy, PartialEq, Eq, Debug)]
+#[derive(Clone, Copy, PartialEq, Eq)]
 pub enum Notice {
     /// So many lines are open, and are served from now on.
     Ready { lines: usize },

@@ -26,7 +26,7 @@ const SIMPLE_PACKET: u32 = 3;
 const ENHANCED_PACKET: u32 = 6;
 
 /// The form of a file.
-#[derive(Clone, Copy, PartialEq, Eq, Debug)]
+#[derive(Clone, Copy, PartialEq, Eq)]
 pub(crate) enum FileKind {
     /// Its head was not read.
     Unopened,
@@ -36,12 +36,21 @@ pub(crate) enum FileKind {
 
 /// What was told of a capture by the records that were read. Who reads keeps the octets: a record is read once they are all
 /// there, so that a capture may have any size, and be cut into pieces in any way.
-#[derive(Drop)]
 pub struct Capture {
     kind: FileKind,
     /// The byte order and the interfaces of the section that is read.
     order: ByteOrder,
     interfaces: Vec<Interface>,
+}
+
+impl Drop for Capture {
+    fn drop(self) {
+        let Capture {
+            kind: _kind,
+            order: _order,
+            interfaces: _interfaces,
+        } = self;
+    }
 }
 
 impl Model for Capture {

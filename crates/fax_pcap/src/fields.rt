@@ -3,7 +3,7 @@ ghost use Rattle.std.specs.Prelude.{◌≡◌, ◌+◌, ◌≤◌, IfOk, length}
 ghost use Rattle.fax_pcap.specs.Fields.{Gives, front_of, number_16, number_32, number_64};
 
 /// The order of the octets of a number.
-#[derive(Clone, Copy, PartialEq, Eq, Debug)]
+#[derive(Clone, Copy, PartialEq, Eq)]
 pub enum ByteOrder {
     /// The most significant octet first.
     Big,

@@ -9,7 +9,7 @@ use crate::fields::{ByteOrder, read_16, read_32, read_64, split_front};
 use crate::link::LinkType;
 
 /// What is described of an interface.
-#[derive(Clone, Copy, PartialEq, Eq, Debug)]
+#[derive(Clone, Copy, PartialEq, Eq)]
 pub(crate) struct Interface {
     pub link: LinkType,
     /// The most octets of a packet that are captured; 0 sets no bound.
@@ -18,7 +18,7 @@ pub(crate) struct Interface {
 }
 
 /// What the times of an interface mean.
-#[derive(Clone, Copy, PartialEq, Eq, Debug)]
+#[derive(Clone, Copy, PartialEq, Eq)]
 pub(crate) struct Times {
     /// Their unit: below 128 a decimal place of a second, else a binary one.
     pub resolution: u8,

@@ -3,7 +3,7 @@ ghost use Rattle.std.specs.Prelude.{◌≡◌};
 ghost use Rattle.fax_pcap.specs.Frames.{link_of};
 
 /// What a packet was captured on, which tells how its octets begin.
-#[derive(Clone, Copy, PartialEq, Eq, Debug)]
+#[derive(Clone, Copy, PartialEq, Eq)]
 pub enum LinkType {
     Ethernet,
     /// What Linux captures on all interfaces, in its first form.

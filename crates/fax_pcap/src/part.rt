@@ -6,7 +6,7 @@ use crate::frame::FrameFault;
 
 /// A part of a datagram of IP: the number that its fragments share, its place, which counts eight octets each, and whether more
 /// fragments follow.
-#[derive(Clone, Copy, PartialEq, Eq, Debug)]
+#[derive(Clone, Copy, PartialEq, Eq)]
 pub(crate) struct Part {
     pub number: u32,
     pub place: u16,

@@ -9,7 +9,7 @@ use crate::link::LinkType;
 use crate::packet::{MOST_OF_RECORD, Packet};
 
 /// What the head of a pcap file tells.
-#[derive(Clone, Copy, PartialEq, Eq, Debug)]
+#[derive(Clone, Copy, PartialEq, Eq)]
 pub(crate) struct PcapFile {
     pub order: ByteOrder,
     pub link: LinkType,

@@ -7,7 +7,7 @@ use std::alloc::{AllocError, Global};
 use std::marker::Model;
 
 /// A page that waits: in which life and call it was confirmed, and as which page of the call.
-#[derive(Clone, Copy, PartialEq, Eq, Debug)]
+#[derive(Clone, Copy, PartialEq, Eq)]
 pub struct QueuedPage {
     pub life: u32,
     pub call: u32,
@@ -19,7 +19,7 @@ pub struct QueuedPage {
 
 /// A page of an earlier life that means none, and is not restored: in which life and call it was confirmed, and as which page of the
 /// call.
-#[derive(Clone, Copy, PartialEq, Eq, Debug)]
+#[derive(Clone, Copy, PartialEq, Eq)]
 pub struct Aside {
     pub life: u32,
     pub call: u32,
@@ -28,7 +28,7 @@ pub struct Aside {
 }
 
 /// The pages of a job that ended.
-#[derive(Clone, Copy, PartialEq, Eq, Debug)]
+#[derive(Clone, Copy, PartialEq, Eq)]
 pub struct EndedJob {
     pub life: u32,
     pub call: u32,

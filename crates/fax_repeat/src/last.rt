@@ -11,10 +11,18 @@ use std::marker::Model;
 const MOST_REPEATED: usize = 1500;
 
 /// At most 1,500 octets, in place.
-#[derive(Drop)]
 pub(crate) struct Held {
     octets: [u8; 1500],
     count: usize,
+}
+
+impl Drop for Held {
+    fn drop(self) {
+        let Held {
+            octets: _octets,
+            count: _count,
+        } = self;
+    }
 }
 
 impl Model for Held {
@@ -55,13 +63,22 @@ impl Held {
 }
 
 /// The last datagram that was handed over on a leg.
-#[derive(Drop)]
 pub(crate) struct Last {
     octets: Held,
     /// How often it was sent. 0: none is known.
     sends: u8,
     /// From which moment on it is sent again.
     due: Option<u64>,
+}
+
+impl Drop for Last {
+    fn drop(self) {
+        let Last {
+            octets: _octets,
+            sends: _sends,
+            due: _due,
+        } = self;
+    }
 }
 
 impl Model for Last {

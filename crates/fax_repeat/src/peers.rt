@@ -9,7 +9,7 @@ use std::net::SocketAddr;
 use thiserror::Error;
 
 /// What bounds the datagrams of a leg. What is not said is as the line has it.
-#[derive(Clone, Copy, PartialEq, Eq, Debug, Default)]
+#[derive(Clone, Copy, PartialEq, Eq, Default)]
 pub struct Bounds {
     /// How many packets before its own a datagram has at most.
     pub redundancy: Option<u8>,
@@ -18,7 +18,7 @@ pub struct Bounds {
 }
 
 /// The peer of a leg.
-#[derive(Clone, Copy, PartialEq, Eq, Debug)]
+#[derive(Clone, Copy, PartialEq, Eq)]
 pub struct Peer {
     /// Where its datagrams go, and where alone they come from. `None`: it is the sender of the first datagram that comes.
     pub address: Option<SocketAddr>,
@@ -31,7 +31,7 @@ pub struct Peer {
 pub struct NoRoute;
 
 /// What is known of the peer of a leg.
-#[derive(Clone, Copy, PartialEq, Eq, Debug)]
+#[derive(Clone, Copy, PartialEq, Eq)]
 pub struct LegState {
     /// There is one, whose address is known, or still to be learned.
     pub has_peer: bool,

@@ -3,7 +3,7 @@ ghost use Rattle.std.specs.Prelude.{◌≡◌, ◌∷◌, [], ℕ, Option, lengt
 ghost use Rattle.fax_repeat.specs.Gaps.{gap_after};
 
 /// How often a datagram is sent again while nothing newer is handed over on its leg.
-#[derive(Clone, Copy, PartialEq, Eq, Debug)]
+#[derive(Clone, Copy, PartialEq, Eq)]
 pub enum RepeatPolicy {
     /// After 20 ms, and then 40, 80, 160, 320 and 640 ms after the repeat before.
     Full,

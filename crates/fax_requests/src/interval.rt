@@ -17,7 +17,7 @@ pub fn least_told(message: &Message<'_>) -> Option<u32>
 }
 
 /// What is known of the interval of a call's session before an INVITE of ours (RFC 4028, 7.4), in seconds.
-#[derive(Clone, Copy, PartialEq, Eq, Debug)]
+#[derive(Clone, Copy, PartialEq, Eq)]
 pub struct Interval {
     /// The interval that was agreed on last; until then the one that we wish for.
     pub current: u32,
@@ -59,7 +59,6 @@ impl Interval {
 }
 
 /// An interval in words.
-#[derive(Drop)]
 pub struct IntervalText {
     /// What is told.
     pub interval: Interval,
@@ -69,6 +68,16 @@ pub struct IntervalText {
     pub least: String,
     ghost asked_is: { string_bytes asked ≡ decimal (max interval.current interval.least) },
     ghost least_is: { string_bytes least ≡ decimal interval.least },
+}
+
+impl Drop for IntervalText {
+    fn drop(self) {
+        let IntervalText {
+            interval: _interval,
+            asked: _asked,
+            least: _least,
+        } = self;
+    }
 }
 
 impl IntervalText {

@@ -2,14 +2,14 @@
 use crate::Width;
 
 /// The width of a page's rows, and whether its resolution is the fine one (ITU-T T.4, 2).
-#[derive(Clone, Copy, PartialEq, Eq, Debug)]
+#[derive(Clone, Copy, PartialEq, Eq)]
 pub struct Format {
     pub width: Width,
     pub fine: bool,
 }
 
 /// How lines are coded.
-#[derive(Clone, Copy, PartialEq, Eq, Debug)]
+#[derive(Clone, Copy, PartialEq, Eq)]
 pub enum Coding {
     /// Each line in one dimension (ITU-T T.4, 4.1).
     Mh,

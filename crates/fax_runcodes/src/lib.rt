@@ -19,7 +19,7 @@ pub use tables::{CodeWord, WordPair};
 pub use writing::{put_run, put_two_runs};
 
 /// The colour of an element.
-#[derive(Clone, Copy, PartialEq, Eq, Debug)]
+#[derive(Clone, Copy, PartialEq, Eq)]
 pub enum Colour {
     White,
     Black,
@@ -55,7 +55,7 @@ impl Colour {
 }
 
 /// The width of a row (ITU-T T.4, 2.1 and 2.2): 1728, 2048 or 2432 elements.
-#[derive(Clone, Copy, PartialEq, Eq, Debug)]
+#[derive(Clone, Copy, PartialEq, Eq)]
 pub enum Width {
     W1728,
     W2048,

@@ -17,10 +17,18 @@ use std::marker::Model;
 pub const MOST_ELEMENTS: u16 = 2432;
 
 /// A row of a page.
-#[derive(Drop)]
 pub struct Row {
     changes: Vec<u16>,
     width: u16,
+}
+
+impl Drop for Row {
+    fn drop(self) {
+        let Row {
+            changes: _changes,
+            width: _width,
+        } = self;
+    }
 }
 
 impl Model for Row {
@@ -36,9 +44,14 @@ impl Model for Row {
 }
 
 /// Run lengths, which contracts see as their list.
-#[derive(Debug, Drop)]
 pub struct Runs {
     runs: Vec<u16>,
+}
+
+impl Drop for Runs {
+    fn drop(self) {
+        let Runs { runs: _runs } = self;
+    }
 }
 
 impl Model for Runs {
@@ -226,10 +239,18 @@ impl<'a> RowRef<'a> {
 
 /// A row that is being made, from left to right. It has room for any row from the start on, and one
 /// builder serves row after row.
-#[derive(Drop)]
 pub struct RowBuilder {
     changes: Vec<u16>,
     len: u16,
+}
+
+impl Drop for RowBuilder {
+    fn drop(self) {
+        let RowBuilder {
+            changes: _changes,
+            len: _len,
+        } = self;
+    }
 }
 
 impl Model for RowBuilder {

@@ -5,7 +5,7 @@ pub(crate) mod white;
 pub(crate) mod written;
 
 /// A code word: the run that it stands for, in elements, and how many bits it has.
-#[derive(Clone, Copy, PartialEq, Eq, Debug)]
+#[derive(Clone, Copy, PartialEq, Eq)]
 pub struct CodeWord {
     pub run: u16,
     pub bits: u16,
@@ -36,7 +36,7 @@ impl CodeWord {
 /// A white word with a black one after it, both of runs that are short and not empty: how many bits both
 /// words have, and the lengths of the runs, in elements. It is loaded as four octets, and its bits stand in
 /// the lowest, since the next look-up waits for them.
-#[derive(Clone, Copy, PartialEq, Eq, Debug)]
+#[derive(Clone, Copy, PartialEq, Eq)]
 pub struct WordPair {
     pub bits: u8,
     pub white: u8,

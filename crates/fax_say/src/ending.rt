@@ -6,7 +6,7 @@ use crate::last::Last;
 use fax_command::Status;
 
 /// How it ended that a word was said.
-#[derive(Clone, Copy, PartialEq, Eq, Debug)]
+#[derive(Clone, Copy, PartialEq, Eq)]
 pub enum Ending {
     /// It was answered.
     Answered(Last),

@@ -6,7 +6,7 @@ ghost use Rattle.fax_say.specs.Answers.{is_done, said_by, said_by_heard};
 use fax_control::HeardLine;
 
 /// What the last line of an answer says.
-#[derive(Clone, Copy, PartialEq, Eq, Debug)]
+#[derive(Clone, Copy, PartialEq, Eq)]
 pub enum Last {
     /// `ok`, `ok ..`, or `# EOF` after counts.
     Done,

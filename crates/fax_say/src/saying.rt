@@ -7,7 +7,6 @@ use fax_control::MOST_OCTETS;
 use std::marker::Model;
 
 /// A control word as it is said: one line of at most 256 octets, its line feed aside.
-#[derive(Debug)]
 pub struct Saying {
     text: String,
 }
@@ -19,7 +18,7 @@ impl Drop for Saying {
 }
 
 /// Why a text cannot be said.
-#[derive(Clone, Copy, PartialEq, Eq, Debug)]
+#[derive(Clone, Copy, PartialEq, Eq)]
 pub enum Unsayable {
     /// A line feed stands in it.
     LineFeed,

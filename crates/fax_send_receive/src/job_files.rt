@@ -25,7 +25,7 @@ use std::alloc::Global;
 const MOST_PAGES: u32 = 999;
 
 /// How pages in files are read.
-#[derive(Clone, Copy, Debug)]
+#[derive(Clone, Copy)]
 pub(crate) struct Reading {
     /// The width and the resolution of pages in hex text. Of a picture the resolution alone is taken, of a TIFF neither.
     pub format: Format,

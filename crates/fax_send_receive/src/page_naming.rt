@@ -3,7 +3,7 @@ ghost use Rattle.std.specs.Prelude.{◌≡◌};
 ghost use Rattle.fax_send_receive.specs.Naming.{ending_of};
 
 /// What stands in the file of a page.
-#[derive(Clone, Copy, Debug)]
+#[derive(Clone, Copy)]
 pub enum PageForm {
     /// A P4 picture (netpbm, pbm(5)).
     Picture,
@@ -24,7 +24,7 @@ impl PageForm {
 }
 
 /// How the files of pages are named, and what stands in them.
-#[derive(Clone, Copy, Debug)]
+#[derive(Clone, Copy)]
 pub struct PageNaming<'a> {
     /// How the names begin. That of page 2 of call 0 goes on with `-0-2.pbm`, or with `-0-2.tif`.
     pub prefix: &'a str,

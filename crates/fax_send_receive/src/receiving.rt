@@ -22,7 +22,7 @@ use std::net::Net;
 use std::rt::{Clock, Files};
 
 /// What is received, and where.
-#[derive(Clone, Copy, Debug)]
+#[derive(Clone, Copy)]
 pub struct ReceiveOptions<'a> {
     /// The address at which calls are answered.
     pub on: &'a str,

@@ -11,7 +11,7 @@ use std::alloc::AllocError;
 use std::{fmt, io};
 
 /// Why a terminal does not run to its end. Texts are those of the command line.
-#[derive(Debug, Drop)]
+#[derive(Drop)]
 pub enum RunFault<'a> {
     NoMemory,
     /// The file of this name cannot be opened.

@@ -22,7 +22,7 @@ use std::net::{Net, SocketAddr, UdpSocket};
 use std::rt::{Clock, Files};
 
 /// What is sent, and where to.
-#[derive(Clone, Copy, Debug)]
+#[derive(Clone, Copy)]
 pub struct SendOptions<'a> {
     /// The address of the machine that is called.
     pub to: &'a str,

@@ -187,7 +187,7 @@ impl LegWire for UdpLeg<'_> {
 }
 
 /// Who calls, and how many octets the first datagram of the call has.
-#[derive(Clone, Copy, PartialEq, Eq, Debug)]
+#[derive(Clone, Copy, PartialEq, Eq)]
 pub(crate) struct Call {
     pub peer: SocketAddr,
     pub octets: usize,

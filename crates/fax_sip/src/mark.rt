@@ -4,7 +4,7 @@ ghost use Rattle.std.specs.Char.{is_ascii_whitespace};
 ghost use Rattle.fax_sip.specs.Texts.{after, first_is, goes_on as carries_on, is_outside, stands, width};
 
 /// What a text is cut at.
-#[derive(Clone, Copy, PartialEq, Eq, Debug)]
+#[derive(Clone, Copy, PartialEq, Eq)]
 pub enum Mark {
     /// This octet.
     Octet(u8),
@@ -19,7 +19,7 @@ pub enum Mark {
 }
 
 /// Where an octet stands.
-#[derive(Clone, Copy, PartialEq, Eq, Debug)]
+#[derive(Clone, Copy, PartialEq, Eq)]
 pub(crate) enum Quoting {
     /// Outside of quoted strings and of angle brackets.
     Outside,

@@ -16,7 +16,7 @@ pub enum Start<'a> {
 }
 
 /// What a request asks.
-#[derive(Clone, Copy, PartialEq, Eq, Debug)]
+#[derive(Clone, Copy, PartialEq, Eq)]
 pub enum Method {
     /// `INVITE`.
     Invite,

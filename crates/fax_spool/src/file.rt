@@ -164,7 +164,6 @@ impl<D: Disk> RecordFile<D> {
 }
 
 /// What a file was found to hold.
-#[derive(Drop)]
 pub struct FileContents {
     /// Its records, in the order in which they were put.
     pub items: Vec<Vec<u8>>,
@@ -174,6 +173,17 @@ pub struct FileContents {
     pub passed_over: usize,
     /// Whether an open gate stands there, and no record can be read: a header is destroyed.
     pub is_destroyed: bool,
+}
+
+impl Drop for FileContents {
+    fn drop(self) {
+        let FileContents {
+            items: _items,
+            end: _end,
+            passed_over: _passed_over,
+            is_destroyed: _is_destroyed,
+        } = self;
+    }
 }
 
 /// The value that two of three copies of an octet have.

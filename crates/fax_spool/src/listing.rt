@@ -12,7 +12,7 @@ use crate::{CallName, FileContents, SpoolRecord, WaitingPage, first_epoch, read_
 use std::alloc::{AllocError, Global};
 
 /// What is harmed of a file.
-#[derive(Clone, Copy, PartialEq, Eq, Debug)]
+#[derive(Clone, Copy, PartialEq, Eq)]
 pub struct Harm {
     /// How many of its records are damaged.
     pub damaged: usize,

@@ -7,12 +7,22 @@ use std::alloc::{AllocError, Global};
 use std::marker::Model;
 
 /// Which page of all a page is: in which life and call of which line it came, and as which page of the call.
-#[derive(Drop)]
 pub(crate) struct PageName {
     life: u32,
     call: u32,
     number: u32,
     line: Vec<u8>,
+}
+
+impl Drop for PageName {
+    fn drop(self) {
+        let PageName {
+            life: _life,
+            call: _call,
+            number: _number,
+            line: _line,
+        } = self;
+    }
 }
 
 impl Model for PageName {

@@ -27,10 +27,18 @@ const END_FORMAT: Format = Format {
 };
 
 /// A page that waits: which it is, and where its record is.
-#[derive(Drop)]
 pub(crate) struct StoredPage {
     pub(crate) name: PageName,
     pub(crate) source: RecordSource,
+}
+
+impl Drop for StoredPage {
+    fn drop(self) {
+        let StoredPage {
+            name: _name,
+            source: _source,
+        } = self;
+    }
 }
 
 /// Where the record of a page is.
@@ -85,10 +93,18 @@ fn source_of_copy(
 }
 
 /// The records of pages, sealed, and the pages as they are known after that.
-#[derive(Drop)]
 pub(crate) struct SealedPages {
     pub(crate) items: Vec<Vec<u8>>,
     pub(crate) kept: Vec<StoredPage>,
+}
+
+impl Drop for SealedPages {
+    fn drop(self) {
+        let SealedPages {
+            items: _items,
+            kept: _kept,
+        } = self;
+    }
 }
 
 /// The records of pages, sealed, and the pages as they are known where these records are put at the end of a file. It refuses a page whose

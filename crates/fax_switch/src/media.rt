@@ -11,7 +11,7 @@ pub struct FaxEnd {
 }
 
 /// How audio is coded.
-#[derive(Clone, Copy, PartialEq, Eq, Debug)]
+#[derive(Clone, Copy, PartialEq, Eq)]
 pub enum Coding {
     /// PCMU.
     MuLaw,
@@ -42,7 +42,7 @@ pub enum Description {
 }
 
 /// What a message of ours describes.
-#[derive(Clone, Copy, PartialEq, Eq, Debug)]
+#[derive(Clone, Copy, PartialEq, Eq)]
 pub enum Offer {
     /// T.38 at the address of the leg.
     Fax,
@@ -51,7 +51,7 @@ pub enum Offer {
 }
 
 /// What both ends have agreed on.
-#[derive(Clone, Copy, PartialEq, Eq, Debug)]
+#[derive(Clone, Copy, PartialEq, Eq)]
 pub enum Media {
     /// Audio, or nothing so far.
     AudioOnly,

@@ -24,7 +24,7 @@ impl Leg {
 }
 
 /// A call of a line, as its events name it.
-#[derive(Clone, Copy, PartialEq, Eq, Debug)]
+#[derive(Clone, Copy, PartialEq, Eq)]
 pub struct LineCall {
     /// The line.
     pub line: u32,
@@ -57,7 +57,7 @@ impl LineCall {
 }
 
 /// A call on a leg of a line.
-#[derive(Clone, Copy, PartialEq, Eq, Debug)]
+#[derive(Clone, Copy, PartialEq, Eq)]
 pub struct Place {
     /// The leg.
     pub leg: Leg,

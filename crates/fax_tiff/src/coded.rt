@@ -11,13 +11,22 @@ use std::marker::Model;
 const RETURN_OCTETS: usize = 9;
 
 /// A page with its lines coded in one dimension (ITU-T T.4, 4.1), as a strip of a TIFF has them (RFC 2306).
-#[derive(Drop)]
 pub struct CodedPage {
     pub(crate) format: Format,
     /// How many rows it has.
     pub(crate) height: u32,
     /// An EOL before each line, and none after the last; an even number of octets.
     pub(crate) strip: Vec<u8>,
+}
+
+impl Drop for CodedPage {
+    fn drop(self) {
+        let CodedPage {
+            format: _format,
+            height: _height,
+            strip: _strip,
+        } = self;
+    }
 }
 
 impl Model for CodedPage {

@@ -6,14 +6,14 @@ ghost use Rattle.fax_tiff.specs.WrittenTiffs.{field, field_octets, value_octets}
 use fax_bits::NoMemory;
 
 /// A field: what it says of a page, and the value.
-#[derive(Clone, Copy, PartialEq, Eq, Debug)]
+#[derive(Clone, Copy, PartialEq, Eq)]
 pub(crate) struct Field {
     pub tag: u16,
     pub value: FieldValue,
 }
 
 /// The value of a field.
-#[derive(Clone, Copy, PartialEq, Eq, Debug)]
+#[derive(Clone, Copy, PartialEq, Eq)]
 pub(crate) enum FieldValue {
     /// A number of 16 bits.
     Short(u16),

@@ -6,7 +6,7 @@ ghost use Rattle.fax_tiff.specs.Directories as spec;
 use crate::fault::TiffFault;
 
 /// The order of the octets of a number.
-#[derive(Clone, Copy, PartialEq, Eq, Debug)]
+#[derive(Clone, Copy, PartialEq, Eq)]
 pub(crate) enum ByteOrder {
     /// The most significant octet first.
     Big,

@@ -15,7 +15,6 @@ use std::alloc::Global;
 use std::marker::Model;
 
 /// A page before its text is read.
-#[derive(Drop)]
 pub(crate) struct PageText {
     pub format: Format,
     pub coding: Coding,
@@ -23,6 +22,17 @@ pub(crate) struct PageText {
     pub height: u32,
     /// A text of ITU-T T.4, with a return to control.
     pub text: Vec<u8>,
+}
+
+impl Drop for PageText {
+    fn drop(self) {
+        let PageText {
+            format: _format,
+            coding: _coding,
+            height: _height,
+            text: _text,
+        } = self;
+    }
 }
 
 impl Model for PageText {

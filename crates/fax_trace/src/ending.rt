@@ -2,7 +2,7 @@
 use fax_command::Status;
 
 /// How a run of a script ended.
-#[derive(Clone, Copy, PartialEq, Eq, Debug)]
+#[derive(Clone, Copy, PartialEq, Eq)]
 pub struct Ending {
     /// The exit status.
     pub status: Status,

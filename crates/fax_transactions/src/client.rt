@@ -1,7 +1,7 @@
 //! What happens in a client transaction, and what is to be done.
 
 /// What happens in a client transaction.
-#[derive(Clone, Copy, PartialEq, Eq, Debug)]
+#[derive(Clone, Copy, PartialEq, Eq)]
 pub enum ClientEvent {
     /// Time passed.
     TimePassed,
@@ -14,7 +14,7 @@ pub enum ClientEvent {
 }
 
 /// What is to be done in a client transaction.
-#[derive(Clone, Copy, PartialEq, Eq, Debug)]
+#[derive(Clone, Copy, PartialEq, Eq)]
 pub enum ClientAction {
     /// Nothing.
     Nothing,

@@ -6,7 +6,7 @@ use crate::client::{ClientAction, ClientEvent};
 use crate::spans::{T1_MS, TIMEOUT_MS, doubled, later};
 
 /// The client transaction of an INVITE: the states of figure 5 of RFC 3261.
-#[derive(Clone, Copy, PartialEq, Eq, Debug)]
+#[derive(Clone, Copy, PartialEq, Eq)]
 pub enum ClientInvite {
     /// The INVITE was sent, and no answer came. Timer A is due at `again`, Timer B at `until`; a final answer is waited for until
     /// `limit` once a provisional one came.

@@ -6,7 +6,7 @@ use crate::client::{ClientAction, ClientEvent};
 use crate::spans::{T1_MS, T2_MS, T4_MS, TIMEOUT_MS, later, longer};
 
 /// The client transaction of a request that is neither an INVITE nor an ACK: the states of figure 6 of RFC 3261.
-#[derive(Clone, Copy, PartialEq, Eq, Debug)]
+#[derive(Clone, Copy, PartialEq, Eq)]
 pub enum ClientRequest {
     /// The request was sent, and no answer came. Timer E is due at `again`, Timer F at `until`.
     Trying { again: u64, pause: u64, until: u64 },

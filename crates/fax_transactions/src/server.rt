@@ -1,7 +1,7 @@
 //! What happens in a server transaction, and what is to be done.
 
 /// What happens in a server transaction.
-#[derive(Clone, Copy, PartialEq, Eq, Debug)]
+#[derive(Clone, Copy, PartialEq, Eq)]
 pub enum ServerEvent {
     /// Time passed.
     TimePassed,
@@ -16,7 +16,7 @@ pub enum ServerEvent {
 }
 
 /// What is to be done in a server transaction.
-#[derive(Clone, Copy, PartialEq, Eq, Debug)]
+#[derive(Clone, Copy, PartialEq, Eq)]
 pub enum ServerAction {
     /// Nothing.
     Nothing,

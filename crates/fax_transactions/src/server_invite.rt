@@ -6,7 +6,7 @@ use crate::server::{ServerAction, ServerEvent};
 use crate::spans::{T1_MS, T4_MS, TIMEOUT_MS, later, longer};
 
 /// The server transaction of an INVITE: the states of figure 7 of RFC 3261.
-#[derive(Clone, Copy, PartialEq, Eq, Debug)]
+#[derive(Clone, Copy, PartialEq, Eq)]
 pub enum ServerInvite {
     /// A provisional answer was sent, and a final one is waited for until this moment.
     Proceeding { until: u64 },

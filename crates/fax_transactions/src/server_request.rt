@@ -6,7 +6,7 @@ use crate::server::{ServerAction, ServerEvent};
 use crate::spans::{TIMEOUT_MS, later};
 
 /// The server transaction of a request that is neither an INVITE nor an ACK: the states of figure 8 of RFC 3261.
-#[derive(Clone, Copy, PartialEq, Eq, Debug)]
+#[derive(Clone, Copy, PartialEq, Eq)]
 pub enum ServerRequest {
     /// Nothing was answered; a final answer is waited for until this moment.
     Trying { until: u64 },

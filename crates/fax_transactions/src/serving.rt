@@ -9,7 +9,7 @@ use std::alloc::Global;
 use std::marker::Model;
 
 /// A server transaction, of either kind.
-#[derive(Clone, Copy, PartialEq, Eq, Debug)]
+#[derive(Clone, Copy, PartialEq, Eq)]
 pub enum Server {
     /// Of an INVITE.
     Invite(ServerInvite),
@@ -36,10 +36,18 @@ impl Server {
 }
 
 /// A server transaction, and the octets of the answer that it sent last.
-#[derive(Drop)]
 pub struct Serving {
     server: Server,
     answer: Vec<u8>,
+}
+
+impl Drop for Serving {
+    fn drop(self) {
+        let Serving {
+            server: _server,
+            answer: _answer,
+        } = self;
+    }
 }
 
 impl Model for Serving {

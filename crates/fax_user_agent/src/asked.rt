@@ -39,10 +39,18 @@ pub(crate) struct Incoming<'a> {
 }
 
 /// What an INVITE that calls asks for, where it may be taken.
-#[derive(Drop)]
 struct Wanted {
     number: Number,
     route: usize,
+}
+
+impl Drop for Wanted {
+    fn drop(self) {
+        let Wanted {
+            number: _number,
+            route: _route,
+        } = self;
+    }
 }
 
 /// Whether a request is one within a dialog: its `To` has a tag.

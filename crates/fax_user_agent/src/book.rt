@@ -7,12 +7,21 @@ use fax_switch::{Entry, LineAction, SipAction, Stage};
 use std::alloc::AllocError;
 
 /// All calls.
-#[derive(Drop)]
 pub(crate) struct Book {
     pub calls: Vec<CallState>,
     /// The call that the event begins which is told next.
     pub opening: Option<CallState>,
     pub desk: Desk,
+}
+
+impl Drop for Book {
+    fn drop(self) {
+        let Book {
+            calls: _calls,
+            opening: _opening,
+            desk: _desk,
+        } = self;
+    }
 }
 
 /// Whether nothing is to be done for a call.

@@ -7,7 +7,6 @@ use fax_switch::Offer;
 use std::net::{IpAddr, Ipv4Addr, SocketAddr};
 
 /// A request that waits for an answer.
-#[derive(Drop)]
 pub(crate) struct Asked {
     /// The number of its server transaction.
     pub server: u64,
@@ -17,8 +16,17 @@ pub(crate) struct Asked {
     pub to: SocketAddr,
 }
 
+impl Drop for Asked {
+    fn drop(self) {
+        let Asked {
+            server: _server,
+            octets: _octets,
+            to: _to,
+        } = self;
+    }
+}
+
 /// Something that may have to be sent again.
-#[derive(Drop)]
 pub(crate) struct Kept {
     /// The number of the INVITE that it is about.
     pub number: u32,
@@ -26,6 +34,17 @@ pub(crate) struct Kept {
     pub branch: Vec<u8>,
     pub to: SocketAddr,
     pub octets: Vec<u8>,
+}
+
+impl Drop for Kept {
+    fn drop(self) {
+        let Kept {
+            number: _number,
+            branch: _branch,
+            to: _to,
+            octets: _octets,
+        } = self;
+    }
 }
 
 /// How our INVITE that is under way stands.
@@ -44,7 +63,6 @@ pub(crate) struct Inviting {
 }
 
 /// A call: what is kept of it beside what the switch knows.
-#[derive(Drop)]
 pub(crate) struct CallState {
     pub id: u64,
     pub trunk: usize,
@@ -78,6 +96,34 @@ pub(crate) struct CallState {
     pub is_answered: bool,
     /// The status with which it was refused; 0 while it was not.
     pub refused: u16,
+}
+
+impl Drop for CallState {
+    fn drop(self) {
+        let CallState {
+            id: _id,
+            trunk: _trunk,
+            direction: _direction,
+            number: _number,
+            dialled: _dialled,
+            has_place: _has_place,
+            leg: _leg,
+            call_id: _call_id,
+            tag: _tag,
+            dialog: _dialog,
+            theirs: _theirs,
+            accepted: _accepted,
+            inviting: _inviting,
+            ack: _ack,
+            timer: _timer,
+            interval: _interval,
+            version: _version,
+            ring_until: _ring_until,
+            rang: _rang,
+            is_answered: _is_answered,
+            refused: _refused,
+        } = self;
+    }
 }
 
 impl CallState {

@@ -27,7 +27,6 @@ pub(crate) enum Machine {
 }
 
 /// A client transaction and its request.
-#[derive(Drop)]
 pub(crate) struct Client {
     pub purpose: Purpose,
     pub machine: Machine,
@@ -39,6 +38,20 @@ pub(crate) struct Client {
     pub ack: Vec<u8>,
     /// Whether a CANCEL is to be sent as soon as it may.
     pub is_to_cancel: bool,
+}
+
+impl Drop for Client {
+    fn drop(self) {
+        let Client {
+            purpose: _purpose,
+            machine: _machine,
+            branch: _branch,
+            to: _to,
+            octets: _octets,
+            ack: _ack,
+            is_to_cancel: _is_to_cancel,
+        } = self;
+    }
 }
 
 impl Purpose {

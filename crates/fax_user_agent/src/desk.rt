@@ -20,7 +20,6 @@ pub(crate) const MOST_TRANSACTIONS: usize = 4_096;
 pub(crate) const ANSWER_MS: u64 = 64_000;
 
 /// What all calls share.
-#[derive(Drop)]
 pub(crate) struct Desk {
     pub alloc: Global,
     pub now: u64,
@@ -34,6 +33,23 @@ pub(crate) struct Desk {
     pub next_server: u64,
     /// Whether calls are taken.
     pub is_open: bool,
+}
+
+impl Drop for Desk {
+    fn drop(self) {
+        let Desk {
+            alloc: _alloc,
+            now: _now,
+            random: _random,
+            made: _made,
+            counts: _counts,
+            clients: _clients,
+            servers: _servers,
+            lanes: _lanes,
+            next_server: _next_server,
+            is_open: _is_open,
+        } = self;
+    }
 }
 
 /// Octets that were written; none where a text may not stand in them.

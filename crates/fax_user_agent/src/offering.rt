@@ -22,10 +22,18 @@ use std::str;
 pub(crate) const ALLOW: &[u8] = b"INVITE, ACK, CANCEL, BYE, OPTIONS";
 
 /// A header line and its value, where there is one.
-#[derive(Drop)]
 pub(crate) struct Credential {
     pub name: Name,
     pub value: Vec<u8>,
+}
+
+impl Drop for Credential {
+    fn drop(self) {
+        let Credential {
+            name: _name,
+            value: _value,
+        } = self;
+    }
 }
 
 /// The lines of an INVITE of ours.

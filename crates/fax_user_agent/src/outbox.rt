@@ -7,10 +7,18 @@ use std::alloc::{AllocError, Global};
 use std::net::SocketAddr;
 
 /// What is to come out, in its order.
-#[derive(Drop)]
 pub(crate) struct Outbox {
     pub datagrams: Vec<Datagram>,
     pub told: Vec<Told>,
+}
+
+impl Drop for Outbox {
+    fn drop(self) {
+        let Outbox {
+            datagrams: _datagrams,
+            told: _told,
+        } = self;
+    }
 }
 
 impl Outbox {

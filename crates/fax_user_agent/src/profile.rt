@@ -9,7 +9,6 @@ use std::alloc::{AllocError, Global};
 use std::net::SocketAddr;
 
 /// What a user agent is, as long as it runs.
-#[derive(Drop)]
 pub(crate) struct Profile {
     pub alloc: Global,
     pub audio: SocketAddr,
@@ -20,6 +19,20 @@ pub(crate) struct Profile {
     pub sent_by: String,
     /// Our `Contact` in calls.
     pub contact: String,
+}
+
+impl Drop for Profile {
+    fn drop(self) {
+        let Profile {
+            alloc: _alloc,
+            audio: _audio,
+            ring_ms: _ring_ms,
+            trunks: _trunks,
+            routes: _routes,
+            sent_by: _sent_by,
+            contact: _contact,
+        } = self;
+    }
 }
 
 /// Whether two hosts are one.

@@ -4,9 +4,16 @@ use rand_chacha::ChaCha20Rng;
 use rand_core::{Rng, SeedableRng};
 
 /// Random octets, of a seed.
-#[derive(Drop)]
 pub(crate) struct Random {
     generator: ChaCha20Rng,
+}
+
+impl Drop for Random {
+    fn drop(self) {
+        let Random {
+            generator: _generator,
+        } = self;
+    }
 }
 
 impl Random {

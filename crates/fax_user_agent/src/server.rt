@@ -5,7 +5,6 @@ use std::alloc::{AllocError, Global};
 use std::net::SocketAddr;
 
 /// A server transaction.
-#[derive(Drop)]
 pub(crate) struct Server {
     /// Its number: no other has it.
     pub name: u64,
@@ -15,6 +14,19 @@ pub(crate) struct Server {
     pub serving: Serving,
     /// Where its answers go.
     pub to: SocketAddr,
+}
+
+impl Drop for Server {
+    fn drop(self) {
+        let Server {
+            name: _name,
+            branch: _branch,
+            sent_by: _sent_by,
+            method: _method,
+            serving: _serving,
+            to: _to,
+        } = self;
+    }
 }
 
 impl Server {

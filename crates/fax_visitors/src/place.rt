@@ -10,9 +10,14 @@ use std::alloc::Global;
 use std::marker::Model;
 
 /// A place for a visitor: one is there, or none.
-#[derive(Drop)]
 pub(crate) struct Place {
     visitor: Option<Visitor>,
+}
+
+impl Drop for Place {
+    fn drop(self) {
+        let Place { visitor: _visitor } = self;
+    }
 }
 
 /// Contracts see the connection of who is there.

@@ -18,7 +18,6 @@ const MOST_MS: u64 = 5_000;
 const ROOM: usize = 1_024;
 
 /// A connection, over its stream, which does not wait.
-#[derive(Drop)]
 pub(crate) struct Visitor {
     stream: TcpStream,
     connection: Connection,
@@ -31,6 +30,20 @@ pub(crate) struct Visitor {
     is_shut: bool,
     /// Whether it failed.
     is_gone: bool,
+}
+
+impl Drop for Visitor {
+    fn drop(self) {
+        let Visitor {
+            stream: _stream,
+            connection: _connection,
+            since: _since,
+            last: _last,
+            has_ended: _has_ended,
+            is_shut: _is_shut,
+            is_gone: _is_gone,
+        } = self;
+    }
 }
 
 /// Contracts see its connection.

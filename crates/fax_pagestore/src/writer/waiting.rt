@@ -10,12 +10,21 @@ use std::marker::Model;
 use std::mem;
 
 /// Bits in order. Those in front that were given are kept until more bits are written.
-#[derive(Drop)]
 pub(super) struct Waiting {
     octets: Vec<u8>,
     /// How many of the octets were given, and how many bits the others hold.
     given: usize,
     bits: u128,
+}
+
+impl Drop for Waiting {
+    fn drop(self) {
+        let Waiting {
+            octets: _octets,
+            given: _given,
+            bits: _bits,
+        } = self;
+    }
 }
 
 impl Model for Waiting {

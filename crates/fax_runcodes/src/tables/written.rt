@@ -9,7 +9,7 @@ use crate::Colour;
 
 /// A code word as it is written: its bits are the low ones of a number, the first of them the most
 /// significant.
-#[derive(Clone, Copy, PartialEq, Eq, Debug)]
+#[derive(Clone, Copy, PartialEq, Eq)]
 pub(crate) struct WrittenWord {
     pub word: u32,
     pub bits: u32,

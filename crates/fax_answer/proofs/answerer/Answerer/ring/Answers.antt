@@ -10,7 +10,7 @@ pub returns-clause-rung : goal.returns-clause-rung
 returns-clause-rung g c heard core r =
     let f : Follows core r.stands.confirmed c.self.inside.procedure = subst (λ (k : Rep). Follows core r.stands.confirmed k.procedure) (sym c.self.view_is) r.stands.follows in
     record {
-      tracked = c.new-self-inside.ensures;
-      stands = stands_new _ _ (λ dcs e. cc) refl c.new.ensures (c.ring.ensures core r.stands.confirmed f) (reason_rung core c.args.now None);
-      settled = ap (λ (i : ImageValue). i.accepted) c.new.ensures;
+      tracked = c.new.ensures;
+      stands = stands_new _ _ (λ dcs e. cc) refl c.new-2.ensures (c.ring.ensures core r.stands.confirmed f) (reason_rung core c.args.now None);
+      settled = ap (λ (i : ImageValue). i.accepted) c.new-2.ensures;
     }
