@@ -361,6 +361,7 @@ impl SipService {
     /// What is to be told next.
     pub fn next_told(&mut self) -> Option<Told>
         ensures first { self.old.news ≡ option_to_list result ++ self.new.news }
+        ensures none { IfNone result (self.old.news ≡ []) }
         ensures rest { self.new ≡ record self.old { news = self.new.news } }
     {
         self.news.pop_front()
@@ -369,6 +370,7 @@ impl SipService {
     /// What is to be said next.
     pub fn next_said(&mut self) -> Option<Said>
         ensures first { self.old.to_say ≡ option_to_list result ++ self.new.to_say }
+        ensures none { IfNone result (self.old.to_say ≡ []) }
         ensures rest { self.new ≡ record self.old { to_say = self.new.to_say } }
     {
         self.to_say.pop_front()
