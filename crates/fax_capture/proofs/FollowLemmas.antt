@@ -1,6 +1,6 @@
 -- One record more, and the records of two runs, told.
 use Rattle.std.proofs.Common.{List, [], ◌∷◌, ◌++◌, Option, refl, subst}
-use Rattle.fax_pcap.specs.Captures.{TimedPacket}
+use Rattle.fax_capture.specs.pcap.Captures.{TimedPacket}
 use Rattle.fax_capture.specs.declared.options.CaptureOptions.{CaptureOptions}
 use Rattle.fax_capture.specs.Scripts.{ScriptSoFar, TellsAll, TellsFound}
 

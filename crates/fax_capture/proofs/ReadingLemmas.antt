@@ -2,11 +2,11 @@
 use Rattle.std.proofs.Common.{◌≡◌, ◌≢◌, inl, inr, ℕ, ◌≤◌, ◌^◌, List, [], ◌∷◌, ◌++◌, Option, None, Some, Result, Ok, Err, IfOk, IfErr, OnOk, refl, sym, subst}
 use Rattle.fax_command.proofs.TellLemmas.{text_of_lines-append}
 use Rattle.fax_command.specs.RowLines.{text_of_lines}
-use Rattle.fax_pcap.specs.declared.fault.CaptureFault.{CaptureFault}
-use Rattle.fax_pcap.specs.declared.fault.CaptureFault.TheVariants as capture
-use Rattle.fax_pcap.specs.Captures.{TimedPacket, HeadValue, FailsAs, Follow, ReadsAs, fault_of_end, head_record, read_of, record_at, record_of_kind, untold_head}
-use Rattle.fax_pcap.specs.Fields.{front_of}
-use Rattle.fax_pcap.proofs.PieceLemmas.{Follow-append, Follow-more, Follow-push, ReadsAs-more, refused-more}
+use Rattle.fax_capture.specs.declared.pcap.fault.CaptureFault.{CaptureFault}
+use Rattle.fax_capture.specs.declared.pcap.fault.CaptureFault.TheVariants as capture
+use Rattle.fax_capture.specs.pcap.Captures.{TimedPacket, HeadValue, FailsAs, Follow, ReadsAs, fault_of_end, head_record, read_of, record_at, record_of_kind, untold_head}
+use Rattle.fax_capture.specs.pcap.Fields.{front_of}
+use Rattle.fax_capture.proofs.pcap.PieceLemmas.{Follow-append, Follow-more, Follow-push, ReadsAs-more, refused-more}
 use Rattle.fax_capture.specs.declared.options.CaptureOptions.{CaptureOptions}
 use Rattle.fax_capture.specs.declared.script.Script.{Script}
 use Rattle.fax_capture.specs.declared.script_fault.ScriptFault.{ScriptFault}

@@ -1,6 +1,6 @@
 -- Texts that stop to grow.
 use Rattle.std.proofs.Common.{◌≡◌, ℕ, List, ◌++◌, length-append, arith, subst}
-use Rattle.fax_pcap.specs.declared.fault.CaptureFault.TheVariants as capture
+use Rattle.fax_capture.specs.declared.pcap.fault.CaptureFault.TheVariants as capture
 use Rattle.fax_capture.specs.declared.script_fault.ScriptFault.{ScriptFault}
 use Rattle.fax_capture.specs.declared.script_fault.ScriptFault.TheVariants.{Capture, NoAddress, NoCall, TooLong}
 use Rattle.fax_capture.specs.Growing.{Stops}

@@ -1,6 +1,6 @@
 -- ADDRESSES of the two machines, and what a datagram is to them. (This project's profile.)
 use Rattle.std.specs.Prelude.{◌≡◌, ℕ, ◌==◌, ◌&&◌, bytes_eq, Bool, true, false, not, List, Option, Some, None, is_some}
-use Rattle.fax_pcap.specs.Datagrams.{EndpointValue, DatagramValue}
+use Rattle.fax_capture.specs.pcap.Datagrams.{EndpointValue, DatagramValue}
 use Rattle.fax_capture.specs.declared.address.Host.{Host}
 use Rattle.fax_capture.specs.declared.address.Host.TheVariants.{V4, V6}
 use Rattle.fax_capture.specs.declared.address.Address.{Address}

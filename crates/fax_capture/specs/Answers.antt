@@ -1,9 +1,9 @@
 -- What `faxgate capture` answers to an input. (This project's profile.)
 use Rattle.std.specs.Prelude.{◌≡◌, ℕ, ◌<◌, ◌⊎◌, List, length, codes, Option, Some, None, Result, Ok, Err}
 use Rattle.fax_command.specs.RowLines.{text_of_lines}
-use Rattle.fax_pcap.specs.declared.fault.CaptureFault.{CaptureFault}
-use Rattle.fax_pcap.specs.declared.fault.CaptureFault.TheVariants as capture
-use Rattle.fax_pcap.specs.Captures.{TimedPacket, HeadValue, Follow, ReadsAs, fault_of_end, read_of, record_at, untold_head}
+use Rattle.fax_capture.specs.declared.pcap.fault.CaptureFault.{CaptureFault}
+use Rattle.fax_capture.specs.declared.pcap.fault.CaptureFault.TheVariants as capture
+use Rattle.fax_capture.specs.pcap.Captures.{TimedPacket, HeadValue, Follow, ReadsAs, fault_of_end, read_of, record_at, untold_head}
 use Rattle.fax_capture.specs.declared.options.CaptureOptions.{CaptureOptions}
 use Rattle.fax_capture.specs.declared.counts.Counts.{Counts}
 use Rattle.fax_capture.specs.declared.script_fault.ScriptFault.{ScriptFault}

@@ -1,5 +1,5 @@
 -- want of memory
-use Rattle.fax_pcap.specs.declared.fault.CaptureFault.TheVariants.{NoMemory}
+use Rattle.fax_capture.specs.declared.pcap.fault.CaptureFault.TheVariants.{NoMemory}
 use Rattle.fax_capture.specs.declared.script_fault.ScriptFault.{ScriptFault}
 use Rattle.fax_capture.specs.declared.script_fault.ScriptFault.TheVariants.{Capture}
 

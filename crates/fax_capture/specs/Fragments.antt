@@ -2,7 +2,7 @@
 -- both hosts and the identification in common, and each says where its octets go. That they are put together as they come one after
 -- the other in that order, and those of one datagram at a time, is this project's profile.)
 use Rattle.std.specs.Prelude.{ℕ, ◌+◌, ◌==◌, ◌&&◌, not, nat_lt, bytes_eq, Bool, true, false, List, ◌++◌, take, length, Option, Some, None, if◌then◌else◌}
-use Rattle.fax_pcap.specs.Datagrams.{DatagramValue, FragmentValue}
+use Rattle.fax_capture.specs.pcap.Datagrams.{DatagramValue, FragmentValue}
 use Rattle.fax_capture.specs.declared.address.Role.{Role}
 use Rattle.fax_capture.specs.declared.address.Role.TheVariants.{FromCaller, FromCalled, CallerInFragments, CalledInFragments}
 

@@ -11,3 +11,4 @@ pub mod Reading
 pub mod Runs
 pub mod Scripts
 pub mod Signals
+pub mod pcap

@@ -3,7 +3,7 @@
 -- this project's profile.)
 use Rattle.std.specs.Prelude.{ℕ, ◌==◌, ◌&&◌, not, bytes_eq, List, length, option_map, Option, Some, None, if◌then◌else◌}
 use Rattle.fax_udptl.specs.Datagrams.{datagram_of}
-use Rattle.fax_pcap.specs.Datagrams.{EndpointValue, DatagramValue}
+use Rattle.fax_capture.specs.pcap.Datagrams.{EndpointValue, DatagramValue}
 use Rattle.fax_capture.specs.declared.address.Host.{Host}
 use Rattle.fax_capture.specs.declared.address.Host.TheVariants.{V4, V6}
 use Rattle.fax_capture.specs.declared.address.Address.{Address}

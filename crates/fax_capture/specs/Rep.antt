@@ -1,9 +1,9 @@
 -- What a script that grows holds of what was told.
 use Rattle.std.specs.Prelude.{◌≡◌, ℕ, ◌<◌, ◌≤◌, ◌^◌, ◌⊎◌, List, length, Option, None, Some, Err}
 use Rattle.fax_command.specs.RowLines.{text_of_lines}
-use Rattle.fax_pcap.specs.declared.fault.CaptureFault.TheVariants.{Cut, Snapped, NoMemory}
-use Rattle.fax_pcap.specs.declared.found.Found.{Found}
-use Rattle.fax_pcap.specs.Captures.{TimedPacket, HeadValue, Follow, read_of, record_at, untold_head}
+use Rattle.fax_capture.specs.declared.pcap.fault.CaptureFault.TheVariants.{Cut, Snapped, NoMemory}
+use Rattle.fax_capture.specs.declared.pcap.found.Found.{Found}
+use Rattle.fax_capture.specs.pcap.Captures.{TimedPacket, HeadValue, Follow, read_of, record_at, untold_head}
 use Rattle.fax_capture.specs.declared.options.CaptureOptions.{CaptureOptions}
 use Rattle.fax_capture.specs.declared.answer.Answer.{Answer}
 use Rattle.fax_capture.specs.declared.answer.Answer.TheVariants as answers

@@ -1,10 +1,10 @@
 -- SCRIPTS: what a capture's datagrams tell, as `faxgate trace` reads it. (This project's profile.)
 use Rattle.std.specs.Prelude.{◌≡◌, ℕ, Bool, true, false, zero, suc, ◌+◌, ◌-◌, ◌*◌, ◌/◌, max, List, [], ◌∷◌, ◌++◌, codes, decimal, Option, Some, None, if◌then◌else◌}
 use Rattle.hex.specs.Hex.{encode_lower}
-use Rattle.fax_pcap.specs.declared.found.Found.{Found}
-use Rattle.fax_pcap.specs.declared.found.Found.TheVariants.{Datagram, Fragment}
-use Rattle.fax_pcap.specs.Datagrams.{DatagramValue, FragmentValue}
-use Rattle.fax_pcap.specs.Captures.{TimedPacket}
+use Rattle.fax_capture.specs.declared.pcap.found.Found.{Found}
+use Rattle.fax_capture.specs.declared.pcap.found.Found.TheVariants.{Datagram, Fragment}
+use Rattle.fax_capture.specs.pcap.Datagrams.{DatagramValue, FragmentValue}
+use Rattle.fax_capture.specs.pcap.Captures.{TimedPacket}
 use Rattle.fax_capture.specs.declared.options.CaptureOptions.{CaptureOptions}
 use Rattle.fax_capture.specs.declared.address.Role.{Role}
 use Rattle.fax_capture.specs.declared.address.Role.TheVariants.{FromCaller, FromCalled}

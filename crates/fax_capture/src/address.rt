@@ -3,7 +3,7 @@ ghost use Rattle.std.specs.Prelude.{◌≡◌, ◌↔◌, IsTrue, bytes_eq, true
 ghost use Rattle.fax_capture.specs.Addresses.{AreApart, HasPort, IsAt, IsAtKnown, IsRole, ShareAPort, called_of, caller_of, has_port, host_octets, is_at, is_in_fragments, is_passed_over};
 
 use crate::machines::Machines;
-use fax_pcap::{Datagram, Endpoint};
+use crate::pcap::{Datagram, Endpoint};
 
 /// The address of a host.
 #[derive(Clone, Copy, PartialEq, Eq)]

@@ -3,8 +3,8 @@ ghost use Rattle.std.specs.Prelude.{◌≡◌, ◌+◌, not, nat_lt, IfOk, OnOk}
 ghost use Rattle.fax_capture.specs.Fragments.{begun_as, goes_on, grown, whole_of};
 
 use crate::address::Role;
+use crate::pcap::{Datagram, Fragment};
 use fax_bits::NoMemory;
-use fax_pcap::{Datagram, Fragment};
 use std::alloc::Global;
 use std::marker::Model;
 

@@ -8,6 +8,7 @@ mod fragments;
 mod leg;
 mod machines;
 mod options;
+mod pcap;
 mod reading;
 mod reading_fault;
 mod run;

@@ -4,8 +4,8 @@ ghost use Rattle.fax_capture.specs.Addresses.{called_of, caller_of};
 ghost use Rattle.fax_capture.specs.Machines.{address_of, call_of, called_found, caller_found, host_of, machines_by, machines_with};
 
 use crate::address::{Address, Host};
+use crate::pcap::{Datagram, Endpoint};
 use crate::signal::{CED, CNG, is_primary};
-use fax_pcap::{Datagram, Endpoint};
 
 /// The machines of a capture that are known.
 #[derive(Clone, Copy, PartialEq, Eq)]

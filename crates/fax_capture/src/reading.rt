@@ -1,6 +1,6 @@
 //! A capture that is read in pieces, as a source gives them, and told.
 ghost use Rattle.std.specs.Prelude.{ℕ, List, ◌≡◌, ◌≢◌, ◌<◌, ◌≤◌, ◌^◌, ◌++◌, ◌⊎◌, true, Err, IfOk, IfErr, IfSome, OnOk, Ok, vec_len};
-ghost use Rattle.fax_pcap.specs.Captures.{untold_head};
+ghost use Rattle.fax_capture.specs.pcap.Captures.{untold_head};
 ghost use Rattle.fax_command.specs.RowLines.{text_of_lines};
 ghost use Rattle.fax_command.specs.Streams.{greatest_count};
 ghost use Rattle.fax_capture.specs.declared.options.CaptureOptions.{CaptureOptions};
@@ -14,12 +14,12 @@ ghost use Rattle.fax_capture.specs.Scripts.{ScriptSoFar, Tells, TellsFound, Tell
 use crate::address::{Role, role_of};
 use crate::counts::Counts;
 use crate::options::CaptureOptions;
+use crate::pcap::{Capture, CaptureFault, CapturedPacket, Datagram, Found, Fragment};
 use crate::reading_fault::ReadingFault;
 use crate::script::{Made, Script};
 use crate::script_fault::ScriptFault;
 use fax_bits::NoMemory;
 use fax_command::{MOST_AT_ONCE, ReadFault, Source};
-use fax_pcap::{Capture, CaptureFault, CapturedPacket, Datagram, Found, Fragment};
 use std::alloc::{AllocError, Global};
 
 /// The script of the capture that a source gives, for these options, or why there is none.

@@ -14,10 +14,10 @@ use crate::counts::Counts;
 use crate::fragments::{Unfinished, Whole, begun};
 use crate::leg::{CallingLeg, is_asked, number_of};
 use crate::machines::Machines;
+use crate::pcap::{Datagram, Fragment};
 use crate::script_fault::ScriptFault;
 use fax_bits::NoMemory;
 use fax_command::MOST_OCTETS;
-use fax_pcap::{Datagram, Fragment};
 use itoa::Buffer;
 use std::alloc::Global;
 

@@ -4,9 +4,9 @@ ghost use Rattle.fax_command.specs.Statuses.{status_code};
 ghost use Rattle.fax_capture.specs.Answers.{capture_fault_line, fault_counts, fault_line, fault_status};
 
 use crate::counts::Counts;
+use crate::pcap::CaptureFault;
 use fax_bits::NoMemory;
 use fax_command::{MEMORY_LINE, Status};
-use fax_pcap::CaptureFault;
 
 /// Why a capture gives no script.
 #[derive(Clone, Copy, PartialEq, Eq)]

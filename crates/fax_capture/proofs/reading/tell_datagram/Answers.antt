@@ -1,8 +1,8 @@
 use Rattle.std.proofs.Common.{◌≡◌, inr, ℕ, Bool, false, List, Option, Result, Ok, Err, IfErr, OnOk, refl, sym, ◌∙◌, ap, subst}
 use Rattle.std.proofs.lemmas.Result.{err_from_is_err_and}
 use Rattle.fax_command.specs.RowLines.{text_of_lines}
-use Rattle.fax_pcap.specs.declared.found.Found.TheVariants.{Datagram}
-use Rattle.fax_pcap.specs.Datagrams.{DatagramValue}
+use Rattle.fax_capture.specs.declared.pcap.found.Found.TheVariants.{Datagram}
+use Rattle.fax_capture.specs.pcap.Datagrams.{DatagramValue}
 use Rattle.fax_capture.specs.declared.options.CaptureOptions.{CaptureOptions}
 use Rattle.fax_capture.specs.declared.address.Role.{Role}
 use Rattle.fax_capture.specs.declared.counts.Counts.{Counts}

@@ -1,5 +1,0 @@
-use Rattle.std.proofs.Common.{◌≡◌, ◌≤◌, ◌/◌, ◌^◌}
-use Rattle.fax_pcap.proofs.interface.divided.Given as goal
-
-abbrev pub invariant-loop : goal.invariant-loop
-invariant-loop l = (l.quotient ≡ l.number / (l.base ^ l.counter))
