@@ -107,7 +107,7 @@ impl Capture {
     }
 
     /// What is wrong where the capture ends with these octets, inside a record, or before its head; None after a record.
-    #[tactic(auto, unfolding(crate::pcap::specs::Captures::fault_of_end))]
+    #[tactic(auto, unfolding(crate::specs::pcap::Captures::fault_of_end))]
     pub fn fault_at_end(&self, left: &[u8]) -> Option<CaptureFault>
         ensures { result ≡ fault_of_end self.now.kind left.now }
     {
@@ -125,7 +125,7 @@ impl Capture {
     }
 
     /// Reads the record at the front of octets. `Cut` says that they end inside it.
-    #[tactic(auto, unfolding(crate::pcap::specs::Captures::record_of_kind))]
+    #[tactic(auto, unfolding(crate::specs::pcap::Captures::record_of_kind))]
     fn read_whole<'a>(&mut self, octets: &'a [u8]) -> Result<RecordRead<'a>, CaptureFault>
         ensures ok { IfOk result (λ r. ReadsAs (record_at self.old octets.now) r.found self.new r.after.now) }
         ensures err { IfErr result (λ e. FailsAs (record_at self.old octets.now) e) }
@@ -140,7 +140,7 @@ impl Capture {
     }
 
     /// Reads a packet of a pcap file.
-    #[tactic(auto, unfolding(crate::pcap::specs::Captures::packet_record, crate::pcap::specs::Captures::read_of, crate::pcap::specs::Captures::read_of_record))]
+    #[tactic(auto, unfolding(crate::specs::pcap::Captures::packet_record, crate::specs::pcap::Captures::read_of, crate::specs::pcap::Captures::read_of_record))]
     fn read_packet_of<'a>(
         &mut self,
         file: PcapFile,
@@ -159,7 +159,7 @@ impl Capture {
     }
 
     /// Reads the head of a file.
-    #[tactic(auto, unfolding(crate::pcap::specs::Captures::head_record, crate::pcap::specs::Captures::read_of, crate::pcap::specs::Fields::front_of))]
+    #[tactic(auto, unfolding(crate::specs::pcap::Captures::head_record, crate::specs::pcap::Captures::read_of, crate::specs::pcap::Fields::front_of))]
     fn read_head<'a>(&mut self, octets: &'a [u8]) -> Result<RecordRead<'a>, CaptureFault>
         ensures ok { IfOk result (λ r. ReadsAs (head_record octets.now) r.found self.new r.after.now) }
         ensures err { IfErr result (λ e. FailsAs (head_record octets.now) e) }
@@ -181,7 +181,7 @@ impl Capture {
     }
 
     /// Reads the head of a section of pcapng, in which no interface is described so far.
-    #[tactic(auto, unfolding(crate::pcap::specs::Captures::section_record, crate::pcap::specs::Captures::read_of, crate::pcap::specs::Captures::read_of_record))]
+    #[tactic(auto, unfolding(crate::specs::pcap::Captures::section_record, crate::specs::pcap::Captures::read_of, crate::specs::pcap::Captures::read_of_record))]
     fn begin_section<'a>(&mut self, octets: &'a [u8]) -> Result<RecordRead<'a>, CaptureFault>
         ensures ok { IfOk result (λ r. ReadsAs (section_record octets.now) r.found self.new r.after.now) }
         ensures err { IfErr result (λ e. FailsAs (section_record octets.now) e) }
@@ -196,7 +196,7 @@ impl Capture {
     }
 
     /// Reads the head of a pcap file, whose magic number told its byte order and the unit of fractions of a second.
-    #[tactic(auto, unfolding(crate::pcap::specs::Captures::pcap_record, crate::pcap::specs::Captures::pcap_of, crate::pcap::specs::Captures::read_of, crate::pcap::specs::Captures::read_of_record, crate::pcap::specs::Fields::front_of))]
+    #[tactic(auto, unfolding(crate::specs::pcap::Captures::pcap_record, crate::specs::pcap::Captures::pcap_of, crate::specs::pcap::Captures::read_of, crate::specs::pcap::Captures::read_of_record, crate::specs::pcap::Fields::front_of))]
     fn open_pcap<'a>(
         &mut self,
         order: ByteOrder,
@@ -225,7 +225,7 @@ impl Capture {
     }
 
     /// Reads a record of pcapng: the head of a section, or a block of the section.
-    #[tactic(auto, unfolding(crate::pcap::specs::Captures::pcapng_record, crate::pcap::specs::Captures::read_of, crate::pcap::specs::Fields::front_of))]
+    #[tactic(auto, unfolding(crate::specs::pcap::Captures::pcapng_record, crate::specs::pcap::Captures::read_of, crate::specs::pcap::Fields::front_of))]
     fn read_pcapng<'a>(&mut self, octets: &'a [u8]) -> Result<RecordRead<'a>, CaptureFault>
         ensures ok { IfOk result (λ r. ReadsAs (pcapng_record self.old octets.now) r.found self.new r.after.now) }
         ensures err { IfErr result (λ e. FailsAs (pcapng_record self.old octets.now) e) }
@@ -245,7 +245,7 @@ impl Capture {
     }
 
     /// Takes a block of the section: that of an interface, or one of a packet, or one that is passed over.
-    #[tactic(auto, unfolding(crate::pcap::specs::Captures::block_record, crate::pcap::specs::Captures::read_of_record))]
+    #[tactic(auto, unfolding(crate::specs::pcap::Captures::block_record, crate::specs::pcap::Captures::read_of_record))]
     fn take_block<'a>(
         &mut self,
         block: &Block<'a>,

@@ -12,7 +12,7 @@ pub enum ByteOrder {
 }
 
 /// So many octets, and those after them; this fault where there are fewer.
-#[tactic(auto, unfolding(crate::pcap::specs::Fields::front_of))]
+#[tactic(auto, unfolding(crate::specs::pcap::Fields::front_of))]
 pub(crate) fn split_front<E: Copy + Drop>(
     fault: E,
     count: usize,
@@ -29,7 +29,7 @@ pub(crate) fn split_front<E: Copy + Drop>(
 }
 
 /// The number of 16 bits that stands in octets from a place on.
-#[tactic(auto, unfolding(crate::pcap::specs::Fields::number_16))]
+#[tactic(auto, unfolding(crate::specs::pcap::Fields::number_16))]
 pub(crate) fn read_16(order: ByteOrder, octets: &[u8], place: usize) -> u16
     requires { place + 2 ≤ length octets.now }
     ensures { result ≡ number_16 order octets.now place }
@@ -43,7 +43,7 @@ pub(crate) fn read_16(order: ByteOrder, octets: &[u8], place: usize) -> u16
 }
 
 /// The number of 32 bits that stands in octets from a place on.
-#[tactic(auto, unfolding(crate::pcap::specs::Fields::number_32))]
+#[tactic(auto, unfolding(crate::specs::pcap::Fields::number_32))]
 pub(crate) fn read_32(order: ByteOrder, octets: &[u8], place: usize) -> u32
     requires { place + 4 ≤ length octets.now }
     ensures { result ≡ number_32 order octets.now place }
@@ -57,7 +57,7 @@ pub(crate) fn read_32(order: ByteOrder, octets: &[u8], place: usize) -> u32
 }
 
 /// The number of 64 bits that stands in octets from a place on.
-#[tactic(auto, unfolding(crate::pcap::specs::Fields::number_64))]
+#[tactic(auto, unfolding(crate::specs::pcap::Fields::number_64))]
 pub(crate) fn read_64(order: ByteOrder, octets: &[u8], place: usize) -> u64
     requires { place + 8 ≤ length octets.now }
     ensures { result ≡ number_64 order octets.now place }

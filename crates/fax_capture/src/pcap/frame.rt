@@ -27,7 +27,7 @@ pub(crate) enum FrameFault {
 }
 
 /// The datagram in a packet of this link, or the fragment of one.
-#[tactic(auto, unfolding(crate::pcap::specs::Frames::frame_at))]
+#[tactic(auto, unfolding(crate::specs::pcap::Frames::frame_at))]
 pub(crate) fn read_frame(link: LinkType, octets: &[u8]) -> Result<Found<'_>, FrameFault>
     ensures { Gives (λ f. f) result (frame_at link octets.now) }
 {
@@ -42,7 +42,7 @@ pub(crate) fn read_frame(link: LinkType, octets: &[u8]) -> Result<Found<'_>, Fra
 }
 
 /// The datagram after the header of a loopback interface.
-#[tactic(auto, unfolding(crate::pcap::specs::Frames::loopback_at, crate::pcap::specs::Fields::front_of))]
+#[tactic(auto, unfolding(crate::specs::pcap::Frames::loopback_at, crate::specs::pcap::Fields::front_of))]
 fn read_loopback(octets: &[u8]) -> Result<Found<'_>, FrameFault>
     ensures { Gives (λ f. f) result (loopback_at octets.now) }
 {
@@ -53,7 +53,7 @@ fn read_loopback(octets: &[u8]) -> Result<Found<'_>, FrameFault>
 }
 
 /// The datagram in the octets of a family of addresses.
-#[tactic(auto, unfolding(crate::pcap::specs::Frames::family_at))]
+#[tactic(auto, unfolding(crate::specs::pcap::Frames::family_at))]
 fn read_family(family: u32, octets: &[u8]) -> Result<Found<'_>, FrameFault>
     ensures { Gives (λ f. f) result (family_at family octets.now) }
 {
@@ -65,7 +65,7 @@ fn read_family(family: u32, octets: &[u8]) -> Result<Found<'_>, FrameFault>
 }
 
 /// The datagram after a header of so many octets, in which the type of protocol stands at a place.
-#[tactic(auto, unfolding(crate::pcap::specs::Frames::after_header, crate::pcap::specs::Fields::front_of))]
+#[tactic(auto, unfolding(crate::specs::pcap::Frames::after_header, crate::specs::pcap::Fields::front_of))]
 fn read_after_header(count: usize, place: usize, octets: &[u8]) -> Result<Found<'_>, FrameFault>
     requires { place + 2 ≤ count }
     ensures { Gives (λ f. f) result (after_header count place octets.now) }
@@ -75,7 +75,7 @@ fn read_after_header(count: usize, place: usize, octets: &[u8]) -> Result<Found<
 }
 
 /// The datagram in the octets of a protocol, after two tags at most.
-#[tactic(auto, unfolding(crate::pcap::specs::Frames::protocol_at))]
+#[tactic(auto, unfolding(crate::specs::pcap::Frames::protocol_at))]
 fn read_protocol(protocol: u16, octets: &[u8]) -> Result<Found<'_>, FrameFault>
     ensures { Gives (λ f. f) result (protocol_at protocol octets.now) }
 {
@@ -89,7 +89,7 @@ fn read_protocol(protocol: u16, octets: &[u8]) -> Result<Found<'_>, FrameFault>
 }
 
 /// The type of protocol after a tag, where there is one, and its octets.
-#[tactic(auto, unfolding(crate::pcap::specs::Frames::untagged, crate::pcap::specs::Fields::front_of))]
+#[tactic(auto, unfolding(crate::specs::pcap::Frames::untagged, crate::specs::pcap::Fields::front_of))]
 fn pass_tag(protocol: u16, octets: &[u8]) -> Result<(u16, &[u8]), FrameFault>
     ensures { Gives (λ p. (p.0, p.1.now)) result (untagged protocol octets.now) }
 {

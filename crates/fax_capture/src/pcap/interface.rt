@@ -42,7 +42,7 @@ const OFFSET: u16 = 14;
 const NANOSECONDS_OF_SECOND: u128 = 1_000_000_000;
 
 /// The interface that a body describes.
-#[tactic(auto, unfolding(crate::pcap::specs::Captures::interface_in, crate::pcap::specs::Fields::front_of))]
+#[tactic(auto, unfolding(crate::specs::pcap::Captures::interface_in, crate::specs::pcap::Fields::front_of))]
 pub(crate) fn read_interface(order: ByteOrder, body: &[u8]) -> Result<Interface, CaptureFault>
     ensures { Gives (λ i. i) result (interface_in order body.now) }
 {
@@ -75,7 +75,7 @@ fn read_times(order: ByteOrder, options: &[u8]) -> Result<Times, CaptureFault>
 }
 
 /// What is told of times, once one more option was read.
-#[tactic(auto, unfolding(crate::pcap::specs::Captures::times_with))]
+#[tactic(auto, unfolding(crate::specs::pcap::Captures::times_with))]
 fn read_option_of_times(
     order: ByteOrder,
     option: &InterfaceOption<'_>,
@@ -97,7 +97,7 @@ fn read_option_of_times(
 }
 
 /// The first octet of the value of an option.
-#[tactic(auto, unfolding(crate::pcap::specs::Captures::first_octet, crate::pcap::specs::Fields::front_of))]
+#[tactic(auto, unfolding(crate::specs::pcap::Captures::first_octet, crate::specs::pcap::Fields::front_of))]
 fn read_octet(value: &[u8]) -> Result<u8, CaptureFault>
     ensures { Gives (λ r. r) result (first_octet value.now) }
 {
@@ -106,7 +106,7 @@ fn read_octet(value: &[u8]) -> Result<u8, CaptureFault>
 }
 
 /// The number in the first eight octets of the value of an option.
-#[tactic(auto, unfolding(crate::pcap::specs::Captures::first_eight, crate::pcap::specs::Fields::front_of))]
+#[tactic(auto, unfolding(crate::specs::pcap::Captures::first_eight, crate::specs::pcap::Fields::front_of))]
 fn read_eight(order: ByteOrder, value: &[u8]) -> Result<u64, CaptureFault>
     ensures { Gives (λ r. r) result (first_eight order value.now) }
 {
@@ -123,7 +123,7 @@ struct InterfaceOption<'a> {
 }
 
 /// The first of some options.
-#[tactic(auto, unfolding(crate::pcap::specs::Captures::option_at, crate::pcap::specs::Fields::front_of))]
+#[tactic(auto, unfolding(crate::specs::pcap::Captures::option_at, crate::specs::pcap::Fields::front_of))]
 fn read_option(order: ByteOrder, octets: &[u8]) -> Result<InterfaceOption<'_>, CaptureFault>
     ensures { Gives option_shown result (option_at order octets.now) }
 {
@@ -145,7 +145,7 @@ pub(crate) fn moment(times: Times, count: u64) -> u128
 }
 
 /// A time to which seconds are added, as two's complement, or 1970.
-#[tactic(auto, unfolding(crate::pcap::specs::Captures::moved_by))]
+#[tactic(auto, unfolding(crate::specs::pcap::Captures::moved_by))]
 fn moved(offset: u64, time: u128) -> u128
     requires { time < 2 ^ 100 }
     ensures { result ≡ moved_by offset time }
@@ -159,7 +159,7 @@ fn moved(offset: u64, time: u128) -> u128
 }
 
 /// The nanoseconds of a time in the units of an interface.
-#[tactic(auto, unfolding(crate::pcap::specs::Captures::nanoseconds))]
+#[tactic(auto, unfolding(crate::specs::pcap::Captures::nanoseconds))]
 fn nanoseconds_of(resolution: u8, count: u64) -> u128
     ensures is { result ≡ nanoseconds resolution count }
     ensures small { result < 2 ^ 100 }

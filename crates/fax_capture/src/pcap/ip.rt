@@ -17,7 +17,7 @@ const UDP: u8 = 17;
 const FRAGMENT: u8 = 44;
 
 /// The UDP datagram in a datagram of IP of either version.
-#[tactic(auto, unfolding(crate::pcap::specs::Frames::ip_at, crate::pcap::specs::Fields::front_of))]
+#[tactic(auto, unfolding(crate::specs::pcap::Frames::ip_at, crate::specs::pcap::Fields::front_of))]
 pub(crate) fn read_ip(octets: &[u8]) -> Result<Found<'_>, FrameFault>
     ensures { Gives (λ f. f) result (ip_at octets.now) }
 {
@@ -30,7 +30,7 @@ pub(crate) fn read_ip(octets: &[u8]) -> Result<Found<'_>, FrameFault>
 }
 
 /// The UDP datagram in a datagram of IPv4, or the fragment of one.
-#[tactic(auto, unfolding(crate::pcap::specs::Frames::ip_4_at, crate::pcap::specs::Fields::front_of))]
+#[tactic(auto, unfolding(crate::specs::pcap::Frames::ip_4_at, crate::specs::pcap::Fields::front_of))]
 pub(crate) fn read_ip_4(octets: &[u8]) -> Result<Found<'_>, FrameFault>
     ensures { Gives (λ f. f) result (ip_4_at octets.now) }
 {
@@ -51,7 +51,7 @@ pub(crate) fn read_ip_4(octets: &[u8]) -> Result<Found<'_>, FrameFault>
 }
 
 /// Whether a header of IPv4 says that its datagram carries UDP.
-#[tactic(auto, unfolding(crate::pcap::specs::Frames::is_udp_4))]
+#[tactic(auto, unfolding(crate::specs::pcap::Frames::is_udp_4))]
 fn is_udp(header: &[u8]) -> bool
     requires { length header.now ≡ 20 }
     ensures is { result ≡ is_udp_4 header.now }
@@ -66,7 +66,7 @@ fn is_udp(header: &[u8]) -> bool
 }
 
 /// The part of a datagram that a header of IPv4 tells.
-#[tactic(auto, unfolding(crate::pcap::specs::Frames::part_4))]
+#[tactic(auto, unfolding(crate::specs::pcap::Frames::part_4))]
 fn part_of_4(header: &[u8]) -> Part
     requires { length header.now ≡ 20 }
     ensures { result ≡ part_4 header.now }
@@ -80,7 +80,7 @@ fn part_of_4(header: &[u8]) -> Part
 }
 
 /// The UDP datagram in a datagram of IPv6, or the fragment of one.
-#[tactic(auto, unfolding(crate::pcap::specs::Frames::ip_6_at, crate::pcap::specs::Fields::front_of))]
+#[tactic(auto, unfolding(crate::specs::pcap::Frames::ip_6_at, crate::specs::pcap::Fields::front_of))]
 pub(crate) fn read_ip_6(octets: &[u8]) -> Result<Found<'_>, FrameFault>
     ensures { Gives (λ f. f) result (ip_6_at octets.now) }
 {
@@ -90,7 +90,7 @@ pub(crate) fn read_ip_6(octets: &[u8]) -> Result<Found<'_>, FrameFault>
 }
 
 /// The UDP datagram after a header of IPv6, or after that of a fragment.
-#[tactic(auto, unfolding(crate::pcap::specs::Frames::after_ip_6))]
+#[tactic(auto, unfolding(crate::specs::pcap::Frames::after_ip_6))]
 fn read_after_ip_6<'a>(header: &'a [u8], octets: &'a [u8]) -> Result<Found<'a>, FrameFault>
     requires { length header.now ≡ 40 }
     ensures { Gives (λ f. f) result (after_ip_6 header.now octets.now) }
@@ -108,7 +108,7 @@ fn read_after_ip_6<'a>(header: &'a [u8], octets: &'a [u8]) -> Result<Found<'a>, 
 }
 
 /// The UDP datagram, or the fragment of one, after the header of a fragment of IPv6.
-#[tactic(auto, unfolding(crate::pcap::specs::Frames::fragment_6_at, crate::pcap::specs::Fields::front_of))]
+#[tactic(auto, unfolding(crate::specs::pcap::Frames::fragment_6_at, crate::specs::pcap::Fields::front_of))]
 fn read_fragment<'a>(
     source: &'a [u8],
     destination: &'a [u8],
@@ -124,7 +124,7 @@ fn read_fragment<'a>(
 }
 
 /// The part of a datagram that the header of a fragment of IPv6 tells.
-#[tactic(auto, unfolding(crate::pcap::specs::Frames::part_6))]
+#[tactic(auto, unfolding(crate::specs::pcap::Frames::part_6))]
 fn part_of_6(header: &[u8]) -> Part
     requires { length header.now ≡ 8 }
     ensures { result ≡ part_6 header.now }
@@ -138,7 +138,7 @@ fn part_of_6(header: &[u8]) -> Part
 }
 
 /// The UDP datagram, or the fragment of one, that a part of a datagram of IP has.
-#[tactic(auto, unfolding(crate::pcap::specs::Frames::part_at))]
+#[tactic(auto, unfolding(crate::specs::pcap::Frames::part_at))]
 fn read_part<'a>(
     source: &'a [u8],
     destination: &'a [u8],
@@ -168,7 +168,7 @@ fn first_octets(count: usize, octets: &[u8]) -> &[u8]
 }
 
 /// The datagram of UDP that these hosts exchange.
-#[tactic(auto, unfolding(crate::pcap::specs::Frames::udp_at, crate::pcap::specs::Fields::front_of))]
+#[tactic(auto, unfolding(crate::specs::pcap::Frames::udp_at, crate::specs::pcap::Fields::front_of))]
 fn read_udp<'a>(
     source: &'a [u8],
     destination: &'a [u8],
@@ -196,7 +196,7 @@ fn read_udp<'a>(
 }
 
 /// The datagram whose header counts so many octets.
-#[tactic(auto, unfolding(crate::pcap::specs::Frames::data_at))]
+#[tactic(auto, unfolding(crate::specs::pcap::Frames::data_at))]
 fn read_data<'a>(
     source: Endpoint<'a>,
     destination: Endpoint<'a>,

@@ -20,7 +20,7 @@ pub enum LinkType {
 
 impl LinkType {
     /// The link type of a number of the registry.
-    #[tactic(auto, unfolding(crate::pcap::specs::Frames::link_of))]
+    #[tactic(auto, unfolding(crate::specs::pcap::Frames::link_of))]
     pub(crate) fn from_number(number: u16) -> Self
         ensures { result ≡ link_of number }
     {

@@ -65,7 +65,7 @@ impl<'a> CapturedPacket<'a> {
 
 /// The datagram that a packet is, or the fragment of one, where it is either. `Snapped` says that it was captured up to a place inside
 /// its headers.
-#[tactic(auto, unfolding(crate::pcap::specs::Captures::found_in_frame))]
+#[tactic(auto, unfolding(crate::specs::pcap::Captures::found_in_frame))]
 pub(crate) fn read_packet<'a>(
     packet: &Packet<'a>,
 ) -> Result<Option<CapturedPacket<'a>>, CaptureFault>

@@ -18,7 +18,7 @@ pub(crate) struct PcapFile {
 }
 
 /// The unit of the fractions of a second that a magic number tells.
-#[tactic(auto, unfolding(crate::pcap::specs::Captures::unit_of_magic))]
+#[tactic(auto, unfolding(crate::specs::pcap::Captures::unit_of_magic))]
 pub(crate) fn unit_of(magic: u32) -> Option<u16>
     ensures { result ≡ unit_of_magic magic }
 {
@@ -30,7 +30,7 @@ pub(crate) fn unit_of(magic: u32) -> Option<u16>
 }
 
 /// The packet of a record, and the octets after it.
-#[tactic(auto, unfolding(crate::pcap::specs::Captures::pcap_packet_at, crate::pcap::specs::Fields::front_of))]
+#[tactic(auto, unfolding(crate::specs::pcap::Captures::pcap_packet_at, crate::specs::pcap::Fields::front_of))]
 pub(crate) fn read_pcap_packet<'a>(
     file: PcapFile,
     octets: &'a [u8],

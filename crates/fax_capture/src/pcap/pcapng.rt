@@ -20,7 +20,7 @@ pub(crate) struct Block<'a> {
 }
 
 /// The first block of some octets.
-#[tactic(auto, unfolding(crate::pcap::specs::Captures::block_at, crate::pcap::specs::Fields::front_of))]
+#[tactic(auto, unfolding(crate::specs::pcap::Captures::block_at, crate::specs::pcap::Fields::front_of))]
 pub(crate) fn read_block(order: ByteOrder, octets: &[u8]) -> Result<Block<'_>, CaptureFault>
     ensures gives { Gives (λ b. (record { kind = b.kind; body = b.body.now }, b.after.now)) result (block_at order octets.now) }
     ensures shorter { IfOk result (λ b. length b.after.now < length octets.now) }
@@ -35,7 +35,7 @@ pub(crate) fn read_block(order: ByteOrder, octets: &[u8]) -> Result<Block<'_>, C
 }
 
 /// The rest of a block of this type and length.
-#[tactic(auto, unfolding(crate::pcap::specs::Captures::block_of, crate::pcap::specs::Fields::front_of))]
+#[tactic(auto, unfolding(crate::specs::pcap::Captures::block_of, crate::specs::pcap::Fields::front_of))]
 fn read_block_body(
     order: ByteOrder,
     kind: u32,
@@ -57,7 +57,7 @@ fn read_block_body(
 }
 
 /// The byte order of the section whose head begins some octets.
-#[tactic(auto, unfolding(crate::pcap::specs::Captures::section_order_at, crate::pcap::specs::Fields::front_of))]
+#[tactic(auto, unfolding(crate::specs::pcap::Captures::section_order_at, crate::specs::pcap::Fields::front_of))]
 fn read_section_order(octets: &[u8]) -> Result<ByteOrder, CaptureFault>
     ensures { Gives (λ o. o) result (section_order_at octets.now) }
 {
@@ -72,7 +72,7 @@ fn read_section_order(octets: &[u8]) -> Result<ByteOrder, CaptureFault>
 }
 
 /// The byte order of the section whose head begins some octets, and the octets after the head.
-#[tactic(auto, unfolding(crate::pcap::specs::Captures::section_at, crate::pcap::specs::Fields::front_of))]
+#[tactic(auto, unfolding(crate::specs::pcap::Captures::section_at, crate::specs::pcap::Fields::front_of))]
 pub(crate) fn read_section(octets: &[u8]) -> Result<(ByteOrder, &[u8]), CaptureFault>
     ensures gives { Gives (λ s. (s.0, s.1.now)) result (section_at octets.now) }
     ensures shorter { IfOk result (λ s. length s.1.now < length octets.now) }
@@ -87,7 +87,7 @@ pub(crate) fn read_section(octets: &[u8]) -> Result<(ByteOrder, &[u8]), CaptureF
 }
 
 /// The interface of a number.
-#[tactic(auto, unfolding(crate::pcap::specs::Captures::interface_at))]
+#[tactic(auto, unfolding(crate::specs::pcap::Captures::interface_at))]
 fn interface_of(interfaces: &[Interface], number: u32) -> Result<Interface, CaptureFault>
     ensures { Gives (λ i. i) result (interface_at interfaces.now number) }
 {
@@ -98,7 +98,7 @@ fn interface_of(interfaces: &[Interface], number: u32) -> Result<Interface, Capt
 }
 
 /// The packet of an enhanced packet block.
-#[tactic(auto, unfolding(crate::pcap::specs::Captures::enhanced_in, crate::pcap::specs::Fields::front_of))]
+#[tactic(auto, unfolding(crate::specs::pcap::Captures::enhanced_in, crate::specs::pcap::Fields::front_of))]
 pub(crate) fn read_enhanced<'a>(
     order: ByteOrder,
     interfaces: &[Interface],
@@ -112,7 +112,7 @@ pub(crate) fn read_enhanced<'a>(
 }
 
 /// The packet of a packet block, which is obsolete.
-#[tactic(auto, unfolding(crate::pcap::specs::Captures::old_packet_in, crate::pcap::specs::Fields::front_of))]
+#[tactic(auto, unfolding(crate::specs::pcap::Captures::old_packet_in, crate::specs::pcap::Fields::front_of))]
 pub(crate) fn read_old_packet<'a>(
     order: ByteOrder,
     interfaces: &[Interface],
@@ -126,7 +126,7 @@ pub(crate) fn read_old_packet<'a>(
 }
 
 /// The packet of an interface, after its header.
-#[tactic(auto, unfolding(crate::pcap::specs::Captures::timed_packet, crate::pcap::specs::Fields::front_of))]
+#[tactic(auto, unfolding(crate::specs::pcap::Captures::timed_packet, crate::specs::pcap::Fields::front_of))]
 fn read_timed<'a>(
     order: ByteOrder,
     interface: Interface,
@@ -149,7 +149,7 @@ fn read_timed<'a>(
 }
 
 /// How many octets are captured of a packet that had so many.
-#[tactic(auto, unfolding(crate::pcap::specs::Captures::captured_of))]
+#[tactic(auto, unfolding(crate::specs::pcap::Captures::captured_of))]
 fn captured_octets(interface: Interface, count: u32) -> u32
     ensures { result ≡ captured_of interface count }
 {
@@ -161,7 +161,7 @@ fn captured_octets(interface: Interface, count: u32) -> u32
 }
 
 /// The packet of a simple packet block.
-#[tactic(auto, unfolding(crate::pcap::specs::Captures::simple_in, crate::pcap::specs::Fields::front_of))]
+#[tactic(auto, unfolding(crate::specs::pcap::Captures::simple_in, crate::specs::pcap::Fields::front_of))]
 pub(crate) fn read_simple<'a>(
     order: ByteOrder,
     interfaces: &[Interface],

@@ -1,4 +1,0 @@
-//! Two gateways in a row: laws of the octets that go from the one to the other.
-#![tactic(auto)]
-
-pub mod laws;

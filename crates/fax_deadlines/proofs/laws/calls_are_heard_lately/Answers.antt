@@ -1,5 +1,0 @@
-use Rattle.fax_deadlines.proofs.HeardCalls.{heard_lately}
-use Rattle.fax_deadlines.proofs.laws.calls_are_heard_lately.Goals as goal
-
-pub returns : goal.returns
-returns c = heard_lately c.no_call_hangs.ensures

@@ -1,5 +1,0 @@
-use Rattle.fax_deadlines.proofs.JobsEnd.{jobs_end}
-use Rattle.fax_deadlines.proofs.laws.jobs_end_in_time.Goals as goal
-
-pub returns : goal.returns
-returns c = jobs_end c.jobs_are_of_their_calls.ensures c.jobs_have_states.ensures

@@ -1,5 +1,0 @@
-use Rattle.fax_deadlines.proofs.Prompts.{prompt_go_on}
-use Rattle.fax_deadlines.proofs.laws.prompt_traces_go_on.Goals as goal
-
-pub returns : goal.returns
-returns c = prompt_go_on

@@ -1,4 +1,0 @@
-//! A good job gets through: laws of calls over links that hand on each packet once and in order.
-#![tactic(auto)]
-
-pub mod laws;

@@ -1,5 +1,0 @@
-use Rattle.fax_exchanges.proofs.Played as lemmas
-use Rattle.fax_exchanges.proofs.laws.exchanges_end_well.Goals as goal
-
-pub returns : goal.returns
-returns c = lemmas.exchanges_end_well c.reports_are_deliveries.ensures c.gateways_pass_pages.ensures

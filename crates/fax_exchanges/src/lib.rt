@@ -1,4 +1,0 @@
-//! Exchanges over good lines end well: laws of a page that is sent through a gateway.
-#![tactic(auto)]
-
-pub mod laws;

@@ -1,0 +1,4 @@
+pub mod chains
+pub mod deadlines
+pub mod delivery
+pub mod exchanges

@@ -1,0 +1,3 @@
+//! How long a gateway takes at most: laws of time over its traces.
+
+pub mod laws;

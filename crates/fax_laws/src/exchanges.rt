@@ -1,0 +1,3 @@
+//! Exchanges over good lines end well: laws of a page that is sent through a gateway.
+
+pub mod laws;
