@@ -5,7 +5,7 @@ ghost use Rattle.fax_request.specs.Requests.{AreCaptureOptionsOf, AreMachinesAt,
 
 use crate::given::{number_of, text_of};
 use clap::{ArgMatches, Error};
-use fax_arguments::{refused_address, refused_half, refused_machines};
+use crate::arguments::{refused_address, refused_half, refused_machines};
 use fax_capture::{Address, CaptureOptions, Host, Machines};
 use std::alloc::Global;
 use std::net::{IpAddr, SocketAddr};

@@ -4,7 +4,7 @@ ghost use Rattle.clap.specs.Words.{first_of, found_of, one_of, rows_of};
 ghost use Rattle.fax_request.specs.Given.{AreScriptSettingsOf, AreSettingsOf, IsFlagOf, IsFormatOf, IsNumberOf, coding_named, repeat_named, width_named};
 
 use clap::ArgMatches;
-use fax_arguments::{LEAST_PREAMBLE_MS, MOST_PREAMBLE_MS, MOST_REDUNDANCY};
+use crate::arguments::{LEAST_PREAMBLE_MS, MOST_PREAMBLE_MS, MOST_REDUNDANCY};
 use fax_gateway::Settings;
 use fax_pagestore::{Coding, Format};
 use fax_repeat::RepeatPolicy;

@@ -1,6 +1,7 @@
 //! What the words of the program's command line ask for.
 #![tactic(auto)]
 
+mod arguments;
 mod capture_words;
 mod explain_options;
 mod given;

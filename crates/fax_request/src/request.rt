@@ -11,7 +11,7 @@ use crate::say_words::saying_of;
 use crate::spool_words::spool_options_of;
 use crate::terminal_words::{receive_options_of, send_files_of, send_options_of};
 use clap::{ArgMatches, Error};
-use fax_arguments::{faxgate_command, refused_command};
+use crate::arguments::{faxgate_command, refused_command};
 use fax_capture::CaptureOptions;
 use fax_command::PageOptions;
 use fax_gateway::Settings;

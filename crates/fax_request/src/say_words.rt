@@ -4,7 +4,7 @@ ghost use Rattle.clap.specs.Words.{found_of, rows_of};
 ghost use Rattle.fax_request.specs.Requests.{words_said};
 
 use clap::{ArgMatches, Error};
-use fax_arguments::refused_words;
+use crate::arguments::refused_words;
 use fax_say::{Saying, Unsayable};
 use std::alloc::{AllocError, Global};
 

@@ -1,5 +1,5 @@
 //! The command line of `faxgate spool`.
-use crate::building::{Argument, CommandLine, Need, Shape};
+use crate::arguments::building::{Argument, CommandLine, Need, Shape};
 use clap::builder::ValueParser;
 
 /// The greatest number of a life or a call.

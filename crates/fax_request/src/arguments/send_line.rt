@@ -1,6 +1,6 @@
 //! The command line of `faxgate send`.
-use crate::building::{Argument, CommandLine, Need, Shape};
-use crate::options::{CODING, PREAMBLE, REDUNDANCY, REPEAT, WIDTH};
+use crate::arguments::building::{Argument, CommandLine, Need, Shape};
+use crate::arguments::options::{CODING, PREAMBLE, REDUNDANCY, REPEAT, WIDTH};
 
 /// The command line of `faxgate send`.
 pub(crate) const SEND: CommandLine = CommandLine {

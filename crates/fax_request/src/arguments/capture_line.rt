@@ -2,7 +2,7 @@
 ghost use Rattle.std.specs.Prelude.{◌≡◌, ◌⊎◌, IfErr, IfOk};
 ghost use Rattle.clap.specs.Words.{kind_of};
 
-use crate::building::{Argument, CommandLine, Need, Shape, command_of};
+use crate::arguments::building::{Argument, CommandLine, Need, Shape, command_of};
 use clap::builder::ValueParser;
 use clap::error::ErrorKind;
 use clap::{Command, Error};

@@ -1,5 +1,4 @@
 //! The words of the program's command line: its commands, their options, and what the help of each says.
-#![tactic(auto)]
 
 mod building;
 mod capture_line;

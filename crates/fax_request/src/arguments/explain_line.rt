@@ -1,6 +1,6 @@
 //! The command line of `faxgate explain`.
-use crate::building::{Argument, CommandLine, Need, Shape};
-use crate::options::{ASKS, PREAMBLE, REDUNDANCY};
+use crate::arguments::building::{Argument, CommandLine, Need, Shape};
+use crate::arguments::options::{ASKS, PREAMBLE, REDUNDANCY};
 
 /// The command line of `faxgate explain`.
 pub(crate) const EXPLAIN: CommandLine = CommandLine {

@@ -1,5 +1,5 @@
 //! Options that several commands have, and their limits.
-use crate::building::{Argument, Need, Shape};
+use crate::arguments::building::{Argument, Need, Shape};
 use clap::builder::ValueParser;
 
 /// The most of the packets before its own that a datagram has.

@@ -1,6 +1,6 @@
 //! The command line of `faxgate trace`.
-use crate::building::CommandLine;
-use crate::options::{ASKS, PREAMBLE, REDUNDANCY};
+use crate::arguments::building::CommandLine;
+use crate::arguments::options::{ASKS, PREAMBLE, REDUNDANCY};
 
 /// The command line of `faxgate trace`.
 pub(crate) const TRACE: CommandLine = CommandLine {

@@ -1,6 +1,6 @@
 //! The command line of `faxgate receive`.
-use crate::building::{Argument, CommandLine, Need, Shape};
-use crate::options::{PREAMBLE, REDUNDANCY, REPEAT};
+use crate::arguments::building::{Argument, CommandLine, Need, Shape};
+use crate::arguments::options::{PREAMBLE, REDUNDANCY, REPEAT};
 use clap::builder::ValueParser;
 
 /// The command line of `faxgate receive`.

@@ -1,5 +1,5 @@
 //! The command line of `faxgate serve`.
-use crate::building::{Argument, CommandLine, Need, Shape};
+use crate::arguments::building::{Argument, CommandLine, Need, Shape};
 
 /// The command line of `faxgate serve`.
 pub(crate) const SERVE: CommandLine = CommandLine {

@@ -1,6 +1,6 @@
 //! The command line of `faxgate loop`.
-use crate::building::CommandLine;
-use crate::options::{PREAMBLE, REDUNDANCY};
+use crate::arguments::building::CommandLine;
+use crate::arguments::options::{PREAMBLE, REDUNDANCY};
 
 /// The command line of `faxgate loop`.
 pub(crate) const LOOP: CommandLine = CommandLine {

@@ -1,6 +1,6 @@
 //! The command line of `faxgate page`.
-use crate::building::{Argument, CommandLine, Need, Shape};
-use crate::options::{CODING, WIDTH};
+use crate::arguments::building::{Argument, CommandLine, Need, Shape};
+use crate::arguments::options::{CODING, WIDTH};
 use clap::builder::ValueParser;
 
 /// The command line of `faxgate page`.

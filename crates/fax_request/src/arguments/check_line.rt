@@ -1,5 +1,5 @@
 //! The command line of `faxgate check`.
-use crate::building::{Argument, CommandLine, Need, Shape};
+use crate::arguments::building::{Argument, CommandLine, Need, Shape};
 
 /// The command line of `faxgate check`.
 pub(crate) const CHECK: CommandLine = CommandLine {
