@@ -9,3 +9,4 @@ pub mod PicturePaths
 pub mod Questions
 pub mod Texts
 pub mod Undelivered
+pub mod visitors

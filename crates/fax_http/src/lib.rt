@@ -3,6 +3,7 @@
 //! writes, opens or waits.
 #![tactic(auto)]
 
+pub mod visitors;
 mod answer;
 mod cells;
 mod connection;

@@ -34,7 +34,7 @@ use fax_opening::{SocketLegs, Stopwatch};
 use fax_queue::Queue;
 use fax_spool::{CallName, WaitingPage};
 use fax_undelivered::PairedStore;
-use fax_visitors::Visitors;
+use fax_http::visitors::Visitors;
 use sqlite_disk::Disk;
 use std::alloc::{AllocError, Global};
 use std::marker::Model;

@@ -8,7 +8,7 @@ use fax_png::write_png;
 use fax_spool::WaitingPage;
 use fax_spool_folder::read_waiting_page;
 use fax_undelivered::UndeliveredCall;
-use fax_visitors::Visitors;
+use fax_http::visitors::Visitors;
 use std::alloc::{AllocError, Global};
 
 /// Visitors are served so often, in milliseconds, and one of them is answered each time; and while nobody is there, it is looked so often

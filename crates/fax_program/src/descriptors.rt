@@ -4,7 +4,7 @@ ghost use Rattle.fax_program.specs.Descriptors.{most_descriptors};
 
 use fax_clients::MOST_CLIENTS;
 use fax_config::Config;
-use fax_visitors::MOST_VISITORS;
+use fax_http::visitors::MOST_VISITORS;
 use libc::types::rlimit;
 use libc::{RLIMIT_NOFILE, getrlimit};
 

@@ -27,7 +27,7 @@ use fax_queue::{Queue, Storage};
 use fax_spool::{CallName, OpenedSpool, WaitingPage};
 use fax_spool_folder::{Folders, SpoolFolderFile};
 use fax_undelivered::{PairedStore, Undelivered};
-use fax_visitors::Visitors;
+use fax_http::visitors::Visitors;
 use sqlite_disk::{Disk, Start};
 use std::alloc::{AllocError, Global};
 use std::fs::Files;

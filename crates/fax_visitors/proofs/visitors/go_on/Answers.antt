@@ -1,5 +1,0 @@
-use Rattle.fax_visitors.proofs.PlaceLemmas.{all_go}
-use Rattle.fax_visitors.proofs.visitors.go_on.Goals as goal
-
-pub returns : goal.returns
-returns c = all_go c.args.places.now c.serve.new.places c.let_in.new.places c.serve.ensures c.let_in.ensures
