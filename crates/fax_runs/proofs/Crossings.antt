@@ -5,8 +5,8 @@ use Rattle.fax_line.specs.declared.settling.PageToStore.{PageToStore}
 use Rattle.fax_spool.specs.declared.spool.Spool.{Spool}
 use Rattle.fax_queue.specs.Restorations.{WholeLinesAreRestored}
 use Rattle.fax_queue.specs.Queues.{QueueValue}
-use Rattle.fax_restarts.specs.Crossings.{HasLives, LeavesOver, RunsCross, RunsJoin}
-use Rattle.fax_restarts.specs.Kills.{KilledRunsCross}
+use Rattle.fax_runs.specs.restarts.Crossings.{HasLives, LeavesOver, RunsCross, RunsJoin}
+use Rattle.fax_runs.specs.restarts.Kills.{KilledRunsCross}
 use Rattle.fax_runs.specs.Crossings.{KilledServersCross, ServersCross, ServersLead, ServersRunOn, run_of}
 use Rattle.fax_runs.specs.Histories.{IsOnDisk}
 use Rattle.fax_runs.proofs.Histories.{was_run}

@@ -14,7 +14,7 @@ use Rattle.fax_queue.specs.Jobs.{PagesWait}
 use Rattle.fax_queue.specs.Restorations.{Restores, WholeLinesAreRestored, whole_pages}
 use Rattle.fax_queue.specs.Queues.{QueueValue}
 use Rattle.fax_queue.specs.Histories.{RunsMakeHistory}
-use Rattle.fax_restarts.specs.Runs.{WasRun}
+use Rattle.fax_runs.specs.restarts.Runs.{WasRun}
 use Rattle.fax_runs.specs.Crossings.{ServedLine, run_of}
 use Rattle.fax_jobs.specs.declared.report.Report.{Report}
 use Rattle.fax_runs.specs.Histories.{IsOnDisk, ServersMakeHistory}

@@ -17,9 +17,9 @@ use Rattle.fax_spool.specs.declared.spool.Spool.{Spool}
 use Rattle.fax_queue.specs.Restorations.{NoneIsTorn, Restores}
 use Rattle.fax_queue.specs.Queues.{QueueValue}
 use Rattle.fax_queue.specs.declared.restored.RestoredLine.{RestoredLine}
-use Rattle.fax_restarts.specs.Runs.{OneRun, told_of}
-use Rattle.fax_restarts.specs.Crossings.{AreJoined, GoesOn, HasPastOver, HeldFiles, Leads, LeavesOver, Step}
-use Rattle.fax_restarts.specs.Kills.{IsCut}
+use Rattle.fax_runs.specs.restarts.Runs.{OneRun, told_of}
+use Rattle.fax_runs.specs.restarts.Crossings.{AreJoined, GoesOn, HasPastOver, HeldFiles, Leads, LeavesOver, Step}
+use Rattle.fax_runs.specs.restarts.Kills.{IsCut}
 use Rattle.fax_runs.specs.StoredRuns.{ServedStored}
 
 -- A server ran, which had a line of this name and no other of it: at its place among the others, its gateway set up with the calls of

@@ -3,3 +3,4 @@ pub mod Histories
 pub mod StoredRuns
 pub mod Runs
 pub mod Crossings
+pub mod restarts

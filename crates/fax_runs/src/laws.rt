@@ -7,7 +7,7 @@ use fax_holding_wire::PageStore;
 use fax_line::{PageToStore, RunStore};
 use fax_queue::laws::histories::runs_make_history;
 use fax_queue::laws::whole_lines_are_restored;
-use fax_restarts::laws::{killed_runs_cross, runs_cross, runs_join};
+use crate::restarts::laws::{killed_runs_cross, runs_cross, runs_join};
 use fax_undelivered::PairedStore;
 use sqlite_disk::Disk;
 

@@ -3,4 +3,5 @@
 //! `specs/Crossings`).
 #![tactic(auto)]
 
+pub mod restarts;
 pub mod laws;

@@ -2,7 +2,7 @@
 ghost use Rattle.std.specs.Prelude.{◌<◌, length};
 
 use fax_jobs::Outcome;
-use fax_restarts::open_over;
+use fax_runs::restarts::open_over;
 use fax_runcodes::{Format, Width};
 use fax_spool::{EndedRecord, OpenedSpool, PageRecord, Spool};
 use sqlite_disk::Memory;

@@ -1,5 +1,0 @@
-use Rattle.fax_restarts.proofs.Crossings.{runs_join}
-use Rattle.fax_restarts.proofs.laws.runs_join.Goals as goal
-
-pub returns : goal.returns
-returns c = runs_join c.new_spools_tell_none.ensures c.stopped_openings_leave_what_waits.ensures

@@ -1,5 +1,0 @@
-use Rattle.fax_restarts.proofs.Crossings.{stopped}
-use Rattle.fax_restarts.proofs.laws.stopped_openings_leave_the_past.Goals as goal
-
-pub returns : goal.returns
-returns c = stopped c.stopped_openings_leave_what_waits.ensures
