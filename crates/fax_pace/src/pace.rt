@@ -28,7 +28,7 @@ use fax_clients::Clients;
 use fax_control::Refusal;
 use fax_desk::{Damage, Desk, RunEnd};
 use fax_gateway::Settings;
-use fax_held::HeldPages;
+use fax_undelivered::held::HeldPages;
 use fax_line::{LineAnswer, Lines, Order, Pace, SlotEnd};
 use fax_opening::{SocketLegs, Stopwatch};
 use fax_queue::Queue;

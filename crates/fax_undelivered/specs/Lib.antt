@@ -3,3 +3,4 @@ pub mod Calls
 pub mod Keeps
 pub mod StoredEnds
 pub mod Dropped
+pub mod held

@@ -2,6 +2,7 @@
 //! what keeps the pages of a run so that none of a job that failed is dropped.
 #![tactic(auto)]
 
+pub mod held;
 mod call;
 mod card;
 mod firsts;

@@ -4,7 +4,7 @@ use crate::retries::Retries;
 use crate::seen::SeenLines;
 use crate::telling::Teller;
 use fax_desk::{Cause, Desk};
-use fax_held::{HeldPages, JobEnd, MOST_CALLS, MemoryFile, drop_beyond};
+use fax_undelivered::held::{HeldPages, JobEnd, MOST_CALLS, MemoryFile, drop_beyond};
 use fax_jobs::Report;
 use fax_line::SLOTS;
 use fax_undelivered::Undelivered;

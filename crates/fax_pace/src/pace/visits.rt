@@ -11,7 +11,7 @@ use crate::visiting::NO_MEMORY;
 use crate::visits::page_text;
 use fax_bits::NoMemory;
 use fax_events::{Counters, write_metrics};
-use fax_held::HeldPages;
+use fax_undelivered::held::HeldPages;
 use fax_http::{
     Answer, Content, Health, Resource, Status, Wanted, refusal, write_health, write_open_metrics,
 };
