@@ -4,7 +4,7 @@ use Rattle.std.specs.declared.net.socket_addr.SocketAddr.{SocketAddr}
 use Rattle.fax_control.specs.declared.word.Bounds.{Bounds as SaidBounds}
 use Rattle.fax_gateway.specs.declared.leg.Leg.{Leg}
 use Rattle.fax_gateway.specs.declared.leg.Leg.TheVariants as legs
-use Rattle.fax_repeat.specs.declared.peers.Bounds.{Bounds}
+use Rattle.fax_wires.specs.declared.repeat.peers.Bounds.{Bounds}
 use Rattle.fax_desk.specs.declared.desk.LookOutcome.{LookOutcome}
 use Rattle.fax_desk.specs.declared.desk.LookOutcome.TheVariants as looked
 use Rattle.fax_desk.specs.declared.desk.Waits.{Waits}

@@ -9,7 +9,7 @@ use Rattle.fax_gateway.specs.declared.leg.Leg.TheVariants as legs
 use Rattle.fax_line.specs.declared.asked.LineAnswer.{LineAnswer}
 use Rattle.fax_line.specs.declared.asked.LineAnswer.TheVariants as answered
 use Rattle.fax_line.specs.declared.asked.LineRequest.TheVariants as asked
-use Rattle.fax_repeat.specs.declared.peers.Bounds.{Bounds}
+use Rattle.fax_wires.specs.declared.repeat.peers.Bounds.{Bounds}
 use Rattle.fax_desk.specs.declared.next.Ask.{Ask}
 use Rattle.fax_desk.specs.declared.next.Ask.TheVariants as ask
 use Rattle.fax_desk.specs.declared.next.Next.{Next}

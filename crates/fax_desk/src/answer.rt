@@ -8,7 +8,7 @@ use crate::view::{AskedView, LegView, LineView};
 use fax_control::Refusal;
 use fax_gateway::{Leg, PlaceFault, RingFault};
 use fax_line::{ConnectRequest, HangingUp, LineAnswer, LineRequest, PeerRequest, RingRequest};
-use fax_repeat::Bounds;
+use fax_wires::repeat::Bounds;
 
 /// What it comes to that this is asked of line i, which is so, where this question of it is open.
 pub fn next_of(question: Option<Question>, i: usize, line: LineView, ask: Ask) -> Next

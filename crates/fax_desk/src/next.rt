@@ -5,7 +5,7 @@ use crate::view::FirstJob;
 use fax_control::Refusal;
 use fax_gateway::Leg;
 use fax_line::LineRequest;
-use fax_repeat::{Bounds, Peer};
+use fax_wires::repeat::{Bounds, Peer};
 
 /// A ring, with this tag, of a call that is bounded so.
 #[derive(Clone, Copy)]

@@ -13,7 +13,7 @@ use crate::view::{LineView, View};
 use fax_clients::Asker;
 use fax_control::PeerWord;
 use fax_gateway::Leg;
-use fax_repeat::{Bounds, Peer};
+use fax_wires::repeat::{Bounds, Peer};
 
 /// What bounds the datagrams of a leg.
 pub(crate) fn bounds_of(bounds: fax_control::Bounds) -> Bounds

@@ -3,7 +3,7 @@ use Rattle.std.proofs.Common.{◌≡◌, ◌⊎◌, ℕ, zero, suc, ◌+◌, ◌
 use Rattle.std.specs.Prelude.{nat_le, ◌&&◌, flat_map}
 use Rattle.std.specs.Cmp.Lexicographic.{same_text}
 use Rattle.std.proofs.lemmas.List.{take_all}
-use Rattle.fax_repeat.specs.Repeats.{same_octets}
+use Rattle.fax_wires.specs.repeat.Repeats.{same_octets}
 use Rattle.fax_udptl.specs.Datagrams.{DatagramValue, written_datagram, written_packet}
 use Rattle.fax_udptl.proofs.WrittenLemmas.{datagram_size_is, packets_size}
 use Rattle.fax_legs.specs.Bounding.{are_short, cut_as, fewer, fitting, is_sendable, kept}

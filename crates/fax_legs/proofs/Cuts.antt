@@ -4,7 +4,7 @@ use Rattle.std.specs.Prelude.{nat_le, ◌&&◌, flat_map, IfSome, IsSomeAnd}
 use Rattle.std.specs.List.{AllByRecursion}
 use Rattle.std.specs.Cmp.Lexicographic.{bytes_decides, same_text}
 use Rattle.fax_gateway.specs.Wires.{buffer_octets}
-use Rattle.fax_repeat.specs.Repeats.{same_octets}
+use Rattle.fax_wires.specs.repeat.Repeats.{same_octets}
 use Rattle.fax_udptl.specs.declared.fault.UdptlFault.{UdptlFault}
 use Rattle.fax_udptl.specs.Datagrams.{DatagramValue, datagram_of, written_datagram, written_packet}
 use Rattle.fax_udptl.proofs.WrittenLemmas.{datagram_back, datagram_size_is, long_packet_size, packets_size, short_packet_size}

@@ -1,7 +1,7 @@
 -- How datagrams are bounded (this project's profile).
 use Rattle.std.specs.Prelude.{ℕ, zero, suc, ◌+◌, ◌-◌, nat_le, nat_lt, Bool, true, ◌&&◌, List, [], ◌∷◌, length, take, Option, Some, None, Result, Ok, Err, if◌then◌else◌}
 use Rattle.fax_gateway.specs.Wires.{buffer_octets}
-use Rattle.fax_repeat.specs.Repeats.{same_octets}
+use Rattle.fax_wires.specs.repeat.Repeats.{same_octets}
 use Rattle.fax_udptl.specs.declared.fault.UdptlFault.{UdptlFault}
 use Rattle.fax_udptl.specs.Datagrams.{DatagramValue, datagram_of, written_datagram, written_packet}
 use Rattle.fax_legs.specs.declared.bounding.Limits.{Limits}

@@ -3,8 +3,8 @@ use Rattle.std.specs.Prelude.{◌≡◌, ℕ, Bool, true, false, List, take, Opt
 use Rattle.std.specs.declared.net.socket_addr.SocketAddr.{SocketAddr}
 use Rattle.fax_gateway.specs.declared.leg.Leg.{Leg}
 use Rattle.fax_gateway.specs.declared.leg.Leg.TheVariants as legs
-use Rattle.fax_repeat.specs.Peers.{Hears, PeerValue, heard, learned, no_bounds, nobody}
-use Rattle.fax_repeat.specs.declared.peers.Peer.{Peer}
+use Rattle.fax_wires.specs.repeat.Peers.{Hears, PeerValue, heard, learned, no_bounds, nobody}
+use Rattle.fax_wires.specs.declared.repeat.peers.Peer.{Peer}
 use Rattle.fax_legs.specs.Bounding.{sent_as}
 use Rattle.fax_legs.specs.Counts.{no_counts, one_handed, one_not_received, one_received, one_unsent}
 use Rattle.fax_legs.specs.Handing.{handed_over, may_have, nothing_handed, with_at_most}

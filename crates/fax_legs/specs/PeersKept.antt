@@ -3,7 +3,7 @@ use Rattle.std.specs.Prelude.{◌≡◌, ℕ, Bool, List, Option, None, Some, re
 use Rattle.std.proofs.Common.{ap, ◌∙◌}
 use Rattle.fax_gateway.specs.declared.leg.Leg.{Leg}
 use Rattle.fax_gateway.specs.declared.leg.Leg.TheVariants as legs
-use Rattle.fax_repeat.specs.Peers.{HearsOn, PeerValue, Peers}
+use Rattle.fax_wires.specs.repeat.Peers.{HearsOn, PeerValue, Peers}
 use Rattle.std.specs.declared.net.socket_addr.SocketAddr.{SocketAddr}
 use Rattle.fax_legs.specs.Handing.{may_have}
 use Rattle.fax_legs.specs.Legs.{LegValue, ReceivesOn, SendsOn, UdpValue, leg_on, sent_by, sent_to}

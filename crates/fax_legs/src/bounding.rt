@@ -1,7 +1,7 @@
 //! How datagrams are bounded.
 ghost use Rattle.std.specs.Prelude.{◌≡◌, ◌⊎◌, ◌+◌, ◌-◌, ◌*◌, ◌<◌, ◌≤◌, nat_lt, ◌&&◌, ◌++◌, true, false, flat_map, length, take, Ok, IfNone, IfSome};
 ghost use Rattle.fax_udptl.specs.Datagrams.{datagram_of, written_datagram, written_length, written_packet};
-ghost use Rattle.fax_repeat.specs.Repeats.{same_octets};
+ghost use Rattle.fax_wires.specs.repeat.Repeats.{same_octets};
 ghost use Rattle.fax_legs.specs.Bounding.{are_short, cut_as, fewer, fitting, is_sendable, kept};
 ghost use Rattle.fax_legs.specs.Handing.{with_at_most};
 

@@ -1,11 +1,11 @@
 //! The peer of a leg.
 ghost use Rattle.std.specs.Prelude.{◌≡◌};
-ghost use Rattle.fax_repeat.specs.Peers.{bounded, cut_off, gone, heard, learned, nobody, said, settled};
+ghost use Rattle.fax_wires.specs.repeat.Peers.{bounded, cut_off, gone, heard, learned, nobody, said, settled};
 ghost use Rattle.fax_legs.specs.Legs.{call_settled, fixed, gone_call, heard_call, limits_of, no_call, peer_of};
 
 use crate::bounding::Limits;
 use crate::hang_up::PeerCall;
-use fax_repeat::{Bounds, Peer};
+use fax_wires::repeat::{Bounds, Peer};
 use std::net::SocketAddr;
 
 /// The peer of a leg, and what is known of its part in the call that is on.

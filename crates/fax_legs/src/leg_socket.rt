@@ -1,6 +1,6 @@
 //! The socket of a leg.
 ghost use Rattle.std.specs.Prelude.{◌≡◌, ◌≤◌, ◌||◌, Ok, None, Some, false, true, is_ok, is_some, length, option_map, IfOk, IfSome, IsOk, IsSome, OnErr, OnOk};
-ghost use Rattle.fax_repeat.specs.Peers.{bounded, cut_off, gone, said, settled, state_of};
+ghost use Rattle.fax_wires.specs.repeat.Peers.{bounded, cut_off, gone, said, settled, state_of};
 ghost use Rattle.fax_legs.specs.Counts.{one_not_received, one_received};
 ghost use Rattle.fax_legs.specs.HangUps.{HandsOut};
 ghost use Rattle.fax_legs.specs.Handing.{may_have, nothing_handed};
@@ -15,7 +15,7 @@ use crate::sending::send_bounded;
 use crate::socket::DatagramSocket;
 use crate::tap::Tap;
 use fax_bits::Octets;
-use fax_repeat::{Bounds, LegState, Peer};
+use fax_wires::repeat::{Bounds, LegState, Peer};
 use std::alloc::Global;
 use std::cell::Cell;
 use std::io;

@@ -1,14 +1,14 @@
 //! A wire of a line over UDP.
 ghost use Rattle.std.specs.Prelude.{◌≡◌, Ok, is_ok, option_map, IfOk, OnErr, OnOk};
 ghost use Rattle.fax_gateway.specs.Wires.{failures_after};
-ghost use Rattle.fax_repeat.specs.Peers.{said};
+ghost use Rattle.fax_wires.specs.repeat.Peers.{said};
 ghost use Rattle.fax_legs.specs.Legs.{leg_on};
 ghost use Rattle.fax_legs.specs.Sockets.{connected};
 
 use crate::leg_socket::LegSocket;
 use crate::socket::DatagramSocket;
 use fax_gateway::{Leg, Wire, WireFault};
-use fax_repeat::{Bounds, LegState, LegWire, NoRoute, Peer};
+use fax_wires::repeat::{Bounds, LegState, LegWire, NoRoute, Peer};
 use std::io;
 use std::marker::Model;
 

@@ -18,10 +18,10 @@ use Rattle.fax_gateway.specs.declared.turn_report.TurnReport.{TurnReport}
 use Rattle.fax_gateway.specs.Turns.{TellTicks}
 use Rattle.fax_gateway.specs.Driving.{Accepts, Carries, DriverValue, Entry, HasMade, Happens, IsTurn, RefusesRing, RiseAlike, events, events_in, receipts_in}
 use Rattle.fax_gateway.proofs.DrivingLemmas.{alike_more, alike_none, carries_unseen, grows_none, happens_more, made_unseen, refused_so, refuses, steps_ring}
-use Rattle.fax_repeat.specs.Peers.{Peers}
-use Rattle.fax_repeat.specs.Policies.{IsToldAs}
-use Rattle.fax_holding_wire.specs.Holding.{HoldingValue, IsToldTimeWhere}
-use Rattle.fax_holding_wire.specs.Storing.{HoldsByLog}
+use Rattle.fax_wires.specs.repeat.Peers.{Peers}
+use Rattle.fax_wires.specs.repeat.Policies.{IsToldAs}
+use Rattle.fax_wires.specs.holding.Holding.{HoldingValue, IsToldTimeWhere}
+use Rattle.fax_wires.specs.holding.Storing.{HoldsByLog}
 use Rattle.fax_line.specs.declared.asked.LineAnswer.{LineAnswer}
 use Rattle.fax_line.specs.declared.asked.LineAnswer.TheVariants as answered
 use Rattle.fax_line.specs.declared.asked.LineRequest.{LineRequest}

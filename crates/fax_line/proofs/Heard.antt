@@ -11,15 +11,15 @@ use Rattle.fax_gateway.specs.Wires.{KnownWire}
 use Rattle.fax_gateway.specs.Turns.{TellTicks, call_of_rep}
 use Rattle.fax_gateway.specs.Driving.{Accepts, DriverValue, Entry, FailsToReceive, GoesBy, HasMade, Happens, ReceivesNothing, RefusesDatagram, RefusesRing, RefusesTick, Sends, WireGoes, events}
 use Rattle.fax_gateway.proofs.DrivingLemmas.{grows_none, happens_more}
-use Rattle.fax_repeat.specs.Peers.{HearsOn, HearsWhere, PeerValue, Peers, bounded, change_on, cut_off, gone, no_bounds, peers_of, said, settled}
-use Rattle.fax_repeat.specs.Policies.{IsToldAs}
-use Rattle.fax_repeat.specs.Telling.{hears_same}
-use Rattle.fax_repeat.proofs.Hearing.{hears_where_more}
-use Rattle.fax_holding_wire.specs.Holding.{CeasesWhere, HoldingValue, StaysWhere, TellsWhere}
-use Rattle.fax_holding_wire.specs.Storing.{handed_by}
-use Rattle.fax_holding_wire.proofs.Clocks.{clock_told, then_time, time_then}
-use Rattle.fax_holding_wire.proofs.Held.{grows_none_on, held_later, stays_where}
-use Rattle.fax_holding_wire.proofs.Telling.{ceases_told, told_ceases, told_more, told_same, told_stays}
+use Rattle.fax_wires.specs.repeat.Peers.{HearsOn, HearsWhere, PeerValue, Peers, bounded, change_on, cut_off, gone, no_bounds, peers_of, said, settled}
+use Rattle.fax_wires.specs.repeat.Policies.{IsToldAs}
+use Rattle.fax_wires.specs.repeat.Telling.{hears_same}
+use Rattle.fax_wires.proofs.repeat.Hearing.{hears_where_more}
+use Rattle.fax_wires.specs.holding.Holding.{CeasesWhere, HoldingValue, StaysWhere, TellsWhere}
+use Rattle.fax_wires.specs.holding.Storing.{handed_by}
+use Rattle.fax_wires.proofs.holding.Clocks.{clock_told, then_time, time_then}
+use Rattle.fax_wires.proofs.holding.Held.{grows_none_on, held_later, stays_where}
+use Rattle.fax_wires.proofs.holding.Telling.{ceases_told, told_ceases, told_more, told_same, told_stays}
 use Rattle.fax_line.specs.declared.asked.LineAnswer.{LineAnswer}
 use Rattle.fax_line.specs.declared.asked.LineAnswer.TheVariants as answered
 use Rattle.fax_line.specs.declared.asked.LineRequest.{LineRequest}

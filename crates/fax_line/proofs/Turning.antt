@@ -3,7 +3,7 @@ use Rattle.std.proofs.Common.{◌≡◌, ◌≢◌, ◌+◌, ◌*◌, ◌%◌, �
 use Rattle.std.proofs.lemmas.Bool.{eqb-false, eqb-true, ne_eqb}
 use Rattle.std.proofs.lemmas.Grind.{get_or-set_at}
 use Rattle.std.proofs.lemmas.List.{get_or-set_other, length-set}
-use Rattle.fax_holding_wire.proofs.Held.{stays_more, stays_same}
+use Rattle.fax_wires.proofs.holding.Held.{stays_more, stays_same}
 use Rattle.fax_line.specs.Operations.{EachComes, SlotTells, TellsInSlot}
 use Rattle.fax_line.specs.Places.{PlaceValue, StaysHeld, TellsOrRests}
 use Rattle.fax_line.proofs.Slots.{PassesOver, Rounds, of_slot, on_round}

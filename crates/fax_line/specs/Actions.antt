@@ -17,10 +17,10 @@ use Rattle.fax_gateway.specs.Setups.{AreSetWith, Setup}
 use Rattle.fax_gateway.specs.Wires.{KnownWire}
 use Rattle.fax_gateway.specs.Driving.{Accepts, DriverValue, Entry, HasMade, Happens, IsTurn, RefusesRing, RiseAlike, events, failed_in_a_row, most_failed, receipts}
 use Rattle.fax_gateway.specs.Turns.{TellTicks, call_of_rep}
-use Rattle.fax_repeat.specs.Peers.{Peers}
-use Rattle.fax_repeat.specs.Policies.{IsToldAs}
-use Rattle.fax_holding_wire.specs.Holding.{CeasesWhere, HoldingValue, IsToldTimeWhere, StaysWhere, TellsWhere}
-use Rattle.fax_holding_wire.specs.Storing.{HoldsByLog}
+use Rattle.fax_wires.specs.repeat.Peers.{Peers}
+use Rattle.fax_wires.specs.repeat.Policies.{IsToldAs}
+use Rattle.fax_wires.specs.holding.Holding.{CeasesWhere, HoldingValue, IsToldTimeWhere, StaysWhere, TellsWhere}
+use Rattle.fax_wires.specs.holding.Storing.{HoldsByLog}
 use Rattle.fax_line.specs.declared.asked.LineAnswer.{LineAnswer}
 use Rattle.fax_line.specs.declared.asked.LineAnswer.TheVariants as answered
 use Rattle.fax_line.specs.declared.asked.LineRequest.{LineRequest}

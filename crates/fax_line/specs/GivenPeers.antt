@@ -10,9 +10,9 @@ use Rattle.fax_gateway.specs.Driving.{Entry, HasMade}
 use Rattle.fax_gateway.specs.Events.{Event}
 use Rattle.fax_gateway.specs.Reached.{IsReachedBy}
 use Rattle.fax_gateway.specs.Setups.{Setup}
-use Rattle.fax_repeat.specs.declared.peers.Bounds.{Bounds}
-use Rattle.fax_repeat.specs.declared.peers.Peer.{Peer}
-use Rattle.fax_repeat.specs.Peers.{PeerValue}
+use Rattle.fax_wires.specs.declared.repeat.peers.Bounds.{Bounds}
+use Rattle.fax_wires.specs.declared.repeat.peers.Peer.{Peer}
+use Rattle.fax_wires.specs.repeat.Peers.{PeerValue}
 use Rattle.fax_line.specs.declared.asked.LineAnswer.{LineAnswer}
 use Rattle.fax_line.specs.declared.asked.LineAnswer.TheVariants as answered
 use Rattle.fax_line.specs.declared.asked.LineRequest.{LineRequest}

@@ -2,7 +2,7 @@
 use Rattle.std.specs.Prelude.{◌≡◌, ℕ, Bool, true, false, Option, Some, None, Result, Ok, Err}
 use Rattle.fax_gateway.specs.declared.leg.Leg.{Leg}
 use Rattle.fax_gateway.specs.declared.leg.Leg.TheVariants as legs
-use Rattle.fax_repeat.specs.Peers.{HearsWhere, Peers, bounded, change_on, cut_off, gone, no_bounds, said, settled}
+use Rattle.fax_wires.specs.repeat.Peers.{HearsWhere, Peers, bounded, change_on, cut_off, gone, no_bounds, said, settled}
 use Rattle.fax_line.specs.declared.asked.LineAnswer.{LineAnswer}
 use Rattle.fax_line.specs.declared.asked.LineAnswer.TheVariants as answered
 use Rattle.fax_line.specs.declared.asked.LineRequest.{LineRequest}

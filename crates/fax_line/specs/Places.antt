@@ -7,7 +7,7 @@ use Rattle.fax_gateway.specs.Events.{Event}
 use Rattle.fax_gateway.specs.Reached.{IsReachedBy}
 use Rattle.fax_gateway.specs.Setups.{Setup}
 use Rattle.fax_gateway.specs.Restored.{RestoredCall}
-use Rattle.fax_holding_wire.specs.Holding.{StaysWhere}
+use Rattle.fax_wires.specs.holding.Holding.{StaysWhere}
 use Rattle.fax_line.specs.Actions.{Action, Asks, BeginsWith, Goes, LineValue, Rests, TellsTurn, Turns, Wakes}
 
 -- the line, from when on something is due on it, whether it was woken since it was turned last, and whether it was turned in

@@ -8,9 +8,9 @@ use Rattle.fax_pagestore.specs.Pages.{PageValue}
 use Rattle.fax_pagestore.specs.WrittenPages.{WritesPage}
 use Rattle.fax_jobs.specs.Newest.{newest_page}
 use Rattle.fax_gateway.specs.declared.given.Kept.{Kept}
-use Rattle.fax_repeat.specs.Policies.{IsToldAs}
-use Rattle.fax_holding_wire.specs.Holding.{HoldingValue}
-use Rattle.fax_holding_wire.specs.Storing.{HasDone, HoldsAfter, LegAction, Turn}
+use Rattle.fax_wires.specs.repeat.Policies.{IsToldAs}
+use Rattle.fax_wires.specs.holding.Holding.{HoldingValue}
+use Rattle.fax_wires.specs.holding.Storing.{HasDone, HoldsAfter, LegAction, Turn}
 use Rattle.fax_line.specs.Actions.{LineValue}
 use Rattle.fax_line.specs.Places.{PlaceValue}
 use Rattle.fax_line.specs.Operations.{EachComes, slot_of}

@@ -4,7 +4,7 @@ use Rattle.std.specs.Prelude.{◌≡◌, ◌≤◌, ℕ, zero, suc, max, Bool, t
 use Rattle.fax_jobs.specs.declared.report.Report.{Report}
 use Rattle.fax_gateway.specs.declared.given.Kept.{Kept}
 use Rattle.fax_gateway.specs.declared.turn_report.TurnReport.{TurnReport as Told}
-use Rattle.fax_holding_wire.specs.Storing.{PutsIf}
+use Rattle.fax_wires.specs.holding.Storing.{PutsIf}
 use Rattle.fax_line.specs.Operations.{AllStayHeld, AskFrees, AsksLine, LinesWent, SlotTells, TurnsSlot, WakesLine}
 use Rattle.fax_line.specs.Places.{PlaceValue}
 use Rattle.fax_line.specs.Runs.{AskedOf, DoneOrder, Turned, Woken, latest, next_slot}

@@ -1,7 +1,7 @@
 //! What is asked of a line, and what it answers.
 
 use fax_gateway::{Leg, PlaceFault, RingFault};
-use fax_repeat::{Bounds, Peer};
+use fax_wires::repeat::{Bounds, Peer};
 
 /// A call rings.
 #[derive(Clone, Copy, PartialEq, Eq)]

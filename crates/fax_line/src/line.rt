@@ -18,9 +18,9 @@ ghost use Rattle.fax_line.specs.declared.asked.LineRequest.TheVariants as asked;
 ghost use Rattle.fax_line.specs.declared.asked.ConnectRequest.{ConnectRequest as ConnectingShown};
 ghost use Rattle.fax_line.specs.declared.asked.RingRequest.{RingRequest as RingingShown};
 ghost use Rattle.fax_gateway.specs.declared.leg.Leg.TheVariants as leg_shown;
-ghost use Rattle.fax_holding_wire.specs.Holding.{CeasesWhere, IsToldTimeWhere, StaysWhere};
-ghost use Rattle.fax_repeat.specs.Peers.{bounded, change_on, cut_off, gone, no_bounds, peer_on, peers_of, said, settled, state_of};
-ghost use Rattle.fax_repeat.specs.Policies.{due_of};
+ghost use Rattle.fax_wires.specs.holding.Holding.{CeasesWhere, IsToldTimeWhere, StaysWhere};
+ghost use Rattle.fax_wires.specs.repeat.Peers.{bounded, change_on, cut_off, gone, no_bounds, peer_on, peers_of, said, settled, state_of};
+ghost use Rattle.fax_wires.specs.repeat.Policies.{due_of};
 ghost use Rattle.fax_line.specs.Settling.{EndsTurn, IsOfTurnIf};
 
 use crate::asked::{ConnectRequest, HangingUp, LineAnswer, LineRequest, PeerRequest, RingRequest};
@@ -29,10 +29,10 @@ use fax_bits::NoMemory;
 use fax_gateway::{
     Buffer, Engine, Gateway, Leg, PlaceFault, RestoredCall, RingFault, Settings, TurnReport,
 };
-use fax_holding_wire::{HoldingWire, LineWire, StoreFault, end_turn};
+use fax_wires::holding::{HoldingWire, LineWire, StoreFault, end_turn};
 use fax_jobs::{Job, Report};
 use fax_pagestore::PackedRows;
-use fax_repeat::{Bounds, LegState, NoRoute, Peer, TimedWire};
+use fax_wires::repeat::{Bounds, LegState, NoRoute, Peer, TimedWire};
 use fax_timers::earlier;
 use std::alloc::Global;
 use std::marker::Model;
@@ -58,8 +58,8 @@ impl<W: LineWire + Drop> Drop for Line<W> {
 }
 
 impl<W: LineWire + Drop> Model for Line<W> {
-    ghost use Rattle.fax_repeat.specs.Peers.{peers_of};
-    ghost use Rattle.fax_repeat.specs.Policies.{due_of};
+    ghost use Rattle.fax_wires.specs.repeat.Peers.{peers_of};
+    ghost use Rattle.fax_wires.specs.repeat.Policies.{due_of};
     ghost use Rattle.fax_line.specs.Actions.{LineValue, TellsWhether};
 
     ghost Value = { LineValue };

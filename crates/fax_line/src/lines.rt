@@ -1,7 +1,7 @@
 //! All lines of a server, in forty slots.
 ghost use Rattle.std.specs.Prelude.{◌≡◌, ◌≢◌, ◌+◌, ◌<◌, ◌&&◌, List, [], ◌∷◌, ◌++◌, ℕ, Bool, true, false, IsTrue, IfOk, OnOk, OnErr, IsSome, ◌≤◌, ◌↔◌, MatchOption, is_ok, length, map, nat_eq, slice_index_or, if◌then◌else◌};
 ghost use Rattle.fax_gateway.specs.Restored.{RestoredCall};
-ghost use Rattle.fax_holding_wire.specs.Storing.{PutsIf};
+ghost use Rattle.fax_wires.specs.holding.Storing.{PutsIf};
 ghost use Rattle.fax_line.specs.Actions.{Asks, BeginsWith, IsNew, Wakes};
 ghost use Rattle.fax_line.specs.Places.{StaysHeld, visit_of};
 ghost use Rattle.fax_line.specs.Operations.{AllStayHeld, AreBegun, AreNew, AskFrees, AsksLine, EachComes, EachGoes, IsAdded, IsLineAt, LinesWent, SlotTells, TurnsSlot, WakesLine, have_turned, most_slots, rests_at, slot_after, slot_before, slot_of};
@@ -16,9 +16,9 @@ use crate::settling::{PageToStore, SlotEnd, has_page};
 use crate::store::RunStore;
 use fax_bits::NoMemory;
 use fax_gateway::{Buffer, Kept, TurnReport};
-use fax_holding_wire::{HoldingWire, LineWire, PageStore, store_pages};
+use fax_wires::holding::{HoldingWire, LineWire, PageStore, store_pages};
 use fax_jobs::Report;
-use fax_repeat::TimedWire;
+use fax_wires::repeat::TimedWire;
 use std::alloc::{AllocError, Global};
 use std::marker::Model;
 

@@ -9,7 +9,7 @@ use crate::asked::{LineAnswer, LineRequest};
 use crate::lines::Lines;
 use crate::settling::SlotEnd;
 use crate::store::RunStore;
-use fax_holding_wire::LineWire;
+use fax_wires::holding::LineWire;
 
 /// What is to be done next, and when.
 #[derive(Clone, Copy, PartialEq, Eq)]

@@ -2,7 +2,7 @@
 ghost use Rattle.std.specs.Prelude.{◌≡◌, List, [], ◌∷◌, Some, not, true, false, IfOk, OnErr};
 ghost use Rattle.fax_timers.specs.Moments.{is_due};
 ghost use Rattle.fax_gateway.specs.Restored.{RestoredCall};
-ghost use Rattle.fax_holding_wire.specs.Holding.{IsToldTimeWhere};
+ghost use Rattle.fax_wires.specs.holding.Holding.{IsToldTimeWhere};
 ghost use Rattle.fax_line.specs.Actions.{Asks, BeginsWith, Frees, Wakes, leg_begun};
 ghost use Rattle.fax_line.specs.LegPeers.{peers_after};
 ghost use Rattle.fax_line.specs.Places.{BeginsInPlace, GoesInPlace, StaysHeld, TellsOrRests, is_at_rest, visit_of};
@@ -12,8 +12,8 @@ use crate::asked::{LineAnswer, LineRequest};
 use crate::line::Line;
 use crate::settling::PageToStore;
 use fax_gateway::Buffer;
-use fax_holding_wire::{HoldingWire, LineWire};
-use fax_repeat::TimedWire;
+use fax_wires::holding::{HoldingWire, LineWire};
+use fax_wires::repeat::TimedWire;
 use std::alloc::{AllocError, Global};
 use std::marker::Model;
 

@@ -9,8 +9,8 @@ ghost use Rattle.fax_line.specs.declared.settling.SlotEnd.{SlotEnd as EndShown};
 use crate::lines::Lines;
 use crate::order::{Order, Pace};
 use crate::store::RunStore;
-use fax_holding_wire::HoldingWire;
-use fax_repeat::TimedWire;
+use fax_wires::holding::HoldingWire;
+use fax_wires::repeat::TimedWire;
 
 /// Does what is ordered, until the run ends. A moment before another that came reads as the latest. Whatever the orders, and
 /// whatever comes over the wires: each order was done once, and the operations that they came to, in the order of their moments,

@@ -5,7 +5,7 @@ ghost use Rattle.fax_line.specs.Settling.{IsStoredAs, has_page, is_stored_in};
 
 use fax_bits::Octets;
 use fax_gateway::{Gateway, Kept};
-use fax_holding_wire::StoreFault;
+use fax_wires::holding::StoreFault;
 use fax_pagestore::{Coding, PackedRows, write_page};
 use std::alloc::Global;
 

@@ -3,7 +3,7 @@ ghost use Rattle.std.specs.Prelude.{ℕ};
 ghost use Rattle.fax_jobs.specs.declared.report.Report.{Report as ReportShown};
 
 use crate::settling::PageToStore;
-use fax_holding_wire::PageStore;
+use fax_wires::holding::PageStore;
 use fax_jobs::Report;
 
 /// Keeps the pages that the lines of a run confirm, and is told which of them wait no more.

@@ -2,7 +2,7 @@
 ghost use Rattle.std.specs.Prelude.{◌≡◌, ◌+◌, [], IfOk, OnOk, length, map};
 ghost use Rattle.fax_gateway.specs.Setups.{AreAllowed};
 ghost use Rattle.fax_gateway.specs.Restored.{call_shown};
-ghost use Rattle.fax_holding_wire.specs.Storing.{HasSent};
+ghost use Rattle.fax_wires.specs.holding.Storing.{HasSent};
 ghost use Rattle.fax_line.specs.Actions.{BeginsWith};
 ghost use Rattle.fax_line.specs.Operations.{AreBegun, AreNew};
 ghost use Rattle.fax_queue.specs.OnLeg.{HasDoneOn};
@@ -12,12 +12,12 @@ ghost use Rattle.fax_opening.specs.Openings.{AddsRestored, AreRestored, settings
 use crate::fault::ServeFault;
 use fax_config::{LegConfig, LineConfig, Repeat};
 use fax_gateway::{Leg, RestoredCall, Settings};
-use fax_holding_wire::{HoldingWire, LineWire, StoreFault};
+use fax_wires::holding::{HoldingWire, LineWire, StoreFault};
 use fax_legs::{LegSocket, UdpWire};
 use fax_line::{Line, Lines, PageToStore};
 use fax_pagestore::PackedRows;
 use fax_queue::{Queue, RestoredLine, restore_line};
-use fax_repeat::{RepeatPolicy, RepeatingWire, TimedWire};
+use fax_wires::repeat::{RepeatPolicy, RepeatingWire, TimedWire};
 use fax_spool::{CallName, WaitingPage};
 use std::alloc::Global;
 use std::io;

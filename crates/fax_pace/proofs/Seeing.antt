@@ -8,7 +8,7 @@ use Rattle.fax_gateway.specs.BothLegs.{job_asked}
 use Rattle.fax_gateway.specs.Turns.{call_of_rep}
 use Rattle.fax_gateway.specs.declared.leg.Leg.TheVariants as legs
 use Rattle.fax_line.specs.Actions.{LineValue}
-use Rattle.fax_repeat.specs.Peers.{peer_on, state_of}
+use Rattle.fax_wires.specs.repeat.Peers.{peer_on, state_of}
 use Rattle.fax_pace.specs.Views.{asked_seen, leg_seen, line_seen}
 
 pub seen_as :

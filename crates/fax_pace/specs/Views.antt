@@ -12,8 +12,8 @@ use Rattle.fax_gateway.specs.declared.leg.Leg.TheVariants as legs
 use Rattle.fax_jobs.specs.Jobs.{JobValue}
 use Rattle.fax_line.specs.Actions.{LineValue}
 use Rattle.fax_line.specs.Places.{PlaceValue}
-use Rattle.fax_repeat.specs.Peers.{peer_on, state_of}
-use Rattle.fax_repeat.specs.declared.peers.LegState.{LegState}
+use Rattle.fax_wires.specs.repeat.Peers.{peer_on, state_of}
+use Rattle.fax_wires.specs.declared.repeat.peers.LegState.{LegState}
 use Rattle.fax_spool.specs.Calls.{refuses_now}
 use Rattle.fax_queue.specs.Queues.{QueueValue, first_tag, is_of_earlier_life}
 use Rattle.fax_undelivered.specs.declared.paired_store.PairedStore.{PairedStore}

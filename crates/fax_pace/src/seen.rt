@@ -2,7 +2,7 @@
 use fax_bits::Octets;
 use fax_desk::{Desk, Turn, View};
 use fax_gateway::{Leg, TurnReport};
-use fax_holding_wire::StoreFault;
+use fax_wires::holding::StoreFault;
 use fax_jobs::Report;
 use fax_legs::LegCounts;
 use fax_line::PageToStore;

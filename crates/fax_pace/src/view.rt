@@ -1,7 +1,7 @@
 //! The lines, as the desk sees them.
 ghost use Rattle.std.specs.Prelude.{◌≡◌, MatchOption, false, option_map, slice_get};
 ghost use Rattle.fax_gateway.specs.BothLegs.{job_asked};
-ghost use Rattle.fax_repeat.specs.Peers.{peer_on, state_of};
+ghost use Rattle.fax_wires.specs.repeat.Peers.{peer_on, state_of};
 ghost use Rattle.fax_pace.specs.Views.{asked_seen, failed_if, first_if, first_on, job_seen, leg_seen, line_seen, store_fails, tag_if};
 ghost use Rattle.fax_spool.specs.Calls.{refuses_now};
 
@@ -9,7 +9,7 @@ use crate::seen::SeenLines;
 use fax_bits::Octets;
 use fax_desk::{AskedView, FirstJob, LegView, LineView, Tag, Turn, View};
 use fax_gateway::{Leg, TurnReport};
-use fax_holding_wire::{LineWire, StoreFault};
+use fax_wires::holding::{LineWire, StoreFault};
 use fax_jobs::Report;
 use fax_legs::LegCounts;
 use fax_line::{Line, Lines, PageToStore};

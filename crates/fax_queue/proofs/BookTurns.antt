@@ -38,7 +38,7 @@ use Rattle.fax_spool.specs.declared.spool_record.SpoolRecord.TheVariants.{Page}
 use Rattle.fax_queue.specs.Storing.{IsRecordOf}
 use Rattle.fax_queue.specs.Restorations.{Means}
 use Rattle.fax_gateway.specs.Restored.{CallPage}
-use Rattle.fax_holding_wire.specs.Storing.{LegAction, Turn, handed_by, handed_last}
+use Rattle.fax_wires.specs.holding.Storing.{LegAction, Turn, handed_by, handed_last}
 use Rattle.fax_queue.specs.Book.{BookEntry, Confirms, confirms, confirms_on, reports, told_in}
 use Rattle.fax_queue.specs.Histories.{IsStoredPage}
 use Rattle.fax_queue.specs.OnLeg.{AreOnLeg, IsHandedOver, IsTurnOnLeg, page_at, page_if}

@@ -15,7 +15,7 @@ use Rattle.fax_pagestore.specs.PageLaws.{PagesAreUnique, WrittenPagesMean}
 use Rattle.fax_pagestore.specs.PageRows.{AreRows}
 use Rattle.fax_pagestore.specs.PageTexts.{MeansRows}
 use Rattle.fax_pagestore.specs.WrittenPages.{WritesPage}
-use Rattle.fax_holding_wire.specs.Storing.{went_out, silenced_after, with_given}
+use Rattle.fax_wires.specs.holding.Storing.{went_out, silenced_after, with_given}
 use Rattle.fax_gateway.specs.declared.given.Kept.{Kept}
 use Rattle.fax_spool.specs.declared.spool_record.SpoolRecord.TheVariants.{Page}
 use Rattle.fax_spool.specs.RecordOctets as spool

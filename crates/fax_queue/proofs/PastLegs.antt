@@ -8,9 +8,9 @@ use Rattle.fax_gateway.specs.declared.leg.Leg.TheVariants as legs
 use Rattle.fax_gateway.specs.Restored.{CallPage}
 use Rattle.fax_gateway.specs.Setups.{Setup}
 use Rattle.fax_gateway.specs.Events.{Event, Placed, Ring}
-use Rattle.fax_holding_wire.specs.Holding.{CeasesWhere, HoldingValue, StaysWhere}
-use Rattle.fax_holding_wire.specs.Storing.{Begins, HasDoneWhere, HoldsAfterWhere, LegAction, Turn, went_out}
-use Rattle.fax_holding_wire.proofs.Held.{begins_where, ceases_beside, done_where_still, no_turn_where, silenced_until}
+use Rattle.fax_wires.specs.holding.Holding.{CeasesWhere, HoldingValue, StaysWhere}
+use Rattle.fax_wires.specs.holding.Storing.{Begins, HasDoneWhere, HoldsAfterWhere, LegAction, Turn, went_out}
+use Rattle.fax_wires.proofs.holding.Held.{begins_where, ceases_beside, done_where_still, no_turn_where, silenced_until}
 use Rattle.fax_line.specs.Actions.{LineValue}
 use Rattle.fax_line.specs.StoredRuns.{kept_if}
 use Rattle.fax_line.specs.Places.{PlaceValue}

@@ -16,8 +16,8 @@ use Rattle.fax_gateway.specs.Events.{Event, Placed, Ring}
 use Rattle.fax_gateway.specs.Lives.{Life}
 use Rattle.fax_gateway.specs.Reached.{GatewayValue, IsReachedBy}
 use Rattle.fax_gateway.specs.Driving.{Accepts, DriverValue, Entry, HasMade, RefusesRing, events}
-use Rattle.fax_holding_wire.specs.Holding.{HoldingValue, StaysWhere}
-use Rattle.fax_holding_wire.specs.Storing.{HoldsByLog, PutsIf, handed_by}
+use Rattle.fax_wires.specs.holding.Holding.{HoldingValue, StaysWhere}
+use Rattle.fax_wires.specs.holding.Storing.{HoldsByLog, PutsIf, handed_by}
 use Rattle.fax_line.specs.declared.asked.LineAnswer.{LineAnswer}
 use Rattle.fax_line.specs.declared.asked.LineAnswer.TheVariants as answered
 use Rattle.fax_line.specs.declared.asked.LineRequest.{LineRequest}

@@ -1,7 +1,7 @@
 -- More records of pages.
 use Rattle.std.proofs.Common.{◌≡◌, ◌∙◌, ◌+◌, ◌<◌, Bool, List, [], ◌∷◌, ◌++◌, ℕ, Some, Result, OnOk, Ok, Err, length, map, take, ap, arith, sym, subst, append_assoc, slice_get, slice_index_or}
 use Rattle.std.proofs.lemmas.List.{length-take-le, take_more}
-use Rattle.fax_holding_wire.specs.declared.storing.StoreFault.{StoreFault}
+use Rattle.fax_wires.specs.declared.holding.storing.StoreFault.{StoreFault}
 use Rattle.fax_line.specs.declared.settling.PageToStore.{PageToStore}
 use Rattle.fax_spool.specs.SpoolRecords.{page_record}
 use Rattle.fax_spool.specs.RecordOctets.{PageValue}

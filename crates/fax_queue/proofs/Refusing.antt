@@ -1,7 +1,7 @@
 -- What the calls of a server leave that answer an `Err`.
 use Rattle.std.proofs.Common.{◌≡◌, ◌⊎◌, ◌∙◌, ℕ, zero, suc, ◌<◌, inl, inr, Bool, true, false, not, ◌&&◌, List, [], ◌∷◌, length, drop, take, count_by, All, Option, Some, None, slice_get, slice_index_or, arith, Result, Ok, Err, OnErr, refl, sym, ap, subst}
 use Rattle.std.specs.Prelude.{slice_set}
-use Rattle.fax_holding_wire.specs.declared.storing.StoreFault.{StoreFault}
+use Rattle.fax_wires.specs.declared.holding.storing.StoreFault.{StoreFault}
 use Rattle.fax_line.specs.declared.settling.PageToStore.{PageToStore}
 use Rattle.fax_spool.specs.RecordOctets.{EndedValue, PageValue}
 use Rattle.fax_spool.specs.Calls.{Call, Does, IsAsBefore, Refuses, refuses_now}

@@ -1,6 +1,6 @@
 -- Pages that are put under the tags of their lines' calls.
 use Rattle.std.proofs.Common.{◌≡◌, ℕ, Bool, List, ◌++◌, map, Result, Ok, Err, OnOk, sym, subst}
-use Rattle.fax_holding_wire.specs.declared.storing.StoreFault.{StoreFault}
+use Rattle.fax_wires.specs.declared.holding.storing.StoreFault.{StoreFault}
 use Rattle.fax_line.specs.declared.settling.PageToStore.{PageToStore}
 use Rattle.fax_spool.specs.RecordOctets.{PageValue}
 use Rattle.fax_spool.specs.SpoolRecords.{page_record}

@@ -1,6 +1,6 @@
 -- The older file of a spool is cleared where nothing in it waits.
 use Rattle.std.proofs.Common.{◌≡◌, ℕ, inl, inr, Bool, true, false, List, [], Result, Ok, Err, OnOk, OnErr, refl, sym, subst, MatchBool}
-use Rattle.fax_holding_wire.specs.declared.storing.StoreFault.{StoreFault}
+use Rattle.fax_wires.specs.declared.holding.storing.StoreFault.{StoreFault}
 use Rattle.fax_spool.specs.RecordOctets.{PageValue}
 use Rattle.fax_spool.specs.Calls.{Accepts, Does, Refuses, Turns}
 use Rattle.fax_spool.specs.Spools.{NoneIsLeft, Stores}

@@ -11,7 +11,7 @@ use Rattle.fax_gateway.specs.Setups.{AreSetWith, Setup}
 use Rattle.fax_gateway.specs.Events.{Event}
 use Rattle.fax_gateway.specs.Reached.{IsReachedBy}
 use Rattle.fax_gateway.specs.Lives.{Life}
-use Rattle.fax_holding_wire.specs.Storing as hold
+use Rattle.fax_wires.specs.holding.Storing as hold
 use Rattle.fax_line.specs.Actions.{BeginsWith}
 use Rattle.fax_line.specs.Places.{PlaceValue}
 use Rattle.fax_line.specs.Runs.{DoneOrder}

@@ -3,8 +3,8 @@
 -- project's profile.)
 use Rattle.std.specs.Prelude.{◌≡◌, ◌≢◌, ℕ, ◌<◌, Bool, true, false, not, ◌||◌, List, [], ◌∷◌, ◌++◌, map, take, drop, count_by, slice_get, All, AllPairs, Option, Some, if◌then◌else◌}
 use Rattle.std.specs.List.{filter, list_any}
-use Rattle.fax_holding_wire.specs.Storing as hold
-use Rattle.fax_holding_wire.specs.Storing.{went_out}
+use Rattle.fax_wires.specs.holding.Storing as hold
+use Rattle.fax_wires.specs.holding.Storing.{went_out}
 use Rattle.fax_pagestore.specs.Pages.{IsPage, PageValue}
 use Rattle.fax_gateway.specs.Restored.{call_shown}
 use Rattle.fax_gateway.specs.declared.given.Kept.{Kept}

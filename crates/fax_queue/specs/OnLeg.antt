@@ -7,8 +7,8 @@ use Rattle.fax_gateway.specs.Setups.{Setup}
 use Rattle.fax_gateway.specs.Events.{Event, Given, Ring, FromCalling, FromCalled, Tick, Placed, clock}
 use Rattle.fax_gateway.specs.CallingLegs.{CallingLeg, calling_leg}
 use Rattle.fax_gateway.specs.Cuts.{confirmed_at}
-use Rattle.fax_holding_wire.specs.Holding.{HoldingValue}
-use Rattle.fax_holding_wire.specs.Storing.{LegAction, HasDone, Turn, Begins, went_out}
+use Rattle.fax_wires.specs.holding.Holding.{HoldingValue}
+use Rattle.fax_wires.specs.holding.Storing.{LegAction, HasDone, Turn, Begins, went_out}
 
 -- A line's wire, which holds back, has done these actions.
 abbrev pub HasDoneOn : List LegAction → Option HoldingValue → Type 0

@@ -7,7 +7,7 @@ ghost use Rattle.fax_queue.specs.Queues.{lines_of};
 ghost use Rattle.fax_queue.specs.Tags.{AreTagged, PutsTagged, tag_of};
 
 use crate::queue::Queue;
-use fax_holding_wire::StoreFault;
+use fax_wires::holding::StoreFault;
 use fax_line::PageToStore;
 use fax_spool::{PageRecord, Spool};
 use sqlite_disk::Disk;

@@ -16,7 +16,7 @@ use crate::end_fault::EndFault;
 use crate::putting::{CallTag, Names, put_pages};
 use crate::queue::{EndedJob, Queue, QueuedPage};
 use crate::reading::read_job;
-use fax_holding_wire::{PageStore, StoreFault};
+use fax_wires::holding::{PageStore, StoreFault};
 use fax_jobs::Report;
 use fax_line::PageToStore;
 use fax_spool::laws::files_share_what_waits;

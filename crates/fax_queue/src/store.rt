@@ -5,7 +5,7 @@ ghost use Rattle.fax_queue.specs.Tags.{NotesTag};
 
 use crate::on_disk::OnDisk;
 use crate::storage::Storage;
-use fax_holding_wire::{PageStore, StoreFault};
+use fax_wires::holding::{PageStore, StoreFault};
 use fax_jobs::Report;
 use fax_line::{PageToStore, RunStore};
 use sqlite_disk::Disk;

@@ -12,8 +12,8 @@ use Rattle.fax_line.specs.Places.{PlaceValue}
 use Rattle.fax_redial.specs.Befalls.{Tries}
 use Rattle.fax_redial.specs.Tries.{TryValue}
 use Rattle.fax_redial.specs.declared.job.RetryJob.{RetryJob}
-use Rattle.fax_repeat.specs.Peers.{peer_on, state_of}
-use Rattle.fax_repeat.specs.declared.peers.LegState.{LegState}
+use Rattle.fax_wires.specs.repeat.Peers.{peer_on, state_of}
+use Rattle.fax_wires.specs.declared.repeat.peers.LegState.{LegState}
 
 -- a leg without a peer, as a redial line's calling leg is for ever
 abbrev pub no_leg : LegView

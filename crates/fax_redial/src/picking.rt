@@ -8,7 +8,7 @@ ghost use Rattle.fax_undelivered.specs.Calls.{is_named};
 use crate::redials::Redials;
 use crate::retrying::is_due;
 use fax_queue::{Queue, QueuedPage};
-use fax_repeat::TimedWire;
+use fax_wires::repeat::TimedWire;
 use fax_spool::CallName;
 use fax_undelivered::UndeliveredCall;
 

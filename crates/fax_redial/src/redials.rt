@@ -17,7 +17,7 @@ use fax_desk::{Card, Cause, Desk, Listener, Turn, tell_turn};
 use fax_gateway::TurnReport;
 use fax_jobs::Report;
 use fax_queue::Queue;
-use fax_repeat::TimedWire;
+use fax_wires::repeat::TimedWire;
 use std::alloc::Global;
 use std::marker::Model;
 

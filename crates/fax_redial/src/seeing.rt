@@ -3,15 +3,15 @@ ghost use Rattle.std.specs.Prelude.{◌≡◌, None, option_map, slice_get};
 ghost use Rattle.fax_gateway.specs.BothLegs.{job_asked};
 ghost use Rattle.fax_gateway.specs.declared.leg.Leg.TheVariants as legs;
 ghost use Rattle.fax_redial.specs.Seeing.{first_of, idle_seen, job_seen, leg_seen, line_seen, no_leg, seen_at, try_seen};
-ghost use Rattle.fax_repeat.specs.Peers.{peer_on, state_of};
+ghost use Rattle.fax_wires.specs.repeat.Peers.{peer_on, state_of};
 
 use crate::job::RetryJob;
 use crate::job_try::JobTry;
 use fax_desk::{AskedView, FirstJob, LegView, LineView, View};
 use fax_gateway::Leg;
-use fax_holding_wire::LineWire;
+use fax_wires::holding::LineWire;
 use fax_line::Line;
-use fax_repeat::TimedWire;
+use fax_wires::repeat::TimedWire;
 
 /// A leg without a peer.
 const NO_LEG: LegView = LegView {

@@ -16,7 +16,7 @@ use fax_desk::{
 use fax_events::AskedJob;
 use fax_gateway::Leg;
 use fax_line::{LineAnswer, LineRequest};
-use fax_repeat::TimedWire;
+use fax_wires::repeat::TimedWire;
 
 impl<W: TimedWire + Drop> Redials<W> {
     /// Whether a word names a redial line.

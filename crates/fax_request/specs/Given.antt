@@ -9,8 +9,8 @@ use Rattle.fax_runcodes.specs.declared.Width.TheVariants.{W1728, W2048, W2432}
 use Rattle.fax_runcodes.specs.declared.format.Format.{Format}
 use Rattle.fax_runcodes.specs.declared.format.Coding.{Coding}
 use Rattle.fax_runcodes.specs.declared.format.Coding.TheVariants.{Mh, Mr}
-use Rattle.fax_repeat.specs.declared.policy.RepeatPolicy.{RepeatPolicy}
-use Rattle.fax_repeat.specs.declared.policy.RepeatPolicy.TheVariants.{Full, Once, Never}
+use Rattle.fax_wires.specs.declared.repeat.policy.RepeatPolicy.{RepeatPolicy}
+use Rattle.fax_wires.specs.declared.repeat.policy.RepeatPolicy.TheVariants.{Full, Once, Never}
 use Rattle.fax_timers.specs.Spans.{longest_pause, pace}
 use Rattle.fax_udptl.specs.Sending.{most_redundancy}
 use Rattle.fax_gateway.specs.declared.settings.Settings.{Settings}

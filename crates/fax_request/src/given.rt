@@ -7,7 +7,7 @@ use clap::ArgMatches;
 use crate::arguments::{LEAST_PREAMBLE_MS, MOST_PREAMBLE_MS, MOST_REDUNDANCY};
 use fax_gateway::Settings;
 use fax_pagestore::{Coding, Format};
-use fax_repeat::RepeatPolicy;
+use fax_wires::repeat::RepeatPolicy;
 use fax_runcodes::Width;
 
 /// The text that was given with an option, or its default.

@@ -3,7 +3,7 @@ ghost use Rattle.fax_runs.specs.Crossings.{KilledServersCross, ServersCross, Ser
 ghost use Rattle.fax_runs.specs.Histories.{ServersMakeHistory};
 ghost use Rattle.fax_undelivered.specs.declared.paired_store.PairedStore.{PairedStore as StoreShown};
 
-use fax_holding_wire::PageStore;
+use fax_wires::holding::PageStore;
 use fax_line::{PageToStore, RunStore};
 use fax_queue::laws::histories::runs_make_history;
 use fax_queue::laws::whole_lines_are_restored;

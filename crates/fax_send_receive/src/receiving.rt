@@ -15,7 +15,7 @@ use crate::sockets::{address_of, socket_at};
 use crate::udp_leg::{LastCall, Port, UdpLeg, await_call, keep_repeating};
 use crate::watch::Watch;
 use fax_gateway::Settings;
-use fax_repeat::{RepeatPolicy, RepeatingWire};
+use fax_wires::repeat::{RepeatPolicy, RepeatingWire};
 use fax_terminal::{MOST_OCTETS, TerminalFault, receive_call};
 use std::alloc::Global;
 use std::net::Net;

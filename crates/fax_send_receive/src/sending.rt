@@ -15,7 +15,7 @@ use crate::watch::Watch;
 use fax_gateway::Settings;
 use fax_jobs::{Outcome, Report};
 use fax_pagestore::{Coding, Format};
-use fax_repeat::{RepeatPolicy, RepeatingWire};
+use fax_wires::repeat::{RepeatPolicy, RepeatingWire};
 use fax_terminal::{TerminalFault, send_job};
 use std::alloc::Global;
 use std::net::{Net, SocketAddr, UdpSocket};

@@ -5,7 +5,7 @@ ghost use Rattle.fax_gateway.specs.Wires.{greatest_count};
 use crate::clock_pace::ClockPace;
 use crate::watch::Watch;
 use fax_gateway::{Leg, Wire, WireFault};
-use fax_repeat::{Bounds, LegState, LegWire, NoRoute, Peer, TimedWire};
+use fax_wires::repeat::{Bounds, LegState, LegWire, NoRoute, Peer, TimedWire};
 use std::cell::Cell;
 use std::io;
 use std::io::ErrorKind;
@@ -158,7 +158,7 @@ impl Wire for UdpLeg<'_> {
 /// It has one peer, for ever, and takes no word of another.
 impl LegWire for UdpLeg<'_> {
     ghost use Rattle.std.specs.Prelude.{refl};
-    ghost use Rattle.fax_repeat.specs.Telling.{hears_none};
+    ghost use Rattle.fax_wires.specs.repeat.Telling.{hears_none};
 
     ghost keeps_on_receive = { λ at old new made. hears_none at };
 

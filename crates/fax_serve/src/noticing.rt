@@ -4,7 +4,7 @@ ghost use Rattle.fax_notify.specs.Tellings.{ready_after};
 
 use crate::stopping::StoppingPace;
 use fax_desk::RunEnd;
-use fax_holding_wire::LineWire;
+use fax_wires::holding::LineWire;
 use fax_line::{LineAnswer, Lines, Order, Pace, RunStore, SlotEnd};
 use fax_notify::{Notice, ServiceManager};
 use std::marker::Model;

@@ -15,7 +15,7 @@ use fax_config::{Config, LineConfig};
 use fax_desk::{Card, Damage, Desk, LineLimits, RunEnd};
 use fax_gateway::Settings;
 use fax_undelivered::held::HeldPages;
-use fax_holding_wire::{HoldingWire, PageStore};
+use fax_wires::holding::{HoldingWire, PageStore};
 use fax_line::{Lines, PageToStore, RunStore, serve};
 use fax_notify::ServiceManager;
 use fax_opening::{

@@ -4,7 +4,7 @@ ghost use Rattle.fax_udptl.specs.Sending.{most_redundancy};
 
 use fax_bits::NoMemory;
 use fax_gateway::{Leg, WireFault};
-use fax_repeat::TimedWire;
+use fax_wires::repeat::TimedWire;
 use fax_udptl::{Decided, Receiver, Sender};
 use std::alloc::Global;
 

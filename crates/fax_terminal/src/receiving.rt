@@ -11,7 +11,7 @@ use fax_answer::{Answerer, Confirmed, State, Step};
 use fax_bits::NoMemory;
 use fax_gateway::Settings;
 use fax_pagestore::RowStore;
-use fax_repeat::TimedWire;
+use fax_wires::repeat::TimedWire;
 use std::alloc::Global;
 use std::marker::Model;
 

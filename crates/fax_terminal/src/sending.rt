@@ -13,7 +13,7 @@ use fax_call::{Caller, State};
 use fax_gateway::Settings;
 use fax_jobs::{Job, Outcome};
 use fax_pagestore::RowStore;
-use fax_repeat::TimedWire;
+use fax_wires::repeat::TimedWire;
 use std::alloc::Global;
 use std::marker::Model;
 

@@ -7,7 +7,7 @@ ghost use Rattle.fax_undelivered.specs.StoredEnds.{EndsWhere, KeepsLeft, MayEnd,
 
 use crate::card::Card;
 use crate::undelivered::Undelivered;
-use fax_holding_wire::{PageStore, StoreFault};
+use fax_wires::holding::{PageStore, StoreFault};
 use fax_jobs::{Outcome, Report};
 use fax_line::{PageToStore, RunStore};
 use fax_queue::{OnDisk, Storage};

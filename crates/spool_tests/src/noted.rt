@@ -2,7 +2,7 @@
 use crate::steps::{FORMAT, new_spool, reopen};
 use fax_bits::{NoMemory, Octets};
 use fax_gateway::Kept;
-use fax_holding_wire::PageStore;
+use fax_wires::holding::PageStore;
 use fax_jobs::{Outcome, Report};
 use fax_line::PageToStore;
 use fax_queue::{Queue, Storage};

@@ -1,7 +1,7 @@
 use Rattle.std.proofs.Common.{◌≡◌, ◌≢◌, ℕ, Bool, true, false, ◌∷◌, [], Option, Some, None, nat_eq, refl, slice_index_or, sym, subst}
 use Rattle.std.proofs.lemmas.Bool.{eq-eqb, ne_eqb}
 use Rattle.std.proofs.lemmas.List.{get_or_default}
-use Rattle.fax_holding_wire.proofs.Held.{stays_same}
+use Rattle.fax_wires.proofs.holding.Held.{stays_same}
 use Rattle.fax_line.specs.declared.asked.LineAnswer.{LineAnswer}
 use Rattle.fax_line.specs.declared.asked.LineRequest.{LineRequest}
 use Rattle.fax_line.specs.Actions.{Asks}

@@ -2,7 +2,7 @@ use Rattle.std.proofs.Common.{◌≡◌, ◌∷◌, [], subst}
 use Rattle.std.proofs.lemmas.List.{get_or_default}
 use Rattle.fax_line.specs.Actions.{Wakes}
 use Rattle.fax_line.specs.Actions.{LineValue}
-use Rattle.fax_holding_wire.specs.Holding.{StaysWhere}
+use Rattle.fax_wires.specs.holding.Holding.{StaysWhere}
 use Rattle.fax_line.specs.Places.{GoesInPlace, PlaceValue, StaysHeld}
 use Rattle.fax_line.proofs.Stepping.{none_goes, one_goes}
 use Rattle.fax_line.proofs.Turning.{all_come, one_comes, still_held}

@@ -1,6 +1,6 @@
 use Rattle.std.proofs.Common.{◌≡◌, ◌∙◌, ap, is_some, refl, subst, sym}
-use Rattle.fax_repeat.specs.Policies.{IsToldAs}
-use Rattle.fax_holding_wire.specs.Holding.{as_told}
+use Rattle.fax_wires.specs.repeat.Policies.{IsToldAs}
+use Rattle.fax_wires.specs.holding.Holding.{as_told}
 use Rattle.fax_line.specs.Actions.{LineValue}
 use Rattle.fax_line.proofs.Slots.{ends_by}
 use Rattle.fax_line.proofs.line.Line+HoldingWire+W.end_turn.Goals as goal

@@ -1,7 +1,7 @@
 use Rattle.std.proofs.Common.{[], ◌∷◌, Ok, Err, subst, sym}
 use Rattle.fax_gateway.specs.Reached.{GatewayValue}
-use Rattle.fax_repeat.specs.Peers.{peers_of}
-use Rattle.fax_repeat.specs.Policies.{due_of}
+use Rattle.fax_wires.specs.repeat.Peers.{peers_of}
+use Rattle.fax_wires.specs.repeat.Policies.{due_of}
 use Rattle.fax_line.specs.declared.asked.LineRequest.TheVariants as asked
 use Rattle.fax_line.specs.Actions.{Asks, Goes, LineValue}
 use Rattle.fax_line.proofs.Goings.{goes_refused, goes_ring, line_of, rung_as}

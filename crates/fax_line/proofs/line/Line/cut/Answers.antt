@@ -1,6 +1,6 @@
 use Rattle.std.proofs.Common.{subst}
-use Rattle.fax_repeat.specs.Peers.{peers_of}
-use Rattle.fax_repeat.specs.Policies.{due_of}
+use Rattle.fax_wires.specs.repeat.Peers.{peers_of}
+use Rattle.fax_wires.specs.repeat.Policies.{due_of}
 use Rattle.fax_line.specs.Actions.{LineValue, TellsWire}
 use Rattle.fax_line.proofs.Goings.{line_of}
 use Rattle.fax_line.proofs.Heard.{tells_line}

@@ -5,11 +5,11 @@ use Rattle.fax_gateway.specs.Setups.{Setup}
 use Rattle.fax_gateway.specs.Reached.{IsReachedBy}
 use Rattle.fax_gateway.specs.Driving.{Entry, HasMade}
 use Rattle.fax_gateway.proofs.DrivingLemmas.{wire_shown}
-use Rattle.fax_repeat.specs.Peers.{HearsOn, peers_of}
-use Rattle.fax_repeat.specs.Policies.{due_of}
-use Rattle.fax_holding_wire.specs.Holding.{SendsWhere, StaysWhere}
-use Rattle.fax_holding_wire.proofs.Clocks.{SameBySend, SameOn, same_over, time_then}
-use Rattle.fax_holding_wire.proofs.Held.{held_later, logs_are_held}
+use Rattle.fax_wires.specs.repeat.Peers.{HearsOn, peers_of}
+use Rattle.fax_wires.specs.repeat.Policies.{due_of}
+use Rattle.fax_wires.specs.holding.Holding.{SendsWhere, StaysWhere}
+use Rattle.fax_wires.proofs.holding.Clocks.{SameBySend, SameOn, same_over, time_then}
+use Rattle.fax_wires.proofs.holding.Held.{held_later, logs_are_held}
 use Rattle.fax_line.specs.Actions.{Drives, Goes, LineValue, Turns}
 use Rattle.fax_line.proofs.Goings.{drives_turn, goes_turn, line_of}
 use Rattle.fax_line.proofs.Heard.{SendStays, hear_later, hear_over}

@@ -1,7 +1,7 @@
 use Rattle.std.proofs.Common.{[], ◌∷◌, Ok, Err, subst, sym}
 use Rattle.fax_gateway.specs.Reached.{GatewayValue}
-use Rattle.fax_repeat.specs.Peers.{peers_of}
-use Rattle.fax_repeat.specs.Policies.{due_of}
+use Rattle.fax_wires.specs.repeat.Peers.{peers_of}
+use Rattle.fax_wires.specs.repeat.Policies.{due_of}
 use Rattle.fax_line.specs.Actions.{Asks, Goes, LineValue}
 use Rattle.fax_line.proofs.Goings.{goes_placed, goes_unplaced, line_of, placed_as}
 use Rattle.fax_line.proofs.line.Line.place.Goals as goal

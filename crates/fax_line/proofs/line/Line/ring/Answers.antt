@@ -1,6 +1,6 @@
 use Rattle.std.proofs.Common.{[], ◌∷◌, Ok, ◌∙◌, ap}
 use Rattle.fax_gateway.specs.declared.leg.Leg.TheVariants as legs
-use Rattle.fax_repeat.specs.Peers.{Peers, bounded, change_on}
+use Rattle.fax_wires.specs.repeat.Peers.{Peers, bounded, change_on}
 use Rattle.fax_line.specs.declared.asked.LineRequest.TheVariants as asked
 use Rattle.fax_line.specs.Actions.{Asks}
 use Rattle.fax_line.proofs.Goings.{goes_more, goes_peers, rung_as}

@@ -1,6 +1,6 @@
 use Rattle.std.proofs.Common.{[], refl, sym, subst}
-use Rattle.fax_holding_wire.specs.Holding.{HoldingValue}
-use Rattle.fax_holding_wire.specs.Storing.{HasDone}
+use Rattle.fax_wires.specs.holding.Holding.{HoldingValue}
+use Rattle.fax_wires.specs.holding.Storing.{HasDone}
 use Rattle.fax_opening.proofs.sockets.HoldingWireOpenedWire.open.Goals as goal
 
 pub returns : goal.returns

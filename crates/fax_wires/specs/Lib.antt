@@ -1,0 +1,2 @@
+pub mod repeat
+pub mod holding

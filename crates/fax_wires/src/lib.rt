@@ -1,0 +1,4 @@
+#![tactic(auto)]
+
+pub mod holding;
+pub mod repeat;
