@@ -3,7 +3,7 @@ use Rattle.std.specs.Prelude.{◌≡◌, ℕ, zero, suc, ◌+◌, ◌<◌, min, 
 use Rattle.std.specs.List.{AllZip, items_where_true, list_any}
 use Rattle.fax_control.specs.ClientStreams.{EndsALine, HasNoLineFeed, fitting, octets_of_heard}
 use Rattle.fax_control.specs.declared.hearing.HeardLine.{HeardLine}
-use Rattle.fax_events.specs.Queues.{Line, Lost, QueuedLine, after_line, greatest_count, lines_in}
+use Rattle.fax_control.specs.events.Queues.{Line, Lost, QueuedLine, after_line, greatest_count, lines_in}
 
 -- What comes of a client: whether more may come, the octets that were read and not heard yet, and the beginning of its
 -- next line, none where that is too long.

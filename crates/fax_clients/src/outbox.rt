@@ -1,11 +1,11 @@
 //! What a client is still to be told.
 ghost use Rattle.std.specs.Prelude.{◌≡◌, ◌<◌, [], Some, length, is_some, unwrap_or, flat_map, string_bytes, IfOk, MatchBool, OnOk, OnErr};
-ghost use Rattle.fax_events.specs.Queues.{Lost, lost_lines, tellings_of};
+ghost use Rattle.fax_control.specs.events.Queues.{Lost, lost_lines, tellings_of};
 ghost use Rattle.fax_clients.specs.Clients.{GoesOn, HasTold, IsWritten, nothing_told, telling_text};
 
 use crate::inbox::is_passing;
 use fax_bits::NoMemory;
-use fax_events::{Due, EventQueue};
+use fax_control::events::{Due, EventQueue};
 use std::alloc::Global;
 use std::io::Write;
 use std::marker::Model;
@@ -39,7 +39,7 @@ impl Drop for Outbox {
 /// Contracts see what is left of the text, the events as they wait for their reader, and how many were lost.
 impl Model for Outbox {
     ghost use Rattle.std.specs.Prelude.{◌≤◌, length, drop, option_map};
-    ghost use Rattle.fax_events.specs.Queues.{due_of};
+    ghost use Rattle.fax_control.specs.events.Queues.{due_of};
     ghost use Rattle.fax_clients.specs.Clients.{ClientOutput};
 
     ghost Value = { ClientOutput };

@@ -2,3 +2,4 @@ pub mod Answers
 pub mod ClientStreams
 pub mod Options
 pub mod Words
+pub mod events

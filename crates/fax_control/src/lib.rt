@@ -1,6 +1,7 @@
 //! What is said to a running gateway, and what it answers: control words, one a line, and the lines of a client.
 #![tactic(auto)]
 
+pub mod events;
 mod answer;
 mod hearing;
 mod number;

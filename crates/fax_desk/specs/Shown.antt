@@ -1,8 +1,8 @@
 -- What happened, as an event (this project's profile).
 use Rattle.std.specs.Prelude.{◌≡◌, ℕ, List, Option, Some, None, option_map}
 use Rattle.std.specs.Str.{IsUtf8}
-use Rattle.fax_events.specs.declared.event.What.{What}
-use Rattle.fax_events.specs.declared.event.What.TheVariants as what
+use Rattle.fax_control.specs.declared.events.event.What.{What}
+use Rattle.fax_control.specs.declared.events.event.What.TheVariants as what
 use Rattle.fax_desk.specs.declared.questions.Cause.{Cause}
 use Rattle.fax_desk.specs.declared.tag.Tag.{Tag}
 use Rattle.fax_desk.specs.declared.told.LineEvent.{LineEvent}

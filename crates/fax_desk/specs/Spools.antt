@@ -3,8 +3,8 @@ use Rattle.std.specs.Prelude.{ℕ, ◌+◌, ◌-◌, ◌^◌, min, Bool, true, f
 use Rattle.fax_control.specs.declared.refusal.Refusal.TheVariants as refusal
 use Rattle.fax_control.specs.declared.word.Word.{Word}
 use Rattle.fax_control.specs.declared.word.Word.TheVariants as word
-use Rattle.fax_events.specs.declared.event.What.{What}
-use Rattle.fax_events.specs.declared.event.What.TheVariants as what
+use Rattle.fax_control.specs.declared.events.event.What.{What}
+use Rattle.fax_control.specs.declared.events.event.What.TheVariants as what
 use Rattle.fax_desk.specs.declared.next.Reply.{Reply}
 use Rattle.fax_desk.specs.declared.next.Reply.TheVariants as reply
 use Rattle.fax_desk.specs.declared.spool.Damage.{Damage}

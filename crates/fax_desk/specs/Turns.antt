@@ -1,8 +1,8 @@
 -- What is told of a line (this project's profile).
 use Rattle.std.specs.Prelude.{ℕ, ◌+◌, ◌-◌, ◌^◌, min, Bool, true, false, Option, Some, None, is_some, option_map}
-use Rattle.fax_events.specs.declared.event.AskedJob.{AskedJob}
-use Rattle.fax_events.specs.declared.event.Ending.{Ending}
-use Rattle.fax_events.specs.declared.event.Ending.TheVariants.{Done, HungUp, GivenUp, NotStored}
+use Rattle.fax_control.specs.declared.events.event.AskedJob.{AskedJob}
+use Rattle.fax_control.specs.declared.events.event.Ending.{Ending}
+use Rattle.fax_control.specs.declared.events.event.Ending.TheVariants.{Done, HungUp, GivenUp, NotStored}
 use Rattle.fax_gateway.specs.declared.given.Kept.{Kept}
 use Rattle.fax_gateway.specs.declared.given.RefusedPage.{RefusedPage}
 use Rattle.fax_jobs.specs.declared.report.Report.{Report}

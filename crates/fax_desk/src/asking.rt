@@ -9,7 +9,7 @@ use crate::desk::LookOutcome;
 use crate::questions::{Cause, Question};
 use crate::told::{LineEvent, LineState};
 use crate::view::{AskedView, FirstJob, LineView};
-use fax_events::AskedJob;
+use fax_control::events::AskedJob;
 
 /// The first time that the call of a job is asked for.
 const FIRST_TRY: u32 = 1;

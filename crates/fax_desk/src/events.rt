@@ -5,7 +5,7 @@ ghost use Rattle.fax_desk.specs.Shown.{CauseShows, Shows, TagShows};
 use crate::questions::Cause;
 use crate::tag::{Tag, TaggedCall};
 use crate::told::LineEvent;
-use fax_events::What;
+use fax_control::events::What;
 
 impl LineEvent {
     /// The same as an event.

@@ -5,7 +5,7 @@ ghost use Rattle.fax_desk.specs.Turns.{ending_of};
 use crate::questions::Cause;
 use crate::tag::{Tag, TaggedCall};
 use crate::view::FirstJob;
-use fax_events::{AskedJob, Ending, PageConfirmed};
+use fax_control::events::{AskedJob, Ending, PageConfirmed};
 use fax_gateway::{RefusedPage, TurnReport};
 use fax_jobs::Report;
 

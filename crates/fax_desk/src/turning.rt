@@ -5,7 +5,7 @@ ghost use Rattle.fax_desk.specs.Turns.{card_after, dial_told, ended_told, job_to
 use crate::card::Card;
 use crate::told::{LineEvent, Turn, TurnEvents, ending};
 use crate::view::FirstJob;
-use fax_events::PageConfirmed;
+use fax_control::events::PageConfirmed;
 use fax_gateway::{Kept, RefusedPage};
 use fax_jobs::Report;
 

@@ -5,7 +5,7 @@ use crate::seen::SeenLines;
 use fax_bits::NoMemory;
 use fax_control::Answer;
 use fax_desk::{Desk, LineEvent, LineView, Tag};
-use fax_events::{Counters, Event, What, write_event};
+use fax_control::events::{Counters, Event, What, write_event};
 use fax_gateway::Leg;
 use fax_legs::LegCounts;
 use fax_redial::RetryJob;

@@ -1,6 +1,6 @@
 //! Receives and sends that fail.
 use fax_control::Leg;
-use fax_events::Direction;
+use fax_control::events::Direction;
 
 /// So many failures more are told.
 const MORE: u64 = 100;

@@ -10,7 +10,7 @@ use fax_bits::NoMemory;
 use fax_clients::{Asker, Clients};
 use fax_control::{Answer, HeardLine, Refusal};
 use fax_desk::{Cause, Damage, LineEvent, Listener, Tag};
-use fax_events::{Counters, Event, PageAside, What, write_event};
+use fax_control::events::{Counters, Event, PageAside, What, write_event};
 use fax_jobs::{Outcome, Report};
 use fax_undelivered::UndeliveredCall;
 use std::alloc::{AllocError, Global};

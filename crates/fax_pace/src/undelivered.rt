@@ -1,6 +1,6 @@
 //! What is told of pages that could not be delivered.
 use fax_bits::NoMemory;
-use fax_events::{Event, UndeliveredJob, What, write_event};
+use fax_control::events::{Event, UndeliveredJob, What, write_event};
 use fax_undelivered::UndeliveredCall;
 use std::alloc::Global;
 

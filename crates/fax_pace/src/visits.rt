@@ -3,7 +3,7 @@ use crate::seen::SeenLines;
 use crate::undelivered::{pages_left, shown_text};
 use fax_bits::NoMemory;
 use fax_desk::{Desk, LineView as LineSeen, Tag, TagsOn};
-use fax_events::Counters;
+use fax_control::events::Counters;
 use fax_http::{
     CallView, CalledView, CountView, Health, JobView, LineView, PageView, UndeliveredView,
     write_page,

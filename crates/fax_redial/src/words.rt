@@ -13,7 +13,7 @@ use fax_desk::{
     Desk, LineEvent, LineState, LineView, Listener, LookOutcome, Next, Order, RefusedWord, Reply,
     tell_at,
 };
-use fax_events::AskedJob;
+use fax_control::events::AskedJob;
 use fax_gateway::Leg;
 use fax_line::{LineAnswer, LineRequest};
 use fax_wires::repeat::TimedWire;

@@ -1,0 +1,8 @@
+use Rattle.fax_control.proofs.events.TextLemmas.{Adds-last}
+use Rattle.fax_control.proofs.events.writing.put_fault.Goals as goal
+
+pub returns : goal.returns
+returns c =
+    Adds-last c.put_row.result _ _ _ _ _ _
+    (c.in_ok-put_number.ensures)
+    c.put_row.ensures (cc)

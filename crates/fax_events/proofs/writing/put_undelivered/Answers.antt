@@ -1,8 +1,0 @@
-use Rattle.fax_events.proofs.TextLemmas.{Adds-then, Adds-last}
-use Rattle.fax_events.proofs.writing.put_undelivered.Goals as goal
-
-pub returns : goal.returns
-returns c =
-    Adds-last c.put_tries.result _ _ _ _ _ _
-    (Adds-then _ _ _ _ _ (Adds-then _ _ _ _ _ (Adds-then _ _ _ _ _ (Adds-then _ _ _ _ _ (c.in_ok-put_number.ensures) c.in_ok-put_number-2.ensures) c.in_ok-put_tag.ensures) c.in_ok-put_number-3.ensures) c.in_ok-put_text.ensures)
-    c.put_tries.ensures (cc)
