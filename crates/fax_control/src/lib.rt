@@ -1,8 +1,9 @@
-//! What is said to a running gateway, and what it answers: control words, one a line, and the lines of a client.
+//! What is said to a running gateway, and what it answers: control words, one a line, and the lines of a client; and what it
+//! tells by itself: [`events`].
 #![tactic(auto)]
 
-pub mod events;
 mod answer;
+pub mod events;
 mod hearing;
 mod number;
 mod options;

@@ -4,8 +4,8 @@ ghost use Rattle.fax_desk.specs.Spools.{damage_told, end_of, failed_after, failu
 
 use crate::next::{RefusedWord, Reply};
 use crate::stop::Stop;
-use fax_control::{Refusal, Word};
 use fax_control::events::What;
+use fax_control::{Refusal, Word};
 
 /// The spool is opened anew so many milliseconds after a failure, at the earliest.
 const BETWEEN_OPENINGS_MS: u64 = 10_000;

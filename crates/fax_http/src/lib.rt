@@ -1,9 +1,8 @@
 //! HTTP, as an operator's browser and a monitor look at a server (RFC 9110, RFC 9112): requests, read from octets as they come, answers,
-//! written as octets, and what they tell: one page, how the server is, and its counts. One request a connection. Nothing here reads,
-//! writes, opens or waits.
+//! written as octets, and what they tell: one page, how the server is, and its counts. One request a connection. Nothing of these
+//! reads, writes, opens or waits; what does so is [`visitors`].
 #![tactic(auto)]
 
-pub mod visitors;
 mod answer;
 mod cells;
 mod connection;
@@ -17,6 +16,7 @@ mod reading;
 mod text;
 mod undelivered;
 mod view;
+pub mod visitors;
 
 pub use answer::{Answer, Content, Status, refusal, write_answer};
 pub use connection::Connection;

@@ -29,11 +29,11 @@ use fax_bits::NoMemory;
 use fax_gateway::{
     Buffer, Engine, Gateway, Leg, PlaceFault, RestoredCall, RingFault, Settings, TurnReport,
 };
-use fax_wires::holding::{HoldingWire, LineWire, StoreFault, end_turn};
 use fax_jobs::{Job, Report};
 use fax_pagestore::PackedRows;
-use fax_wires::repeat::{Bounds, LegState, NoRoute, Peer, TimedWire};
 use fax_timers::earlier;
+use fax_wires::holding::{HoldingWire, LineWire, StoreFault, end_turn};
+use fax_wires::repeat::{Bounds, LegState, NoRoute, Peer, TimedWire};
 use std::alloc::Global;
 use std::marker::Model;
 

@@ -5,8 +5,8 @@ ghost use Rattle.fax_line.specs.Settling.{IsStoredAs, has_page, is_stored_in};
 
 use fax_bits::Octets;
 use fax_gateway::{Gateway, Kept};
-use fax_wires::holding::StoreFault;
 use fax_pagestore::{Coding, PackedRows, write_page};
+use fax_wires::holding::StoreFault;
 use std::alloc::Global;
 
 /// A page that a turn confirmed, as it is handed to a store.

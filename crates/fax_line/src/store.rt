@@ -3,8 +3,8 @@ ghost use Rattle.std.specs.Prelude.{ℕ};
 ghost use Rattle.fax_jobs.specs.declared.report.Report.{Report as ReportShown};
 
 use crate::settling::PageToStore;
-use fax_wires::holding::PageStore;
 use fax_jobs::Report;
+use fax_wires::holding::PageStore;
 
 /// Keeps the pages that the lines of a run confirm, and is told which of them wait no more.
 pub trait RunStore: PageStore<PageToStore> {

@@ -12,13 +12,13 @@ ghost use Rattle.fax_opening.specs.Openings.{AddsRestored, AreRestored, settings
 use crate::fault::ServeFault;
 use fax_config::{LegConfig, LineConfig, Repeat};
 use fax_gateway::{Leg, RestoredCall, Settings};
-use fax_wires::holding::{HoldingWire, LineWire, StoreFault};
 use fax_legs::{LegSocket, UdpWire};
 use fax_line::{Line, Lines, PageToStore};
 use fax_pagestore::PackedRows;
 use fax_queue::{Queue, RestoredLine, restore_line};
-use fax_wires::repeat::{RepeatPolicy, RepeatingWire, TimedWire};
 use fax_spool::{CallName, WaitingPage};
+use fax_wires::holding::{HoldingWire, LineWire, StoreFault};
+use fax_wires::repeat::{RepeatPolicy, RepeatingWire, TimedWire};
 use std::alloc::Global;
 use std::io;
 use std::net::{Net, UdpSocket};

@@ -1,7 +1,7 @@
 //! Pages of earlier lives that are not sent, and why.
 use crate::telling::Teller;
-use fax_desk::Desk;
 use fax_control::events::{PageAside, WhyAside};
+use fax_desk::Desk;
 use fax_queue::{Aside, Queue};
 use fax_spool::{CallName, WaitingPage, is_torn};
 

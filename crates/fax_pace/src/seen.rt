@@ -2,11 +2,11 @@
 use fax_bits::Octets;
 use fax_desk::{Desk, Turn, View};
 use fax_gateway::{Leg, TurnReport};
-use fax_wires::holding::StoreFault;
 use fax_jobs::Report;
 use fax_legs::LegCounts;
 use fax_line::PageToStore;
 use fax_undelivered::UndeliveredCall;
+use fax_wires::holding::StoreFault;
 use std::alloc::Global;
 
 /// The lines of a server, counted from 0, and what keeps their pages. Of a line that is not there nothing is told.

@@ -9,12 +9,12 @@ use crate::seen::SeenLines;
 use fax_bits::Octets;
 use fax_desk::{AskedView, FirstJob, LegView, LineView, Tag, Turn, View};
 use fax_gateway::{Leg, TurnReport};
-use fax_wires::holding::{LineWire, StoreFault};
 use fax_jobs::Report;
 use fax_legs::LegCounts;
 use fax_line::{Line, Lines, PageToStore};
 use fax_opening::SocketLegs;
 use fax_undelivered::{PairedStore, Undelivered, UndeliveredCall};
+use fax_wires::holding::{LineWire, StoreFault};
 use sqlite_disk::Disk;
 use std::alloc::Global;
 

@@ -2,13 +2,13 @@
 use crate::undelivered::pages_undelivered;
 use crate::undelivered_calls::UndeliveredCalls;
 use fax_bits::NoMemory;
+use fax_http::visitors::Visitors;
 use fax_http::{Answer, Content, Question, Refusal, Status, picture_path, refusal};
 use fax_pagestore::{PackedRows, Page, PageFault};
 use fax_png::write_png;
 use fax_spool::WaitingPage;
 use fax_spool_folder::read_waiting_page;
 use fax_undelivered::UndeliveredCall;
-use fax_http::visitors::Visitors;
 use std::alloc::{AllocError, Global};
 
 /// Visitors are served so often, in milliseconds, and one of them is answered each time; and while nobody is there, it is looked so often

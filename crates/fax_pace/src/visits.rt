@@ -2,8 +2,8 @@
 use crate::seen::SeenLines;
 use crate::undelivered::{pages_left, shown_text};
 use fax_bits::NoMemory;
-use fax_desk::{Desk, LineView as LineSeen, Tag, TagsOn};
 use fax_control::events::Counters;
+use fax_desk::{Desk, LineView as LineSeen, Tag, TagsOn};
 use fax_http::{
     CallView, CalledView, CountView, Health, JobView, LineView, PageView, UndeliveredView,
     write_page,

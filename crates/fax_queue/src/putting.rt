@@ -7,9 +7,9 @@ ghost use Rattle.fax_queue.specs.Queues.{lines_of};
 ghost use Rattle.fax_queue.specs.Tags.{AreTagged, PutsTagged, tag_of};
 
 use crate::queue::Queue;
-use fax_wires::holding::StoreFault;
 use fax_line::PageToStore;
 use fax_spool::{PageRecord, Spool};
+use fax_wires::holding::StoreFault;
 use sqlite_disk::Disk;
 use std::alloc::Global;
 use std::marker::Model;

@@ -7,9 +7,9 @@ ghost use Rattle.fax_queue.specs.Queues.{AreAmong, IsAmong, name_in};
 
 use crate::end_fault::EndFault;
 use crate::queue::{EndedJob, Queue, QueuedPage};
-use fax_wires::holding::StoreFault;
 use fax_jobs::Report;
 use fax_spool::{EndedRecord, Spool, WaitingPage};
+use fax_wires::holding::StoreFault;
 use sqlite_disk::Disk;
 use std::alloc::Global;
 

@@ -16,11 +16,11 @@ use crate::end_fault::EndFault;
 use crate::putting::{CallTag, Names, put_pages};
 use crate::queue::{EndedJob, Queue, QueuedPage};
 use crate::reading::read_job;
-use fax_wires::holding::{PageStore, StoreFault};
 use fax_jobs::Report;
 use fax_line::PageToStore;
 use fax_spool::laws::files_share_what_waits;
 use fax_spool::{EndedRecord, Spool, WaitingPage};
+use fax_wires::holding::{PageStore, StoreFault};
 use sqlite_disk::Disk;
 use std::alloc::Global;
 

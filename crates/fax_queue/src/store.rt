@@ -5,9 +5,9 @@ ghost use Rattle.fax_queue.specs.Tags.{NotesTag};
 
 use crate::on_disk::OnDisk;
 use crate::storage::Storage;
-use fax_wires::holding::{PageStore, StoreFault};
 use fax_jobs::Report;
 use fax_line::{PageToStore, RunStore};
+use fax_wires::holding::{PageStore, StoreFault};
 use sqlite_disk::Disk;
 
 /// A spool, and what is known of the pages in it, as a run sees them.

@@ -11,13 +11,13 @@ use crate::job::RetryJob;
 use fax_bits::NoMemory;
 use fax_desk::Tag;
 use fax_gateway::Settings;
-use fax_wires::holding::HoldingWire;
 use fax_line::Line;
 use fax_queue::laws::whole_lines_are_restored;
 use fax_queue::{Queue, RestoredLine, restore_line};
-use fax_wires::repeat::TimedWire;
 use fax_spool::{CallName, WaitingPage};
 use fax_undelivered::UndeliveredCall;
+use fax_wires::holding::HoldingWire;
+use fax_wires::repeat::TimedWire;
 use std::alloc::{AllocError, Global};
 use std::marker::Model;
 

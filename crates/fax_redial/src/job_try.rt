@@ -11,11 +11,11 @@ use crate::total::TryTotal;
 use fax_bits::NoMemory;
 use fax_desk::Cause;
 use fax_gateway::TurnReport;
-use fax_wires::holding::HoldingWire;
 use fax_jobs::{Outcome, Report};
 use fax_line::{Line, LineAnswer, LineRequest, Lines};
-use fax_wires::repeat::TimedWire;
 use fax_spool::CallName;
+use fax_wires::holding::HoldingWire;
+use fax_wires::repeat::TimedWire;
 use std::alloc::Global;
 use std::marker::Model;
 

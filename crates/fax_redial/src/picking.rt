@@ -8,9 +8,9 @@ ghost use Rattle.fax_undelivered.specs.Calls.{is_named};
 use crate::redials::Redials;
 use crate::retrying::is_due;
 use fax_queue::{Queue, QueuedPage};
-use fax_wires::repeat::TimedWire;
 use fax_spool::CallName;
 use fax_undelivered::UndeliveredCall;
+use fax_wires::repeat::TimedWire;
 
 /// The first of these calls whose job is to be tried again by now, a Unix second: its time has come, it is none of those that are left to
 /// a word, no try of it is on, and no page of it waits on one of these queues, from which its line would send it too.

@@ -9,8 +9,8 @@ use crate::job::RetryJob;
 use crate::job_try::JobTry;
 use fax_desk::{AskedView, FirstJob, LegView, LineView, View};
 use fax_gateway::Leg;
-use fax_wires::holding::LineWire;
 use fax_line::Line;
+use fax_wires::holding::LineWire;
 use fax_wires::repeat::TimedWire;
 
 /// A leg without a peer.

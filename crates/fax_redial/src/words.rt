@@ -8,12 +8,12 @@ use crate::job_try::JobTry;
 use crate::redials::Redials;
 use crate::seeing::{Seen, seen_at};
 use fax_clients::Asker;
+use fax_control::events::AskedJob;
 use fax_control::{Refusal, Word};
 use fax_desk::{
     Desk, LineEvent, LineState, LineView, Listener, LookOutcome, Next, Order, RefusedWord, Reply,
     tell_at,
 };
-use fax_control::events::AskedJob;
 use fax_gateway::Leg;
 use fax_line::{LineAnswer, LineRequest};
 use fax_wires::repeat::TimedWire;

@@ -3,9 +3,9 @@ ghost use Rattle.std.specs.Prelude.{IfOk, IfSome};
 ghost use Rattle.clap.specs.Words.{found_of, rows_of};
 ghost use Rattle.fax_request.specs.Requests.{AreCaptureOptionsOf, AreMachinesAt, AreMachinesOf, HasOctets, IsCallOf, IsHostOf, SaysAddress};
 
+use crate::arguments::{refused_address, refused_half, refused_machines};
 use crate::given::{number_of, text_of};
 use clap::{ArgMatches, Error};
-use crate::arguments::{refused_address, refused_half, refused_machines};
 use fax_capture::{Address, CaptureOptions, Host, Machines};
 use std::alloc::Global;
 use std::net::{IpAddr, SocketAddr};

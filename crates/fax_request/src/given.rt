@@ -3,12 +3,12 @@ ghost use Rattle.std.specs.Prelude.{◌≡◌, ◌≤◌, ◌^◌, codes, option
 ghost use Rattle.clap.specs.Words.{first_of, found_of, one_of, rows_of};
 ghost use Rattle.fax_request.specs.Given.{AreScriptSettingsOf, AreSettingsOf, IsFlagOf, IsFormatOf, IsNumberOf, coding_named, repeat_named, width_named};
 
-use clap::ArgMatches;
 use crate::arguments::{LEAST_PREAMBLE_MS, MOST_PREAMBLE_MS, MOST_REDUNDANCY};
+use clap::ArgMatches;
 use fax_gateway::Settings;
 use fax_pagestore::{Coding, Format};
-use fax_wires::repeat::RepeatPolicy;
 use fax_runcodes::Width;
+use fax_wires::repeat::RepeatPolicy;
 
 /// The text that was given with an option, or its default.
 pub(crate) fn text_of<'a>(given: &ArgMatches<'a>, option: &str) -> Option<&'a str>

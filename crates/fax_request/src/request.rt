@@ -3,6 +3,7 @@ ghost use Rattle.std.specs.Prelude.{IfOk};
 ghost use Rattle.clap.specs.Words.{found_of, rows_of, subcommand_rows_of};
 ghost use Rattle.fax_request.specs.Requests.{Asks, IsAllowed, IsAskedBy};
 
+use crate::arguments::{faxgate_command, refused_command};
 use crate::capture_words::capture_options_of;
 use crate::explain_options::{ExplainOptions, explain_options_of};
 use crate::given::{script_settings_of, settings_of, text_of};
@@ -11,7 +12,6 @@ use crate::say_words::saying_of;
 use crate::spool_words::spool_options_of;
 use crate::terminal_words::{receive_options_of, send_files_of, send_options_of};
 use clap::{ArgMatches, Error};
-use crate::arguments::{faxgate_command, refused_command};
 use fax_capture::CaptureOptions;
 use fax_command::PageOptions;
 use fax_gateway::Settings;

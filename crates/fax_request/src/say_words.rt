@@ -3,8 +3,8 @@ ghost use Rattle.std.specs.Prelude.{◌≡◌, IfOk, string_bytes};
 ghost use Rattle.clap.specs.Words.{found_of, rows_of};
 ghost use Rattle.fax_request.specs.Requests.{words_said};
 
-use clap::{ArgMatches, Error};
 use crate::arguments::refused_words;
+use clap::{ArgMatches, Error};
 use fax_say::{Saying, Unsayable};
 use std::alloc::{AllocError, Global};
 

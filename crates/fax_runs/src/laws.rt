@@ -3,12 +3,12 @@ ghost use Rattle.fax_runs.specs.Crossings.{KilledServersCross, ServersCross, Ser
 ghost use Rattle.fax_runs.specs.Histories.{ServersMakeHistory};
 ghost use Rattle.fax_undelivered.specs.declared.paired_store.PairedStore.{PairedStore as StoreShown};
 
-use fax_wires::holding::PageStore;
+use crate::restarts::laws::{killed_runs_cross, runs_cross, runs_join};
 use fax_line::{PageToStore, RunStore};
 use fax_queue::laws::histories::runs_make_history;
 use fax_queue::laws::whole_lines_are_restored;
-use crate::restarts::laws::{killed_runs_cross, runs_cross, runs_join};
 use fax_undelivered::PairedStore;
+use fax_wires::holding::PageStore;
 use sqlite_disk::Disk;
 
 /// What `run_serve` promises of a run with a spool leaves of each line a past with one life more, whatever crash follows: actions, which

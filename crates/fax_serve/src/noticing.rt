@@ -4,9 +4,9 @@ ghost use Rattle.fax_notify.specs.Tellings.{ready_after};
 
 use crate::stopping::StoppingPace;
 use fax_desk::RunEnd;
-use fax_wires::holding::LineWire;
 use fax_line::{LineAnswer, Lines, Order, Pace, RunStore, SlotEnd};
 use fax_notify::{Notice, ServiceManager};
+use fax_wires::holding::LineWire;
 use std::marker::Model;
 
 /// What gives the orders, and a service manager, which is told as the server begins to stop.

@@ -4,8 +4,8 @@ ghost use Rattle.fax_udptl.specs.Sending.{most_redundancy};
 
 use fax_bits::NoMemory;
 use fax_gateway::{Leg, WireFault};
-use fax_wires::repeat::TimedWire;
 use fax_udptl::{Decided, Receiver, Sender};
+use fax_wires::repeat::TimedWire;
 use std::alloc::Global;
 
 /// The most datagrams that are heard in a turn.

@@ -1,7 +1,7 @@
 //! What a run without a spool keeps in memory: the pages of its lines with their texts until their jobs have ended, and those of jobs
 //! that failed, of at most 64 calls.
 //!
-//! Which pages of a job that failed are kept is told in `specs/Held`, and which call is dropped for another one in `specs/Bounds`.
+//! Which pages of a job that failed are kept is told in `specs/held/Held`, and which call is dropped for another one in `specs/held/Bounds`.
 
 mod bounds;
 mod held;

@@ -7,11 +7,11 @@ ghost use Rattle.fax_undelivered.specs.StoredEnds.{EndsWhere, KeepsLeft, MayEnd,
 
 use crate::card::Card;
 use crate::undelivered::Undelivered;
-use fax_wires::holding::{PageStore, StoreFault};
 use fax_jobs::{Outcome, Report};
 use fax_line::{PageToStore, RunStore};
 use fax_queue::{OnDisk, Storage};
 use fax_spool::WaitingPage;
+use fax_wires::holding::{PageStore, StoreFault};
 use sqlite_disk::Disk;
 use std::alloc::{AllocError, Global};
 use std::marker::Model;

@@ -2,8 +2,8 @@
 //!
 //! In a turn the calling leg is handed one datagram at most. It is held until it is released, which is done once the page that the
 //! turn confirmed is on a disk; where that failed, the leg is silenced until the next call begins on it. So no confirmation goes out
-//! of a page that is not stored. What may go out when is told in `specs/Holding`; what that comes to over the whole life of a line,
-//! in `specs/Storing`.
+//! of a page that is not stored. What may go out when is told in `specs/holding/Holding`; what that comes to over the whole life of a line,
+//! in `specs/holding/Storing`.
 
 mod holding;
 pub mod laws;

@@ -1,7 +1,7 @@
 //! A wire that sends again what may have been lost.
 //!
-//! Which datagrams are sent again, and when, is told in `specs/Policies`; what that comes to of all that was sent, in
-//! `specs/Repeats`; who the peers of a wire's legs are, in `specs/Peers`.
+//! Which datagrams are sent again, and when, is told in `specs/repeat/Policies`; what that comes to of all that was sent, in
+//! `specs/repeat/Repeats`; who the peers of a wire's legs are, in `specs/repeat/Peers`.
 
 mod last;
 mod peers;

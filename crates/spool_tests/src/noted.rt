@@ -2,11 +2,11 @@
 use crate::steps::{FORMAT, new_spool, reopen};
 use fax_bits::{NoMemory, Octets};
 use fax_gateway::Kept;
-use fax_wires::holding::PageStore;
 use fax_jobs::{Outcome, Report};
 use fax_line::PageToStore;
 use fax_queue::{Queue, Storage};
 use fax_spool::OpenedSpool;
+use fax_wires::holding::PageStore;
 use sqlite_disk::Memory;
 use std::alloc::{AllocError, Global};
 use std::rt::HostRuntime;

@@ -1,6 +1,6 @@
 //! A spool over files of memory that a process left, and what they tell while nobody opens them.
-use fax_runs::restarts::open_again;
 use fax_runcodes::{Format, Width};
+use fax_runs::restarts::open_again;
 use fax_spool::{Listing, OpenedSpool, PageRecord, list_spool};
 use sqlite_disk::Memory;
 use std::alloc::Global;

@@ -2,8 +2,8 @@
 ghost use Rattle.std.specs.Prelude.{◌<◌, length};
 
 use fax_jobs::Outcome;
-use fax_runs::restarts::open_over;
 use fax_runcodes::{Format, Width};
+use fax_runs::restarts::open_over;
 use fax_spool::{EndedRecord, OpenedSpool, PageRecord, Spool};
 use sqlite_disk::Memory;
 use std::alloc::Global;

@@ -2,8 +2,8 @@
 ghost use Rattle.std.specs.Prelude.{◌≡◌};
 ghost use Rattle.fax_control.specs.events.Events.{aside_name, direction_name, ending_name, event_name};
 
-use fax_answer::Refusal;
 use crate::Leg;
+use fax_answer::Refusal;
 use fax_jobs::{Outcome, Report};
 use fax_pagestore::Format;
 

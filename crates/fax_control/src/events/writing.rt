@@ -3,12 +3,12 @@ ghost use Rattle.std.specs.Prelude.{◌≡◌, option_map, IfOk, OnOk};
 ghost use Rattle.fax_jobs.specs.ReportTexts.{resolution_name};
 ghost use Rattle.fax_control.specs.events.Events.{Adds, cause_members, detail_members, event_line, fault_members, fault_name, format_members, line_members, refusal_members, refusal_name, row_members, number_member, tag_member, text_member, try_members, what_members};
 
+use crate::Leg;
 use crate::events::event::{
     AskedJob, Direction, Ending, Event, PageAside, PageConfirmed, UndeliveredJob, What,
 };
 use fax_answer::Refusal;
 use fax_bits::NoMemory;
-use crate::Leg;
 use fax_jobs::Report;
 use fax_pagestore::{Format, PageFault};
 use json::Writer;

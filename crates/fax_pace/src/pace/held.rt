@@ -4,10 +4,10 @@ use crate::retries::Retries;
 use crate::seen::SeenLines;
 use crate::telling::Teller;
 use fax_desk::{Cause, Desk};
-use fax_undelivered::held::{HeldPages, JobEnd, MOST_CALLS, MemoryFile, drop_beyond};
 use fax_jobs::Report;
 use fax_line::SLOTS;
 use fax_undelivered::Undelivered;
+use fax_undelivered::held::{HeldPages, JobEnd, MOST_CALLS, MemoryFile, drop_beyond};
 use std::alloc::Global;
 
 /// The oldest calls are dropped while more wait than are kept, but for those that are under way, and that is told.

@@ -11,11 +11,11 @@ use crate::visiting::NO_MEMORY;
 use crate::visits::page_text;
 use fax_bits::NoMemory;
 use fax_control::events::{Counters, write_metrics};
-use fax_undelivered::held::HeldPages;
 use fax_http::{
     Answer, Content, Health, Resource, Status, Wanted, refusal, write_health, write_open_metrics,
 };
 use fax_undelivered::UndeliveredCall;
+use fax_undelivered::held::HeldPages;
 use std::alloc::Global;
 use std::rt::Clock;
 

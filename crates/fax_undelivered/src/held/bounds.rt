@@ -7,8 +7,8 @@ ghost use Rattle.fax_undelivered.specs.Calls.{CallValue, end_of, is_named};
 ghost use Rattle.fax_undelivered.specs.Keeps.{Keeps, KeepsStill};
 ghost use Rattle.fax_undelivered.specs.held.Bounds.{dropped_next, is_under_way, name_of};
 
-use fax_spool::CallName;
 use crate::{Undelivered, UndeliveredCall};
+use fax_spool::CallName;
 use sqlite_disk::Disk;
 use std::alloc::{AllocError, Global};
 use std::io;

@@ -5,13 +5,13 @@ ghost use Rattle.fax_undelivered.specs.held.Files.{IsMended, IsOver, can_be_used
 ghost use Rattle.fax_undelivered.specs.held.Held.{EndsJob, HoldsPage, IsNotPut, NotesPage};
 ghost use Rattle.fax_undelivered.specs.held.Lines.{ChangesIf, fresh};
 
+use crate::Undelivered;
 use crate::held::memory_file::MemoryFile;
 use crate::held::opening::{open_in_memory, opened_anew};
 use crate::held::texts::{HeldTexts, JobEnd};
 use fax_bits::NoMemory;
 use fax_line::PageToStore;
 use fax_queue::Queue;
-use crate::Undelivered;
 use std::alloc::Global;
 use std::mem;
 

@@ -2,10 +2,10 @@
 ghost use Rattle.std.specs.Prelude.{IfOk, []};
 ghost use Rattle.fax_undelivered.specs.held.Files.{IsOver, IsOverFilesOf, octets_of};
 
+use crate::Undelivered;
 use crate::held::memory_file::MemoryFile;
 use fax_bits::NoMemory;
 use fax_spool::open_spool;
-use crate::Undelivered;
 use std::alloc::Global;
 
 /// None waits so far.

@@ -4,11 +4,11 @@ ghost use Rattle.std.specs.Bool.{MatchBool};
 ghost use Rattle.fax_undelivered.specs.held.Held.{HoldsPage, IsPut, IsNotPut, PutsLast, NotesPage, held_as, last_of, texts_after};
 ghost use Rattle.fax_undelivered.specs.StoredEnds.{PutsPages, card_for};
 
+use crate::{Card, Undelivered};
 use fax_jobs::{Outcome, Report};
 use fax_line::PageToStore;
 use fax_queue::{EndedJob, Queue, QueuedPage};
 use fax_spool::WaitingPage;
-use crate::{Card, Undelivered};
 use sqlite_disk::Disk;
 use std::alloc::{AllocError, Global};
 use std::marker::Model;

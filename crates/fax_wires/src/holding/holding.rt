@@ -7,8 +7,8 @@ ghost use Rattle.fax_wires.specs.repeat.Policies.{IsToldAs, other_leg};
 ghost use Rattle.fax_wires.specs.holding.Holding.{Holds, IsToldTime, KeepsClock, Releases, Sends, Silences, Speaks, as_told, due_on, fresh};
 
 use crate::holding::line_wire::LineWire;
-use fax_gateway::{Leg, Wire, WireFault};
 use crate::repeat::{Bounds, LegState, LegWire, NoRoute, Peer, RepeatingWire, TimedWire};
+use fax_gateway::{Leg, Wire, WireFault};
 use std::alloc::Global;
 use std::marker::Model;
 
