@@ -50,7 +50,7 @@ pub const LEAST_RETRY_SECONDS: u32 = 1;
 pub const MOST_RETRY_SECONDS: u32 = 604_800;
 
 /// Which datagrams are sent again.
-#[derive(Clone, Copy)]
+#[derive(Clone, Copy, PartialEq, Eq)]
 pub enum Repeat {
     /// Each once again, and the last one of a leg five times after that.
     Full,
@@ -61,13 +61,14 @@ pub enum Repeat {
 }
 
 /// A leg: where its datagrams come to, and where its peer is, if that is known.
-#[derive(Clone, Copy)]
+#[derive(Clone, Copy, PartialEq, Eq)]
 pub struct LegConfig {
     pub local: SocketAddr,
     pub peer: Option<SocketAddr>,
 }
 
 /// A line.
+#[derive(PartialEq, Eq)]
 pub struct LineConfig {
     pub name: String,
     pub calling: LegConfig,

@@ -4,7 +4,7 @@ use Rattle.std.proofs.lemmas.Bool.Decides.{nat_tests}
 use Rattle.std.specs.declared.net.socket_addr.SocketAddr.{SocketAddr}
 use Rattle.fax_control.specs.declared.word.Bounds.{Bounds}
 use Rattle.fax_gateway.specs.declared.leg.Leg.{Leg}
-use Rattle.fax_control.specs.Words.{Order, Ring, Peer, HangUp, Refuse, Report, Undelivered, Discard, Retry, Status, Metrics, Events, Frames, Stop, HasNoSpace, IsCallNumber, IsCause, IsInRange, IsName, IsPeerText, IsRingTag, IsRungLine, Spells, bounds_led, call_text, frames_text, led, moved_text, rung_text, spaced, word_led}
+use Rattle.fax_control.specs.Words.{Order, Ring, Peer, HangUp, Refuse, Report, Undelivered, Discard, Retry, Status, Metrics, Events, Frames, Reload, Stop, HasNoSpace, IsCallNumber, IsCause, IsInRange, IsName, IsPeerText, IsRingTag, IsRungLine, Spells, bounds_led, call_text, frames_text, led, moved_text, rung_text, spaced, word_led}
 use Rattle.fax_gateway.specs.LegNames.{leg_text}
 use Rattle.fax_control.proofs.SpaceLemmas.{heads, tails, has_space, cut_once, NoSpace-by_test}
 
@@ -39,6 +39,7 @@ ring_spelled rest Status e = apart 114 115 _ _ refl e
 ring_spelled rest Metrics e = apart 114 109 _ _ refl e
 ring_spelled rest Events e = apart 114 101 _ _ refl e
 ring_spelled rest (Frames line) (e, name) = apart 114 101 _ _ refl e
+ring_spelled rest Reload e = second_apart 114 105 114 101 _ _ refl e
 ring_spelled rest Stop e = apart 114 115 _ _ refl e
 
 -- what follows `peer`
@@ -60,6 +61,7 @@ peer_spelled rest Status e = apart 112 115 _ _ refl e
 peer_spelled rest Metrics e = apart 112 109 _ _ refl e
 peer_spelled rest Events e = apart 112 101 _ _ refl e
 peer_spelled rest (Frames line) (e, name) = apart 112 101 _ _ refl e
+peer_spelled rest Reload e = apart 112 114 _ _ refl e
 peer_spelled rest Stop e = apart 112 115 _ _ refl e
 
 -- what follows `hangup`
@@ -78,6 +80,7 @@ hangup_spelled rest Status e = apart 104 115 _ _ refl e
 hangup_spelled rest Metrics e = apart 104 109 _ _ refl e
 hangup_spelled rest Events e = apart 104 101 _ _ refl e
 hangup_spelled rest (Frames line) (e, name) = apart 104 101 _ _ refl e
+hangup_spelled rest Reload e = apart 104 114 _ _ refl e
 hangup_spelled rest Stop e = apart 104 115 _ _ refl e
 
 -- what follows `report`
@@ -96,6 +99,7 @@ report_spelled rest Status e = apart 114 115 _ _ refl e
 report_spelled rest Metrics e = apart 114 109 _ _ refl e
 report_spelled rest Events e = apart 114 101 _ _ refl e
 report_spelled rest (Frames line) (e, name) = apart 114 101 _ _ refl e
+report_spelled rest Reload e = third_apart 114 101 112 114 101 108 _ _ refl e
 report_spelled rest Stop e = apart 114 115 _ _ refl e
 
 -- what follows `refuse`
@@ -114,6 +118,7 @@ refuse_spelled rest Status e = apart 114 115 _ _ refl e
 refuse_spelled rest Metrics e = apart 114 109 _ _ refl e
 refuse_spelled rest Events e = apart 114 101 _ _ refl e
 refuse_spelled rest (Frames line) (e, name) = apart 114 101 _ _ refl e
+refuse_spelled rest Reload e = third_apart 114 101 102 114 101 108 _ _ refl e
 refuse_spelled rest Stop e = apart 114 115 _ _ refl e
 
 -- what follows `undelivered`
@@ -132,6 +137,7 @@ undelivered_spelled rest Status e = apart 117 115 _ _ refl e
 undelivered_spelled rest Metrics e = apart 117 109 _ _ refl e
 undelivered_spelled rest Events e = apart 117 101 _ _ refl e
 undelivered_spelled rest (Frames line) (e, name) = apart 117 101 _ _ refl e
+undelivered_spelled rest Reload e = apart 117 114 _ _ refl e
 undelivered_spelled rest Stop e = apart 117 115 _ _ refl e
 
 -- what follows `discard`
@@ -150,6 +156,7 @@ discard_spelled rest Status e = apart 100 115 _ _ refl e
 discard_spelled rest Metrics e = apart 100 109 _ _ refl e
 discard_spelled rest Events e = apart 100 101 _ _ refl e
 discard_spelled rest (Frames line) (e, name) = apart 100 101 _ _ refl e
+discard_spelled rest Reload e = apart 100 114 _ _ refl e
 discard_spelled rest Stop e = apart 100 115 _ _ refl e
 
 -- what follows `retry`
@@ -168,6 +175,7 @@ retry_spelled rest Status e = apart 114 115 _ _ refl e
 retry_spelled rest Metrics e = apart 114 109 _ _ refl e
 retry_spelled rest Events e = apart 114 101 _ _ refl e
 retry_spelled rest (Frames line) (e, name) = apart 114 101 _ _ refl e
+retry_spelled rest Reload e = third_apart 114 101 116 114 101 108 _ _ refl e
 retry_spelled rest Stop e = apart 114 115 _ _ refl e
 
 -- what follows `events`
@@ -186,6 +194,7 @@ events_spelled rest Status e = apart 101 115 _ _ refl e
 events_spelled rest Metrics e = apart 101 109 _ _ refl e
 events_spelled rest Events e = absurd (has_space (codes "events") rest (subst HasNoSpace (sym e) (NoSpace-by_test (codes "events") refl)))
 events_spelled rest (Frames line) (e, name) = let same : rest ≡ spaced (codes "frames") line = cc in (line, refl, same, name)
+events_spelled rest Reload e = apart 101 114 _ _ refl e
 events_spelled rest Stop e = apart 101 115 _ _ refl e
 
 -- the one name that may follow `events frames`
@@ -197,21 +206,22 @@ frames_spelled rest order says =
     rw same (is, name)
 
 -- a text with no space that is none of the bare words spells nothing
-pub no_bare_word : (text : List ℕ) (order : Order) → HasNoSpace text → text ≢ codes "status" → text ≢ codes "metrics" → text ≢ codes "events" → text ≢ codes "stop" → text ≢ codes "undelivered" → Spells text order → ⊥
-no_bare_word text (Ring line tag bounds) none a b c d f (e, name, is_tag, range) = has_space (codes "ring") (led (rung_text line) (word_led tag (bounds_led bounds None))) (subst HasNoSpace e none)
-no_bare_word text (Peer line leg address bounds is_moved) none a b c d f (peer_text, e, name, is_address, range) = has_space (codes "peer") (spaced line (spaced (leg_text leg) (led peer_text (bounds_led bounds (moved_text is_moved))))) (subst HasNoSpace e none)
-no_bare_word text (HangUp line leg) none a b c d f (e, name) = has_space (codes "hangup") (spaced line (leg_text leg)) (subst HasNoSpace e none)
-no_bare_word text (Refuse line cause) none a b c d f (e, name, is_cause) = has_space (codes "refuse") (spaced line cause) (subst HasNoSpace e none)
-no_bare_word text (Report line) none a b c d f (e, name) = has_space (codes "report") line (subst HasNoSpace e none)
-no_bare_word text (Undelivered None) none a b c d f (e, name) = f e
-no_bare_word text (Undelivered (Some line)) none a b c d f (e, name) = has_space (codes "undelivered") line (subst HasNoSpace e none)
-no_bare_word text (Discard line life call) none a b c d f (e, name, is_life, is_call) = has_space (codes "discard") (call_text line life call) (subst HasNoSpace e none)
-no_bare_word text (Retry line life call) none a b c d f (e, name, is_life, is_call) = has_space (codes "retry") (call_text line life call) (subst HasNoSpace e none)
-no_bare_word text Status none a b c d f e = a e
-no_bare_word text Metrics none a b c d f e = b e
-no_bare_word text Events none a b c d f e = c e
-no_bare_word text (Frames line) none a b c d f (e, name) = has_space (codes "events") (spaced (codes "frames") line) (subst HasNoSpace e none)
-no_bare_word text Stop none a b c d f e = d e
+pub no_bare_word : (text : List ℕ) (order : Order) → HasNoSpace text → text ≢ codes "status" → text ≢ codes "metrics" → text ≢ codes "events" → text ≢ codes "stop" → text ≢ codes "undelivered" → text ≢ codes "reload" → Spells text order → ⊥
+no_bare_word text (Ring line tag bounds) none a b c d f g (e, name, is_tag, range) = has_space (codes "ring") (led (rung_text line) (word_led tag (bounds_led bounds None))) (subst HasNoSpace e none)
+no_bare_word text (Peer line leg address bounds is_moved) none a b c d f g (peer_text, e, name, is_address, range) = has_space (codes "peer") (spaced line (spaced (leg_text leg) (led peer_text (bounds_led bounds (moved_text is_moved))))) (subst HasNoSpace e none)
+no_bare_word text (HangUp line leg) none a b c d f g (e, name) = has_space (codes "hangup") (spaced line (leg_text leg)) (subst HasNoSpace e none)
+no_bare_word text (Refuse line cause) none a b c d f g (e, name, is_cause) = has_space (codes "refuse") (spaced line cause) (subst HasNoSpace e none)
+no_bare_word text (Report line) none a b c d f g (e, name) = has_space (codes "report") line (subst HasNoSpace e none)
+no_bare_word text (Undelivered None) none a b c d f g (e, name) = f e
+no_bare_word text (Undelivered (Some line)) none a b c d f g (e, name) = has_space (codes "undelivered") line (subst HasNoSpace e none)
+no_bare_word text (Discard line life call) none a b c d f g (e, name, is_life, is_call) = has_space (codes "discard") (call_text line life call) (subst HasNoSpace e none)
+no_bare_word text (Retry line life call) none a b c d f g (e, name, is_life, is_call) = has_space (codes "retry") (call_text line life call) (subst HasNoSpace e none)
+no_bare_word text Status none a b c d f g e = a e
+no_bare_word text Metrics none a b c d f g e = b e
+no_bare_word text Events none a b c d f g e = c e
+no_bare_word text (Frames line) none a b c d f g (e, name) = has_space (codes "events") (spaced (codes "frames") line) (subst HasNoSpace e none)
+no_bare_word text Reload none a b c d f g e = g e
+no_bare_word text Stop none a b c d f g e = d e
 
 -- a text whose first word is none of these spells nothing
 pub no_verb : (text verb rest : List ℕ) (order : Order) → text ≡ spaced verb rest → HasNoSpace verb → verb ≢ codes "ring" → verb ≢ codes "peer" → verb ≢ codes "hangup" → verb ≢ codes "report" → verb ≢ codes "refuse" → verb ≢ codes "undelivered" → verb ≢ codes "discard" → verb ≢ codes "retry" → verb ≢ codes "events" → Spells text order → ⊥
@@ -229,4 +239,5 @@ no_verb text verb rest Status cut none a b c d f g h i j e = has_space verb rest
 no_verb text verb rest Metrics cut none a b c d f g h i j e = has_space verb rest (subst HasNoSpace (sym e ∙ cut) (NoSpace-by_test (codes "metrics") refl))
 no_verb text verb rest Events cut none a b c d f g h i j e = has_space verb rest (subst HasNoSpace (sym e ∙ cut) (NoSpace-by_test (codes "events") refl))
 no_verb text verb rest (Frames line) cut none a b c d f g h i j (e, name) = j (cut_once verb rest (codes "events") (spaced (codes "frames") line) none (NoSpace-by_test (codes "events") refl) (sym cut ∙ e)).0
+no_verb text verb rest Reload cut none a b c d f g h i j e = has_space verb rest (subst HasNoSpace (sym e ∙ cut) (NoSpace-by_test (codes "reload") refl))
 no_verb text verb rest Stop cut none a b c d f g h i j e = has_space verb rest (subst HasNoSpace (sym e ∙ cut) (NoSpace-by_test (codes "stop") refl))

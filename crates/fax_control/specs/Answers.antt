@@ -1,7 +1,7 @@
 -- The answers to control words (this project's profile).
 use Rattle.std.specs.Prelude.{ℕ, List, ◌++◌, codes, decimal}
 use Rattle.fax_control.specs.declared.refusal.Refusal.{Refusal}
-use Rattle.fax_control.specs.declared.refusal.Refusal.TheVariants.{Busy, NoNumber, NoMemory, NoPeer, Stopping, InCall, NoLine, NoWord, TooLong, NoRoute, NoCall, Fixed, NoSpool, Full}
+use Rattle.fax_control.specs.declared.refusal.Refusal.TheVariants.{Busy, NoNumber, NoMemory, NoPeer, Stopping, InCall, NoLine, NoWord, TooLong, NoRoute, NoCall, Fixed, NoSpool, Full, NoReload}
 use Rattle.fax_control.specs.declared.answer.Answer.{Answer}
 use Rattle.fax_control.specs.declared.answer.Answer.TheVariants.{Done, Rung, RungOn, Refused}
 
@@ -20,6 +20,7 @@ number_of_refusal NoCall = 11
 number_of_refusal Fixed = 12
 number_of_refusal NoSpool = 13
 number_of_refusal Full = 14
+number_of_refusal NoReload = 15
 
 abbrev pub name_of_refusal : Refusal → List ℕ
 name_of_refusal Busy = codes "Busy"
@@ -36,6 +37,7 @@ name_of_refusal NoCall = codes "NoCall"
 name_of_refusal Fixed = codes "Fixed"
 name_of_refusal NoSpool = codes "NoSpool"
 name_of_refusal Full = codes "Full"
+name_of_refusal NoReload = codes "NoReload"
 
 -- the number, a space, the name
 abbrev pub refusal_text : Refusal → List ℕ

@@ -24,6 +24,7 @@ pub data Order : Type 0 where
   Metrics : Order
   Events : Order
   Frames : List ℕ → Order
+  Reload : Order
   Stop : Order
 
 abbrev pub order_of : Word → Order
@@ -39,6 +40,7 @@ order_of word.Status = Status
 order_of word.Metrics = Metrics
 order_of word.Events = Events
 order_of (word.Frames line) = Frames line.now
+order_of word.Reload = Reload
 order_of word.Stop = Stop
 
 -- no octet of the text is a space
@@ -143,6 +145,7 @@ Spells text Status = text ≡ codes "status"
 Spells text Metrics = text ≡ codes "metrics"
 Spells text Events = text ≡ codes "events"
 Spells text (Frames line) = (text ≡ frames_text line) × IsName line
+Spells text Reload = text ≡ codes "reload"
 Spells text Stop = text ≡ codes "stop"
 
 -- The octets of a line say an order: they are at most 256, they are UTF-8, and they spell it.

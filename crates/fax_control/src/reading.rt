@@ -75,6 +75,8 @@ fn bare_word(text: &str) -> Option<Word<'_>>
         Some(Word::Stop)
     } else if text == "undelivered" {
         Some(Word::Undelivered(None))
+    } else if text == "reload" {
+        Some(Word::Reload)
     } else {
         None
     }

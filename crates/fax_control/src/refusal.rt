@@ -35,6 +35,8 @@ pub enum Refusal {
     NoSpool,
     /// 14: as many pages of the line wait as may.
     Full,
+    /// 15: the configuration that is in its file cannot be served by another run.
+    NoReload,
 }
 
 impl Refusal {
@@ -57,6 +59,7 @@ impl Refusal {
             Refusal::Fixed => 12,
             Refusal::NoSpool => 13,
             Refusal::Full => 14,
+            Refusal::NoReload => 15,
         }
     }
 
@@ -79,6 +82,7 @@ impl Refusal {
             Refusal::Fixed => "Fixed",
             Refusal::NoSpool => "NoSpool",
             Refusal::Full => "Full",
+            Refusal::NoReload => "NoReload",
         }
     }
 }

@@ -79,6 +79,8 @@ pub enum Word<'a> {
     Events,
     /// The same, and for what happens in the calls of this line, in words.
     Frames(&'a str),
+    /// The configuration is to be read again, and served by another run.
+    Reload,
     /// No ring is taken any more; a second one ends at once.
     Stop,
 }

@@ -29,6 +29,12 @@ use Rattle.fax_desk.specs.Budgets.{bounded, has_memory, is_full_at}
 use Rattle.fax_desk.specs.Desks.{any_if, bounded_at, done_of, done_with, free_line, line_named, named_if, next_at, next_here, next_ring, next_there, question_at, ring_if, ring_on, ring_tagged}
 use Rattle.fax_desk.specs.Laws.{DeskEvent, Passes, Said, Lapsed, Told, Gives, answered, answered_at_once, asked, who_is_told, who_waits}
 use Rattle.fax_desk.specs.Said.{bounds_of, tag_said, unasked_if, waits_if}
+use Rattle.fax_desk.specs.declared.reload.Reload.{Reload}
+use Rattle.fax_desk.specs.declared.reload.Reload.TheVariants as reload
+use Rattle.fax_desk.specs.declared.stop.Stop.{Stop}
+use Rattle.fax_desk.specs.declared.stop.Stop.TheVariants as stop
+use Rattle.fax_desk.specs.Reloads.{takes_calls}
+use Rattle.fax_desk.specs.Spools.{run_is_over}
 use Rattle.fax_desk.specs.Stops.{takes_rings}
 use Rattle.fax_desk.specs.Words.{called_peer, connect_order, hang_up_order, is_connected, is_on, job_asked, next_of, orders_if, peer_if, peer_of, peer_order, refusal_order, refuse_of, reply_to, ring_order, takes_peer}
 
@@ -45,6 +51,7 @@ came asker next.Status xs ys e = ap (λ l. asker ∷ l) e
 came asker next.Metrics xs ys e = ap (λ l. asker ∷ l) e
 came asker next.Events xs ys e = ap (λ l. asker ∷ l) e
 came asker (next.Frames line) xs ys e = ap (λ l. asker ∷ l) e
+came asker next.Reloads xs ys e = ap (λ l. asker ∷ l) e
 
 looks : (to : LookOutcome) (xs ys : List ℕ) → xs ≡ ys → who_waits (unasked_if to) ++ xs ≡ ys
 looks looked.Nothing xs ys e = e
@@ -74,6 +81,7 @@ gave_word asker next.Status waits e = cc
 gave_word asker next.Metrics waits e = cc
 gave_word asker next.Events waits e = cc
 gave_word asker (next.Frames line) waits e = cc
+gave_word asker next.Reloads waits e = cc
 
 gave_look : (order : Order) (waits : Waits) → unasked_if (looked.Orders order) ≡ Some waits → Gives (Lapsed order) waits.asker waits.order
 gave_look order waits e = let w : record { asker = None; order = order } ≡ waits = cc in rw (← w) refl
@@ -153,13 +161,20 @@ keeps takes false desk lines name bounds tag got e = refl
 keeps true true desk lines name bounds tag got e = cc
 keeps false true desk lines name bounds tag got e = cc
 
+serves : (before : Stop) (asked : Reload) → takes_calls before asked ≡ true → takes_rings before ≡ true
+serves stop.No asked takes = refl
+serves (stop.At moment) asked takes = cc
+serves stop.Now asked takes = cc
+
 pub serving : (desk : Desk) (lines : ℕ → Option LineView) (has_failed : Bool) (name tag : Option (List ℕ)) (bounds : Bounds) (got : Order)
-    → next_ring desk lines has_failed name tag bounds ≡ next.Orders got → takes_rings desk.stop ≡ true
-serving desk lines has_failed name tag bounds got e = takes (takes_rings desk.stop) has_failed desk lines name bounds (tag_said tag) got e
+    → next_ring desk lines has_failed name tag bounds ≡ next.Orders got → (takes_rings desk.stop ≡ true) × (takes_calls desk.stop desk.reload ≡ true)
+serving desk lines has_failed name tag bounds got e =
+    let calls = takes (takes_calls desk.stop desk.reload) has_failed desk lines name bounds (tag_said tag) got e in
+    (serves desk.stop desk.reload calls, calls)
 
 pub storage : (desk : Desk) (lines : ℕ → Option LineView) (has_failed : Bool) (name tag : Option (List ℕ)) (bounds : Bounds) (got : Order)
     → next_ring desk lines has_failed name tag bounds ≡ next.Orders got → has_failed ≡ false
-storage desk lines has_failed name tag bounds got e = keeps (takes_rings desk.stop) has_failed desk lines name bounds (tag_said tag) got e
+storage desk lines has_failed name tag bounds got e = keeps (takes_calls desk.stop desk.reload) has_failed desk lines name bounds (tag_said tag) got e
 
 -- a ring that comes to an order: its line is not full, there is memory for it, and the order is this line's
 abbrev Allows : Desk → (ℕ → Option LineView) → ℕ → Type 0
@@ -205,7 +220,7 @@ of_taken true false desk lines name bounds tag got e = of_tagged desk lines name
 
 pub allowed : (desk : Desk) (lines : ℕ → Option LineView) (has_failed : Bool) (name tag : Option (List ℕ)) (bounds : Bounds) (got : Order)
     → next_ring desk lines has_failed name tag bounds ≡ next.Orders got → Allows desk lines got.line
-allowed desk lines has_failed name tag bounds got e = of_taken (takes_rings desk.stop) has_failed desk lines name bounds (tag_said tag) got e
+allowed desk lines has_failed name tag bounds got e = of_taken (takes_calls desk.stop desk.reload) has_failed desk lines name bounds (tag_said tag) got e
 
 pub not_full : (desk : Desk) (lines : ℕ → Option LineView) (has_failed : Bool) (name tag : Option (List ℕ)) (bounds : Bounds) (got : Order)
     → next_ring desk lines has_failed name tag bounds ≡ next.Orders got → is_full_at desk.cards.items got.line ≡ false
@@ -214,3 +229,11 @@ not_full desk lines has_failed name tag bounds got e = (allowed desk lines has_f
 pub remembered : (desk : Desk) (lines : ℕ → Option LineView) (has_failed : Bool) (name tag : Option (List ℕ)) (bounds : Bounds) (got : Order)
     → next_ring desk lines has_failed name tag bounds ≡ next.Orders got → has_memory desk.memory desk.cards.items lines got.line ≡ true
 remembered desk lines has_failed name tag bounds got e = (allowed desk lines has_failed name tag bounds got e).1
+
+-- ---- a run that is to be served by another one
+
+pub calm_first : (asked : Reload) (now : ℕ) (are_idle are_calm : Bool) → run_is_over stop.No None asked now are_idle are_calm ≡ true → are_calm ≡ true
+calm_first asked now are_idle true e = refl
+calm_first reload.No now are_idle false e = cc
+calm_first (reload.Asked until) now are_idle false e = cc
+calm_first reload.Closed now are_idle false e = cc

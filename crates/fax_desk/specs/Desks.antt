@@ -33,6 +33,7 @@ use Rattle.fax_desk.specs.declared.next.RingAsk.{RingAsk}
 use Rattle.fax_desk.specs.declared.questions.HeardTime.{HeardTime}
 use Rattle.fax_desk.specs.declared.questions.Cause.TheVariants as cause
 use Rattle.fax_desk.specs.declared.questions.Question.{Question}
+use Rattle.fax_desk.specs.declared.reload.Reload.TheVariants as reload
 use Rattle.fax_desk.specs.declared.stop.Stop.{Stop}
 use Rattle.fax_desk.specs.declared.stop.Stop.TheVariants as stop
 use Rattle.fax_desk.specs.declared.tag.Tag.{Tag}
@@ -48,6 +49,7 @@ use Rattle.fax_desk.specs.Budgets.{bounded, has_memory, is_full_at}
 use Rattle.fax_desk.specs.Cards.{after_done, report_texts, tag_of, tagged_job}
 use Rattle.fax_desk.specs.Questions.{heard_after}
 use Rattle.fax_desk.specs.Said.{bounds_of, peer_said, rung_happened, tag_said}
+use Rattle.fax_desk.specs.Reloads.{closed_card, reload_next, takes_calls}
 use Rattle.fax_desk.specs.Stops.{stop_after, takes_rings}
 use Rattle.fax_desk.specs.Tags.{tag_of_text}
 use Rattle.fax_desk.specs.Turns.{asked_happened, asking_card, card_after, question_after, state_of, tags_on, told_of}
@@ -56,7 +58,7 @@ use Rattle.fax_desk.specs.Words.{next_of, refusal_order, refuses, reply_to, ring
 -- nothing happened
 abbrev pub desk_new : Vec (String Global) Global → Vec Card Global → ℕ → Desk
 desk_new names cards within =
-    record { names = names; cards = cards; stop = stop.No; stop_ms = within; damage = record { records = 0; octets = 0 }; failed = None; time = record { heard = 0; last = 0 }; is_heard = false; waits = None; any_from = 0; memory = None }
+    record { names = names; cards = cards; stop = stop.No; stop_ms = within; damage = record { records = 0; octets = 0 }; failed = None; time = record { heard = 0; last = 0 }; is_heard = false; waits = None; any_from = 0; memory = None; reload = reload.No }
 
 -- the line of this name
 abbrev pub line_named : List (String Global) → List ℕ → Option ℕ
@@ -137,15 +139,15 @@ abbrev pub ring_tagged : Desk → (ℕ → Option LineView) → Option (List ℕ
 ring_tagged desk lines name bounds None = refuses refusal.NoWord
 ring_tagged desk lines name bounds (Some tag) = ring_on desk lines name (record { tag = tag; bounds = bounds_of bounds })
 
-abbrev pub ring_if : (takes_rings has_failed : Bool) → Desk → (ℕ → Option LineView) → Option (List ℕ) → SaidBounds → Option (Option Tag) → Next
+abbrev pub ring_if : (takes_calls has_failed : Bool) → Desk → (ℕ → Option LineView) → Option (List ℕ) → SaidBounds → Option (Option Tag) → Next
 ring_if false has_failed desk lines name bounds tag = refuses refusal.Stopping
 ring_if true true desk lines name bounds tag = refuses refusal.NoSpool
 ring_if true false desk lines name bounds tag = ring_tagged desk lines name bounds tag
 
--- A ring needs a server that does not stop, and whose spool has not failed: whichever line it names, and whatever that is. Then it needs
+-- A ring needs a server that takes calls, and whose spool has not failed: whichever line it names, and whatever that is. Then it needs
 -- a tag that is none too long; a line that is there, or any that can be rung; one that is not full; memory; and a peer.
 abbrev pub next_ring : Desk → (ℕ → Option LineView) → (has_failed : Bool) → (name tag : Option (List ℕ)) → SaidBounds → Next
-next_ring desk lines has_failed name tag bounds = ring_if (takes_rings desk.stop) has_failed desk lines name bounds (tag_said tag)
+next_ring desk lines has_failed name tag bounds = ring_if (takes_calls desk.stop desk.reload) has_failed desk lines name bounds (tag_said tag)
 
 abbrev pub peer_next : Desk → (ℕ → Option LineView) → List ℕ → Option PeerAsk → Next
 peer_next desk lines name None = refuses refusal.NoWord
@@ -168,6 +170,7 @@ step_of desk lines has_failed word.Status = next.Status
 step_of desk lines has_failed word.Metrics = next.Metrics
 step_of desk lines has_failed word.Events = next.Events
 step_of desk lines has_failed (word.Frames name) = next_at desk lines name.now ask.Frames
+step_of desk lines has_failed word.Reload = reload_next (takes_rings desk.stop) has_failed
 step_of desk lines has_failed word.Stop = next.Replies reply.Done
 
 abbrev pub stop_then : Word → (now within : ℕ) → Stop → Stop
@@ -183,6 +186,7 @@ stop_then word.Status now within before = before
 stop_then word.Metrics now within before = before
 stop_then word.Events now within before = before
 stop_then (word.Frames name) now within before = before
+stop_then word.Reload now within before = before
 stop_then word.Stop now within before = stop_after before now within
 
 -- ---- cards: what line i's becomes, where there is such a line; all others stay
@@ -190,6 +194,10 @@ stop_then word.Stop now within before = stop_after before now within
 abbrev pub changed_at : List Card → ℕ → Option Card → List Card
 changed_at cards i None = cards
 changed_at cards i (Some card) = slice_set cards i card
+
+-- line i takes no call any more
+abbrev pub closed_at : List Card → ℕ → List Card
+closed_at cards i = changed_at cards i (option_map (λ card. closed_card card) (slice_get cards i))
 
 -- ---- THE END OF AN ORDER answers who asked for it, once, by what its line answered; and this happened on that line
 

@@ -15,6 +15,10 @@ use Rattle.fax_desk.specs.declared.view.LineView.{LineView}
 use Rattle.fax_desk.specs.Budgets.{has_memory, is_full_at}
 use Rattle.fax_desk.specs.Desks.{done_of, line_named, next_at, next_ring}
 use Rattle.fax_desk.specs.Said.{unasked_if, waits_if}
+use Rattle.fax_desk.specs.declared.reload.Reload.{Reload}
+use Rattle.fax_desk.specs.declared.stop.Stop.TheVariants as stop
+use Rattle.fax_desk.specs.Reloads.{takes_calls}
+use Rattle.fax_desk.specs.Spools.{run_is_over}
 use Rattle.fax_desk.specs.Stops.{takes_rings}
 use Rattle.fax_desk.specs.Words.{reply_to}
 
@@ -44,6 +48,7 @@ order_of next.Status = []
 order_of next.Metrics = []
 order_of next.Events = []
 order_of (next.Frames line) = []
+order_of next.Reloads = []
 
 abbrev pub orders_of : List DeskEvent → List Order
 orders_of [] = []
@@ -82,6 +87,7 @@ answered_at_once asker next.Status = asker ∷ []
 answered_at_once asker next.Metrics = asker ∷ []
 answered_at_once asker next.Events = asker ∷ []
 answered_at_once asker (next.Frames line) = asker ∷ []
+answered_at_once asker next.Reloads = asker ∷ []
 
 abbrev pub asked : List DeskEvent → List ℕ
 asked [] = []
@@ -112,6 +118,7 @@ Gives (Said asker next.Status) who_asked order = ⊥
 Gives (Said asker next.Metrics) who_asked order = ⊥
 Gives (Said asker next.Events) who_asked order = ⊥
 Gives (Said asker (next.Frames line)) who_asked order = ⊥
+Gives (Said asker next.Reloads) who_asked order = ⊥
 Gives (Lapsed given) None order = given ≡ order
 Gives (Lapsed given) (Some who_asked) order = ⊥
 Gives (Told told _) who_asked order = ⊥
@@ -128,10 +135,10 @@ abbrev pub OrdersTheNamed : Type 0
 OrdersTheNamed = (desk : Desk) (lines : ℕ → Option LineView) (name : List ℕ) (said : Ask) (given : Order)
     → next_at desk lines name said ≡ next.Orders given → line_named desk.names.items name ≡ Some given.line
 
--- NO RING COMES TO AN ORDER at a server that stops.
+-- NO RING COMES TO AN ORDER at a server that stops, or whose lines take no call any more, since another run is to serve them.
 abbrev pub NoRingWhileStopping : Type 0
 NoRingWhileStopping = (desk : Desk) (lines : ℕ → Option LineView) (has_failed : Bool) (name tag : Option (List ℕ)) (bounds : Bounds) (given : Order)
-    → next_ring desk lines has_failed name tag bounds ≡ next.Orders given → takes_rings desk.stop ≡ true
+    → next_ring desk lines has_failed name tag bounds ≡ next.Orders given → (takes_rings desk.stop ≡ true) × (takes_calls desk.stop desk.reload ≡ true)
 
 -- NO RING COMES TO AN ORDER while the spool takes no page.
 abbrev pub NoRingWithoutASpool : Type 0
@@ -147,3 +154,7 @@ NoRingOnAFullLine = (desk : Desk) (lines : ℕ → Option LineView) (has_failed 
 abbrev pub NoRingBeyondTheMemory : Type 0
 NoRingBeyondTheMemory = (desk : Desk) (lines : ℕ → Option LineView) (has_failed : Bool) (name tag : Option (List ℕ)) (bounds : Bounds) (given : Order)
     → next_ring desk lines has_failed name tag bounds ≡ next.Orders given → has_memory desk.memory desk.cards.items lines given.line ≡ true
+
+-- NO CALL ENDS FOR A RELOAD: a run that was not told to stop, and whose spool has not failed, is over only where no line has a call.
+abbrev pub NoCallEndsForAReload : Type 0
+NoCallEndsForAReload = (asked : Reload) (now : ℕ) (are_idle are_calm : Bool) → run_is_over stop.No None asked now are_idle are_calm ≡ true → are_calm ≡ true

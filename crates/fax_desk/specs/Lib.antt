@@ -3,6 +3,7 @@ pub mod Cards
 pub mod Desks
 pub mod Laws
 pub mod Questions
+pub mod Reloads
 pub mod Said
 pub mod Shown
 pub mod Spools

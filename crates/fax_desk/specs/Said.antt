@@ -47,6 +47,7 @@ waits_if asker next.Status = None
 waits_if asker next.Metrics = None
 waits_if asker next.Events = None
 waits_if asker (next.Frames line) = None
+waits_if asker next.Reloads = None
 
 -- the end of an order that nobody asked for is waited for by nobody
 abbrev pub unasked_if : LookOutcome → Option Waits
@@ -73,6 +74,7 @@ any_after from next.Status = from
 any_after from next.Metrics = from
 any_after from next.Events = from
 any_after from (next.Frames line) = from
+any_after from next.Reloads = from
 
 -- a call was rung, with the tag that was said
 abbrev pub rung_happened : Note → ℕ → Option LineEvent

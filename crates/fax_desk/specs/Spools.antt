@@ -12,8 +12,10 @@ use Rattle.fax_desk.specs.declared.spool.SpoolFailure.{SpoolFailure}
 use Rattle.fax_desk.specs.declared.spool.RunEnd.{RunEnd}
 use Rattle.fax_desk.specs.declared.spool.RunEnd.TheVariants as run_end
 use Rattle.fax_desk.specs.declared.spool.SpoolTold.{SpoolTold}
+use Rattle.fax_desk.specs.declared.reload.Reload.{Reload}
 use Rattle.fax_desk.specs.declared.stop.Stop.{Stop}
 use Rattle.fax_desk.specs.declared.stop.Stop.TheVariants as stop
+use Rattle.fax_desk.specs.Reloads.{is_asked, reloads_now}
 use Rattle.fax_desk.specs.Stops.{is_over, takes_rings}
 
 -- ---- A SPOOL THAT HAS FAILED ends the run: 10 s later at the earliest, where no line has a call, and as late as a stop does at the latest
@@ -40,17 +42,19 @@ is_drained (Some failed) now are_calm = nat_le failed.first now && (are_calm || 
 abbrev pub are_at_rest : Option SpoolFailure → (are_idle are_calm : Bool) → Bool
 are_at_rest failed are_idle are_calm = if is_some failed then are_calm else are_idle
 
--- THE RUN IS OVER: one that was told to stop as a stop says; else one whose spool has failed
-abbrev pub run_is_over : Stop → Option SpoolFailure → (now : ℕ) → (are_idle are_calm : Bool) → Bool
-run_is_over before failed now are_idle are_calm =
-    if takes_rings before then is_drained failed now are_calm else is_over before now (are_at_rest failed are_idle are_calm)
+-- THE RUN IS OVER: one that was told to stop as a stop says; else one whose spool has failed, or whose configuration is to be served by
+-- another run
+abbrev pub run_is_over : Stop → Option SpoolFailure → Reload → (now : ℕ) → (are_idle are_calm : Bool) → Bool
+run_is_over before failed asked now are_idle are_calm =
+    if takes_rings before then is_drained failed now are_calm || reloads_now failed asked are_calm
+    else is_over before now (are_at_rest failed are_idle are_calm)
 
 -- how it ends
-abbrev pub end_of : Stop → Option SpoolFailure → RunEnd
-end_of stop.No None = run_end.Stopped
-end_of stop.No (Some failed) = run_end.SpoolFailed
-end_of (stop.At moment) failed = run_end.Stopped
-end_of stop.Now failed = run_end.Stopped
+abbrev pub end_of : Stop → Option SpoolFailure → Reload → RunEnd
+end_of stop.No None asked = if is_asked asked then run_end.Reload else run_end.Stopped
+end_of stop.No (Some failed) asked = run_end.SpoolFailed
+end_of (stop.At moment) failed asked = run_end.Stopped
+end_of stop.Now failed asked = run_end.Stopped
 
 -- ---- WHAT IS TOLD OF THE SPOOL FIRST, to each client that comes later too: what the start found damaged, and that it has failed
 
@@ -79,4 +83,5 @@ unserved_reply (word.Retry said) = reply.Refused (record { why = refusal.NoSpool
 unserved_reply word.Status = reply.Refused (record { why = refusal.NoSpool })
 unserved_reply word.Metrics = reply.Refused (record { why = refusal.NoSpool })
 unserved_reply word.Events = reply.Refused (record { why = refusal.NoSpool })
+unserved_reply word.Reload = reply.Refused (record { why = refusal.NoSpool })
 unserved_reply (word.Frames name) = reply.Refused (record { why = refusal.NoSpool })

@@ -1,6 +1,7 @@
 //! What a desk knows of a line beside what the line is.
 ghost use Rattle.std.specs.Prelude.{◌≡◌, IfOk, find, nat_eq};
 ghost use Rattle.fax_desk.specs.Cards.{after_done, after_job, after_page, after_placing, after_refusal, after_ring, card_new, cause_of, job_tag, report_texts, rung_card, tag_of, tagged_job, tagged_of};
+ghost use Rattle.fax_desk.specs.Reloads.{closed_card};
 
 use crate::next::{Note, Order};
 use crate::questions::{Cause, Question};
@@ -238,6 +239,13 @@ impl Card {
             Note::Refuse(cause) => self.refuse(cause),
             _ => self.question = None,
         }
+    }
+
+    /// From now on its line takes no call.
+    pub(crate) fn close(&mut self)
+        ensures { self.new ≡ closed_card self.old }
+    {
+        self.limits.most_waiting = 0;
     }
 
     /// This page was confirmed, and was kept or not.

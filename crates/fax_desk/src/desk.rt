@@ -1,9 +1,10 @@
 //! The desk.
-ghost use Rattle.std.specs.Prelude.{◌≡◌, ◌↔◌, IsTrue, None, Some, is_some, length, not, option_map, slice_get};
+ghost use Rattle.std.specs.Prelude.{◌≡◌, ◌↔◌, ◌||◌, IsTrue, None, Some, is_some, length, not, option_map, slice_get};
 ghost use Rattle.fax_desk.specs.Budgets.{has_memory, is_full_at};
-ghost use Rattle.fax_desk.specs.Desks.{asked_cards, connected_happened, desk_new, done_of, due_of, free_line, happened_of, heard_until, line_named, looked_at, looked_cards, name_at, next_any, next_at, next_named, next_ring, next_there, noted, noted_at, peer_next, question_at, refuse_next, step_of, stop_then, told_at, turned_at};
+ghost use Rattle.fax_desk.specs.Desks.{asked_cards, closed_at, connected_happened, desk_new, done_of, due_of, free_line, happened_of, heard_until, line_named, looked_at, looked_cards, name_at, next_any, next_at, next_named, next_ring, next_there, noted, noted_at, peer_next, question_at, refuse_next, step_of, stop_then, told_at, turned_at};
 ghost use Rattle.fax_desk.specs.Said.{any_after, peer_said, unasked_if, waits_if};
 ghost use Rattle.fax_desk.specs.Spools.{are_at_rest, end_of, failed_after, is_news, run_is_over};
+ghost use Rattle.fax_desk.specs.Reloads.{is_asked, reload_after, reload_at, reload_next, takes_calls};
 ghost use Rattle.fax_desk.specs.Stops.{stop_after, takes_rings};
 ghost use Rattle.fax_desk.specs.Tags.{tag_of_text};
 
@@ -12,6 +13,7 @@ use crate::budgets::{bounded, has_memory, is_full_at};
 use crate::card::Card;
 use crate::next::{Ask, HangUpAsk, Next, Note, Order, Reply, RingAsk};
 use crate::questions::{HeardTime, Question};
+use crate::reload::{Reload, reloads_now, takes_calls};
 use crate::said::{
     any_after, bounds_of, first_free, peer_of, rung_happened, tag_said, unasked_if, waits_if,
 };
@@ -71,6 +73,8 @@ pub struct Desk {
     pub any_from: usize,
     /// How many octets all lines together may hold of pages. `None`: as many as each for itself.
     pub memory: Option<u64>,
+    /// Whether the configuration is to be served as it was read again.
+    pub reload: Reload,
 }
 
 impl Drop for Desk {
@@ -87,6 +91,7 @@ impl Drop for Desk {
             waits: _waits,
             any_from: _any_from,
             memory: _memory,
+            reload: _reload,
         } = self;
     }
 }
@@ -111,6 +116,7 @@ impl Desk {
             waits: None,
             any_from: 0,
             memory: None,
+            reload: Reload::No,
         }
     }
 
@@ -173,6 +179,7 @@ impl Desk {
             Word::Metrics => Next::Metrics,
             Word::Events => Next::Events,
             Word::Frames(name) => self.ask(name, Ask::Frames, view),
+            Word::Reload => self.ask_reload(view),
             Word::Stop => Next::Replies(Reply::Done),
         }
     }
@@ -197,11 +204,24 @@ impl Desk {
         }
     }
 
+    /// What it comes to that the configuration is to be read again.
+    fn ask_reload<V: View>(&self, view: &V) -> Next
+        ensures { result ≡ reload_next (takes_rings self.now.stop) (V.failed view.now) }
+    {
+        if !self.stop.takes_rings() {
+            return refuses(Refusal::Stopping);
+        }
+        if view.has_failed() {
+            return refuses(Refusal::NoSpool);
+        }
+        Next::Reloads
+    }
+
     /// What a ring comes to.
     fn ring<V: View>(&self, ring: RingWord<'_>, view: &V) -> Next
         ensures { result ≡ next_ring self.now (V.line view.now) (V.failed view.now) (option_map (λ text. text.now) ring.entry.line) (option_map (λ text. text.now) ring.entry.tag) ring.entry.bounds }
     {
-        if !self.stop.takes_rings() {
+        if !self.takes_calls() {
             return refuses(Refusal::Stopping);
         }
         if view.has_failed() {
@@ -427,6 +447,45 @@ impl Desk {
         !self.stop.takes_rings()
     }
 
+    /// Whether lines take calls: it was not asked to stop, and another run that is to serve them has not to wait for them any more.
+    pub fn takes_calls(&self) -> bool
+        ensures { result ≡ takes_calls self.now.stop self.now.reload }
+    {
+        takes_calls(self.stop, self.reload)
+    }
+
+    /// The configuration was read again, and is to be served by another run, once no line has a call. Lines take calls for as long as a stop
+    /// takes.
+    pub fn reload(&mut self, now: u64)
+        ensures { self.new ≡ record self.old { reload = reload_after self.old.reload now self.old.stop_ms } }
+    {
+        self.reload = self.reload.asked(now, self.stop_ms);
+    }
+
+    /// At this moment lines may have to take no call any more, since another run is to serve them.
+    pub fn close_when_due(&mut self, now: u64)
+        ensures { self.new ≡ record self.old { reload = reload_at self.old.reload now } }
+    {
+        self.reload = self.reload.at(now);
+    }
+
+    /// Line i takes no call any more.
+    pub fn close_line(&mut self, i: usize)
+        ensures cards { self.new.cards.items ≡ closed_at self.old.cards.items i }
+        ensures same { self.new ≡ record self.old { cards = self.new.cards } }
+    {
+        if i < self.cards.len() {
+            self.cards[i].close();
+        }
+    }
+
+    /// Whether the run is to end: it was asked to stop, or another run is to serve the configuration.
+    pub fn is_ending(&self) -> bool
+        ensures { result ≡ (not (takes_rings self.now.stop) || is_asked self.now.reload) }
+    {
+        !self.stop.takes_rings() || self.reload.is_asked()
+    }
+
     /// This was found in the spool, as it was opened.
     pub fn set_damage(&mut self, damage: Damage)
         ensures { self.new ≡ record self.old { damage = damage } }
@@ -453,10 +512,11 @@ impl Desk {
 
     /// Whether the run is over at this moment, where no line has a call or a job, or one has; and no line a call, or one has.
     pub fn is_over(&self, now: u64, are_idle: bool, are_calm: bool) -> bool
-        ensures { result ≡ run_is_over self.now.stop self.now.failed now are_idle are_calm }
+        ensures { result ≡ run_is_over self.now.stop self.now.failed self.now.reload now are_idle are_calm }
     {
         if self.stop.takes_rings() {
             is_drained(self.failed, now, are_calm)
+                || reloads_now(self.failed, self.reload, are_calm)
         } else {
             self.stop.is_over(now, self.are_at_rest(are_idle, are_calm))
         }
@@ -475,8 +535,8 @@ impl Desk {
 
     /// How the run ends, once it is over.
     pub fn end(&self) -> RunEnd
-        ensures { result ≡ end_of self.now.stop self.now.failed }
+        ensures { result ≡ end_of self.now.stop self.now.failed self.now.reload }
     {
-        end_of(self.stop, self.failed)
+        end_of(self.stop, self.failed, self.reload)
     }
 }

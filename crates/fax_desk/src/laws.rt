@@ -1,5 +1,5 @@
 //! Laws of the definitions: functions that do nothing, each of whose contracts is a theorem.
-ghost use Rattle.fax_desk.specs.Laws.{AnsweredOnce, AnswersWhatWasDone, NoRingBeyondTheMemory, NoRingOnAFullLine, NoRingWhileStopping, NoRingWithoutASpool, OrdersTheNamed};
+ghost use Rattle.fax_desk.specs.Laws.{AnsweredOnce, AnswersWhatWasDone, NoCallEndsForAReload, NoRingBeyondTheMemory, NoRingOnAFullLine, NoRingWhileStopping, NoRingWithoutASpool, OrdersTheNamed};
 
 /// Each word is answered once, in the order in which they came.
 pub fn words_are_answered_once()
@@ -16,7 +16,7 @@ pub fn orders_go_to_the_named_line()
     ensures { OrdersTheNamed }
 {}
 
-/// No ring is ordered by a server that stops.
+/// No ring is ordered by a server that stops, or whose lines take no call any more, since another run is to serve them.
 pub fn no_ring_while_stopping()
     ensures { NoRingWhileStopping }
 {}
@@ -34,4 +34,9 @@ pub fn no_ring_on_a_full_line()
 /// No ring is ordered whose line may come to hold more than the others leave of what all together may hold.
 pub fn no_ring_beyond_the_memory()
     ensures { NoRingBeyondTheMemory }
+{}
+
+/// No call ends for it that the configuration is to be served by another run.
+pub fn no_call_ends_for_a_reload()
+    ensures { NoCallEndsForAReload }
 {}

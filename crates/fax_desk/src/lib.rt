@@ -11,6 +11,7 @@ mod events;
 pub mod laws;
 mod next;
 mod questions;
+mod reload;
 mod said;
 mod shown;
 mod spool;
@@ -28,6 +29,7 @@ pub use next::{
     Ask, ConnectNote, HangUpAsk, Next, Note, Order, PeerAsk, RefusedWord, Reply, RingAsk, RungOn,
 };
 pub use questions::{Cause, HeardTime, Question};
+pub use reload::Reload;
 pub use spool::{Damage, RunEnd, SpoolFailure, SpoolTold, unserved_reply};
 pub use stop::Stop;
 pub use tag::{Tag, TaggedCall};

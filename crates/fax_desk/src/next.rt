@@ -110,4 +110,6 @@ pub enum Next {
     Events,
     /// The same, and it is told what happens in the calls of this line.
     Frames(usize),
+    /// The configuration is to be read again.
+    Reloads,
 }

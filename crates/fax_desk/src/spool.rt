@@ -3,6 +3,7 @@ ghost use Rattle.std.specs.Prelude.{◌≡◌};
 ghost use Rattle.fax_desk.specs.Spools.{damage_told, end_of, failed_after, failure_told, is_drained, unserved_reply};
 
 use crate::next::{RefusedWord, Reply};
+use crate::reload::Reload;
 use crate::stop::Stop;
 use fax_control::events::What;
 use fax_control::{Refusal, Word};
@@ -51,6 +52,8 @@ pub enum RunEnd {
     Stopped,
     /// Its spool has failed, and is to be opened anew.
     SpoolFailed,
+    /// Its configuration was read again, and is to be served as it is then.
+    Reload,
 }
 
 /// When the run ends, where the spool has failed at this moment or not, and this was known of it; a stop takes so many milliseconds at
@@ -83,12 +86,14 @@ pub(crate) fn is_drained(failed: Option<SpoolFailure>, now: u64, are_calm: bool)
     }
 }
 
-/// How a run ends that was told to stop, or not, and whose spool has failed, or not.
-pub(crate) fn end_of(stop: Stop, failed: Option<SpoolFailure>) -> RunEnd
-    ensures { result ≡ end_of stop failed }
+/// How a run ends that was told to stop, or not, whose spool has failed, or not, and whose configuration is to be served by another run, or
+/// not.
+pub(crate) fn end_of(stop: Stop, failed: Option<SpoolFailure>, reload: Reload) -> RunEnd
+    ensures { result ≡ end_of stop failed reload }
 {
     match (stop, failed) {
         (Stop::No, Some(_)) => RunEnd::SpoolFailed,
+        (Stop::No, None) if reload.is_asked() => RunEnd::Reload,
         _ => RunEnd::Stopped,
     }
 }

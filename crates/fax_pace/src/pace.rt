@@ -24,8 +24,8 @@ use crate::view::{Seen, has_failed};
 use crate::visiting::Visiting;
 use crate::waking::Waking;
 use crate::watch::Watch;
-use fax_clients::Clients;
-use fax_control::Refusal;
+use fax_clients::{Asker, Clients};
+use fax_control::{Answer, Refusal};
 use fax_desk::{Damage, Desk, RunEnd};
 use fax_gateway::Settings;
 use fax_http::visitors::Visitors;
@@ -65,6 +65,8 @@ pub struct RealPace<'a, C: Clock, R: RedialSide + Drop, S: SipSide + Drop> {
     held: Option<HeldPages>,
     /// The ladders of lines that are watched.
     ladders: Ladders,
+    /// The client that asked that the configuration is read again.
+    reloader: Option<Asker>,
 }
 
 impl<C: Clock, R: RedialSide + Drop, S: SipSide + Drop> Drop for RealPace<'_, C, R, S> {
@@ -82,6 +84,7 @@ impl<C: Clock, R: RedialSide + Drop, S: SipSide + Drop> Drop for RealPace<'_, C,
             retries: _retries,
             held: _held,
             ladders: _ladders,
+            reloader: _reloader,
         } = self;
     }
 }
@@ -130,6 +133,7 @@ impl<'a, C: Clock, R: RedialSide + Drop, S: SipSide + Drop> RealPace<'a, C, R, S
             retries: Retries::new(alloc, redials),
             held,
             ladders: Ladders::new(alloc, settings),
+            reloader: None,
         })
     }
 
@@ -169,11 +173,36 @@ impl<'a, C: Clock, R: RedialSide + Drop, S: SipSide + Drop> RealPace<'a, C, R, S
             self.rounds.now = now;
         }
         self.desk.go_on(self.rounds.now, self.teller.tell_events());
+        self.desk.close_when_due(self.rounds.now);
     }
 
     /// Whether the server was told to stop.
     pub fn is_stopping(&self) -> bool {
         self.desk.is_stopping()
+    }
+
+    /// The client that asked that the configuration is read again, where one did since this was asked last.
+    pub fn take_reload(&mut self) -> Option<Asker>
+        ensures { self.new ≡ self.old }
+    {
+        self.reloader.take()
+    }
+
+    /// The configuration was read again for this client: another run is to serve it, in which these lines, counted from 0, are not, or not so.
+    /// They take no call any more. `None`: none can.
+    pub fn reload(&mut self, asker: Asker, gone: Option<&[usize]>)
+        ensures { self.new ≡ self.old }
+    {
+        match gone {
+            Some(gone) => {
+                close_lines(&mut self.desk, gone);
+                self.desk.reload(self.rounds.now);
+                self.teller.answer(asker, Answer::Done);
+            }
+            None => self
+                .teller
+                .answer(asker, Answer::Refused(Refusal::NoReload)),
+        }
     }
 
     /// Whether the run ends.
@@ -184,7 +213,7 @@ impl<'a, C: Clock, R: RedialSide + Drop, S: SipSide + Drop> RealPace<'a, C, R, S
         if !self.desk.is_stopping() && self.teller.have_ended() {
             self.desk.stop(now);
         }
-        let may_end = self.desk.is_stopping() || self.desk.has_failed();
+        let may_end = self.desk.is_ending() || self.desk.has_failed();
         if !may_end {
             return false;
         }
@@ -352,7 +381,7 @@ impl<'a, C: Clock, R: RedialSide + Drop, S: SipSide + Drop> RealPace<'a, C, R, S
                 queues: held.queues.as_slice(),
                 on: on.as_ref(),
                 has_failed: false,
-                is_stopping: self.desk.is_stopping(),
+                is_stopping: self.desk.is_ending(),
                 refusal: Refusal::NoMemory,
                 now: self.rounds.now,
                 day: self.clock.day(),
@@ -390,7 +419,7 @@ impl<'a, C: Clock, R: RedialSide + Drop, S: SipSide + Drop> RealPace<'a, C, R, S
                 queues: store.storage.queues(),
                 on: on.as_ref(),
                 has_failed: store.storage.refuses(),
-                is_stopping: self.desk.is_stopping(),
+                is_stopping: self.desk.is_ending(),
                 refusal: Refusal::NoSpool,
                 now: self.rounds.now,
                 day,
@@ -400,6 +429,15 @@ impl<'a, C: Clock, R: RedialSide + Drop, S: SipSide + Drop> RealPace<'a, C, R, S
             self.visiting
                 .show_picture(self.alloc, beside.now, kept, may_read);
         }
+    }
+}
+
+/// These lines take no call any more.
+fn close_lines(desk: &mut Desk, lines: &[usize])
+    ensures { desk.new.waits ≡ desk.old.waits }
+{
+    for i in lines {
+        desk.close_line(*i);
     }
 }
 

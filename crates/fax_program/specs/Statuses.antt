@@ -5,7 +5,7 @@ use Rattle.clap.specs.declared.error.kind.ErrorKind.TheVariants.{DisplayHelp, Di
 use Rattle.fax_command.specs.declared.status.Status.{Status}
 use Rattle.fax_command.specs.declared.status.Status.TheVariants as status
 use Rattle.fax_desk.specs.declared.spool.RunEnd.{RunEnd}
-use Rattle.fax_desk.specs.declared.spool.RunEnd.TheVariants.{Stopped, SpoolFailed}
+use Rattle.fax_desk.specs.declared.spool.RunEnd.TheVariants.{Stopped, SpoolFailed, Reload}
 use Rattle.fax_jobs.specs.declared.outcome.Outcome.{Outcome}
 use Rattle.fax_jobs.specs.declared.outcome.Outcome.TheVariants.{Delivered}
 
@@ -26,8 +26,10 @@ outcome_status Delivered = status.Done
 outcome_status outcome = status.Undelivered
 
 -- THE PROCESS ENDS after a run of a server that was told to stop. One whose spool has failed is followed by another one, which opens
--- that anew, where words come on a control socket; words that come on the standard input are of one run alone.
+-- that anew, where words come on a control socket; words that come on the standard input are of one run alone. One whose configuration was
+-- read again is followed by another one, too.
 abbrev pub IsEndedBy : RunEnd → (has_control : Bool) → Option Status → Type 0
 IsEndedBy Stopped has_control ends = ends ≡ Some status.Done
+IsEndedBy Reload has_control ends = ends ≡ None
 IsEndedBy SpoolFailed true ends = ends ≡ None
 IsEndedBy SpoolFailed false ends = IsSomeAnd ends (IsToldAs status.Usage)

@@ -10,6 +10,7 @@ mod looking;
 mod manager;
 mod pictures;
 mod refusals;
+mod reloading;
 mod rights;
 mod run;
 mod saying;

@@ -1,23 +1,29 @@
-//! A service manager, as the environment names it.
+//! What a server is supervised by: a service manager, as the environment names it, and the file of its configuration.
 use crate::console::Console;
 use crate::failures::tell;
+use crate::reloading::gone_lines_at;
+use fax_config::Config;
 use fax_notify::{LocalSockets, Notice, ServiceManager, send_notice};
+use fax_serve::Supervisor;
 use std::alloc::Global;
 use std::env;
 use std::env::VarError;
 use std::net::Net;
-use std::rt::Env;
+use std::rt::{Env, Files};
 
 /// The variable that names the socket of a service manager (sd_notify(3)).
 const VARIABLE: &str = "NOTIFY_SOCKET";
 
-/// The service manager whose socket has this name, or nobody. What fails is told in a line on the standard error.
+/// The service manager whose socket has this name, or nobody; and the configuration that is served, and its file. What fails is told in a
+/// line on the standard error.
 #[derive(Drop)]
 pub(crate) struct NamedManager<'e, 'n, 's, N: Net> {
     pub console: &'e Console,
     pub net: &'n N,
     pub alloc: Global,
     pub name: Option<&'s str>,
+    pub path: &'s str,
+    pub config: &'s Config,
 }
 
 impl<'e, 'n, 's, N: Net> ServiceManager for NamedManager<'e, 'n, 's, N> {
@@ -37,7 +43,15 @@ impl<'e, 'n, 's, N: Net> ServiceManager for NamedManager<'e, 'n, 's, N> {
             net: self.net,
             alloc: self.alloc,
             name: self.name,
+            path: self.path,
+            config: self.config,
         }
+    }
+}
+
+impl<'e, 'n, 's, N: Net + Files + AllocGlobal> Supervisor for NamedManager<'e, 'n, 's, N> {
+    fn reread(&mut self) -> Option<Vec<usize>> {
+        gone_lines_at(self.console, self.net, self.path, self.config)
     }
 }
 

@@ -15,17 +15,19 @@ use sqlite_disk::Start;
 use std::fmt::Display;
 use std::net::Net;
 use std::rt::{Clock, Env, Files};
-use std::{fs, io};
+use std::{fs, io, mem};
 
 /// A spool that could not be opened anew is tried again so many milliseconds later.
 const BETWEEN_OPENINGS_MS: u64 = 10_000;
 
 /// The lines of a configuration, which are served by one run after the other: a run whose spool has failed ends, and the next one opens
-/// that anew.
+/// that anew; and a run whose configuration was read again ends, and the next one serves it as it is then.
 pub struct Service {
     /// The path of the configuration.
     path: String,
     config: Config,
+    /// The configuration that was served before this one, until a run has served this one.
+    before: Option<Config>,
     /// How often the spool has failed.
     failures: u64,
     /// The name of the socket of a service manager, where the environment has one.
@@ -39,6 +41,7 @@ impl Drop for Service {
         let Service {
             path: _path,
             config: _config,
+            before: _before,
             failures: _failures,
             manager: _manager,
             told: _told,
@@ -47,11 +50,11 @@ impl Drop for Service {
 }
 
 impl Service {
-    /// Serves the lines until one says `stop`, or the spool has failed and no line has a call. It answers with which status the process
-    /// ends. `None`: the lines are to be served once more, by another run, over files of its own (`S` stands for what those of its spool hold, and
-    /// `T` for what those of the pages hold that could not be delivered). Words come on the input where there is no control socket, and events go
-    /// to the output. Faults are told in one line on the standard error.
-    pub fn run<N: Net + Files + Clock + Folders, S: Start, T: Start>(
+    /// Serves the lines until one says `stop`, or, once no line has a call, since the spool has failed, or the configuration was read again.
+    /// It answers with which status the process ends. `None`: the lines are to be served once more, by another run, over files of its own
+    /// (`S` stands for what those of its spool hold, and `T` for what those of the pages hold that could not be delivered). Words come on the
+    /// input where there is no control socket, and events go to the output. Faults are told in one line on the standard error.
+    pub fn run<N: Net + Files + Clock + Folders + AllocGlobal, S: Start, T: Start>(
         &mut self,
         console: &Console,
         system: &N,
@@ -62,7 +65,7 @@ impl Service {
             return Some(status.code());
         }
         let ended = match self.serve(console, system, start, undelivered) {
-            Ok(end) => self.end(console, end),
+            Ok(end) => self.end(console, system, end),
             Err(fault) => self.fail(console, system, fault),
         };
         match ended {
@@ -72,7 +75,7 @@ impl Service {
     }
 
     /// The run.
-    fn serve<N: Net + Files + Clock + Folders, S: Start, T: Start>(
+    fn serve<N: Net + Files + Clock + Folders + AllocGlobal, S: Start, T: Start>(
         &self,
         console: &Console,
         system: &N,
@@ -88,6 +91,8 @@ impl Service {
             net: system,
             alloc: console.alloc(),
             name,
+            path: self.path.as_str(),
+            config: &self.config,
         };
         run_serve(
             system,
@@ -119,10 +124,18 @@ impl Service {
     }
 
     /// A run over a spool that was opened has ended so.
-    fn end(&mut self, console: &Console, end: RunEnd) -> Option<Status> {
+    fn end<N: Files + AllocGlobal>(
+        &mut self,
+        console: &Console,
+        system: &N,
+        end: RunEnd,
+    ) -> Option<Status> {
         self.told.clear();
-        if end == RunEnd::SpoolFailed {
-            self.failures = self.failures.saturating_add(1);
+        self.before = None;
+        match end {
+            RunEnd::Stopped => {}
+            RunEnd::SpoolFailed => self.failures = self.failures.saturating_add(1),
+            RunEnd::Reload => self.reload(console, system),
         }
         ended_by(
             console,
@@ -132,13 +145,26 @@ impl Service {
         )
     }
 
-    /// A run did not begin, for this fault: one of a spool that was open before passes.
+    /// The next run serves the configuration as it is in its file now; one that has a fault, which is told, as it was.
+    fn reload<N: Files + AllocGlobal>(&mut self, console: &Console, system: &N) {
+        if let Ok(config) = config_at(console, system, self.path.as_str()) {
+            self.before = Some(mem::replace(&mut self.config, config));
+        }
+    }
+
+    /// A run did not begin, for this fault: one of a spool that was open before passes, and where it was the first of a configuration that was
+    /// read again the next one serves that of before.
     fn fail<N: Net + Files + Clock>(
         &mut self,
         console: &Console,
         system: &N,
         fault: ServeFault,
     ) -> Option<Status> {
+        if let Some(before) = self.before.take() {
+            let _ = self.tell_fault(console, fault);
+            self.config = before;
+            return None;
+        }
         if self.failures == 0 {
             return Some(self.tell_fault(console, fault));
         }
@@ -217,6 +243,7 @@ pub(crate) fn service_of<N: Files + Env + AllocGlobal>(
         Ok(path) => Ok(Service {
             path,
             config,
+            before: None,
             failures: 0,
             manager: manager_name(console, system),
             told: String::new(console.alloc()),
@@ -243,7 +270,7 @@ pub(crate) fn check<N: Files + AllocGlobal>(console: &Console, system: &N, path:
 }
 
 /// The configuration in the file at this path. An `Err` is the status after a fault that was told.
-fn config_at<N: Files + AllocGlobal>(
+pub(crate) fn config_at<N: Files + AllocGlobal>(
     console: &Console,
     system: &N,
     path: &str,
@@ -263,7 +290,7 @@ fn config_at<N: Files + AllocGlobal>(
 }
 
 /// Where this process cannot open so many descriptors that is told, and the status that says it.
-fn tell_too_few(console: &Console, path: &str, wanted: usize) -> Option<Status> {
+pub(crate) fn tell_too_few(console: &Console, path: &str, wanted: usize) -> Option<Status> {
     let most = descriptor_limit()?;
     if wanted as u64 <= most {
         return None;
@@ -277,22 +304,30 @@ fn tell_too_few(console: &Console, path: &str, wanted: usize) -> Option<Status> 
 fn ended_by(console: &Console, path: &str, has_control: bool, end: RunEnd) -> Option<Status>
     ensures { IsEndedBy end has_control result }
 {
-    if end == RunEnd::Stopped {
-        return Some(Status::Done);
+    match end {
+        RunEnd::Stopped => Some(Status::Done),
+        RunEnd::Reload => None,
+        RunEnd::SpoolFailed => {
+            let status = tell(console, path, "spool: its disk failed", Status::Usage);
+            if has_control { None } else { Some(status) }
+        }
     }
-    let status = tell(console, path, "spool: its disk failed", Status::Usage);
-    if has_control { None } else { Some(status) }
 }
 
 /// Tells that memory was wanted and refused.
-fn tell_no_memory(console: &Console, path: &str) -> Status
+pub(crate) fn tell_no_memory(console: &Console, path: &str) -> Status
     ensures { IsToldAs Status.NoMemory result }
 {
     tell(console, path, "memory was refused", Status::NoMemory)
 }
 
 /// Tells a fault of a configuration in one line, and gives the status that says it.
-fn tell<D: Display + Drop>(console: &Console, path: &str, fault: D, status: Status) -> Status
+pub(crate) fn tell<D: Display + Drop>(
+    console: &Console,
+    path: &str,
+    fault: D,
+    status: Status,
+) -> Status
     ensures { IsToldAs status result }
 {
     match console.eprintln(format_args!("faxgate: {path}: {fault}")) {

@@ -45,6 +45,7 @@ named_in word.Status = None
 named_in word.Metrics = None
 named_in word.Events = None
 named_in (word.Frames line) = None
+named_in word.Reload = None
 named_in word.Stop = None
 
 -- it is a redial line
@@ -73,6 +74,7 @@ own_reply word.Status = Some (refused refusal.NoLine)
 own_reply word.Metrics = Some (refused refusal.NoLine)
 own_reply word.Events = Some (refused refusal.NoLine)
 own_reply (word.Frames line) = Some (refused refusal.NoLine)
+own_reply word.Reload = Some (refused refusal.NoLine)
 own_reply word.Stop = Some (refused refusal.NoLine)
 
 -- ---- something is asked of the line of a try, where there is one
@@ -136,6 +138,7 @@ reply_by next.Status came = came
 reply_by next.Metrics came = came
 reply_by next.Events came = came
 reply_by (next.Frames i) came = came
+reply_by next.Reloads came = came
 
 pub record Steps {L : Type 0} (tells : List ℕ → ℕ → LineEvent → L → L → Type 0) (asker now : ℕ) (said : Word) (reply : Reply) (old new : RedialsValue) (before after : L) : Type 0 where
   pub desk : Desk

@@ -153,6 +153,7 @@ fn named_in<'a>(word: Word<'a>) -> Option<&'a str>
         Word::Metrics => None,
         Word::Events => None,
         Word::Frames(_) => None,
+        Word::Reload => None,
         Word::Stop => None,
     }
 }
@@ -174,6 +175,7 @@ fn own_reply(word: Word<'_>) -> Option<Reply>
         Word::Metrics => Some(refused(Refusal::NoLine)),
         Word::Events => Some(refused(Refusal::NoLine)),
         Word::Frames(_) => Some(refused(Refusal::NoLine)),
+        Word::Reload => Some(refused(Refusal::NoLine)),
         Word::Stop => Some(refused(Refusal::NoLine)),
     }
 }

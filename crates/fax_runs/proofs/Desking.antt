@@ -20,6 +20,7 @@ orders_more (Said asker next.Status ∷ newer) older = orders_more newer older
 orders_more (Said asker next.Metrics ∷ newer) older = orders_more newer older
 orders_more (Said asker next.Events ∷ newer) older = orders_more newer older
 orders_more (Said asker (next.Frames line) ∷ newer) older = orders_more newer older
+orders_more (Said asker next.Reloads ∷ newer) older = orders_more newer older
 orders_more (Lapsed given ∷ newer) older = ap (λ (l : List LineAsked). asked_by given ∷ l) (orders_more newer older)
 orders_more (Told told ended ∷ newer) older = orders_more newer older
 

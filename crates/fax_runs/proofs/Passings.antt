@@ -54,6 +54,10 @@ said_given asker (next.Frames line) given old new waits is free = (
   record { passed = Said asker (next.Frames line) ∷ []; passes = λ earlier p. (subst (λ (w : Option Waits). Passes earlier w) free p, waits); orders = is; told_is = refl },
   λ _. waits,
 )
+said_given asker next.Reloads given old new waits is free = (
+  record { passed = Said asker next.Reloads ∷ []; passes = λ earlier p. (subst (λ (w : Option Waits). Passes earlier w) free p, waits); orders = is; told_is = refl },
+  λ _. waits,
+)
 said_given asker next.Undelivered given old new waits is free = (
   record { passed = Said asker next.Undelivered ∷ []; passes = λ earlier p. (subst (λ (w : Option Waits). Passes earlier w) free p, waits); orders = is; told_is = refl },
   λ _. waits,

@@ -1,15 +1,16 @@
-//! What gives the orders, and tells a service manager what becomes of the server.
+//! What gives the orders, and tells a supervisor what becomes of the server.
 ghost use Rattle.std.specs.Prelude.{◌≡◌};
 ghost use Rattle.fax_notify.specs.Tellings.{ready_after};
 
-use crate::stopping::StoppingPace;
+use crate::ending::EndingPace;
+use crate::supervisor::Supervisor;
 use fax_desk::RunEnd;
 use fax_line::{LineAnswer, Lines, Order, Pace, RunStore, SlotEnd};
 use fax_notify::{Notice, ServiceManager};
 use fax_wires::holding::LineWire;
 use std::marker::Model;
 
-/// What gives the orders, and a service manager, which is told as the server begins to stop.
+/// What gives the orders, and a supervisor, which is told as the server begins to stop, and reads its configuration again.
 #[derive(Drop)]
 pub(crate) struct NoticingPace<P, M> {
     /// What gives the orders.
@@ -41,14 +42,14 @@ impl<P: Drop, M: ServiceManager + Drop> NoticingPace<P, M> {
     }
 }
 
-impl<P: StoppingPace + Drop, M: Drop> NoticingPace<P, M> {
+impl<P: EndingPace + Drop, M: Drop> NoticingPace<P, M> {
     /// What clients are still to be told is written, for a while. It answers how the run ends.
     pub(crate) fn finish(mut self) -> RunEnd {
         self.ordering.finish()
     }
 }
 
-impl<W: LineWire + Drop, K: RunStore, P: Pace<W, K> + StoppingPace, M: ServiceManager> Pace<W, K>
+impl<W: LineWire + Drop, K: RunStore, P: Pace<W, K> + EndingPace, M: Supervisor> Pace<W, K>
     for NoticingPace<P, M> {
     ghost words = { P.words };
 
@@ -63,6 +64,7 @@ impl<W: LineWire + Drop, K: RunStore, P: Pace<W, K> + StoppingPace, M: ServiceMa
     fn next(&mut self, lines: &Lines<W>, store: Option<&K>) -> Option<Order> {
         let order = self.ordering.next(lines, store);
         tell_stop(&self.ordering, &mut self.manager, &mut self.has_told);
+        reread_if_asked(&mut self.ordering, &mut self.manager);
         order
     }
 
@@ -84,13 +86,22 @@ impl<W: LineWire + Drop, K: RunStore, P: Pace<W, K> + StoppingPace, M: ServiceMa
 }
 
 /// The manager is told that the server stops, where it does, and that was not told.
-fn tell_stop<P: StoppingPace, M: ServiceManager>(
-    ordering: &P,
-    manager: &mut M,
-    has_told: &mut bool,
-) {
+fn tell_stop<P: EndingPace, M: ServiceManager>(ordering: &P, manager: &mut M, has_told: &mut bool) {
     if !*has_told && ordering.is_stopping() {
         *has_told = true;
         manager.tell(Notice::Stopping);
+    }
+}
+
+/// The configuration is read again, where a client asked for it, which is answered.
+fn reread_if_asked<P: EndingPace, M: Supervisor>(ordering: &mut P, manager: &mut M)
+    ensures { ordering.new ≡ ordering.old }
+{
+    let Some(asker) = ordering.take_reload() else {
+        return;
+    };
+    match manager.reread() {
+        Some(gone) => ordering.reload(asker, Some(gone.as_slice())),
+        None => ordering.reload(asker, None),
     }
 }

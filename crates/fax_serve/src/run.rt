@@ -9,6 +9,7 @@ ghost use Rattle.fax_runs.specs.Runs.{ServedAlone};
 use crate::noticing::NoticingPace;
 use crate::redials::{RedialLines, RedialWire, open_redials};
 use crate::sip::{SipFront, open_sip};
+use crate::supervisor::Supervisor;
 use fax_bits::NoMemory;
 use fax_clients::Clients;
 use fax_config::{Config, LineConfig};
@@ -16,7 +17,6 @@ use fax_desk::{Card, Damage, Desk, LineLimits, RunEnd};
 use fax_gateway::Settings;
 use fax_http::visitors::Visitors;
 use fax_line::{Lines, PageToStore, RunStore, serve};
-use fax_notify::ServiceManager;
 use fax_opening::{
     ServeFault, ServedWire, SocketWire, Stopwatch, close_control, open_control, open_lines,
     open_restored_lines, settings_of,
@@ -58,8 +58,9 @@ impl<P: SipSide + Drop, R: RedialSide + Drop> Drop for Sides<P, R> {
 /// Serves the lines of a configuration until it is told to stop, or its spool has failed and no line has a call, 10 s after the failure
 /// at the earliest: then it is to be served by another run, over a spool that is opened anew. Words come on the control socket where
 /// the configuration has one, and else on the input, whose answers go to the output; events go there in any case. The spool has failed so often in runs
-/// before this one. A service manager is told once all is open, and as the server begins to stop. An `Err` tells why nothing was served.
-pub fn run_serve<M: ServiceManager + Drop, N: Net + Files + Clock + Folders, S: Start, T: Start>(
+/// before this one. A supervisor is told once all is open, and as the server begins to stop; and where a client says so it reads the configuration
+/// again, which the next run is to serve, once no line has a call. An `Err` tells why nothing was served.
+pub fn run_serve<M: Supervisor + Drop, N: Net + Files + Clock + Folders, S: Start, T: Start>(
     system: &N,
     alloc: Global,
     config: &Config,
@@ -110,7 +111,7 @@ pub fn run_serve<M: ServiceManager + Drop, N: Net + Files + Clock + Folders, S: 
 }
 
 /// The same with SIP, where the configuration tells of it, and over the sockets of redial lines.
-fn serve_with_sip<M: ServiceManager + Drop, N: Net + Files + Clock + Folders, S: Start, T: Start>(
+fn serve_with_sip<M: Supervisor + Drop, N: Net + Files + Clock + Folders, S: Start, T: Start>(
     system: &N,
     alloc: Global,
     config: &Config,
@@ -154,7 +155,7 @@ fn serve_beside<
     W: SocketWire + Drop,
     P: SipSide + Drop,
     R: RedialSide + Drop,
-    M: ServiceManager + Drop,
+    M: Supervisor + Drop,
     N: Net + Clock + Folders,
     S: Start,
     T: Start,
@@ -196,7 +197,7 @@ fn serve_in_memory<
     W: SocketWire + Drop,
     P: SipSide + Drop,
     R: RedialSide + Drop,
-    M: ServiceManager + Drop,
+    M: Supervisor + Drop,
     N: Net + Clock,
     D: Disk + Drop,
     U: Disk + Drop,
@@ -229,7 +230,7 @@ fn serve_spooled<
     W: SocketWire + Drop,
     P: SipSide + Drop,
     R: RedialSide + Drop,
-    M: ServiceManager + Drop,
+    M: Supervisor + Drop,
     N: Net + Clock + Folders,
     S: Start,
     T: Start,
@@ -268,7 +269,7 @@ fn serve_opened<
     W: SocketWire + Drop,
     P: SipSide + Drop,
     R: RedialSide + Drop,
-    M: ServiceManager + Drop,
+    M: Supervisor + Drop,
     N: Net + Clock,
     D: Disk + Drop,
     U: Disk + Drop,
@@ -544,7 +545,7 @@ fn serve_new<
     W: SocketWire + Drop,
     P: SipSide + Drop,
     R: RedialSide + Drop,
-    M: ServiceManager + Drop,
+    M: Supervisor + Drop,
     C: Clock,
     D: Disk + Drop,
     U: Disk + Drop,
@@ -562,7 +563,7 @@ fn serve_restored<
     W: SocketWire + Drop,
     P: SipSide + Drop,
     R: RedialSide + Drop,
-    M: ServiceManager + Drop,
+    M: Supervisor + Drop,
     C: Clock,
     D: Disk + Drop,
     U: Disk + Drop,

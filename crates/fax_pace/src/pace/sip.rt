@@ -38,7 +38,7 @@ pub(super) fn serve_sip<L: SeenLines, S: SipSide>(
     if desk.is_stopping() {
         sip.leave(now);
     } else if sip.is_open_due(now) {
-        sip.set_open(!seen.has_failed() && has_free_line(desk, seen));
+        sip.set_open(desk.takes_calls() && !seen.has_failed() && has_free_line(desk, seen));
     }
     sip.look(now);
     tell_of_sip(sip, teller, now);

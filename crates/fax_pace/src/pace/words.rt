@@ -37,7 +37,7 @@ impl<'a, C: Clock, R: RedialSide + Drop, S: SipSide + Drop> RealPace<'a, C, R, S
         if let Some(order) = self.say_for_sip(seen) {
             return Some(order);
         }
-        if self.retries.is_said() {
+        if self.retries.is_said() || self.reloader.is_some() {
             return None;
         }
         let (asker, heard) = self.teller.hear()?;
@@ -145,6 +145,7 @@ impl<'a, C: Clock, R: RedialSide + Drop, S: SipSide + Drop> RealPace<'a, C, R, S
             Next::Metrics => {}
             Next::Events => {}
             Next::Frames(_) => {}
+            Next::Reloads => {}
         }
         None
     }
@@ -175,6 +176,7 @@ impl<'a, C: Clock, R: RedialSide + Drop, S: SipSide + Drop> RealPace<'a, C, R, S
             Next::Retries => self.see_call_word(asker, word, seen),
             Next::Events => self.want_events(asker, seen),
             Next::Frames(i) => self.want_frames(asker, i, seen),
+            Next::Reloads => self.ask_reload(asker),
         }
         None
     }
@@ -286,6 +288,13 @@ impl<'a, C: Clock, R: RedialSide + Drop, S: SipSide + Drop> RealPace<'a, C, R, S
                 .teller
                 .answer(asker, Answer::Refused(Refusal::NoMemory)),
         }
+    }
+
+    /// A client asks that the configuration is read again.
+    fn ask_reload(&mut self, asker: Asker)
+        ensures { self.new ≡ self.old }
+    {
+        self.reloader = Some(asker);
     }
 
     /// What is on, as events of this moment, and `ok`.

@@ -30,6 +30,7 @@ Words:
   status                            asks how each line is
   metrics                           asks for counts, in the text format of Prometheus
   events                            asks for events, from now on
+  reload                            the configuration is read again, and served once no line has a call
   stop                              no ring is taken any more, and it ends when all calls and jobs have, or at the limit
                                     that the configuration sets; a second one ends at once
 

@@ -2,7 +2,7 @@ use Rattle.std.proofs.Common.{None, Some, sym, refl, ap, ◌∙◌}
 use Rattle.fax_desk.specs.declared.next.Next.TheVariants as next
 use Rattle.fax_runs.proofs.Passings.{none_given, said_given}
 use Rattle.fax_pace.proofs.pace.RealPace.say_of_line.Goals as goal
-use Rattle.fax_pace.proofs.pace.RealPace.say_of_line.Goals.{in-Replies, in-Reports, in-Undelivered, in-Discards, in-Retries, in-Status, in-Metrics, in-Events, in-Frames}
+use Rattle.fax_pace.proofs.pace.RealPace.say_of_line.Goals.{in-Replies, in-Reports, in-Undelivered, in-Discards, in-Retries, in-Status, in-Metrics, in-Events, in-Frames, in-Reloads}
 
 pub returns-in-Orders : goal.returns-in-Orders
 returns-in-Orders g c = said_given c.apart.result (next.Orders c.in-Orders.order) (Some c.ask.result) c.args.self.now _ c.in-Orders.ensures.waits (sym c.ask.ensures)
@@ -19,4 +19,5 @@ returns g c = λ free. elim c.match-next.branch [
   | in-Metrics w ↦ none_given None c.args.self.now _ refl (ap (λ it. it.desk.waits) w.self-inside-is ∙ w.in-Metrics.ensures.waits ∙ sym free) free
   | in-Events w ↦ none_given None c.args.self.now _ refl (ap (λ it. it.desk.waits) w.self-inside-is ∙ w.in-Events.ensures.waits ∙ sym free) free
   | in-Frames w ↦ none_given None c.args.self.now _ refl (ap (λ it. it.desk.waits) w.self-inside-is ∙ w.in-Frames.ensures.waits ∙ sym free) free
+  | in-Reloads w ↦ none_given None c.args.self.now _ refl (ap (λ it. it.desk.waits) w.self-inside-is ∙ w.in-Reloads.ensures.waits ∙ sym free) free
 ]
