@@ -5,6 +5,8 @@ import urllib.request
 from asked import Asked, page
 from calls import MCF, Caller
 from server import HOST, LONGEST, Peer, until
+from sip import AtATrunk
+from sip_peer import fax_offer
 
 DONE, STOPPING, FULL, NOT_READ = ["ok"], ["refused 5 Stopping"], ["refused 14 Full"], ["refused 15 NoReload"]
 HAS_TO_STAY = "has to be there, and to stay as it is, while it is served"
@@ -171,3 +173,30 @@ class Faults(Reloaded):
         until(lambda: f'line "a2": called: 127.0.0.1:{self.lines["a2"].called}: ' in self.server.errors(), what="a fault")
         self.are_served("a1")
         self.ring("a1")
+
+
+class OverSip(AtATrunk):
+    def test_a_call_that_is_asked_for(self):
+        """It is cancelled, and the next run asks for it anew: the page goes out. Calls come then, too."""
+        self.begin(spool=True)
+        self.comes("+4930123", 1)
+        invite = self.goes_out("004930123")
+        self.trunk.answer(invite, 180)
+        with open(self.server.path("lines.toml"), "a", encoding="utf-8") as file:
+            file.write(self.line("b1", calling_peer=False, called_peer=False).text())
+        self.assertEqual(self.server.say("reload"), DONE)
+        self.trunk.answer(self.trunk.request("CANCEL"), 200)
+        self.trunk.answer(invite, 487)
+        self.trunk.request("ACK")
+        until(self.has_another_line, what="the next run")
+        self.client = self.server.events()
+        invite, machine = self.goes_out("004930123"), self.machine()
+        self.trunk.take(invite, fax_offer(machine.leg.port))
+        self.taken(machine, 1)
+        self.comes("+4930124", 2)
+
+    def has_another_line(self):
+        """Whether the lines as they are in the file now are served."""
+        with contextlib.suppress(OSError, AssertionError):
+            return any(line.startswith("line b1 ") for line in self.server.say("status"))
+        return False
