@@ -3,7 +3,7 @@
     quick-bodies.py ROOT CRATE [MOST [LOG..]]
 
 ROOT is a clone in which the libraries below stand in out/; nothing else may run in it, since its sources are edited. What a LOG tells as refused is
-not tried again. A method of a trait is not found by name: such an edit is told as SEE.
+not tried again.
 """
 import os, pathlib, re, subprocess, sys, time, types, shutil
 ROOT, NAME = sys.argv[1], sys.argv[2]
@@ -19,10 +19,19 @@ crate = next(it for it in m.crates_of(ROOT) if it.name == NAME)
 folder = pathlib.Path(ROOT) / "crates" / NAME
 paths = []
 def run(*a, **k):
-    words = crate.words(["--jobs", "1", *[x for p in paths for x in ("--only", p)]], keeps=False)
-    return REAL([*(m.rtlib.guarded() or []), m.rtlib.RATTLE, "check", *words], cwd=folder, stdin=subprocess.DEVNULL, stdout=subprocess.PIPE, stderr=subprocess.STDOUT, errors="replace", check=False)
-REAL = subprocess.run
-t.subprocess = types.SimpleNamespace(run=run, DEVNULL=subprocess.DEVNULL, PIPE=subprocess.PIPE, STDOUT=subprocess.STDOUT)
+    while True:
+        words = crate.words(["--jobs", "1", *[x for p in paths for x in ("--only", p)]], keeps=False)
+        done = REAL([*(m.rtlib.guarded() or []), m.rtlib.RATTLE, "check", *words], cwd=folder, stdin=subprocess.DEVNULL, stdout=subprocess.PIPE, stderr=subprocess.STDOUT, errors="replace", check=False)
+        # a method of a trait, or of some instances of a type alone, has a longer name: its own is the end of that
+        said = done.stdout if isinstance(done.stdout, str) else done.stdout.decode(errors="replace")
+        lacks = re.search(r"has no function `([^`]*::)([^`]*)`", said)
+        several = re.search(r"several functions are named `([^`]*)`: help: write one of (.*)", said)
+        if lacks and lacks.group(1) + lacks.group(2) in paths:
+            paths[paths.index(lacks.group(1) + lacks.group(2))] = lacks.group(2)
+        elif several and several.group(1) in paths:
+            paths[:] = [p for p in paths if p != several.group(1)] + re.findall(r"`([^`]*)`", several.group(2))
+        else:
+            return done
 def path_of(path, owner, function):
     module = path.removeprefix("src/").removesuffix(".rt").replace("/", "::")
     parts = [NAME] + ([] if module in ("lib", "main") else [module]) + ([owner.split()[-1]] if owner else []) + [function]
