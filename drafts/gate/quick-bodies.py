@@ -8,6 +8,7 @@ not tried again.
 import os, pathlib, re, subprocess, sys, time, types, shutil
 ROOT, NAME = sys.argv[1], sys.argv[2]
 MOST = int(sys.argv[3]) if len(sys.argv) > 3 else 12
+LOGS = sys.argv[4:]
 source = open(f"{ROOT}/tools/wrong-bodies").read().rsplit("main()", 1)[0]
 t = types.ModuleType("wb"); sys.modules["wb"] = t
 t.__file__ = f"{ROOT}/tools/wrong-bodies"
@@ -56,7 +57,7 @@ def tried(batch):
     return came
 import glob
 known = set()
-for f in sys.argv[4:]:
+for f in LOGS:
     known |= set(re.findall(r"(?m)^(\w+) refused", open(f).read()))
 for e in edits:
     if e.name in known: told[e.name] = ("refused", "before")
