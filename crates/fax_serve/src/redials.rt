@@ -56,18 +56,6 @@ impl<'a> TryWire<'a> for RepeatingWire<UdpWire<LentSocket<'a>>> {
     }
 }
 
-/// Redial lines that are opened beside the lines of a configuration.
-pub(crate) trait OpenedRedials<'a>: RedialSide + Sized {
-    /// The redial lines of a configuration over these sockets, without a try.
-    fn over(alloc: Global, config: &'a Config, sockets: &'a [UdpSocket]) -> Result<Self, NoMemory>;
-}
-
-impl<'a, W: TryWire<'a>> OpenedRedials<'a> for RedialLines<'a, W> {
-    fn over(alloc: Global, config: &'a Config, sockets: &'a [UdpSocket]) -> Result<Self, NoMemory> {
-        RedialLines::new(alloc, config, sockets)
-    }
-}
-
 /// Redial lines, and what is known of their tries.
 pub(crate) struct RedialLines<'a, W: TimedWire + Drop> {
     alloc: Global,
@@ -157,7 +145,11 @@ impl<W: TimedWire + Drop> RedialLines<'_, W> {
 
 impl<'a, W: TryWire<'a>> RedialLines<'a, W> {
     /// The redial lines of a configuration over these sockets, without a try.
-    fn new(alloc: Global, config: &'a Config, sockets: &'a [UdpSocket]) -> Result<Self, NoMemory> {
+    pub(crate) fn new(
+        alloc: Global,
+        config: &'a Config,
+        sockets: &'a [UdpSocket],
+    ) -> Result<Self, NoMemory> {
         let configs = config.redial.as_slice();
         let names = names_of(alloc, configs)?;
         Ok(RedialLines {

@@ -7,8 +7,8 @@ ghost use Rattle.fax_runs.specs.StoredRuns.{RunIsStored, ServedOver, ServedWith}
 ghost use Rattle.fax_runs.specs.Runs.{ServedAlone};
 
 use crate::noticing::NoticingPace;
-use crate::redials::{OpenedRedials, RedialLines, RedialWire, open_redials};
-use crate::sip::{OpenedSip, SipFront};
+use crate::redials::{RedialLines, RedialWire, open_redials};
+use crate::sip::{SipFront, open_sip};
 use crate::supervisor::Supervisor;
 use fax_bits::NoMemory;
 use fax_clients::Clients;
@@ -32,7 +32,7 @@ use sqlite_disk::{Disk, Start};
 use std::alloc::{AllocError, Global};
 use std::fs::Files;
 use std::io::{Stdin, Stdout};
-use std::net::{Net, SocketAddr, UdpSocket};
+use std::net::{Net, SocketAddr};
 use std::rt::Clock;
 
 /// Milliseconds of a second.
@@ -81,7 +81,7 @@ pub fn run_serve<M: Supervisor + Drop, N: Net + Files + Clock + Folders, S: Star
             let path = path.as_str();
             let listener = open_control(system, path)?;
             let clients: Clients = Clients::of_socket(alloc, listener, Some(output))?;
-            let served = serve_with_sip::<SipFront, M, N, S, T>(
+            let served = serve_with_sip(
                 system,
                 alloc,
                 config,
@@ -96,7 +96,7 @@ pub fn run_serve<M: Supervisor + Drop, N: Net + Files + Clock + Folders, S: Star
         }
         None => {
             let clients = Clients::standard(alloc, input, output)?;
-            serve_with_sip::<SipFront, M, N, S, T>(
+            serve_with_sip(
                 system,
                 alloc,
                 config,
@@ -110,14 +110,8 @@ pub fn run_serve<M: Supervisor + Drop, N: Net + Files + Clock + Folders, S: Star
     }
 }
 
-/// The same with SIP of this type, where the configuration tells of it, and over the sockets of redial lines.
-fn serve_with_sip<
-    P: OpenedSip + Drop,
-    M: Supervisor + Drop,
-    N: Net + Files + Clock + Folders,
-    S: Start,
-    T: Start,
->(
+/// The same with SIP, where the configuration tells of it, and over the sockets of redial lines.
+fn serve_with_sip<M: Supervisor + Drop, N: Net + Files + Clock + Folders, S: Start, T: Start>(
     system: &N,
     alloc: Global,
     config: &Config,
@@ -132,55 +126,19 @@ fn serve_with_sip<
     ensures ready { OnOk result (M.told manager.new ≡ ready_after (length config.now.lines.items) (M.told manager.old)) }
     ensures untold { OnErr result (M.told manager.new ≡ M.told manager.old) }
 {
-    let sip: Option<P> = P::open(system, alloc, config)?;
+    let sip = open_sip(system, alloc, config)?;
     let sockets = open_redials(system, alloc, config.redial.as_slice())?;
-    serve_with_redials::<P, RedialLines<'_, RedialWire<'_>>, M, N, S, T>(
-        system,
+    let redials: RedialLines<'_, RedialWire<'_>> = RedialLines::new(
         alloc,
         config,
-        clients,
-        sip,
         sockets.as_slice(),
-        spool_failures,
-        manager,
-        start,
-        undelivered,
-    )
-}
-
-/// The same with redial lines of this type, over these sockets.
-fn serve_with_redials<
-    'a,
-    P: SipSide + Drop,
-    R: OpenedRedials<'a> + Drop,
-    M: Supervisor + Drop,
-    N: Net + Clock + Folders,
-    S: Start,
-    T: Start,
->(
-    system: &N,
-    alloc: Global,
-    config: &'a Config,
-    clients: Clients,
-    sip: Option<P>,
-    sockets: &'a [UdpSocket],
-    spool_failures: u64,
-    manager: &mut M,
-    start: S,
-    undelivered: T,
-) -> Result<RunEnd, ServeFault>
-    ensures alone { OnOk result (ServedAlone (length config.now.lines.items) (is_some config.now.spool)) }
-    ensures kept { OnOk result (is_some config.now.spool ≡ true → ServedOver ⟦<SpoolFolderFile<S> as Disk>⟧.seen ⟦<SpoolFolderFile<S> as Disk>⟧.may_leave ⟦<SpoolFolderFile<S> as Disk>⟧.is_usable ⟦<SpoolFolderFile<S> as Disk>⟧.is_clean ⟦<PairedStore<SpoolFolderFile<S>, SpoolFolderFile<T>> as RunStore>⟧.is_same ⟦<PairedStore<SpoolFolderFile<S>, SpoolFolderFile<T>> as PageStore<PageToStore>>⟧.puts ⟦<PairedStore<SpoolFolderFile<S>, SpoolFolderFile<T>> as RunStore>⟧.notes ⟦<PairedStore<SpoolFolderFile<S>, SpoolFolderFile<T>> as RunStore>⟧.ends (λ store. store.storage.spool) (λ store. store.storage.queues.items) S.db S.log config.now.lines.items) }
-    ensures ready { OnOk result (M.told manager.new ≡ ready_after (length config.now.lines.items) (M.told manager.old)) }
-    ensures untold { OnErr result (M.told manager.new ≡ M.told manager.old) }
-{
-    let redials = R::over(alloc, config, sockets)?;
+    )?;
     let sides = Sides {
         clients,
         sip,
         redials,
     };
-    serve_beside::<ServedWire, P, R, M, N, S, T>(
+    serve_beside::<ServedWire, SipFront, RedialLines<'_, RedialWire<'_>>, M, N, S, T>(
         system,
         alloc,
         config,

@@ -61,26 +61,6 @@ impl Drop for SipFront {
     }
 }
 
-/// SIP that is opened beside the lines of a configuration.
-pub(crate) trait OpenedSip: SipSide + Sized {
-    /// SIP as a configuration tells it; none, where it tells nothing of it.
-    fn open<N: Net + Files>(
-        system: &N,
-        alloc: Global,
-        config: &Config,
-    ) -> Result<Option<Self>, ServeFault>;
-}
-
-impl OpenedSip for SipFront {
-    fn open<N: Net + Files>(
-        system: &N,
-        alloc: Global,
-        config: &Config,
-    ) -> Result<Option<Self>, ServeFault> {
-        open_sip(system, alloc, config)
-    }
-}
-
 /// A socket that does not wait.
 fn open_socket<N: Net>(system: &N, address: SocketAddr) -> io::Result<UdpSocket> {
     let socket = UdpSocket::bind(system, address)?;
@@ -97,7 +77,7 @@ fn socket_at<N: Net>(system: &N, address: SocketAddr) -> Result<UdpSocket, Serve
 }
 
 /// SIP as a configuration tells it, beside its lines; none, where it tells nothing of it.
-fn open_sip<N: Net + Files>(
+pub(crate) fn open_sip<N: Net + Files>(
     system: &N,
     alloc: Global,
     config: &Config,
