@@ -6,6 +6,10 @@ mod copied;
 #[cfg(test)]
 mod crashes;
 #[cfg(test)]
+mod job;
+#[cfg(test)]
+mod left_pages;
+#[cfg(test)]
 mod noted;
 #[cfg(test)]
 mod read_back;
@@ -13,3 +17,5 @@ mod read_back;
 mod reopened;
 #[cfg(test)]
 mod steps;
+#[cfg(test)]
+mod undelivered;

@@ -1,4 +1,5 @@
 //! Jobs that end: what is noted of them is not found again.
+use crate::job::queues_of;
 use crate::steps::{FORMAT, new_spool, reopen};
 use fax_bits::{NoMemory, Octets};
 use fax_gateway::Kept;
@@ -20,13 +21,6 @@ const REPORT: Report = Report {
     delivered: 1,
     outcome: Outcome::Delivered,
 };
-
-/// What is known of the only line as its first life begins.
-fn queues_of(alloc: Global) -> Result<Vec<Queue>, NoMemory> {
-    let mut queues = Vec::new(alloc);
-    queues.push(Queue::new(alloc, "a1")?)?;
-    Ok(queues)
-}
 
 /// The only page of this call.
 fn page_of(alloc: Global, call: u32) -> Result<PageToStore, AllocError> {
