@@ -33,6 +33,9 @@ def run(*a, **k):
             paths[:] = [p for p in paths if p != several.group(1)] + re.findall(r"`([^`]*)`", several.group(2))
         else:
             return done
+REAL = subprocess.run
+t.subprocess = types.SimpleNamespace(**{it: getattr(subprocess, it) for it in dir(subprocess) if not it.startswith("__")})
+t.subprocess.run = run
 def path_of(path, owner, function):
     module = path.removeprefix("src/").removesuffix(".rt").replace("/", "::")
     parts = [NAME] + ([] if module in ("lib", "main") else [module]) + ([owner.split()[-1]] if owner else []) + [function]
