@@ -1,6 +1,8 @@
-//! Tests of SIP messages, of transactions, of dialogs and sessions, of digests, of session descriptions and of the switch, through what their crates show.
+//! Tests of SIP messages, of transactions, of dialogs and sessions, of digests, of session descriptions, of the switch and of the user agent, through what their crates show.
 #![tactic(auto)]
 
+#[cfg(test)]
+mod agent;
 #[cfg(test)]
 mod dialogs;
 #[cfg(test)]
