@@ -1,9 +1,10 @@
 """The configuration is read again (`reload`): another run serves it, once no line has a call, and what waits in the spool goes on."""
 import contextlib
+import resource
 import urllib.request
 
 from asked import Asked, page
-from calls import MCF, Caller
+from calls import CALLER_EOP, MCF, PREAMBLE, TRAINING, Caller, image
 from server import HOST, LONGEST, Peer, until
 from sip import AtATrunk
 from sip_peer import fax_offer
@@ -123,6 +124,24 @@ class Lines(Reloaded):
         self.reload()
         self.are_served("a1", "a2")
         self.assertEqual(self.lines_counted(port), 2)
+
+    def test_a_disk_fails_first(self):
+        """The run that opens it anew serves the lines as they are in the file."""
+        self.begin_lines("a1", "a2")
+        self.caller = Caller(self.peer(self.lines["a1"], "calling"))
+        self.ring("a1")
+        self.add("a3")
+        self.reload()
+        process = self.server.process.pid
+        limits = resource.prlimit(process, resource.RLIMIT_FSIZE)
+        # its disk is full: no write goes after the first octet of a file
+        resource.prlimit(process, resource.RLIMIT_FSIZE, (1, limits[1]))
+        self.caller.train()
+        self.caller.send(TRAINING, image(page(1)), PREAMBLE, CALLER_EOP)
+        self.client.event("spool_failed")
+        self.hang_up("a1")
+        resource.prlimit(process, resource.RLIMIT_FSIZE, limits)
+        self.are_served("a1", "a2", "a3")
 
     def test_a_stop_comes_first(self):
         self.begin_lines("a1")

@@ -1,2 +1,3 @@
 pub mod Descriptors
+pub mod Services
 pub mod Statuses

@@ -6,6 +6,7 @@ use fax_config::Config;
 use fax_notify::{LocalSockets, Notice, ServiceManager, send_notice};
 use fax_serve::Supervisor;
 use std::alloc::Global;
+use std::cell::Cell;
 use std::env;
 use std::env::VarError;
 use std::net::Net;
@@ -24,6 +25,8 @@ pub(crate) struct NamedManager<'e, 'n, 's, N: Net> {
     pub name: Option<&'s str>,
     pub path: &'s str,
     pub config: &'s Config,
+    /// Whether the configuration was read again, so that another run is to serve it.
+    pub is_reread: &'s Cell<bool>,
 }
 
 impl<'e, 'n, 's, N: Net> ServiceManager for NamedManager<'e, 'n, 's, N> {
@@ -45,13 +48,16 @@ impl<'e, 'n, 's, N: Net> ServiceManager for NamedManager<'e, 'n, 's, N> {
             name: self.name,
             path: self.path,
             config: self.config,
+            is_reread: self.is_reread,
         }
     }
 }
 
 impl<'e, 'n, 's, N: Net + Files + AllocGlobal> Supervisor for NamedManager<'e, 'n, 's, N> {
     fn reread(&mut self) -> Option<Vec<usize>> {
-        gone_lines_at(self.console, self.net, self.path, self.config)
+        let gone = gone_lines_at(self.console, self.net, self.path, self.config)?;
+        self.is_reread.set(true);
+        Some(gone)
     }
 }
 

@@ -1,5 +1,7 @@
 //! `faxgate serve`.
-ghost use Rattle.std.specs.Prelude.{◌≤◌, IfOk, length};
+ghost use Rattle.std.specs.Prelude.{◌≡◌, ◌≢◌, ◌≤◌, IfOk, IfSome, None, OnOk, is_some, length};
+ghost use Rattle.fax_serve.specs.Served.{RanServer};
+ghost use Rattle.fax_program.specs.Services.{IsNewService, IsNext, IsSameOrAnother, IsServiceRun, RunsService, WasNotServed};
 ghost use Rattle.fax_program.specs.Statuses.{IsEndedBy, IsToldAs};
 
 use crate::console::Console;
@@ -9,10 +11,14 @@ use crate::manager::{NamedManager, manager_name};
 use crate::rights::{RightsFault, keep_from_others};
 use fax_command::Status;
 use fax_config::{Config, ConfigFault, Misfit, read_config};
-use fax_serve::{NamedFault, RunEnd, ServeFault, answer_unserved, run_serve};
+use fax_serve::{
+    FolderStore, NamedFault, RunEnd, ServeFault, ServedStore, answer_unserved, run_serve,
+};
 use fax_spool_folder::{FolderFault, Folders};
 use sqlite_disk::Start;
+use std::cell::Cell;
 use std::fmt::Display;
+use std::marker::Model;
 use std::net::Net;
 use std::rt::{Clock, Env, Files};
 use std::{fs, io, mem};
@@ -49,6 +55,22 @@ impl Drop for Service {
     }
 }
 
+/// Contracts see the configurations, and how often the spool has failed.
+impl Model for Service {
+    ghost use Rattle.fax_program.specs.Services.{ServiceValue};
+
+    ghost Value = { ServiceValue };
+
+    ghost view = { λ s. record { config = s.config; before = s.before; failures = s.failures } };
+}
+
+/// How a run ended, and whether its configuration had been read again, so that another run was to serve it.
+#[derive(Clone, Copy)]
+struct RunEnded {
+    end: RunEnd,
+    is_reread: bool,
+}
+
 impl Service {
     /// Serves the lines until one says `stop`, or, once no line has a call, since the spool has failed, or the configuration was read again.
     /// It answers with which status the process ends. `None`: the lines are to be served once more, by another run, over files of its own
@@ -60,17 +82,31 @@ impl Service {
         system: &N,
         start: S,
         undelivered: T,
-    ) -> Option<u8> {
-        if let Some(status) = self.tell_shared(console, system) {
-            return Some(status.code());
-        }
-        let ended = match self.serve(console, system, start, undelivered) {
-            Ok(end) => self.end(console, system, end),
-            Err(fault) => self.fail(console, system, fault),
-        };
-        match ended {
+    ) -> Option<u8>
+        ensures { RunsService (RanServer ⟦<FolderStore<S, T> as ServedStore>⟧.ran) self.old self.new result }
+    {
+        match self.run_once(console, system, start, undelivered) {
             Some(status) => Some(status.code()),
             None => None,
+        }
+    }
+
+    /// The same, with the status.
+    fn run_once<N: Net + Files + Clock + Folders + AllocGlobal, S: Start, T: Start>(
+        &mut self,
+        console: &Console,
+        system: &N,
+        start: S,
+        undelivered: T,
+    ) -> Option<Status>
+        ensures { IsServiceRun (RanServer ⟦<FolderStore<S, T> as ServedStore>⟧.ran) self.old self.new result }
+    {
+        if let Some(status) = self.tell_shared(console, system) {
+            return Some(status);
+        }
+        match self.serve(console, system, start, undelivered) {
+            Ok(ended) => self.end(console, system, ended),
+            Err(fault) => self.fail(console, system, fault),
         }
     }
 
@@ -81,11 +117,14 @@ impl Service {
         system: &N,
         start: S,
         undelivered: T,
-    ) -> Result<RunEnd, ServeFault> {
+    ) -> Result<RunEnded, ServeFault>
+        ensures { OnOk result (RanServer ⟦<FolderStore<S, T> as ServedStore>⟧.ran self.now.config) }
+    {
         let name = match &self.manager {
             Some(name) => Some(name.as_str()),
             None => None,
         };
+        let is_reread = Cell::new(false);
         let mut manager = NamedManager {
             console,
             net: system,
@@ -93,8 +132,9 @@ impl Service {
             name,
             path: self.path.as_str(),
             config: &self.config,
+            is_reread: &is_reread,
         };
-        run_serve(
+        let end = run_serve(
             system,
             console.alloc(),
             &self.config,
@@ -104,12 +144,18 @@ impl Service {
             &mut manager,
             start,
             undelivered,
-        )
+        )?;
+        Ok(RunEnded {
+            end,
+            is_reread: is_reread.get(),
+        })
     }
 
     /// Where others may write to the folder of the spool, or read its files, and that cannot be changed, it is told, and the status
     /// that says it. A folder that is not there, and a disk that has failed before, are told when the spool is opened.
-    fn tell_shared<N: Files>(&self, console: &Console, system: &N) -> Option<Status> {
+    fn tell_shared<N: Files>(&self, console: &Console, system: &N) -> Option<Status>
+        ensures { IfSome result (IsToldAs Status.Usage) }
+    {
         let folder = self.config.spool.as_ref()?.as_str();
         let fault = match keep_from_others(system, console.alloc(), folder) {
             Ok(()) => return None,
@@ -128,49 +174,63 @@ impl Service {
         &mut self,
         console: &Console,
         system: &N,
-        end: RunEnd,
-    ) -> Option<Status> {
+        ended: RunEnded,
+    ) -> Option<Status>
+        ensures next { IsNext ended.end self.old self.new }
+        ensures ended { IsEndedBy ended.end (is_some self.old.config.control) result }
+    {
+        let has_control = self.config.control.is_some();
         self.told.clear();
         self.before = None;
-        match end {
+        match ended.end {
             RunEnd::Stopped => {}
-            RunEnd::SpoolFailed => self.failures = self.failures.saturating_add(1),
-            RunEnd::Reload => self.reload(console, system),
+            RunEnd::SpoolFailed => {
+                self.failures = self.failures.saturating_add(1);
+                self.reload(console, system, ended.is_reread);
+            }
+            RunEnd::Reload => self.reload(console, system, ended.is_reread),
         }
-        ended_by(
-            console,
-            self.path.as_str(),
-            self.config.control.is_some(),
-            end,
-        )
+        ended_by(console, self.path.as_str(), has_control, ended.end)
     }
 
-    /// The next run serves the configuration as it is in its file now; one that has a fault, which is told, as it was.
-    fn reload<N: Files + AllocGlobal>(&mut self, console: &Console, system: &N) {
-        if let Ok(config) = config_at(console, system, self.path.as_str()) {
+    /// Where it was read again the next run serves the configuration as it is in its file now; one that has a fault, which is told, as it was.
+    fn reload<N: Files + AllocGlobal>(&mut self, console: &Console, system: &N, is_reread: bool)
+        requires { self.old.before ≡ None }
+        ensures config { IsSameOrAnother self.old self.new }
+        ensures failures { self.new.failures ≡ self.old.failures }
+    {
+        if is_reread && let Ok(config) = config_at(console, system, self.path.as_str()) {
             self.before = Some(mem::replace(&mut self.config, config));
         }
     }
 
-    /// A run did not begin, for this fault: one of a spool that was open before passes, and where it was the first of a configuration that was
-    /// read again the next one serves that of before.
+    /// A run did not begin, for this fault: one of a spool whose disk has failed before passes, and where it was the first of a configuration
+    /// that was read again the next one serves that of before.
     fn fail<N: Net + Files + Clock>(
         &mut self,
         console: &Console,
         system: &N,
         fault: ServeFault,
-    ) -> Option<Status> {
-        if let Some(before) = self.before.take() {
-            let _ = self.tell_fault(console, fault);
-            self.config = before;
-            return None;
-        }
-        if self.failures == 0 {
-            return Some(self.tell_fault(console, fault));
-        }
+    ) -> Option<Status>
+        ensures { WasNotServed self.old self.new result }
+    {
         match fault {
-            ServeFault::Spool(fault) => self.wait(console, system, fault),
-            fault => Some(self.tell_fault(console, fault)),
+            ServeFault::Spool(fault) if self.failures > 0 => self.wait(console, system, fault),
+            fault => self.go_back(console, fault),
+        }
+    }
+
+    /// The same of another fault.
+    fn go_back(&mut self, console: &Console, fault: ServeFault) -> Option<Status>
+        ensures { WasNotServed self.old self.new result }
+    {
+        let status = self.tell_fault(console, fault);
+        match self.before.take() {
+            Some(before) => {
+                self.config = before;
+                None
+            }
+            None => Some(status),
         }
     }
 
@@ -180,7 +240,9 @@ impl Service {
         console: &Console,
         system: &N,
         fault: FolderFault,
-    ) -> Option<Status> {
+    ) -> Option<Status>
+        ensures { self.new ≡ self.old }
+    {
         self.tell_once(console, fault);
         let Some(control) = &self.config.control else {
             return Some(Status::Usage);
@@ -198,7 +260,9 @@ impl Service {
     }
 
     /// Tells why the spool could not be opened anew, where that is another fault than the one that was told last.
-    fn tell_once(&mut self, console: &Console, fault: FolderFault) {
+    fn tell_once(&mut self, console: &Console, fault: FolderFault)
+        ensures { self.new ≡ self.old }
+    {
         let text = match format!(in console.alloc(); "{fault}") {
             Ok(text) => text,
             Err(_) => String::new(console.alloc()),
@@ -210,12 +274,10 @@ impl Service {
     }
 
     /// Tells why a run did not begin, and gives the status that says it.
-    fn tell_fault(&self, console: &Console, fault: ServeFault) -> Status {
-        let status = match &fault {
-            ServeFault::NoMemory => Status::NoMemory,
-            ServeFault::Spool(_) => Status::Usage,
-            _ => Status::Stream,
-        };
+    fn tell_fault(&self, console: &Console, fault: ServeFault) -> Status
+        ensures { result ≢ Status.Done }
+    {
+        let status = status_of(&fault);
         let named = NamedFault {
             fault: &fault,
             config: &self.config,
@@ -224,12 +286,25 @@ impl Service {
     }
 }
 
+/// The status that says why a run did not begin.
+fn status_of(fault: &ServeFault) -> Status
+    ensures { result ≢ Status.Done }
+{
+    match fault {
+        ServeFault::NoMemory => Status::NoMemory,
+        ServeFault::Spool(_) => Status::Usage,
+        _ => Status::Stream,
+    }
+}
+
 /// The lines of the configuration in the file at this path. An `Err` is the status after a fault that was told.
 pub(crate) fn service_of<N: Files + Env + AllocGlobal>(
     console: &Console,
     system: &N,
     path: &str,
-) -> Result<Service, Status> {
+) -> Result<Service, Status>
+    ensures { IfOk result IsNewService }
+{
     let config = config_at(console, system, path)?;
     if let Some(status) = tell_too_few(console, path, most_descriptors(&config)) {
         return Err(status);

@@ -1,1 +1,2 @@
 pub mod Damages
+pub mod Served

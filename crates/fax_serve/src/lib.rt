@@ -3,6 +3,7 @@
 
 mod ending;
 mod noticing;
+mod promise;
 mod redials;
 mod run;
 mod secrets;
@@ -12,6 +13,7 @@ mod unserved;
 
 pub use fax_desk::RunEnd;
 pub use fax_opening::{NamedFault, ServeFault};
+pub use promise::{FolderStore, ServedStore};
 pub use run::run_serve;
 pub use supervisor::Supervisor;
 pub use unserved::answer_unserved;

@@ -3,10 +3,11 @@ ghost use Rattle.std.specs.Prelude.{◌≡◌, IfOk, None, OnErr, OnOk, true, fa
 ghost use Rattle.fax_line.specs.Operations.{AreBegun, AreNew};
 ghost use Rattle.fax_notify.specs.Tellings.{ready_after};
 ghost use Rattle.fax_serve.specs.Damages.{damage_found};
-ghost use Rattle.fax_runs.specs.StoredRuns.{RunIsStored, ServedOver, ServedWith};
+ghost use Rattle.fax_runs.specs.StoredRuns.{RunIsStored, ServedWith};
 ghost use Rattle.fax_runs.specs.Runs.{ServedAlone};
 
 use crate::noticing::NoticingPace;
+use crate::promise::{FolderStore, ServedStore};
 use crate::redials::{RedialLines, RedialWire, open_redials};
 use crate::sip::{SipFront, open_sip};
 use crate::supervisor::Supervisor;
@@ -72,7 +73,7 @@ pub fn run_serve<M: Supervisor + Drop, N: Net + Files + Clock + Folders, S: Star
     undelivered: T,
 ) -> Result<RunEnd, ServeFault>
     ensures alone { OnOk result (ServedAlone (length config.now.lines.items) (is_some config.now.spool)) }
-    ensures kept { OnOk result (is_some config.now.spool ≡ true → ServedOver ⟦<SpoolFolderFile<S> as Disk>⟧.seen ⟦<SpoolFolderFile<S> as Disk>⟧.may_leave ⟦<SpoolFolderFile<S> as Disk>⟧.is_usable ⟦<SpoolFolderFile<S> as Disk>⟧.is_clean ⟦<PairedStore<SpoolFolderFile<S>, SpoolFolderFile<T>> as RunStore>⟧.is_same ⟦<PairedStore<SpoolFolderFile<S>, SpoolFolderFile<T>> as PageStore<PageToStore>>⟧.puts ⟦<PairedStore<SpoolFolderFile<S>, SpoolFolderFile<T>> as RunStore>⟧.notes ⟦<PairedStore<SpoolFolderFile<S>, SpoolFolderFile<T>> as RunStore>⟧.ends (λ store. store.storage.spool) (λ store. store.storage.queues.items) S.db S.log config.now.lines.items) }
+    ensures kept { OnOk result (is_some config.now.spool ≡ true → ⟦<FolderStore<S, T> as ServedStore>⟧.ran config.now.lines.items) }
     ensures ready { OnOk result (M.told manager.new ≡ ready_after (length config.now.lines.items) (M.told manager.old)) }
     ensures untold { OnErr result (M.told manager.new ≡ M.told manager.old) }
 {
@@ -122,7 +123,7 @@ fn serve_with_sip<M: Supervisor + Drop, N: Net + Files + Clock + Folders, S: Sta
     undelivered: T,
 ) -> Result<RunEnd, ServeFault>
     ensures alone { OnOk result (ServedAlone (length config.now.lines.items) (is_some config.now.spool)) }
-    ensures kept { OnOk result (is_some config.now.spool ≡ true → ServedOver ⟦<SpoolFolderFile<S> as Disk>⟧.seen ⟦<SpoolFolderFile<S> as Disk>⟧.may_leave ⟦<SpoolFolderFile<S> as Disk>⟧.is_usable ⟦<SpoolFolderFile<S> as Disk>⟧.is_clean ⟦<PairedStore<SpoolFolderFile<S>, SpoolFolderFile<T>> as RunStore>⟧.is_same ⟦<PairedStore<SpoolFolderFile<S>, SpoolFolderFile<T>> as PageStore<PageToStore>>⟧.puts ⟦<PairedStore<SpoolFolderFile<S>, SpoolFolderFile<T>> as RunStore>⟧.notes ⟦<PairedStore<SpoolFolderFile<S>, SpoolFolderFile<T>> as RunStore>⟧.ends (λ store. store.storage.spool) (λ store. store.storage.queues.items) S.db S.log config.now.lines.items) }
+    ensures kept { OnOk result (is_some config.now.spool ≡ true → ⟦<FolderStore<S, T> as ServedStore>⟧.ran config.now.lines.items) }
     ensures ready { OnOk result (M.told manager.new ≡ ready_after (length config.now.lines.items) (M.told manager.old)) }
     ensures untold { OnErr result (M.told manager.new ≡ M.told manager.old) }
 {
@@ -170,7 +171,7 @@ fn serve_beside<
     undelivered: T,
 ) -> Result<RunEnd, ServeFault>
     ensures alone { OnOk result (ServedAlone (length config.now.lines.items) (is_some config.now.spool)) }
-    ensures kept { OnOk result (is_some config.now.spool ≡ true → ServedOver ⟦<SpoolFolderFile<S> as Disk>⟧.seen ⟦<SpoolFolderFile<S> as Disk>⟧.may_leave ⟦<SpoolFolderFile<S> as Disk>⟧.is_usable ⟦<SpoolFolderFile<S> as Disk>⟧.is_clean ⟦<PairedStore<SpoolFolderFile<S>, SpoolFolderFile<T>> as RunStore>⟧.is_same ⟦<PairedStore<SpoolFolderFile<S>, SpoolFolderFile<T>> as PageStore<PageToStore>>⟧.puts ⟦<PairedStore<SpoolFolderFile<S>, SpoolFolderFile<T>> as RunStore>⟧.notes ⟦<PairedStore<SpoolFolderFile<S>, SpoolFolderFile<T>> as RunStore>⟧.ends (λ store. store.storage.spool) (λ store. store.storage.queues.items) S.db S.log config.now.lines.items) }
+    ensures kept { OnOk result (is_some config.now.spool ≡ true → ⟦<FolderStore<S, T> as ServedStore>⟧.ran config.now.lines.items) }
     ensures ready { OnOk result (M.told manager.new ≡ ready_after (length config.now.lines.items) (M.told manager.old)) }
     ensures untold { OnErr result (M.told manager.new ≡ M.told manager.old) }
 {
@@ -246,7 +247,7 @@ fn serve_spooled<
     undelivered: T,
 ) -> Result<RunEnd, ServeFault>
     ensures alone { OnOk result (ServedAlone (length config.now.lines.items) true) }
-    ensures kept { OnOk result (ServedOver ⟦<SpoolFolderFile<S> as Disk>⟧.seen ⟦<SpoolFolderFile<S> as Disk>⟧.may_leave ⟦<SpoolFolderFile<S> as Disk>⟧.is_usable ⟦<SpoolFolderFile<S> as Disk>⟧.is_clean ⟦<PairedStore<SpoolFolderFile<S>, SpoolFolderFile<T>> as RunStore>⟧.is_same ⟦<PairedStore<SpoolFolderFile<S>, SpoolFolderFile<T>> as PageStore<PageToStore>>⟧.puts ⟦<PairedStore<SpoolFolderFile<S>, SpoolFolderFile<T>> as RunStore>⟧.notes ⟦<PairedStore<SpoolFolderFile<S>, SpoolFolderFile<T>> as RunStore>⟧.ends (λ store. store.storage.spool) (λ store. store.storage.queues.items) S.db S.log config.now.lines.items) }
+    ensures kept { OnOk result (⟦<FolderStore<S, T> as ServedStore>⟧.ran config.now.lines.items) }
     ensures ready { OnOk result (M.told manager.new ≡ ready_after (length config.now.lines.items) (M.told manager.old)) }
     ensures untold { OnErr result (M.told manager.new ≡ M.told manager.old) }
 {
