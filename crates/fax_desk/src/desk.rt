@@ -208,13 +208,11 @@ impl Desk {
     fn ask_reload<V: View>(&self, view: &V) -> Next
         ensures { result ≡ reload_next (takes_rings self.now.stop) (V.failed view.now) }
     {
-        if !self.stop.takes_rings() {
-            return refuses(Refusal::Stopping);
+        match (self.stop.takes_rings(), view.has_failed()) {
+            (false, _) => refuses(Refusal::Stopping),
+            (true, true) => refuses(Refusal::NoSpool),
+            (true, false) => Next::Reloads,
         }
-        if view.has_failed() {
-            return refuses(Refusal::NoSpool);
-        }
-        Next::Reloads
     }
 
     /// What a ring comes to.
