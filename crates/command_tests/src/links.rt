@@ -27,7 +27,8 @@ use told::Told;
 
 /// Lines over sockets of the loopback interface, over which nothing went.
 fn open_lines<R: Net>(net: &R, alloc: Global) -> io::Result<Lines<TellingEnd, TellingWire>>
-    ensures { IfOk result (λ lines. (lines.caller.sent ≡ Some []) × (lines.wire.received ≡ Some []) × (lines.wire.sent ≡ Some [])
+    ensures { IfOk result (λ lines. (lines.caller.sent ≡ Some [])
+        × (lines.wire.received ≡ Some []) × (lines.wire.sent ≡ Some [])
         × (lines.answerer.received ≡ Some []) × (lines.answerer.sent ≡ Some [])) }
 {
     let (caller, calling) = socket_pair(net)?;
@@ -67,9 +68,12 @@ fn send_over(
 ) -> Result<Option<CallEnd>, NoMemory>
     requires caller { lines.old.caller.sent ≡ Some [] }
     requires wire { (lines.old.wire.received ≡ Some []) × (lines.old.wire.sent ≡ Some []) }
-    requires answerer { (lines.old.answerer.received ≡ Some []) × (lines.old.answerer.sent ≡ Some []) }
-    ensures the_page { IfOk result (λ ended. IfSome ended (λ ended. AreThePage page ended.confirmed.items)) }
-    ensures delivered { IfOk result (λ ended. IfSome ended (λ ended. IsDelivered ended.report → ended.confirmed.items ≢ [])) }
+    requires answerer { (lines.old.answerer.received ≡ Some [])
+        × (lines.old.answerer.sent ≡ Some []) }
+    ensures the_page { IfOk result
+        (λ ended. IfSome ended (λ ended. AreThePage page ended.confirmed.items)) }
+    ensures delivered { IfOk result
+        (λ ended. IfSome ended (λ ended. IsDelivered ended.report → ended.confirmed.items ≢ [])) }
 {
     let ended = exchange(alloc, lines, page, Settings::default())?;
     if !is_linked(&lines.caller, &lines.wire, &lines.answerer) {

@@ -33,7 +33,8 @@ pub record AnswererCore : Type 0 where
 
 -- no call was on the leg, and this pause is set
 abbrev pub new_answering : ℕ → AnswererCore
-new_answering pause = record { state = Idle; history = []; waiting = []; timers = no_timers; pace = new_pace pause }
+new_answering pause =
+    record { state = Idle; history = []; waiting = []; timers = no_timers; pace = new_pace pause }
 
 -- IDLE, a ring: CED and DIS; T1 is set
 abbrev pub rung : AnswererCore → ℕ → AnswererCore
@@ -59,11 +60,12 @@ is_heard state piece = false
 
 -- the timers after a decision: a DCS that trains clears T1 and T4 and sets T2; T2 and T4 are clear while packets wait
 abbrev pub timers_after : AnswererCore → pieces.Piece → Decision → ℕ → Timers
-timers_after a piece (Trains dcs) now = record { t1 = None; t2 = Some (moment_after now spans.t2); t4 = None }
+timers_after a piece (Trains dcs) now =
+    record { t1 = None; t2 = Some (moment_after now spans.t2); t4 = None }
 timers_after a piece HangsUp now = no_timers
-timers_after a piece PassesOver now =
-    if not (is_waiting a.waiting) && is_heard a.state piece
-    then record { t1 = a.timers.t1; t2 = Some (moment_after now spans.t2); t4 = a.timers.t4 } else a.timers
+timers_after a piece PassesOver now = if not (is_waiting a.waiting) && is_heard a.state piece
+    then record { t1 = a.timers.t1; t2 = Some (moment_after now spans.t2); t4 = a.timers.t4 }
+    else a.timers
 timers_after a piece (GivesCfr dcs) now = record { t1 = a.timers.t1; t2 = None; t4 = None }
 timers_after a piece GivesFtt now = record { t1 = a.timers.t1; t2 = None; t4 = None }
 timers_after a piece (GivesMcf command page) now = record { t1 = a.timers.t1; t2 = None; t4 = None }
@@ -82,7 +84,8 @@ decided a piece d now =
 
 -- a piece comes, with the reading of what it asks
 abbrev pub came : Reading → AnswererCore → pieces.Piece → ℕ → AnswererCore
-came read a piece now = decided a piece (decision read a.state (is_waiting a.waiting) a.history piece) now
+came read a piece now =
+    decided a piece (decision read a.state (is_waiting a.waiting) a.history piece) now
 
 abbrev pub asked : AnswererCore → pieces.Piece → Option Question
 asked a piece = asked_of a.state (is_waiting a.waiting) a.history piece
@@ -94,7 +97,8 @@ or_else (Some q) other = Some q
 
 abbrev pub first_asked : AnswererCore → List pieces.Piece → ℕ → Option Question
 first_asked a [] now = None
-first_asked a (piece ∷ more) now = or_else (asked a piece) (first_asked (came None a piece now) more now)
+first_asked a (piece ∷ more) now =
+    or_else (asked a piece) (first_asked (came None a piece now) more now)
 
 -- the pieces of a datagram come, with its reading
 abbrev pub came_all : Reading → AnswererCore → List pieces.Piece → ℕ → AnswererCore
@@ -106,11 +110,19 @@ abbrev pub says_goodbye : AnswererCore → AnswererCore
 says_goodbye a = record a { state = Closing; waiting = plain_reply Dcn None; timers = no_timers }
 
 abbrev pub identifies_again : AnswererCore → AnswererCore
-identifies_again a = record a { waiting = dis_reply; timers = record { t1 = a.timers.t1; t2 = None; t4 = None } }
+identifies_again a =
+    record a { waiting = dis_reply; timers = record { t1 = a.timers.t1; t2 = None; t4 = None } }
 
 abbrev pub identifies_anew : AnswererCore → ℕ → AnswererCore
-identifies_anew a now =
-    record a { state = Identify; waiting = dis_reply; timers = record { t1 = Some (moment_after now spans.t1); t2 = None; t4 = None } }
+identifies_anew a now = record a {
+  state = Identify;
+  waiting = dis_reply;
+  timers = record {
+    t1 = Some (moment_after now spans.t1);
+    t2 = None;
+    t4 = None;
+  };
+}
 
 -- IDENTIFY: T1 due, DCN; T4 due, DIS again. LISTEN, TRAIN, PAGE: T2 due, DCN. AGAIN: T2 due, DIS, and Identify with T1 set
 -- (that T2 is waited for here is this project's profile)
@@ -132,11 +144,16 @@ state_when_given Closing = Idle
 state_when_given state = state
 
 abbrev pub timers_when_given : State → Timers → ℕ → Timers
-timers_when_given Identify t now = record { t1 = t.t1; t2 = None; t4 = Some (moment_after now spans.t4) }
-timers_when_given Listen t now = record { t1 = t.t1; t2 = Some (moment_after now spans.t2); t4 = None }
-timers_when_given (Train dcs) t now = record { t1 = t.t1; t2 = Some (moment_after now spans.t2); t4 = None }
-timers_when_given (Page dcs) t now = record { t1 = t.t1; t2 = Some (moment_after now spans.t2); t4 = None }
-timers_when_given Again t now = record { t1 = t.t1; t2 = Some (moment_after now spans.t2); t4 = None }
+timers_when_given Identify t now =
+    record { t1 = t.t1; t2 = None; t4 = Some (moment_after now spans.t4) }
+timers_when_given Listen t now =
+    record { t1 = t.t1; t2 = Some (moment_after now spans.t2); t4 = None }
+timers_when_given (Train dcs) t now =
+    record { t1 = t.t1; t2 = Some (moment_after now spans.t2); t4 = None }
+timers_when_given (Page dcs) t now =
+    record { t1 = t.t1; t2 = Some (moment_after now spans.t2); t4 = None }
+timers_when_given Again t now =
+    record { t1 = t.t1; t2 = Some (moment_after now spans.t2); t4 = None }
 timers_when_given state t now = t
 
 abbrev pub is_closing : State → Bool
@@ -179,7 +196,8 @@ given_first a now (w ∷ v ∷ waiting) =
 
 -- and where the pace allows
 abbrev pub paced : AnswererCore → ℕ → TickResult
-paced a now = if pace_allows a.pace.last now then given_first a now a.waiting else record { core = a; given = None; ended = false }
+paced a now = if pace_allows a.pace.last now
+    then given_first a now a.waiting else record { core = a; given = None; ended = false }
 
 abbrev pub ticked : AnswererCore → ℕ → TickResult
 ticked a now = paced (timed a now) now

@@ -18,7 +18,8 @@ use Rattle.fax_answer.specs.Calls.{AnswererCore, rung, asked, CallEvent, Comes, 
 -- A confirmation: the command, which is MPS, EOP or EOM, and before it, since the last CFR or MCF was decided, exactly one
 -- image. It is whole, nothing is missing and no signal began since its end, and its octets mean the page under the DCS that
 -- CFR answered.
-pub record IsConfirmation (before : List Entry) (octets : List ℕ) (confirmed : ConfirmedPage) : Type 0 where
+pub record IsConfirmation (before : List Entry) (octets : List ℕ) (confirmed : ConfirmedPage) :
+    Type 0 where
   pub command : Command
   pub order : order_of octets ≡ Judge command
   pub closes : confirmed.closes ≡ is_last command
@@ -35,7 +36,8 @@ pub record IsConfirmedIn (history : List Entry) (confirmed : ConfirmedPage) : Ty
   pub octets : List ℕ
   pub decision : Decision
   pub before : List Entry
-  pub split : history ≡ later ++ record { piece = pieces.Frame octets; decision = decision } ∷ before
+  pub split :
+      history ≡ later ++ record { piece = pieces.Frame octets; decision = decision } ∷ before
   pub confirmation : IsConfirmation before octets confirmed
   pub accepts : decision ≡ GivesMcf confirmation.command (Some confirmed.page)
   pub last : since_answer history ≡ later
@@ -47,7 +49,8 @@ pub record IsRepeatedIn (history : List Entry) : Type 0 where
   pub octets : List ℕ
   pub decision : Decision
   pub before : List Entry
-  pub split : history ≡ later ++ record { piece = pieces.Frame octets; decision = decision } ∷ before
+  pub split :
+      history ≡ later ++ record { piece = pieces.Frame octets; decision = decision } ∷ before
   pub command : Command
   pub order : order_of octets ≡ Judge command
   pub accepts : decision ≡ GivesMcf command None
@@ -59,7 +62,8 @@ pub record IsRepeatedIn (history : List Entry) : Type 0 where
 -- mean none).
 abbrev pub IsRight : Question → Reading → Type 0
 IsRight q (Some page) = MeansPage (format_of q.dcs) (coding_of q.dcs) q.octets page
-IsRight q None = (fault : PageFault) × FailsPage (elements_of (format_of q.dcs).width) (coding_of q.dcs) q.octets fault
+IsRight q None = (fault : PageFault)
+    × FailsPage (elements_of (format_of q.dcs).width) (coding_of q.dcs) q.octets fault
 
 abbrev pub IfAsked : Option Question → Reading → Type 0
 IfAsked None read = Unit {0}
@@ -68,7 +72,8 @@ IfAsked (Some q) read = IsRight q read
 -- in a call, each reading that was asked for is right
 abbrev pub AreRead : AnswererCore → List CallEvent → Type 0
 AreRead a [] = Unit {0}
-AreRead a (Comes piece now read ∷ before) = IfAsked (asked (after_events a before) piece) read × AreRead a before
+AreRead a (Comes piece now read ∷ before) =
+    IfAsked (asked (after_events a before) piece) read × AreRead a before
 AreRead a (Ticks now ∷ before) = AreRead a before
 
 -- the same of the one reading that a datagram brings: it is none where nothing is asked
@@ -78,14 +83,16 @@ IsRead (Some q) read = IsRight q read
 
 -- In every call, each tick that gives a confirmed page gives the MCF frame, at a confirmation.
 abbrev pub GivesConfirmations : Type 0
-GivesConfirmations =
-    (core : AnswererCore) (start now : ℕ) (events : List CallEvent) (w : WaitingPacket) (confirmed : ConfirmedPage) → AreRead (rung core start) events
-    → (ticked (after_events (rung core start) events) now).given ≡ Some w → w.confirmed ≡ Some confirmed
-    → (w.packet ≡ mcf_packet) × IsConfirmedIn (after_events (rung core start) events).history confirmed
+GivesConfirmations = (core : AnswererCore) (start now : ℕ) (events : List CallEvent)
+    (w : WaitingPacket) (confirmed : ConfirmedPage) → AreRead (rung core start) events
+    → (ticked (after_events (rung core start) events) now).given ≡ Some w
+    → w.confirmed ≡ Some confirmed → (w.packet ≡ mcf_packet)
+    × IsConfirmedIn (after_events (rung core start) events).history confirmed
 
 -- In every call, each tick that gives the MCF frame gives a confirmed page with it, or answers a repeated command.
 abbrev pub EachMcfAnswers : Type 0
-EachMcfAnswers =
-    (core : AnswererCore) (start now : ℕ) (events : List CallEvent) (w : WaitingPacket) → AreRead (rung core start) events
-    → (ticked (after_events (rung core start) events) now).given ≡ Some w → w.packet ≡ mcf_packet
-    → ((confirmed : ConfirmedPage) × (w.confirmed ≡ Some confirmed)) ⊎ IsRepeatedIn (after_events (rung core start) events).history
+EachMcfAnswers = (core : AnswererCore) (start now : ℕ) (events : List CallEvent) (w : WaitingPacket)
+    → AreRead (rung core start) events
+    → (ticked (after_events (rung core start) events) now).given ≡ Some w
+    → w.packet ≡ mcf_packet → ((confirmed : ConfirmedPage) × (w.confirmed ≡ Some confirmed))
+    ⊎ IsRepeatedIn (after_events (rung core start) events).history

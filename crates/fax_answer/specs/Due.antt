@@ -18,7 +18,8 @@ timer_of state t = t.t2
 
 -- where packets wait, the moment from which on the pace lets one through
 abbrev pub due_at : AnswererCore → Option ℕ
-due_at a = if is_waiting a.waiting then on_clock (allowed_from a.pace.last) else timer_of a.state a.timers
+due_at a =
+    if is_waiting a.waiting then on_clock (allowed_from a.pace.last) else timer_of a.state a.timers
 
 -- a tick that gives nothing and changes nothing
 abbrev pub untouched : AnswererCore → TickResult
@@ -26,8 +27,10 @@ untouched a = record { core = a; given = None; ended = false }
 
 -- no tick before that moment does anything
 abbrev pub RestsBefore : Type 0
-RestsBefore = (a : AnswererCore) (now : ℕ) → now < 2 ^ 64 → is_due (due_at a) now ≡ false → ticked a now ≡ untouched a
+RestsBefore = (a : AnswererCore) (now : ℕ)
+    → now < 2 ^ 64 → is_due (due_at a) now ≡ false → ticked a now ≡ untouched a
 
 -- and from it on a tick does something: it gives a packet, or it leaves another core
 abbrev pub ActsFrom : Type 0
-ActsFrom = (a : AnswererCore) (now : ℕ) → is_due (due_at a) now ≡ true → IsSome (ticked a now).given ⊎ ((ticked a now).core ≢ a)
+ActsFrom = (a : AnswererCore) (now : ℕ)
+    → is_due (due_at a) now ≡ true → IsSome (ticked a now).given ⊎ ((ticked a now).core ≢ a)

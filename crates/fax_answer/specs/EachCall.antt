@@ -6,7 +6,8 @@ use Rattle.fax_answer.specs.Reached.{IsReached, Rep, Stands}
 
 -- this is so of each list of slots, the newest first, and core that led to it
 abbrev pub EachCall : Rep → (List Slot → AnswererCore → Type 0) → Type 0
-EachCall kept IsSo = (heard : List Slot) (core : AnswererCore) → IsReached heard core kept → IsSo heard core
+EachCall kept IsSo = (heard : List Slot) (core : AnswererCore)
+    → IsReached heard core kept → IsSo heard core
 
 -- this is so of each core that it stands for
 abbrev pub EachCore : Rep → (AnswererCore → Type 0) → Type 0

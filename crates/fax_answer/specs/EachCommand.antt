@@ -19,14 +19,15 @@ pub record IsJudged (history before : List Entry) (command : Command) (d : Decis
   pub dcs : Dcs
   pub answered : IsAnswered history before command d dcs
   pub refuses : 0 < images (since_answer before) → MeansNone before dcs → d ≡ GivesRtn
-  pub exact :
-      IsInPage before → is_one_image (since_answer before) ≡ true
-      → ((d ≡ GivesRtn) × MeansNone before dcs) ⊎ ((page : PageValue) × (d ≡ GivesMcf command (Some page)) × MeansThis before dcs page)
+  pub exact : IsInPage before
+      → is_one_image (since_answer before) ≡ true → ((d ≡ GivesRtn) × MeansNone before dcs)
+      ⊎ ((page : PageValue) × (d ≡ GivesMcf command (Some page)) × MeansThis before dcs page)
 
 -- So it is of each frame of a command, in every call, that is not passed over.
 abbrev pub JudgesEachCommand : Type 0
-JudgesEachCommand =
-    (core : AnswererCore) (start : ℕ) (events : List CallEvent) (later before : List Entry) (octets : List ℕ) (d : Decision) (command : Command)
-    → AreRead (rung core start) events
-    → (after_events (rung core start) events).history ≡ later ++ record { piece = pieces.Frame octets; decision = d } ∷ before
-    → order_of octets ≡ Judge command → (d ≡ PassesOver → ⊥) → IsJudged (after_events (rung core start) events).history before command d
+JudgesEachCommand = (core : AnswererCore) (start : ℕ) (events : List CallEvent)
+    (later before : List Entry) (octets : List ℕ) (d : Decision) (command : Command)
+    → AreRead (rung core start) events → (after_events (rung core start) events).history
+    ≡ later ++ record { piece = pieces.Frame octets; decision = d } ∷ before
+    → order_of octets ≡ Judge command → (d ≡ PassesOver → ⊥)
+    → IsJudged (after_events (rung core start) events).history before command d

@@ -30,7 +30,8 @@ pub record IsRefusedIn (history : List Entry) : Type 0 where
   pub later : List Entry
   pub octets : List ℕ
   pub before : List Entry
-  pub split : history ≡ later ++ record { piece = pieces.Frame octets; decision = GivesRtn } ∷ before
+  pub split :
+      history ≡ later ++ record { piece = pieces.Frame octets; decision = GivesRtn } ∷ before
   pub command : Command
   pub order : order_of octets ≡ Judge command
   pub last : ArePassed later
@@ -38,8 +39,8 @@ pub record IsRefusedIn (history : List Entry) : Type 0 where
 -- In every call, each tick that gives the RTN frame refuses the last command, which was judged as each is: where one image had
 -- nothing after it, the image means no page.
 abbrev pub EachRtnRefuses : Type 0
-EachRtnRefuses =
-    (core : AnswererCore) (start now : ℕ) (events : List CallEvent) (w : WaitingPacket) → AreRead (rung core start) events
-    → (ticked (after_events (rung core start) events) now).given ≡ Some w → w.packet ≡ rtn_packet
-    → (r : IsRefusedIn (after_events (rung core start) events).history)
+EachRtnRefuses = (core : AnswererCore) (start now : ℕ) (events : List CallEvent) (w : WaitingPacket)
+    → AreRead (rung core start) events
+    → (ticked (after_events (rung core start) events) now).given ≡ Some w
+    → w.packet ≡ rtn_packet → (r : IsRefusedIn (after_events (rung core start) events).history)
     × IsJudged (after_events (rung core start) events).history r.before r.command GivesRtn

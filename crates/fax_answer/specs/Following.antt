@@ -22,7 +22,8 @@ Rests Idle waiting = waiting ≡ []
 Rests state waiting = Unit {0}
 
 -- a procedure that stands for a core; the page that is confirmed is kept beside it
-pub record Follows (core : AnswererCore) (confirmed : Option ConfirmedPage) (procedure : Procedure) : Type 0 where
+pub record Follows (core : AnswererCore)
+    (confirmed : Option ConfirmedPage) (procedure : Procedure) : Type 0 where
   pub state : procedure.state ≡ core.state
   pub counts : procedure.counts ≡ counts_of core.history
   pub waiting : waiting_of procedure.pending confirmed ≡ core.waiting
@@ -83,7 +84,12 @@ confirmed_left Nothing confirmed = None
 confirmed_left pending confirmed = confirmed
 
 -- the next packet is given
-pub record GivesNext (core : AnswererCore) (confirmed : Option ConfirmedPage) (now : ℕ) (old new : Procedure) (ended : Bool) : Type 0 where
-  pub follows : Follows (given_first core now core.waiting).core (confirmed_left new.pending confirmed) new
-  pub given : (given_first core now core.waiting).given ≡ Some (record { packet = packet_text old.pending; confirmed = confirmed_with new.pending confirmed })
+pub record GivesNext (core : AnswererCore)
+    (confirmed : Option ConfirmedPage) (now : ℕ) (old new : Procedure) (ended : Bool) : Type 0 where
+  pub follows :
+      Follows (given_first core now core.waiting).core (confirmed_left new.pending confirmed) new
+  pub given : (given_first core now core.waiting).given ≡ Some (record {
+    packet = packet_text old.pending;
+    confirmed = confirmed_with new.pending confirmed;
+  })
   pub ends : ended ≡ (given_first core now core.waiting).ended

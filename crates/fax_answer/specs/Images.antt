@@ -63,7 +63,8 @@ pub record FedWith (piece : List ℕ) (old new : ReaderValue) : Type 0 where
 
 abbrev pub Feeds : List ℕ → List ReaderValue → List ReaderValue → Type 0
 Feeds piece [] new = new ≡ []
-Feeds piece (here ∷ before) new = (now : ReaderValue) × (new ≡ now ∷ before) × FedWith piece here now
+Feeds piece (here ∷ before) new =
+    (now : ReaderValue) × (new ≡ now ∷ before) × FedWith piece here now
 
 -- in Page they are read, else they are not kept
 abbrev pub FeedsIn : State → List ℕ → List ReaderValue → List ReaderValue → Type 0
@@ -91,7 +92,8 @@ run_after run (octet ∷ octets) = run_after (run_with run octet) octets
 -- the most zero octets in a row, where so many stood in a row before
 abbrev pub longest_after : ℕ → ℕ → List ℕ → ℕ
 longest_after run longest [] = longest
-longest_after run longest (octet ∷ octets) = longest_after (run_with run octet) (max longest (run_with run octet)) octets
+longest_after run longest (octet ∷ octets) =
+    longest_after (run_with run octet) (max longest (run_with run octet)) octets
 
 pub record TakesIn (state : State) (piece : List ℕ) (old new : ImageValue) : Type 0 where
   pub readers : FeedsIn state piece old.readers new.readers
@@ -112,15 +114,18 @@ pub record MeansAt (readers : List ReaderValue) (place : ℕ) (page : PageValue)
   pub means : MeansPage reader.format reader.coding octets page
 
 -- the page that is confirmed: the one that is kept, or the one that is still in its reader
-abbrev pub Confirms : Option Accepted → List ReaderValue → Option ConfirmedPage → Option ConfirmedPage → Type 0
+abbrev pub Confirms : Option Accepted
+    → List ReaderValue → Option ConfirmedPage → Option ConfirmedPage → Type 0
 Confirms None readers kept confirmed = confirmed ≡ kept
 Confirms (Some accepted) readers kept confirmed =
-    (page : PageValue) × MeansAt readers accepted.place page × (confirmed ≡ Some (record { page = page; closes = accepted.closes }))
+    (page : PageValue) × MeansAt readers accepted.place page
+    × (confirmed ≡ Some (record { page = page; closes = accepted.closes }))
 
 -- WANT OF MEMORY. Since a mark, readers came after those before, and more octets to the one that was under way.
 abbrev pub GoesOn : List ReaderValue → List ReaderValue → Type 0
 GoesOn [] new = Unit {0}
-GoesOn (here ∷ before) new = (later : List ReaderValue) × (now : ReaderValue) × (new ≡ later ++ now ∷ before) × Extends here now
+GoesOn (here ∷ before) new = (later : List ReaderValue)
+    × (now : ReaderValue) × (new ≡ later ++ now ∷ before) × Extends here now
 
 abbrev pub mark_of_first : List ReaderValue → Option MarkValue
 mark_of_first [] = None

@@ -32,7 +32,8 @@ given_by None now before = before
 abbrev pub last_given : (begun : AnswererCore) → (start : ℕ) → List CallEvent → ℕ
 last_given begun start [] = start
 last_given begun start (Comes piece now read ∷ before) = last_given begun start before
-last_given begun start (Ticks now ∷ before) = given_by (ticked (after_events begun before) now).given now (last_given begun start before)
+last_given begun start (Ticks now ∷ before) =
+    given_by (ticked (after_events begun before) now).given now (last_given begun start before)
 
 -- the moment of what was heard or given last: a packet that was given, or, where none waited, a frame, a signal that began or
 -- octets of one
@@ -44,25 +45,28 @@ sounds piece = true
 abbrev pub last_sound : (begun : AnswererCore) → (start : ℕ) → List CallEvent → ℕ
 last_sound begun start [] = start
 last_sound begun start (Comes piece now read ∷ before) =
-    if not (is_waiting (after_events begun before).waiting) && sounds piece then now else last_sound begun start before
-last_sound begun start (Ticks now ∷ before) = given_by (ticked (after_events begun before) now).given now (last_sound begun start before)
+    if not (is_waiting (after_events begun before).waiting) && sounds piece
+    then now else last_sound begun start before
+last_sound begun start (Ticks now ∷ before) =
+    given_by (ticked (after_events begun before) now).given now (last_sound begun start before)
 
 -- the timer of a state: T1 or T4 in Identify, whichever comes first; T2 in Listen, Train, Page and Again
 abbrev pub timer_since : State → (identified given sound : ℕ) → Option ℕ
 timer_since Idle identified given sound = None
 timer_since Closing identified given sound = None
-timer_since Identify identified given sound = Some (min (moment_after identified spans.t1) (moment_after given spans.t4))
+timer_since Identify identified given sound =
+    Some (min (moment_after identified spans.t1) (moment_after given spans.t4))
 timer_since state identified given sound = Some (moment_after sound spans.t2)
 
 -- In every call, where no packet waits, the moment that is due next is just that one, and a tick before it gives nothing and
 -- changes nothing: no timer acts before its time.
 abbrev pub NoTimerIsEarly : Type 0
-NoTimerIsEarly =
-    (core : AnswererCore) (start : ℕ) (events : List CallEvent) →
-    let begun : AnswererCore = rung core start in
-    let a : AnswererCore = after_events begun events in
-    let timer : Option ℕ = timer_since a.state (identified_since begun start events) (last_given begun start events) (last_sound begun start events) in
-    a.waiting ≡ [] → (due_at a ≡ timer) × ((now : ℕ) → now < 2 ^ 64 → is_due timer now ≡ false → ticked a now ≡ untouched a)
+NoTimerIsEarly = (core : AnswererCore) (start : ℕ) (events : List CallEvent)
+    → let begun : AnswererCore = rung core start in let a : AnswererCore = after_events begun events
+    in let timer : Option ℕ = timer_since a.state (identified_since begun start events)
+    (last_given begun start events) (last_sound begun start events) in a.waiting ≡ []
+    → (due_at a ≡ timer)
+    × ((now : ℕ) → now < 2 ^ 64 → is_due timer now ≡ false → ticked a now ≡ untouched a)
 
 -- the timer at which a call is given up: T1 in Identify, T2 in Listen, Train and Page
 abbrev pub gives_up_at : State → (identified sound : ℕ) → Option ℕ
@@ -74,9 +78,8 @@ gives_up_at state identified sound = None
 
 -- In every call a tick gives the call up, with a DCN, exactly where that timer is due and no packet waits.
 abbrev pub GivesUpInTime : Type 0
-GivesUpInTime =
-    (core : AnswererCore) (start now : ℕ) (events : List CallEvent) →
-    let begun : AnswererCore = rung core start in
-    let a : AnswererCore = after_events begun events in
-    let timer : Option ℕ = gives_up_at a.state (identified_since begun start events) (last_sound begun start events) in
-    (a.state ≡ Closing → ⊥) → ((ticked a now).core.state ≡ Closing) ↔ ((a.waiting ≡ []) × (is_due timer now ≡ true))
+GivesUpInTime = (core : AnswererCore) (start now : ℕ) (events : List CallEvent)
+    → let begun : AnswererCore = rung core start in let a : AnswererCore = after_events begun events
+    in let timer : Option ℕ = gives_up_at a.state (identified_since begun start events)
+    (last_sound begun start events) in (a.state ≡ Closing → ⊥)
+    → ((ticked a now).core.state ≡ Closing) ↔ ((a.waiting ≡ []) × (is_due timer now ≡ true))

@@ -23,7 +23,8 @@ MeansNone before dcs = (page : PageValue) → MeansThis before dcs page → ⊥
 
 -- A command that is answered, in Page or in Again: in the history of a call stands the command's frame, which was not passed
 -- over, after a CFR to this DCS.
-pub record IsAnswered (history before : List Entry) (command : Command) (d : Decision) (dcs : Dcs) : Type 0 where
+pub record IsAnswered (history before : List Entry) (command : Command) (d : Decision) (dcs : Dcs) :
+    Type 0 where
   pub later : List Entry
   pub octets : List ℕ
   pub split : history ≡ later ++ record { piece = pieces.Frame octets; decision = d } ∷ before
@@ -33,9 +34,9 @@ pub record IsAnswered (history before : List Entry) (command : Command) (d : Dec
 
 -- Where images came since the last CFR or MCF and the last of them means no page, the answer is RTN.
 abbrev pub RefusesNoPage : Type 0
-RefusesNoPage =
-    (core : AnswererCore) (start : ℕ) (events : List CallEvent) (before : List Entry) (command : Command) (d : Decision) (dcs : Dcs)
-    → AreRead (rung core start) events → IsAnswered (after_events (rung core start) events).history before command d dcs
+RefusesNoPage = (core : AnswererCore) (start : ℕ) (events : List CallEvent) (before : List Entry)
+    (command : Command) (d : Decision) (dcs : Dcs) → AreRead (rung core start) events
+    → IsAnswered (after_events (rung core start) events).history before command d dcs
     → 0 < images (since_answer before) → MeansNone before dcs → d ≡ GivesRtn
 
 -- in Page: no EOM was answered by MCF since the last CFR
@@ -45,8 +46,9 @@ IsInPage before = repeated before ≡ Some Eom → ⊥
 -- Where in Page exactly one image came, which is whole, and nothing was missing and no signal began after it, the answer is
 -- RTN exactly where the image means no page, and else MCF for the page that it means.
 abbrev pub JudgesExactly : Type 0
-JudgesExactly =
-    (core : AnswererCore) (start : ℕ) (events : List CallEvent) (before : List Entry) (command : Command) (d : Decision) (dcs : Dcs)
-    → AreRead (rung core start) events → IsAnswered (after_events (rung core start) events).history before command d dcs
-    → IsInPage before → is_one_image (since_answer before) ≡ true
-    → ((d ≡ GivesRtn) × MeansNone before dcs) ⊎ ((page : PageValue) × (d ≡ GivesMcf command (Some page)) × MeansThis before dcs page)
+JudgesExactly = (core : AnswererCore) (start : ℕ) (events : List CallEvent) (before : List Entry)
+    (command : Command) (d : Decision) (dcs : Dcs) → AreRead (rung core start) events
+    → IsAnswered (after_events (rung core start) events).history before command d dcs
+    → IsInPage before
+    → is_one_image (since_answer before) ≡ true → ((d ≡ GivesRtn) × MeansNone before dcs)
+    ⊎ ((page : PageValue) × (d ≡ GivesMcf command (Some page)) × MeansThis before dcs page)

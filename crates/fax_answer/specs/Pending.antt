@@ -20,7 +20,8 @@ packet_text (Frame reply) = frame_packet (frame_text reply)
 
 -- the packets that wait, where the last of them confirms this
 abbrev pub framed : Reply → Option ConfirmedPage → List WaitingPacket
-framed reply confirmed = record { packet = frame_packet (frame_text reply); confirmed = confirmed } ∷ []
+framed reply confirmed =
+    record { packet = frame_packet (frame_text reply); confirmed = confirmed } ∷ []
 
 abbrev pub waiting_of : Pending → Option ConfirmedPage → List WaitingPacket
 waiting_of Nothing confirmed = []

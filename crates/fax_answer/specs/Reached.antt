@@ -43,9 +43,10 @@ pub record Rep : Type 0 where
 -- one of a page that an MCF confirms stands before them.
 pub record HoldsPage (dcs : Dcs) (history : List Entry) (image : ImageValue) : Type 0 where
   pub openly : HasOpen dcs (octets_since history) image.readers
-  pub last : is_one_image (since_answer history) ≡ true → HasEnded dcs (last_image history) image.readers
-  pub apart : (accepted : Accepted) → image.accepted ≡ Some accepted → is_one_image (since_answer history) ≡ true
-      → accepted.place + 2 < length image.readers
+  pub last : is_one_image (since_answer history) ≡ true
+      → HasEnded dcs (last_image history) image.readers
+  pub apart : (accepted : Accepted) → image.accepted ≡ Some accepted
+      → is_one_image (since_answer history) ≡ true → accepted.place + 2 < length image.readers
 
 -- what a history leaves of images
 pub record Holds (state : State) (history : List Entry) (image : ImageValue) : Type 0 where
@@ -68,7 +69,8 @@ pub record IsReached (heard : List Slot) (core : AnswererCore) (kept : Rep) : Ty
   pub settled : kept.image.accepted ≡ None
 
 -- More slots, in the order of time, led on, whatever came before: their pieces came, by one reading that is right.
-pub record Hears (slots : List Slot) (now : ℕ) (heard : List Slot) (core : AnswererCore) (new : Rep) : Type 0 where
+pub record Hears (slots : List Slot)
+    (now : ℕ) (heard : List Slot) (core : AnswererCore) (new : Rep) : Type 0 where
   pub given : List Piece
   pub pieces : pieces (reverse slots ++ heard) ≡ pieces heard ++ given
   pub read : Reading
@@ -76,12 +78,14 @@ pub record Hears (slots : List Slot) (now : ℕ) (heard : List Slot) (core : Ans
   pub reached : IsReached (reverse slots ++ heard) (came_all read core given now) new
 
 -- the same, and this holds of what was told of them
-pub record HearsTold (Tells : List Telling → Type 0) (slots : List Slot) (now : ℕ) (heard : List Slot) (core : AnswererCore) (new : Rep) : Type 0 where
+pub record HearsTold (Tells : List Telling → Type 0) (slots : List Slot)
+    (now : ℕ) (heard : List Slot) (core : AnswererCore) (new : Rep) : Type 0 where
   pub hears : Hears slots now heard core new
   pub told : Tells (tellings hears.read core hears.given now)
 
 -- the same, with a reading for each piece, where a page that is confirmed may still be in its reader
-pub record HearsSo (Tells : List Telling → Type 0) (slots : List Slot) (now : ℕ) (heard : List Slot) (core : AnswererCore) (new : Rep) : Type 0 where
+pub record HearsSo (Tells : List Telling → Type 0) (slots : List Slot)
+    (now : ℕ) (heard : List Slot) (core : AnswererCore) (new : Rep) : Type 0 where
   pub given : List Piece
   pub pieces : pieces (reverse slots ++ heard) ≡ pieces heard ++ given
   pub after : AnswererCore
@@ -92,14 +96,16 @@ pub record HearsSo (Tells : List Telling → Type 0) (slots : List Slot) (now : 
   pub stands : Stands after new
 
 -- one more piece, and this holds of what was told of it
-pub record Takes (Tells : List Telling → Type 0) (piece : Piece) (now : ℕ) (core : AnswererCore) (new : Rep) : Type 0 where
+pub record Takes (Tells : List Telling → Type 0)
+    (piece : Piece) (now : ℕ) (core : AnswererCore) (new : Rep) : Type 0 where
   pub read : Reading
   pub right : IfAsked (asked core piece) read
   pub tells : Tells (telling_with piece (telling read core piece) [])
   pub stands : Stands (came read core piece now) new
 
 -- these pieces, in the order of time
-pub record TakesAll (Tells : List Telling → Type 0) (given : List Piece) (now : ℕ) (core : AnswererCore) (new : Rep) : Type 0 where
+pub record TakesAll (Tells : List Telling → Type 0)
+    (given : List Piece) (now : ℕ) (core : AnswererCore) (new : Rep) : Type 0 where
   pub after : AnswererCore
   pub told : List Telling
   pub came : CameTold core given now after told
@@ -108,7 +114,8 @@ pub record TakesAll (Tells : List Telling → Type 0) (given : List Piece) (now 
 
 -- the fault that an image meets under this DCS
 abbrev pub IsFaultOf : List ℕ → Dcs → Option Refusal → Type 0
-IsFaultOf octets dcs (Some (Fault fault)) = FailsPage (elements_of (format_of dcs).width) (coding_of dcs) octets fault
+IsFaultOf octets dcs (Some (Fault fault)) =
+    FailsPage (elements_of (format_of dcs).width) (coding_of dcs) octets fault
 IsFaultOf octets dcs refused = ⊥
 
 -- where RTN is decided, this holds
@@ -118,7 +125,8 @@ AtRtn decision P = Unit {0}
 
 -- What is decided of an image by some reading of it that is right, the image, among these readers, of the page that is
 -- confirmed, and the fault for which it is refused
-pub record AnswersImage (octets : List ℕ) (dcs : Dcs) (command : Command) (readers : List ReaderValue) (answer : Answer) : Type 0 where
+pub record AnswersImage (octets : List ℕ)
+    (dcs : Dcs) (command : Command) (readers : List ReaderValue) (answer : Answer) : Type 0 where
   pub read : Reading
   pub right : IsRight (record { octets = octets; dcs = dcs }) read
   pub verdict_is : verdict_of (judged command read) ≡ answer.decision
@@ -126,23 +134,31 @@ pub record AnswersImage (octets : List ℕ) (dcs : Dcs) (command : Command) (rea
   pub why : AtRtn (judged command read) (IsFaultOf octets dcs answer.refused)
 
 -- the same at a command in Page
-pub record AnswersCommand (dcs : Dcs) (command : Command) (history : List Entry) (readers : List ReaderValue) (answer : Answer) : Type 0 where
+pub record AnswersCommand (dcs : Dcs) (command : Command)
+    (history : List Entry) (readers : List ReaderValue) (answer : Answer) : Type 0 where
   pub read : Reading
   pub right : IfAsked (order_asks (Page dcs) history (Judge command)) read
   pub verdict_is : verdict_of (on_command read history command) ≡ answer.decision
-  pub page_is : Confirms answer.found readers None (confirmed_after (on_command read history command) None)
+  pub page_is :
+      Confirms answer.found readers None (confirmed_after (on_command read history command) None)
   pub why : AtRtn (on_command read history command) (IsWhy (Page dcs) history answer.refused)
 
 -- what is decided at a command in Again
-pub record AnswersAgain (command : Command) (history : List Entry) (readers : List ReaderValue) (answer : Answer) : Type 0 where
+pub record AnswersAgain (command : Command)
+    (history : List Entry) (readers : List ReaderValue) (answer : Answer) : Type 0 where
   pub verdict_is : verdict_of (on_command_again history command) ≡ answer.decision
-  pub page_is : Confirms answer.found readers None (confirmed_after (on_command_again history command) None)
+  pub page_is :
+      Confirms answer.found readers None (confirmed_after (on_command_again history command) None)
   pub why : AtRtn (on_command_again history command) (IsWhy Again history answer.refused)
 
 -- the same as in Page at a frame where no packet waits
-pub record Answers (octets : List ℕ) (core : AnswererCore) (readers : List ReaderValue) (answer : Answer) : Type 0 where
+pub record Answers (octets : List ℕ)
+    (core : AnswererCore) (readers : List ReaderValue) (answer : Answer) : Type 0 where
   pub read : Reading
   pub right : IfAsked (order_asks core.state core.history (order_of octets)) read
-  pub verdict_is : verdict_of (on_order read core.state core.history (order_of octets)) ≡ answer.decision
-  pub page_is : Confirms answer.found readers None (confirmed_after (on_order read core.state core.history (order_of octets)) None)
-  pub why : AtRtn (on_order read core.state core.history (order_of octets)) (IsWhy core.state core.history answer.refused)
+  pub verdict_is :
+      verdict_of (on_order read core.state core.history (order_of octets)) ≡ answer.decision
+  pub page_is : Confirms answer.found
+      readers None (confirmed_after (on_order read core.state core.history (order_of octets)) None)
+  pub why : AtRtn (on_order read core.state core.history (order_of octets))
+      (IsWhy core.state core.history answer.refused)

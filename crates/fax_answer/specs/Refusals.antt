@@ -18,11 +18,12 @@ use Rattle.fax_answer.specs.EachRtn.{rtn_packet}
 -- PAGE, under this DCS: what each reason says of what came since the last CFR or MCF. A fault is that of the one image, whole
 -- and with nothing after it, which means no page.
 abbrev pub IsReasonInPage : Dcs → List Entry → Refusal → Type 0
-IsReasonInPage dcs before (Fault fault) =
-    (is_one_image (since_answer before) ≡ true) × FailsPage (elements_of (format_of dcs).width) (coding_of dcs) (last_image before) fault
-IsReasonInPage dcs before NotWhole = (images (since_answer before) ≡ 1) × (last_whole (since_answer before) ≡ false)
-IsReasonInPage dcs before GapAfter =
-    (images (since_answer before) ≡ 1) × (last_whole (since_answer before) ≡ true) × (gap (since_answer before) ≡ true)
+IsReasonInPage dcs before (Fault fault) = (is_one_image (since_answer before) ≡ true)
+    × FailsPage (elements_of (format_of dcs).width) (coding_of dcs) (last_image before) fault
+IsReasonInPage dcs before NotWhole =
+    (images (since_answer before) ≡ 1) × (last_whole (since_answer before) ≡ false)
+IsReasonInPage dcs before GapAfter = (images (since_answer before) ≡ 1)
+    × (last_whole (since_answer before) ≡ true) × (gap (since_answer before) ≡ true)
 IsReasonInPage dcs before SeveralImages = 1 < images (since_answer before)
 IsReasonInPage dcs before NoImage = images (since_answer before) ≡ 0
 IsReasonInPage dcs before Untrained = ⊥
@@ -78,4 +79,5 @@ pub record TellsWhy (t : TickResult) (told : Option Refusal) : Type 0 where
 
 -- What came before a command is refused for one reason at most.
 abbrev pub ReasonsAreUnique : Type 0
-ReasonsAreUnique = (state : State) (before : List Entry) (one other : Refusal) → IsReason state before one → IsReason state before other → one ≡ other
+ReasonsAreUnique = (state : State) (before : List Entry) (one other : Refusal)
+    → IsReason state before one → IsReason state before other → one ≡ other

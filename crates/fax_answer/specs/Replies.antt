@@ -48,7 +48,8 @@ frame_packet frame = written_message 0 (frame_fields frame)
 
 -- a frame as a reply: the preamble, and then its data packet
 abbrev pub frame_reply : List ℕ → Option ConfirmedPage → List WaitingPacket
-frame_reply frame confirmed = silent preamble ∷ record { packet = frame_packet frame; confirmed = confirmed } ∷ []
+frame_reply frame confirmed =
+    silent preamble ∷ record { packet = frame_packet frame; confirmed = confirmed } ∷ []
 
 abbrev pub plain_reply : Plain → Option ConfirmedPage → List WaitingPacket
 plain_reply plain confirmed = frame_reply (written_plain plain false) confirmed

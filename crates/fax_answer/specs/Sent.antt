@@ -21,7 +21,8 @@ pieces_heard (e ∷ before) = e.piece ∷ pieces_heard before
 
 -- The page is what the image signal at a place of the list means, under the DCS that the last CFR answered. What was read is
 -- that signal, octet for octet, so that no page is joined of two.
-pub record IsOfSignal (packets : List (List ℕ)) (before : List Entry) (page : PageValue) (place : ℕ) : Type 0 where
+pub record IsOfSignal (packets : List (List ℕ))
+    (before : List Entry) (page : PageValue) (place : ℕ) : Type 0 where
   pub octets : List ℕ
   pub signal : signal_at packets place ≡ Some octets
   pub read : last_image before ≡ octets
@@ -35,20 +36,24 @@ page_accepted (GivesMcf command page) = page
 page_accepted decision = None
 
 -- Each page for which MCF was given is of a signal before `bound`, and those of earlier pages stand at earlier places.
-abbrev pub RisesBy : List (List ℕ) → List Entry → Option PageValue → (bound : ℕ) → (ℕ → Type 0) → Type 0
+abbrev pub RisesBy : List (List ℕ)
+    → List Entry → Option PageValue → (bound : ℕ) → (ℕ → Type 0) → Type 0
 RisesBy packets before None bound earlier = earlier bound
-RisesBy packets before (Some page) bound earlier = (place : ℕ) × (place < bound) × IsOfSignal packets before page place × earlier place
+RisesBy packets before (Some page) bound earlier =
+    (place : ℕ) × (place < bound) × IsOfSignal packets before page place × earlier place
 
 abbrev pub Rises : List (List ℕ) → List Entry → (bound : ℕ) → Type 0
 Rises packets [] bound = Unit {0}
-Rises packets (e ∷ before) bound = RisesBy packets before (page_accepted e.decision) bound (Rises packets before)
+Rises packets (e ∷ before) bound =
+    RisesBy packets before (page_accepted e.decision) bound (Rises packets before)
 
 -- So it is in every call that hears slots which are a part of the list.
 abbrev pub ConfirmsSignals : Type 0
-ConfirmsSignals =
-    (core : AnswererCore) (start : ℕ) (events : List CallEvent) (packets : List (List ℕ)) (next : ℕ) (slots : List Slot)
-    → AreRead (rung core start) events → pieces_heard (after_events (rung core start) events).history ≡ reverse (pieces slots)
-    → AreSlotsBefore packets next slots → Rises packets (after_events (rung core start) events).history next
+ConfirmsSignals = (core : AnswererCore) (start : ℕ) (events : List CallEvent)
+    (packets : List (List ℕ)) (next : ℕ) (slots : List Slot) → AreRead (rung core start) events
+    → pieces_heard (after_events (rung core start) events).history ≡ reverse (pieces slots)
+    → AreSlotsBefore packets next slots
+    → Rises packets (after_events (rung core start) events).history next
 
 -- The pages that ticks confirmed in a call, those for which MCF was decided, and those that wait to be confirmed, the newest
 -- first
@@ -63,7 +68,8 @@ confirmed_in_tick (Some w) pages = confirmed_with w.confirmed pages
 abbrev pub pages_confirmed : AnswererCore → List CallEvent → List PageValue
 pages_confirmed a [] = []
 pages_confirmed a (Comes piece now read ∷ before) = pages_confirmed a before
-pages_confirmed a (Ticks now ∷ before) = confirmed_in_tick (ticked (after_events a before) now).given (pages_confirmed a before)
+pages_confirmed a (Ticks now ∷ before) =
+    confirmed_in_tick (ticked (after_events a before) now).given (pages_confirmed a before)
 
 abbrev pub page_with : Option PageValue → List PageValue → List PageValue
 page_with None pages = pages
@@ -80,7 +86,7 @@ pages_waiting (w ∷ waiting) = pages_waiting waiting ++ confirmed_with w.confir
 -- In every call the pages for which MCF was decided are those that ticks confirmed, in their order, and then those that wait:
 -- at most one. So what is told of the former is told of each confirmation.
 abbrev pub ConfirmsWhatItAccepted : Type 0
-ConfirmsWhatItAccepted =
-    (core : AnswererCore) (start : ℕ) (events : List CallEvent) →
-    let a : AnswererCore = after_events (rung core start) events in
-    (pages_accepted a.history ≡ pages_waiting a.waiting ++ pages_confirmed (rung core start) events) × (length (pages_waiting a.waiting) < 2)
+ConfirmsWhatItAccepted = (core : AnswererCore) (start : ℕ) (events : List CallEvent)
+    → let a : AnswererCore = after_events (rung core start) events in (pages_accepted a.history
+    ≡ pages_waiting a.waiting ++ pages_confirmed (rung core start) events)
+    × (length (pages_waiting a.waiting) < 2)

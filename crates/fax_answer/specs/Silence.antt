@@ -35,14 +35,18 @@ AllUntil from (Ticks now ∷ before) = (now ≤ from) × AllUntil from before
 
 -- what comes is passed over, and sets no timer
 abbrev pub IsPassedOver : Reading → AnswererCore → pieces.Piece → Type 0
-IsPassedOver read a piece = (decision read a.state (is_waiting a.waiting) a.history piece ≡ PassesOver) × ((not (is_waiting a.waiting) && is_heard a.state piece) ≡ false)
+IsPassedOver read a piece =
+    (decision read a.state (is_waiting a.waiting) a.history piece ≡ PassesOver)
+    × ((not (is_waiting a.waiting) && is_heard a.state piece) ≡ false)
 
 -- Silence: nothing comes but this; and ticks come, each at most so many milliseconds after the one before, the first after
 -- `from`.
 abbrev pub IsSilence : (a : AnswererCore) → (gap from : ℕ) → List CallEvent → Type 0
 IsSilence a gap from [] = Unit {0}
-IsSilence a gap from (Comes piece now read ∷ before) = IsPassedOver read (after_events a before) piece × IsSilence a gap from before
-IsSilence a gap from (Ticks now ∷ before) = (last_tick from before ≤ now) × (now ≤ last_tick from before + gap) × IsSilence a gap from before
+IsSilence a gap from (Comes piece now read ∷ before) =
+    IsPassedOver read (after_events a before) piece × IsSilence a gap from before
+IsSilence a gap from (Ticks now ∷ before) = (last_tick from before ≤ now)
+    × (now ≤ last_tick from before + gap) × IsSilence a gap from before
 
 -- the timers until the call is given up: after an EOM, T2 and then T1
 abbrev pub timers_time : State → ℕ
@@ -60,12 +64,11 @@ silent_time gap a = time_of gap a.waiting + (timers_time a.state + 9000 + 5 * ga
 -- A call in which nothing more is heard is over after that time, whatever was heard before, and whatever the ticks are: no line
 -- hangs for ever. (The last packet of the call before it was no longer ago than a packet can be.)
 abbrev pub NoCallHangs : Type 0
-NoCallHangs =
-    (core : AnswererCore) (start from gap : ℕ) (events silence : List CallEvent) →
-    let a : AnswererCore = after_events (rung core start) events in
-    allowed_from core.pace.last ≤ start + spans.longest_pause → start ≤ from → AllUntil from events → IsSilence a gap from silence
-    → from + silent_time gap a < last_tick from silence
-    → (after_events a silence).state ≡ Idle
+NoCallHangs = (core : AnswererCore) (start from gap : ℕ) (events silence : List CallEvent)
+    → let a : AnswererCore = after_events (rung core start) events
+    in allowed_from core.pace.last ≤ start + spans.longest_pause
+    → start ≤ from → AllUntil from events → IsSilence a gap from silence
+    → from + silent_time gap a < last_tick from silence → (after_events a silence).state ≡ Idle
 
 -- the packets that are given
 abbrev pub one_if_given : Option WaitingPacket → ℕ
@@ -75,7 +78,8 @@ one_if_given None = 0
 abbrev pub packets_given : AnswererCore → List CallEvent → ℕ
 packets_given a [] = 0
 packets_given a (Comes piece now read ∷ before) = packets_given a before
-packets_given a (Ticks now ∷ before) = one_if_given (ticked (after_events a before) now).given + packets_given a before
+packets_given a (Ticks now ∷ before) =
+    one_if_given (ticked (after_events a before) now).given + packets_given a before
 
 -- However long it lasts, little is given in a silence: what waits, the DIS at most twelve times (T1 has twelve T4), and the DCN.
 abbrev pub LittleIsGiven : Type 0

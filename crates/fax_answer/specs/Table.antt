@@ -40,8 +40,8 @@ pub record Question : Type 0 where
 -- TRAIN, an image ends. A training check is good where it is whole, nothing is missing since the DCS, and a second of zeros
 -- stands in a row, which is rate / 8 octets (own; T.30 sends 1.5 seconds of them): CFR, else FTT.
 abbrev pub on_check : Dcs → Bool → List Entry → Decision
-on_check dcs whole before =
-    if whole && (not (missing_in_training before) && has_zero_run (bits_a_second dcs.rate / 8) (octets_since before))
+on_check dcs whole before = if whole && (not (missing_in_training before)
+    && has_zero_run (bits_a_second dcs.rate / 8) (octets_since before))
     then GivesCfr dcs else GivesFtt
 
 -- PAGE, a command comes after one image since the last CFR or MCF, which is whole, with neither a missing slot nor a
@@ -61,8 +61,8 @@ same_command (Some Eop) Eop = true
 same_command c d = false
 
 abbrev pub is_repeat : List Entry → Command → Bool
-is_repeat before command =
-    nat_eq (images (since_answer before)) 0 && (not (gap (since_answer before)) && same_command (repeated before) command)
+is_repeat before command = nat_eq (images (since_answer before)) 0
+    && (not (gap (since_answer before)) && same_command (repeated before) command)
 
 -- PAGE, any other command: RTN.
 abbrev pub on_command : Reading → List Entry → Command → Decision
@@ -93,18 +93,20 @@ on_order read state before order = PassesOver
 
 -- A piece, in each state. Frames are passed over while packets wait (own).
 abbrev pub decision : Reading → State → (waits : Bool) → List Entry → pieces.Piece → Decision
-decision read state waits before (pieces.Frame octets) = if waits then PassesOver else on_order read state before (order_of octets)
+decision read state waits before (pieces.Frame octets) =
+    if waits then PassesOver else on_order read state before (order_of octets)
 decision read (Train dcs) waits before (pieces.End whole) = on_check dcs whole before
 decision read state waits before piece = PassesOver
 
 -- what is asked at a piece: a command in Page asks what the one image before it means
 abbrev pub order_asks : State → List Entry → Order → Option Question
-order_asks (Page dcs) before (orders.Judge command) =
-    if is_one_image (since_answer before) then Some (record { octets = last_image before; dcs = dcs }) else None
+order_asks (Page dcs) before (orders.Judge command) = if is_one_image (since_answer before)
+    then Some (record { octets = last_image before; dcs = dcs }) else None
 order_asks state before order = None
 
 abbrev pub asked_of : State → (waits : Bool) → List Entry → pieces.Piece → Option Question
-asked_of state waits before (pieces.Frame octets) = if waits then None else order_asks state before (order_of octets)
+asked_of state waits before (pieces.Frame octets) =
+    if waits then None else order_asks state before (order_of octets)
 asked_of state waits before piece = None
 
 -- the state after a decision: Again after the MCF to an EOM

@@ -24,8 +24,12 @@ pub record Telling : Type 0 where
   pub verdict : code.Decision
 
 abbrev pub telling : Reading → AnswererCore → pieces.Piece → Telling
-telling read a piece =
-    record { state = a.state; waits = is_waiting a.waiting; piece = piece; verdict = verdict_of (decision read a.state (is_waiting a.waiting) a.history piece) }
+telling read a piece = record {
+  state = a.state;
+  waits = is_waiting a.waiting;
+  piece = piece;
+  verdict = verdict_of (decision read a.state (is_waiting a.waiting) a.history piece);
+}
 
 -- a lost slot is not told of: nothing is decided at it
 abbrev pub telling_with : pieces.Piece → Telling → List Telling → List Telling
@@ -38,12 +42,15 @@ telling_with (pieces.End whole) t more = t ∷ more
 -- of the pieces of a datagram, in the order of time
 abbrev pub tellings : Reading → AnswererCore → List pieces.Piece → ℕ → List Telling
 tellings read a [] now = []
-tellings read a (piece ∷ more) now = telling_with piece (telling read a piece) (tellings read (came read a piece now) more now)
+tellings read a (piece ∷ more) now =
+    telling_with piece (telling read a piece) (tellings read (came read a piece now) more now)
 
 -- A watcher was told just this, one after another, by what telling it makes of it.
-abbrev pub Watches : {W : Type 0} → (tells : Telling → W → W → Type 0) → (old new : W) → List Telling → Type 0
+abbrev pub Watches : {W : Type 0}
+    → (tells : Telling → W → W → Type 0) → (old new : W) → List Telling → Type 0
 Watches tells old new [] = new ≡ old
-Watches {W} tells old new (t ∷ more) = (between : W) × tells t old between × Watches tells between new more
+Watches {W} tells old new (t ∷ more) =
+    (between : W) × tells t old between × Watches tells between new more
 
 -- nothing was told
 abbrev pub TellsNothing : List Telling → Type 0
@@ -53,9 +60,9 @@ TellsNothing told = told ≡ []
 -- of them
 abbrev pub CameTold : AnswererCore → List pieces.Piece → ℕ → AnswererCore → List Telling → Type 0
 CameTold a [] now z told = (a ≡ z) × (told ≡ [])
-CameTold a (piece ∷ more) now z told =
-    (read : Reading) × IfAsked (asked a piece) read × (later : List Telling)
-    × (told ≡ telling_with piece (telling read a piece) later) × CameTold (came read a piece now) more now z later
+CameTold a (piece ∷ more) now z told = (read : Reading) × IfAsked (asked a piece) read
+    × (later : List Telling) × (told ≡ telling_with piece (telling read a piece) later)
+    × CameTold (came read a piece now) more now z later
 
 -- WHAT IS TOLD IS WHAT WAS DONE: each entry of the history, but those of lost slots, in their order; and nothing else.
 pub record Shown : Type 0 where
@@ -72,22 +79,27 @@ shown_with (pieces.End whole) s more = s ∷ more
 -- the entries of a history, the newest first, and what is told, in the order of time
 abbrev pub shown_of : List Entry → List Shown
 shown_of [] = []
-shown_of (e ∷ before) = shown_with e.piece (record { piece = e.piece; verdict = verdict_of e.decision }) (shown_of before)
+shown_of (e ∷ before) = shown_with e.piece (record {
+  piece = e.piece;
+  verdict = verdict_of e.decision;
+}) (shown_of before)
 
 abbrev pub told_after : List Telling → List Shown → List Shown
 told_after [] before = before
-told_after (t ∷ more) before = told_after more (record { piece = t.piece; verdict = t.verdict } ∷ before)
+told_after (t ∷ more) before =
+    told_after more (record { piece = t.piece; verdict = t.verdict } ∷ before)
 
 abbrev pub TellsTheHistory : Type 0
-TellsTheHistory =
-    (read : Reading) (a : AnswererCore) (given : List pieces.Piece) (now : ℕ)
-    → shown_of (came_all read a given now).history ≡ told_after (tellings read a given now) (shown_of a.history)
+TellsTheHistory = (read : Reading) (a : AnswererCore) (given : List pieces.Piece) (now : ℕ)
+    → shown_of (came_all read a given now).history
+    ≡ told_after (tellings read a given now) (shown_of a.history)
 
 -- TIMERS. The one that acts in a tick, where no packet waits: T1 before the others
 abbrev pub acting_in : State → Timers → ℕ → Option ActingTimer
 acting_in Idle t now = None
 acting_in Closing t now = None
-acting_in Identify t now = if is_due t.t1 now then Some T1 else if is_due t.t4 now then Some T4 else None
+acting_in Identify t now =
+    if is_due t.t1 now then Some T1 else if is_due t.t4 now then Some T4 else None
 acting_in state t now = if is_due t.t2 now then Some T2 else None
 
 abbrev pub acting : AnswererCore → ℕ → Option ActingTimer

@@ -28,7 +28,8 @@ impl Answer {
 
     /// MCF to this command, with the page of this image.
     pub fn mcf(command: Command, found: Accepted) -> Self
-        ensures { result ≡ record { decision = Decision.Mcf command; found = Some found; refused = None } }
+        ensures { result
+            ≡ record { decision = Decision.Mcf command; found = Some found; refused = None } }
     {
         Answer {
             decision: Decision::Mcf(command),
@@ -39,7 +40,8 @@ impl Answer {
 
     /// RTN, for this reason.
     pub fn rtn(refusal: Refusal) -> Self
-        ensures { result ≡ record { decision = Decision.Rtn; found = None; refused = Some refusal } }
+        ensures { result
+            ≡ record { decision = Decision.Rtn; found = None; refused = Some refusal } }
     {
         Answer {
             decision: Decision::Rtn,

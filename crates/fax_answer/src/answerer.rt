@@ -58,7 +58,14 @@ impl<S: RowStore> Model for Answerer<S> {
 
     ghost Value = { Rep };
 
-    ghost view = { λ a. record { tracked = a.signals; procedure = a.procedure; image = a.image; confirmed = confirmed_shown a.confirmed; refused = a.refused; spare = a.room } };
+    ghost view = { λ a. record {
+      tracked = a.signals;
+      procedure = a.procedure;
+      image = a.image;
+      confirmed = confirmed_shown a.confirmed;
+      refused = a.refused;
+      spare = a.room;
+    } };
 }
 
 impl<S: RowStore> Answerer<S> {
@@ -137,9 +144,11 @@ impl<S: RowStore> Answerer<S> {
     /// that one is given. It takes memory for the packet where none is reserved, and none where no packet is given. A packet
     /// has at most 12 octets. An `Err` changes nothing.
     pub fn tick(&mut self, now: u64) -> Result<Step<S>, NoMemory>
-        ensures ticked { IfOk result (λ step. EachCall self.old (λ heard core. IsReached heard (ticked core now).core self.new × IsStep (ticked core now) step)) }
+        ensures ticked { IfOk result (λ step. EachCall self.old (λ heard core.
+            IsReached heard (ticked core now).core self.new × IsStep (ticked core now) step)) }
         ensures err { OnErr result (self.new ≡ self.old) }
-        ensures memory { OnErr result (EachCall self.old (λ heard core. IsSome (ticked core now).given)) }
+        ensures memory { OnErr result (EachCall self.old
+            (λ heard core. IsSome (ticked core now).given)) }
         ensures spared { OnErr result (self.old.spare ≡ 0) }
         ensures short { IfOk result (λ step. IfSome step.packet (λ packet. length packet ≤ 12)) }
     {

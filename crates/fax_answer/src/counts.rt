@@ -50,7 +50,8 @@ impl Counts {
 
     /// Notes a piece and what is decided at it.
     pub fn note(&mut self, piece: &Piece<'_>, decision: Decision)
-        ensures { (history : List Entry) (e : Entry) → self.old ≡ counts_of history → piece_of piece.now ≡ e.piece
+        ensures { (history : List Entry) (e : Entry)
+            → self.old ≡ counts_of history → piece_of piece.now ≡ e.piece
             → verdict_of e.decision ≡ decision → self.new ≡ counts_of (e ∷ history) }
     {
         self.note_missing(piece, decision);
@@ -63,7 +64,13 @@ impl Counts {
 
     /// A CFR or an MCF is decided: nothing came since, and this command may be repeated.
     fn answer(&mut self, repeat: Option<Command>)
-        ensures { self.new ≡ record self.old { images = Images.Zero; gap = Rattle.std.specs.Prelude.false; whole = Rattle.std.specs.Prelude.false; repeat = repeat } }
+        ensures { self.new
+            ≡ record self.old {
+              images = Images.Zero;
+              gap = Rattle.std.specs.Prelude.false;
+              whole = Rattle.std.specs.Prelude.false;
+              repeat = repeat;
+            } }
     {
         *self = Counts {
             images: Images::Zero,
@@ -77,7 +84,10 @@ impl Counts {
     /// Notes whether a slot is missing since the DCS that trained.
     fn note_missing(&mut self, piece: &Piece<'_>, decision: Decision)
         ensures { (e : Entry) → piece_of piece.now ≡ e.piece → verdict_of e.decision ≡ decision
-            → self.new ≡ record self.old { missing = Rattle.fax_answer.specs.History.missing_with e.decision e.piece self.old.missing } }
+            → self.new ≡ record self.old {
+              missing = Rattle.fax_answer.specs.History.missing_with
+                  e.decision e.piece self.old.missing;
+            } }
     {
         if let Decision::Train(_) = decision {
             self.missing = false;
@@ -107,29 +117,32 @@ impl Counts {
     /// Whether one image came since the last CFR or MCF, which is whole, with neither a missing slot nor a signal after
     /// it.
     pub fn is_one_image(&self) -> bool
-        ensures { (history : List Entry) → self.now ≡ counts_of history → result ≡ is_one_image (since_answer history) }
+        ensures { (history : List Entry)
+            → self.now ≡ counts_of history → result ≡ is_one_image (since_answer history) }
     {
         self.images == Images::One && self.whole && !self.gap
     }
 
     /// Whether no image came since the last CFR or MCF, nothing was missing and no signal began.
     pub fn is_quiet(&self) -> bool
-        ensures { (history : List Entry) → self.now ≡ counts_of history → result ≡ is_quiet (since_answer history) }
+        ensures { (history : List Entry)
+            → self.now ≡ counts_of history → result ≡ is_quiet (since_answer history) }
     {
         self.images == Images::Zero && !self.gap
     }
 
     /// Whether the command is MPS or EOP and the one that was answered by MCF, with no image, missing slot or signal since.
     pub fn is_repeat(&self, command: Command) -> bool
-        ensures { (history : List Entry) → self.now ≡ counts_of history → result ≡ is_repeat history command }
+        ensures { (history : List Entry)
+            → self.now ≡ counts_of history → result ≡ is_repeat history command }
     {
         self.is_quiet() && is_same(self.repeat, command)
     }
 
     /// Why a command is refused in Page, where not one image stands before it, whole and with nothing after it.
     pub fn refusal(&self) -> Refusal
-        ensures { (history : List Entry) (dcs : Dcs) → self.now ≡ counts_of history → is_one_image (since_answer history) ≡ false
-            → IsReasonInPage dcs history result }
+        ensures { (history : List Entry) (dcs : Dcs) → self.now ≡ counts_of history
+            → is_one_image (since_answer history) ≡ false → IsReasonInPage dcs history result }
     {
         match self.images {
             Images::Zero => Refusal::NoImage,
@@ -141,7 +154,8 @@ impl Counts {
 
     /// Why a command is refused in Again.
     pub fn refusal_again(&self) -> Refusal
-        ensures { (history : List Entry) → self.now ≡ counts_of history → IsReasonInAgain history result }
+        ensures { (history : List Entry)
+            → self.now ≡ counts_of history → IsReasonInAgain history result }
     {
         match self.images {
             Images::Zero => Refusal::NoImage,

@@ -26,8 +26,10 @@ impl<S: RowStore> Answerer<S> {
     /// memory for what is read of images, for the place to go back to, and for packets of more than four fields, and none
     /// where no packet is decided. An `Err` changes nothing.
     pub fn slots(&mut self, decided: &Decided<'_>, now: u64) -> Result<bool, NoMemory>
-        ensures heard { OnOk result (EachCall self.old (λ heard core. Hears (slots_in decided.now) now heard core self.new)) }
-        ensures ended { IfOk result (λ ended. IsTrue ended ↔ (self.new.procedure.state ≡ State.Idle)) }
+        ensures heard { OnOk result (EachCall self.old
+            (λ heard core. Hears (slots_in decided.now) now heard core self.new)) }
+        ensures ended { IfOk result
+            (λ ended. IsTrue ended ↔ (self.new.procedure.state ≡ State.Idle)) }
         ensures err { OnErr result (self.new ≡ self.old) }
         ensures no_packet { decided.now.packets ≡ [] → IsOk result }
         ensures spare { self.new.spare ≡ self.old.spare }
@@ -43,8 +45,11 @@ impl<S: RowStore> Answerer<S> {
         now: u64,
         watcher: &mut W,
     ) -> Result<bool, NoMemory>
-        ensures heard { OnOk result (EachCall self.old (λ heard core. HearsTold (Watches W.tells watcher.old watcher.new) (slots_in decided.now) now heard core self.new)) }
-        ensures ended { IfOk result (λ ended. IsTrue ended ↔ (self.new.procedure.state ≡ State.Idle)) }
+        ensures heard { OnOk result (EachCall self.old
+            (λ heard core. HearsTold (Watches W.tells watcher.old watcher.new)
+            (slots_in decided.now) now heard core self.new)) }
+        ensures ended { IfOk result
+            (λ ended. IsTrue ended ↔ (self.new.procedure.state ≡ State.Idle)) }
         ensures err { OnErr result (self.new ≡ self.old) }
         ensures no_packet { decided.now.packets ≡ [] → IsOk result }
         ensures spare { self.new.spare ≡ self.old.spare }
@@ -62,12 +67,16 @@ impl<S: RowStore> Answerer<S> {
         most: u128,
         watcher: &mut W,
     ) -> Result<bool, NoMemory>
-        ensures heard { OnOk result (EachCall self.old (λ heard core. HearsTold (Watches W.tells watcher.old watcher.new) (slots_in decided.now) now heard core self.new)) }
-        ensures ended { IfOk result (λ ended. IsTrue ended ↔ (self.new.procedure.state ≡ State.Idle)) }
+        ensures heard { OnOk result (EachCall self.old
+            (λ heard core. HearsTold (Watches W.tells watcher.old watcher.new)
+            (slots_in decided.now) now heard core self.new)) }
+        ensures ended { IfOk result
+            (λ ended. IsTrue ended ↔ (self.new.procedure.state ≡ State.Idle)) }
         ensures err { OnErr result (self.new ≡ self.old) }
         ensures no_packet { decided.now.packets ≡ [] → IsOk result }
         ensures spare { self.new.spare ≡ self.old.spare }
-        ensures within { OnOk result (most ≤ octets_of_answerer self.old → octets_of_answerer self.new ≤ octets_of_answerer self.old) }
+        ensures within { OnOk result (most ≤ octets_of_answerer self.old
+            → octets_of_answerer self.new ≤ octets_of_answerer self.old) }
     {
         self.hear_whole(decided, now, most, watcher)?;
         self.settle();
@@ -82,11 +91,14 @@ impl<S: RowStore> Answerer<S> {
         most: u128,
         watcher: &mut W,
     ) -> Result<(), NoMemory>
-        ensures heard { OnOk result (EachCall self.old (λ heard core. HearsSo (Watches W.tells watcher.old watcher.new) (slots_in decided.now) now heard core self.new)) }
+        ensures heard { OnOk result (EachCall self.old
+            (λ heard core. HearsSo (Watches W.tells watcher.old watcher.new)
+            (slots_in decided.now) now heard core self.new)) }
         ensures err { OnErr result (self.new ≡ self.old) }
         ensures no_packet { decided.now.packets ≡ [] → IsOk result }
         ensures spare { self.new.spare ≡ self.old.spare }
-        ensures within { OnOk result (most ≤ octets_of_answerer self.old → octets_of_answerer self.new ≤ octets_of_answerer self.old) }
+        ensures within { OnOk result (most ≤ octets_of_answerer self.old
+            → octets_of_answerer self.new ≤ octets_of_answerer self.old) }
     {
         let held = self.held();
         if held < most {
@@ -122,7 +134,9 @@ impl<S: RowStore> Answerer<S> {
         now: u64,
         watcher: &mut W,
     ) -> Result<(), NoMemory>
-        ensures heard { OnOk result (EachCore self.old (λ core. TakesAll (Watches W.tells watcher.old watcher.new) (OctetsShown octets.now ∷ []) now core self.new)) }
+        ensures heard { OnOk result (EachCore self.old
+            (λ core. TakesAll (Watches W.tells watcher.old watcher.new) (OctetsShown octets.now
+            ∷ []) now core self.new)) }
         ensures tracked { OnOk result (self.new.tracked ≡ with_octets self.old.tracked) }
         ensures err { OnErr result (self.new ≡ self.old) }
         ensures spare { self.new.spare ≡ self.old.spare }
@@ -139,7 +153,9 @@ impl<S: RowStore> Answerer<S> {
         now: u64,
         watcher: &mut W,
     ) -> Result<(), NoMemory>
-        ensures heard { OnOk result (EachCall self.old (λ heard core. HearsSo (Watches W.tells watcher.old watcher.new) (slots_in decided.now) now heard core self.new)) }
+        ensures heard { OnOk result (EachCall self.old
+            (λ heard core. HearsSo (Watches W.tells watcher.old watcher.new)
+            (slots_in decided.now) now heard core self.new)) }
         ensures goes_on { GoesOn self.old.image.readers self.new.image.readers }
         ensures confirmed { self.new.confirmed ≡ self.old.confirmed }
         ensures spare { self.new.spare ≡ self.old.spare }
@@ -155,7 +171,8 @@ impl<S: RowStore> Answerer<S> {
 
     /// So many slots are missing.
     fn lose(&mut self, count: u16, now: u64)
-        ensures heard { EachCall self.old (λ heard core. HearsSo TellsNothing (lost_slots count) now heard core self.new) }
+        ensures heard { EachCall self.old
+            (λ heard core. HearsSo TellsNothing (lost_slots count) now heard core self.new) }
         ensures image { self.new.image ≡ self.old.image }
         ensures confirmed { self.new.confirmed ≡ self.old.confirmed }
         ensures spare { self.new.spare ≡ self.old.spare }
@@ -173,7 +190,9 @@ impl<S: RowStore> Answerer<S> {
         now: u64,
         watcher: &mut W,
     ) -> Result<(), NoMemory>
-        ensures heard { OnOk result (EachCore self.old (λ core. TakesAll (Watches W.tells watcher.old watcher.new) (pieces_shown pieces.now) now core self.new)) }
+        ensures heard { OnOk result (EachCore self.old
+            (λ core. TakesAll (Watches W.tells watcher.old watcher.new)
+            (pieces_shown pieces.now) now core self.new)) }
         ensures tracked { self.new.tracked ≡ self.old.tracked }
         ensures spare { self.new.spare ≡ self.old.spare }
         ensures goes_on { GoesOn self.old.image.readers self.new.image.readers }
@@ -192,7 +211,8 @@ impl<S: RowStore> Answerer<S> {
         now: u64,
         watcher: &mut W,
     ) -> Result<(), NoMemory>
-        ensures heard { OnOk result (EachCore self.old (λ core. Takes (Watches W.tells watcher.old watcher.new) (piece_of piece.now) now core self.new)) }
+        ensures heard { OnOk result (EachCore self.old (λ core. Takes (Watches W.tells watcher.old
+            watcher.new) (piece_of piece.now) now core self.new)) }
         ensures tracked { self.new.tracked ≡ self.old.tracked }
         ensures spare { self.new.spare ≡ self.old.spare }
         ensures goes_on { GoesOn self.old.image.readers self.new.image.readers }
@@ -219,7 +239,11 @@ impl<S: RowStore> Answerer<S> {
 
     /// What comes from here on is an image of its own, which in Page has a reader.
     fn begin_image(&mut self) -> Result<(), NoMemory>
-        ensures begun { OnOk result (self.new.image ≡ record self.old.image { readers = begun self.old.procedure.state self.old.image.readers; run = 0; longest = 0 }) }
+        ensures begun { OnOk result (self.new.image ≡ record self.old.image {
+          readers = begun self.old.procedure.state self.old.image.readers;
+          run = 0;
+          longest = 0;
+        }) }
         ensures readers { OnErr result (self.new.image.readers ≡ self.old.image.readers) }
         ensures same { self.new ≡ record self.old { image = self.new.image } }
     {
@@ -237,7 +261,8 @@ impl<S: RowStore> Answerer<S> {
         now: u64,
         watcher: &mut W,
     ) -> Result<(), NoMemory>
-        ensures heard { OnOk result (EachCore self.old (λ core. Takes (Watches W.tells watcher.old watcher.new) (OctetsShown octets.now) now core self.new)) }
+        ensures heard { OnOk result (EachCore self.old (λ core. Takes (Watches W.tells watcher.old
+            watcher.new) (OctetsShown octets.now) now core self.new)) }
         ensures goes_on { GoesOn self.old.image.readers self.new.image.readers }
         ensures err { OnErr result (self.new ≡ self.old) }
         ensures tracked { self.new.tracked ≡ self.old.tracked }
@@ -253,7 +278,8 @@ impl<S: RowStore> Answerer<S> {
 
     /// Octets of the image under way come. In Page they are read. An `Err` changes nothing.
     fn read_octets(&mut self, octets: &[u8]) -> Result<(), NoMemory>
-        ensures taken { OnOk result (TakesIn self.old.procedure.state octets.now self.old.image self.new.image) }
+        ensures taken { OnOk result
+            (TakesIn self.old.procedure.state octets.now self.old.image self.new.image) }
         ensures err { OnErr result (self.new ≡ self.old) }
         ensures same { self.new ≡ record self.old { image = self.new.image } }
     {
@@ -273,7 +299,8 @@ impl<S: RowStore> Answerer<S> {
         watcher: &mut W,
     )
         requires { piece_of piece.now ≡ FrameShown octets.now }
-        ensures heard { EachCore self.old (λ core. Takes (Watches W.tells watcher.old watcher.new) (FrameShown octets.now) now core self.new) }
+        ensures heard { EachCore self.old (λ core. Takes (Watches W.tells watcher.old watcher.new)
+            (FrameShown octets.now) now core self.new) }
         ensures tracked { self.new.tracked ≡ self.old.tracked }
         ensures spare { self.new.spare ≡ self.old.spare }
         ensures readers { self.new.image.readers ≡ self.old.image.readers }

@@ -61,7 +61,12 @@ impl<S: RowStore> Model for Image<S> {
 
     ghost Value = { ImageValue };
 
-    ghost view = { λ i. record { readers = reverse i.readers.items; accepted = i.accepted; run = i.zeros.run; longest = i.zeros.longest } };
+    ghost view = { λ i. record {
+      readers = reverse i.readers.items;
+      accepted = i.accepted;
+      run = i.zeros.run;
+      longest = i.zeros.longest;
+    } };
 }
 
 impl<S: RowStore> Image<S> {
@@ -85,7 +90,8 @@ impl<S: RowStore> Image<S> {
 
     /// In Page: what follows is read under this DCS. An `Err` changes nothing.
     pub fn begin(&mut self, dcs: Dcs) -> Result<(), NoMemory>
-        ensures begun { OnOk result (self.new ≡ record self.old { readers = new_reader (format_of dcs) (coding_of dcs) ∷ self.old.readers }) }
+        ensures begun { OnOk result (self.new ≡ record self.old
+            { readers = new_reader (format_of dcs) (coding_of dcs) ∷ self.old.readers }) }
         ensures err { OnErr result (self.new ≡ self.old) }
     {
         let alloc = *self.readers.allocator();
@@ -113,7 +119,10 @@ impl<S: RowStore> Image<S> {
 
     /// Counts the zero octets of more octets of the image under way.
     pub fn count(&mut self, octets: &[u8])
-        ensures { self.new ≡ record self.old { run = run_after self.old.run octets.now; longest = longest_after self.old.run self.old.longest octets.now } }
+        ensures { self.new ≡ record self.old {
+          run = run_after self.old.run octets.now;
+          longest = longest_after self.old.run self.old.longest octets.now;
+        } }
     {
         self.zeros.count(octets);
     }
@@ -128,9 +137,12 @@ impl<S: RowStore> Image<S> {
     /// The place of the image before the one under way where it means a page, and else the fault that it meets. Where there is
     /// none, nothing was read, and so no EOL. It takes no memory.
     pub fn page_ended(&self) -> Result<usize, PageFault>
-        ensures page { IfOk result (λ place. (dcs : Dcs) (octets : List ℕ) → HasEnded dcs octets self.now.readers
-            → (page : PageValue) × MeansAt self.now.readers place page × MeansPage (format_of dcs) (coding_of dcs) octets page) }
-        ensures fault { IfErr result (λ fault. (dcs : Dcs) (octets : List ℕ) → HasEnded dcs octets self.now.readers
+        ensures page { IfOk result
+            (λ place. (dcs : Dcs) (octets : List ℕ) → HasEnded dcs octets self.now.readers
+            → (page : PageValue) × MeansAt self.now.readers place page
+            × MeansPage (format_of dcs) (coding_of dcs) octets page) }
+        ensures fault { IfErr result
+            (λ fault. (dcs : Dcs) (octets : List ℕ) → HasEnded dcs octets self.now.readers
             → FailsPage (elements_of (format_of dcs).width) (coding_of dcs) octets fault) }
     {
         let len = self.readers.len();
@@ -146,7 +158,8 @@ impl<S: RowStore> Image<S> {
 
     /// Notes the image of a page that an MCF confirms, where there is one.
     pub fn accept(&mut self, found: Option<Accepted>)
-        ensures { self.new ≡ record self.old { accepted = if is_some found then found else self.old.accepted } }
+        ensures { self.new
+            ≡ record self.old { accepted = if is_some found then found else self.old.accepted } }
     {
         if found.is_some() {
             self.accepted = found;
@@ -155,13 +168,17 @@ impl<S: RowStore> Image<S> {
 
     /// The page that is accepted, out of its reader, which is let go. It takes no memory.
     pub fn finish(&mut self) -> Option<Confirmed<S>>
-        ensures none { self.old.accepted ≡ None → (result ≡ None) × (self.new.readers ≡ self.old.readers) }
-        ensures page { (accepted : Accepted) (page : PageValue) → self.old.accepted ≡ Some accepted → (at : MeansAt self.old.readers accepted.place page)
-            → (confirmed_shown result ≡ Some (record { page = page; closes = accepted.closes })) × (self.new.readers ≡ at.under_way ∷ (at.later ++ at.before)) }
+        ensures none { self.old.accepted ≡ None
+            → (result ≡ None) × (self.new.readers ≡ self.old.readers) }
+        ensures page { (accepted : Accepted) (page : PageValue) → self.old.accepted ≡ Some accepted
+            → (at : MeansAt self.old.readers accepted.place page)
+            → (confirmed_shown result ≡ Some (record { page = page; closes = accepted.closes }))
+            × (self.new.readers ≡ at.under_way ∷ (at.later ++ at.before)) }
         ensures settled { self.new.accepted ≡ None }
         ensures run { self.new.run ≡ self.old.run }
         ensures longest { self.new.longest ≡ self.old.longest }
-        ensures held { octets_of_readers self.new.readers + octets_confirmed (confirmed_shown result) ≤ octets_of_readers self.old.readers }
+        ensures held { octets_of_readers self.new.readers
+            + octets_confirmed (confirmed_shown result) ≤ octets_of_readers self.old.readers }
     {
         let Some(accepted) = self.accepted.take() else {
             return None;
@@ -221,7 +238,8 @@ impl<S: RowStore> Image<S> {
     /// Goes back to a mark. It takes no memory.
     pub fn back(&mut self, mark: Mark)
         requires { (old : ImageValue) × IsMarkOf old mark × GoesOn old.readers self.old.readers }
-        ensures { (old : ImageValue) → IsMarkOf old mark → GoesOn old.readers self.old.readers → self.new ≡ old }
+        ensures { (old : ImageValue)
+            → IsMarkOf old mark → GoesOn old.readers self.old.readers → self.new ≡ old }
     {
         let Mark {
             count,
@@ -247,7 +265,10 @@ const BLOCK: usize = 8;
 impl Zeros {
     /// Counts the zero octets of more octets, of those that stand in whole blocks block by block.
     fn count(&mut self, octets: &[u8])
-        ensures { self.new ≡ record self.old { run = run_after self.old.run octets.now; longest = longest_after self.old.run self.old.longest octets.now } }
+        ensures { self.new ≡ record self.old {
+          run = run_after self.old.run octets.now;
+          longest = longest_after self.old.run self.old.longest octets.now;
+        } }
     {
         let mut place = 0;
         while octets.len() - place >= BLOCK {
@@ -261,8 +282,11 @@ impl Zeros {
     #[inline]
     fn count_block(&mut self, octets: &[u8], first: usize)
         requires { first + 8 ≤ length octets.now }
-        ensures { let block = take 8 (drop first octets.now) in
-            self.new ≡ record self.old { run = run_after self.old.run block; longest = longest_after self.old.run self.old.longest block } }
+        ensures { let block = take 8 (drop first octets.now)
+            in self.new ≡ record self.old {
+              run = run_after self.old.run block;
+              longest = longest_after self.old.run self.old.longest block;
+            } }
     {
         if has_no_zero(octets, first) {
             self.run = 0;
@@ -276,7 +300,10 @@ impl Zeros {
 
     /// Counts the zero octets of more octets, octet by octet.
     fn count_each(&mut self, octets: &[u8])
-        ensures { self.new ≡ record self.old { run = run_after self.old.run octets.now; longest = longest_after self.old.run self.old.longest octets.now } }
+        ensures { self.new ≡ record self.old {
+          run = run_after self.old.run octets.now;
+          longest = longest_after self.old.run self.old.longest octets.now;
+        } }
     {
         for octet in octets {
             self.run = run_with(self.run, *octet);

@@ -49,8 +49,8 @@ impl Procedure {
 
     /// A ring: CED and our DIS wait, and T1 is set.
     pub fn ring(&mut self, now: u64)
-        ensures { (core : AnswererCore) (confirmed : Option ConfirmedPage) → Follows core confirmed self.old
-            → Follows (rung core now) None self.new }
+        ensures { (core : AnswererCore) (confirmed : Option ConfirmedPage)
+            → Follows core confirmed self.old → Follows (rung core now) None self.new }
     {
         let mut timers = Timers::clear();
         timers.t1.set(now, T1_MS);
@@ -74,9 +74,11 @@ impl Procedure {
     /// Notes a piece and what is decided at it.
     pub fn note(&mut self, piece: &Piece<'_>, decision: Decision, now: u64)
         ensures waits { self.old.pending ≢ Pending.Nothing → self.new.pending ≡ self.old.pending }
-        ensures free { self.old.pending ≡ Pending.Nothing → self.new.pending ≡ pending_reply decision }
-        ensures noted { (core : AnswererCore) (confirmed : Option ConfirmedPage) (p : PieceShown) (d : Decided)
-            → Follows core confirmed self.old → piece_of piece.now ≡ p → verdict_of d ≡ decision → CanDecide core d
+        ensures free { self.old.pending ≡ Pending.Nothing
+            → self.new.pending ≡ pending_reply decision }
+        ensures noted { (core : AnswererCore) (confirmed : Option ConfirmedPage)
+            (p : PieceShown) (d : Decided) → Follows core confirmed self.old
+            → piece_of piece.now ≡ p → verdict_of d ≡ decision → CanDecide core d
             → Follows (decided core p d now) (confirmed_after d confirmed) self.new }
     {
         self.timers = self.timers_then(piece, decision, now);
@@ -89,8 +91,14 @@ impl Procedure {
 
     /// A watcher is told of a piece, before it is noted, and what is decided at it.
     pub fn tell<W: Watcher>(&self, piece: &Piece<'_>, decision: Decision, watcher: &mut W)
-        ensures { (core : AnswererCore) (confirmed : Option ConfirmedPage) → Follows core confirmed self.now
-            → W.tells (record { state = core.state; waits = is_waiting core.waiting; piece = piece_of piece.now; verdict = decision }) watcher.old watcher.new }
+        ensures { (core : AnswererCore) (confirmed : Option ConfirmedPage)
+            → Follows core confirmed self.now
+            → W.tells (record {
+              state = core.state;
+              waits = is_waiting core.waiting;
+              piece = piece_of piece.now;
+              verdict = decision;
+            }) watcher.old watcher.new }
     {
         watcher.tell(self.state, self.is_waiting(), piece, decision);
     }
@@ -98,9 +106,9 @@ impl Procedure {
     /// The timers after a decision: a DCS that trains clears T1 and T4 and sets T2; T2 and T4 are clear while packets
     /// wait; what is heard sets T2 anew.
     fn timers_then(&self, piece: &Piece<'_>, decision: Decision, now: u64) -> Timers
-        ensures { (core : AnswererCore) (confirmed : Option ConfirmedPage) (p : PieceShown) (d : Decided)
-            → Follows core confirmed self.now → piece_of piece.now ≡ p → verdict_of d ≡ decision
-            → result ≡ timers_after core p d now }
+        ensures { (core : AnswererCore) (confirmed : Option ConfirmedPage) (p : PieceShown)
+            (d : Decided) → Follows core confirmed self.now → piece_of piece.now ≡ p
+            → verdict_of d ≡ decision → result ≡ timers_after core p d now }
     {
         let mut timers = self.timers;
         match decision {
@@ -126,8 +134,8 @@ impl Procedure {
     /// Again where T2 is.
     pub fn act(&mut self, now: u64)
         ensures quiet { self.new.pending ≡ Pending.Nothing → self.old.pending ≡ Pending.Nothing }
-        ensures acted { (core : AnswererCore) (confirmed : Option ConfirmedPage) → Follows core confirmed self.old
-            → Follows (timed core now) confirmed self.new }
+        ensures acted { (core : AnswererCore) (confirmed : Option ConfirmedPage)
+            → Follows core confirmed self.old → Follows (timed core now) confirmed self.new }
     {
         if self.is_waiting() {
             return;
@@ -145,7 +153,8 @@ impl Procedure {
 
     /// The timer that acts in a tick at this moment, where one does.
     pub fn acting(&self, now: u64) -> Option<ActingTimer>
-        ensures { (core : AnswererCore) (confirmed : Option ConfirmedPage) → Follows core confirmed self.now → result ≡ acting core now }
+        ensures { (core : AnswererCore) (confirmed : Option ConfirmedPage)
+            → Follows core confirmed self.now → result ≡ acting core now }
     {
         if self.is_waiting() {
             return None;
@@ -200,7 +209,8 @@ impl Procedure {
     /// Our DIS waits, in Identify, and T1 is set.
     fn identify_anew(&mut self, now: u64)
         requires { self.old.pending ≡ Pending.Nothing }
-        ensures { (core : AnswererCore) (confirmed : Option ConfirmedPage) → Follows core confirmed self.old
+        ensures { (core : AnswererCore) (confirmed : Option ConfirmedPage)
+            → Follows core confirmed self.old
             → Follows (identifies_anew core now) confirmed self.new }
     {
         self.state = State::Identify;
@@ -212,8 +222,8 @@ impl Procedure {
     /// DCN waits, and the call closes with it.
     fn say_goodbye(&mut self)
         requires { self.old.pending ≡ Pending.Nothing }
-        ensures { (core : AnswererCore) (confirmed : Option ConfirmedPage) → Follows core confirmed self.old
-            → Follows (says_goodbye core) confirmed self.new }
+        ensures { (core : AnswererCore) (confirmed : Option ConfirmedPage)
+            → Follows core confirmed self.old → Follows (says_goodbye core) confirmed self.new }
     {
         self.state = State::Closing;
         self.pending = Pending::Preamble(Reply::Plain(Plain::Dcn));
@@ -222,8 +232,8 @@ impl Procedure {
 
     /// Whether a packet is given now: one waits, and the pace lets it through.
     pub fn gives(&self, now: u64) -> bool
-        ensures gives { (core : AnswererCore) (confirmed : Option ConfirmedPage) → Follows core confirmed self.now
-            → result ≡ gives_now core now }
+        ensures gives { (core : AnswererCore) (confirmed : Option ConfirmedPage)
+            → Follows core confirmed self.now → result ≡ gives_now core now }
         ensures waits { IsTrue result → self.now.pending ≢ Pending.Nothing }
     {
         self.is_waiting() && self.pace.allows(now)
@@ -232,7 +242,8 @@ impl Procedure {
     /// The first moment at which a tick may do something: where packets wait, that from which on the pace lets one through;
     /// else that of the timer that acts first.
     pub fn next_due(&self) -> Option<u64>
-        ensures { (core : AnswererCore) (confirmed : Option ConfirmedPage) → Follows core confirmed self.now → result ≡ due_at core }
+        ensures { (core : AnswererCore) (confirmed : Option ConfirmedPage)
+            → Follows core confirmed self.now → result ≡ due_at core }
     {
         if self.is_waiting() {
             self.pace.allowed_from()
@@ -258,7 +269,8 @@ impl Procedure {
     /// The next packet is given. It answers whether the call has ended with it.
     pub fn give(&mut self, now: u64) -> bool
         requires { self.old.pending ≢ Pending.Nothing }
-        ensures { (core : AnswererCore) (confirmed : Option ConfirmedPage) → Follows core confirmed self.old
+        ensures { (core : AnswererCore) (confirmed : Option ConfirmedPage)
+            → Follows core confirmed self.old
             → GivesNext core confirmed now self.old self.new result }
     {
         self.pace.given(self.pending.is_preamble(), now);
@@ -276,7 +288,8 @@ impl Procedure {
     /// How many readers of images are wanted on: in Page that of the image under way, and that of the one before where a
     /// command may ask what it means.
     pub fn readers_wanted(&self) -> usize
-        ensures { (core : AnswererCore) (confirmed : Option ConfirmedPage) → Follows core confirmed self.now
+        ensures { (core : AnswererCore) (confirmed : Option ConfirmedPage)
+            → Follows core confirmed self.now
             → result ≡ readers_wanted core.state (since_answer core.history) }
     {
         match self.state {
@@ -347,7 +360,8 @@ fn state_then(state: State, decision: Decision) -> State
 
 /// What waits after a decision, where nothing waited.
 fn pending_after(decision: Decision) -> Pending
-    ensures reply { (d : Decided) → verdict_of d ≡ decision → waiting_of result (confirmed_after d None) ≡ reply_to d }
+    ensures reply { (d : Decided)
+        → verdict_of d ≡ decision → waiting_of result (confirmed_after d None) ≡ reply_to d }
     ensures pending { result ≡ pending_reply decision }
 {
     let plain = match decision {

@@ -26,7 +26,8 @@ impl Model for Room {
 
     ghost view = { λ room. if is_some room.octets then 1 else 0 };
 
-    ghost invariant = { λ room. ForSome room.octets (λ octets. (octets.items ≡ []) × (LONGEST ≤ vec_capacity octets)) };
+    ghost invariant = { λ room.
+        ForSome room.octets (λ octets. (octets.items ≡ []) × (LONGEST ≤ vec_capacity octets)) };
 }
 
 impl Room {

@@ -22,7 +22,8 @@ use fax_pagestore::RowStore;
 impl<S: RowStore> Answerer<S> {
     /// What is decided at a frame, in each state, where no packet waits.
     pub(crate) fn answer(&self, octets: &[u8]) -> Answer
-        ensures { EachCore self.now (λ core. Answers octets.now core self.now.image.readers result) }
+        ensures { EachCore self.now
+            (λ core. Answers octets.now core self.now.image.readers result) }
     {
         let order = Order::read(octets);
         match self.procedure.state {
@@ -41,7 +42,8 @@ impl<S: RowStore> Answerer<S> {
 
     /// What is decided where an image ends: in Train, whether the training check is good.
     pub(crate) fn judge_training(&self, whole: bool) -> Decision
-        ensures { EachCore self.now (λ core. verdict_of (decision None core.state (is_waiting core.waiting) core.history (EndShown whole)) ≡ result) }
+        ensures { EachCore self.now (λ core. verdict_of (decision
+            None core.state (is_waiting core.waiting) core.history (EndShown whole)) ≡ result) }
     {
         let State::Train(dcs) = self.procedure.state else {
             return Decision::PassOver;
@@ -57,7 +59,8 @@ impl<S: RowStore> Answerer<S> {
 
     /// What is decided at a command in Page.
     fn judge(&self, command: Command) -> Answer
-        ensures { (core : AnswererCore) (dcs : Dcs) → Stands core self.now → core.state ≡ State.Page dcs
+        ensures { (core : AnswererCore) (dcs : Dcs)
+            → Stands core self.now → core.state ≡ State.Page dcs
             → AnswersCommand dcs command core.history self.now.image.readers result }
     {
         if self.procedure.counts.is_one_image() {
@@ -85,7 +88,8 @@ impl<S: RowStore> Answerer<S> {
 
     /// What is decided at a command in Again: MCF to an EOM after which nothing came, else RTN.
     fn judge_again(&self, command: Command) -> Answer
-        ensures { EachCore self.now (λ core. AnswersAgain command core.history self.now.image.readers result) }
+        ensures { EachCore self.now
+            (λ core. AnswersAgain command core.history self.now.image.readers result) }
     {
         match command {
             Command::Eom if self.procedure.counts.is_quiet() => Answer::plain(Decision::Mcf(

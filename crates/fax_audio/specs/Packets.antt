@@ -18,7 +18,9 @@ silence ALaw = 213
 
 -- version 2 and nothing else; the marker and the payload type; the number, the moment and the source
 abbrev pub header_of : Header → List ℕ
-header_of header = 128 ∷ (cond header.is_first 128 0 + payload_type header.coding) ∷ (to_be_bytes w16 header.sequence ++ to_be_bytes w32 header.timestamp ++ to_be_bytes w32 header.ssrc)
+header_of header = 128
+    ∷ (cond header.is_first 128 0 + payload_type header.coding) ∷ (to_be_bytes w16 header.sequence
+    ++ to_be_bytes w32 header.timestamp ++ to_be_bytes w32 header.ssrc)
 
 -- 160 samples: a tone, or silence
 abbrev pub samples_of : Option Signal → Coding → List ℕ

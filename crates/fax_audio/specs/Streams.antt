@@ -9,7 +9,8 @@ use Rattle.fax_audio.specs.Packets.{header_of, samples_of}
 use Rattle.fax_audio.specs.Sounds.{sounds_at}
 
 abbrev pub begun : Coding → Signal → Start → ℕ → Stream
-begun coding signal start now = record { coding = coding; signal = signal; start = start; began = now; sent = 0; place = 0 }
+begun coding signal start now =
+    record { coding = coding; signal = signal; start = start; began = now; sent = 0; place = 0 }
 
 -- a number of 64 bits
 abbrev pub at_most : ℕ → ℕ
@@ -21,7 +22,8 @@ due_of stream = at_most (stream.began + at_most (stream.place * 20))
 
 -- the packet that is due next, or that of the moment, where it is 200 ms late
 abbrev pub place_of : Stream → ℕ → ℕ
-place_of stream now = if nat_lt (now - due_of stream) 200 then stream.place else (now - stream.began) / 20
+place_of stream now =
+    if nat_lt (now - due_of stream) 200 then stream.place else (now - stream.began) / 20
 
 abbrev pub tone_of : Signal → ℕ → Option Signal
 tone_of signal place = if sounds_at signal place then Some signal else None
@@ -37,12 +39,16 @@ header_at stream place = record {
 }
 
 abbrev pub packet_of : Stream → ℕ → List ℕ
-packet_of stream place = header_of (header_at stream place) ++ samples_of (tone_of stream.signal place) stream.coding
+packet_of stream place =
+    header_of (header_at stream place) ++ samples_of (tone_of stream.signal place) stream.coding
 
 -- THE PACKET THAT IS DUE at a moment
 abbrev pub packet_at : Stream → ℕ → Option (List ℕ)
-packet_at stream now = if nat_lt now (due_of stream) then None else Some (packet_of stream (place_of stream now))
+packet_at stream now =
+    if nat_lt now (due_of stream) then None else Some (packet_of stream (place_of stream now))
 
 abbrev pub after_packet : Stream → ℕ → Stream
-after_packet stream now =
-    if nat_lt now (due_of stream) then stream else record stream { sent = at_most (stream.sent + 1); place = at_most (place_of stream now + 1) }
+after_packet stream now = if nat_lt now (due_of stream) then stream else record stream {
+  sent = at_most (stream.sent + 1);
+  place = at_most (place_of stream now + 1);
+}

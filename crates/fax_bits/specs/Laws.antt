@@ -14,4 +14,5 @@ AreOctets octets = All (λ o. o < 256) octets
 
 -- octets that hold the same bits, with fewer than eight zeros after them, are the same
 abbrev pub PaddingIsUnique : Type 0
-PaddingIsUnique = (bits : List Bool) (a b : List ℕ) → AreOctets a → AreOctets b → IsPadded a bits → IsPadded b bits → a ≡ b
+PaddingIsUnique = (bits : List Bool) (a b : List ℕ)
+    → AreOctets a → AreOctets b → IsPadded a bits → IsPadded b bits → a ≡ b

@@ -11,4 +11,5 @@ IsPacketAt packets place slot = (slot ≡ None) ⊎ (slot ≡ slice_get packets 
 abbrev pub AreSlotsBefore : List (List ℕ) → ℕ → List (Option (List ℕ)) → Type 0
 AreSlotsBefore packets next [] = Unit {0}
 AreSlotsBefore packets zero (slot ∷ before) = ⊥
-AreSlotsBefore packets (suc place) (slot ∷ before) = IsPacketAt packets place slot × AreSlotsBefore packets place before
+AreSlotsBefore packets (suc place) (slot ∷ before) =
+    IsPacketAt packets place slot × AreSlotsBefore packets place before

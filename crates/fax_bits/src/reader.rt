@@ -20,7 +20,10 @@ impl<'a> Model for BitReader<'a> {
 
     ghost Value = { Place };
 
-    ghost view = { λ r. record { passed = 8 * r.index + r.bit; left = drop (8 * r.index + r.bit) (bits_of r.octets.now) } };
+    ghost view = { λ r. record {
+      passed = 8 * r.index + r.bit;
+      left = drop (8 * r.index + r.bit) (bits_of r.octets.now);
+    } };
 
     ghost invariant = { λ r. (r.bit < 8) × (8 * r.index + r.bit ≤ 8 * length r.octets.now) };
 }
@@ -134,7 +137,8 @@ impl<'a> BitReader<'a> {
     fn zeros_ahead(&self) -> u32
         ensures zeros { take result self.now.left ≡ replicate result false }
         ensures within { result ≤ length self.now.left }
-        ensures stops { result < 56 → (rest : List Bool) → drop result self.now.left ≡ false ∷ rest → ⊥ }
+        ensures stops { result < 56
+            → (rest : List Bool) → drop result self.now.left ≡ false ∷ rest → ⊥ }
     {
         let zeros = self.window().leading_zeros() - 8;
         zeros.min(self.known())
@@ -157,8 +161,8 @@ impl<'a> BitReader<'a> {
 #[inline]
 fn four_at(octets: &[u8], index: usize) -> u32
     requires { index ≤ length octets.now }
-    ensures word { let rest = drop index octets.now in
-        result ≡ 16777216 * slice_index rest 0 + 65536 * slice_index rest 1 + 256 * slice_index rest 2 + slice_index rest 3 }
+    ensures word { let rest = drop index octets.now in result ≡ 16777216 * slice_index rest 0
+        + 65536 * slice_index rest 1 + 256 * slice_index rest 2 + slice_index rest 3 }
     ensures octets { (i : ℕ) → slice_index (drop index octets.now) i < 256 }
 {
     match &octets[index..] {
@@ -185,9 +189,11 @@ fn bits_inside(word: u32, before: u32, n: u32) -> u32
 #[inline]
 fn eight_at(octets: &[u8], index: usize) -> u64
     requires { index ≤ length octets.now }
-    ensures word { let rest = drop index octets.now in
-        result ≡ 72057594037927936 * slice_index rest 0 + 281474976710656 * slice_index rest 1 + 1099511627776 * slice_index rest 2 + 4294967296 * slice_index rest 3
-        + 16777216 * slice_index rest 4 + 65536 * slice_index rest 5 + 256 * slice_index rest 6 + slice_index rest 7 }
+    ensures word { let rest = drop index octets.now
+        in result ≡ 72057594037927936 * slice_index rest 0
+        + 281474976710656 * slice_index rest 1 + 1099511627776 * slice_index rest 2
+        + 4294967296 * slice_index rest 3 + 16777216 * slice_index rest 4
+        + 65536 * slice_index rest 5 + 256 * slice_index rest 6 + slice_index rest 7 }
     ensures octets { (i : ℕ) → slice_index (drop index octets.now) i < 256 }
 {
     match &octets[index..] {
@@ -201,8 +207,10 @@ fn eight_at(octets: &[u8], index: usize) -> u64
 #[inline(never)]
 fn last_octets(rest: &[u8]) -> u64
     requires { length rest.now < 8 }
-    ensures word { result ≡ 72057594037927936 * slice_index rest.now 0 + 281474976710656 * slice_index rest.now 1 + 1099511627776 * slice_index rest.now 2 + 4294967296 * slice_index rest.now 3
-        + 16777216 * slice_index rest.now 4 + 65536 * slice_index rest.now 5 + 256 * slice_index rest.now 6 + slice_index rest.now 7 }
+    ensures word { result ≡ 72057594037927936 * slice_index rest.now 0
+        + 281474976710656 * slice_index rest.now 1 + 1099511627776 * slice_index rest.now 2
+        + 4294967296 * slice_index rest.now 3 + 16777216 * slice_index rest.now 4
+        + 65536 * slice_index rest.now 5 + 256 * slice_index rest.now 6 + slice_index rest.now 7 }
 {
     match rest {
         [a, b, c, d, e, f, g, ..] => u64::from_be_bytes([*a, *b, *c, *d, *e, *f, *g, 0]),

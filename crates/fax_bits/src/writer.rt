@@ -37,7 +37,8 @@ impl Model for BitWriter {
     ghost view = { λ w. bits_of w.octets.items ++ word_bits w.count w.pending };
 
     // There is room for the octets that are not whole.
-    ghost invariant = { λ w. (w.count < 32) × (w.pending < 2 ^ w.count) × (vec_len w.octets + (w.count + 7) / 8 ≤ vec_capacity w.octets) };
+    ghost invariant = { λ w. (w.count < 32) × (w.pending < 2 ^ w.count)
+        × (vec_len w.octets + (w.count + 7) / 8 ≤ vec_capacity w.octets) };
 }
 
 impl BitWriter {
@@ -193,9 +194,13 @@ impl Model for RoomyWriter {
 
     ghost Value = { Roomy };
 
-    ghost view = { λ w. record { bits = bits_of w.octets.items ++ word_bits w.count w.pending; room = 8 * vec_capacity w.octets - (8 * vec_len w.octets + w.count) } };
+    ghost view = { λ w. record {
+      bits = bits_of w.octets.items ++ word_bits w.count w.pending;
+      room = 8 * vec_capacity w.octets - (8 * vec_len w.octets + w.count);
+    } };
 
-    ghost invariant = { λ w. (w.count < 32) × (8 * vec_len w.octets + w.count ≤ 8 * vec_capacity w.octets) };
+    ghost invariant = { λ w. (w.count < 32)
+        × (8 * vec_len w.octets + w.count ≤ 8 * vec_capacity w.octets) };
 }
 
 impl RoomyWriter {

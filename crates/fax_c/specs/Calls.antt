@@ -20,7 +20,8 @@ coding_by two_dimensional = if two_dimensional then Mr else Mh
 -- the run lengths of rows, one row after the other
 abbrev pub AreRunsOf : List ℕ → List Elements → Type 0
 AreRunsOf runs [] = runs ≡ []
-AreRunsOf runs (row ∷ rows) = (first rest : List ℕ) × (runs ≡ first ++ rest) × AreRuns first row × AreRunsOf rest rows
+AreRunsOf runs (row ∷ rows) =
+    (first rest : List ℕ) × (runs ≡ first ++ rest) × AreRuns first row × AreRunsOf rest rows
 
 -- a bit for each element of rows, one row after the other: 1 is black
 abbrev pub pixels_of : List Elements → List Bool
@@ -29,13 +30,17 @@ pixels_of rows = flat_map (map pixel) rows
 -- ---- rows put into a slice, which is told as it was and as it is, or the room that they want
 
 abbrev pub FillsRuns : List Elements → List ℕ → List ℕ → Result FillCounts Refusal → Type 0
-FillsRuns rows old new (Ok filled) = AreRunsOf (take filled.items new) rows × (filled.rows ≡ length rows)
-FillsRuns rows old new (Err (Room n)) = (runs : List ℕ) × AreRunsOf runs rows × (length runs ≡ n) × (length old < n)
+FillsRuns rows old new (Ok filled) =
+    AreRunsOf (take filled.items new) rows × (filled.rows ≡ length rows)
+FillsRuns rows old new (Err (Room n)) =
+    (runs : List ℕ) × AreRunsOf runs rows × (length runs ≡ n) × (length old < n)
 FillsRuns rows old new (Err refusal) = ⊥
 
 abbrev pub FillsPixels : List Elements → List ℕ → List ℕ → Result FillCounts Refusal → Type 0
-FillsPixels rows old new (Ok filled) = IsPadded (take filled.items new) (pixels_of rows) × (filled.rows ≡ length rows)
-FillsPixels rows old new (Err (Room n)) = (packed : List ℕ) × IsPadded packed (pixels_of rows) × (length packed ≡ n) × (length old < n)
+FillsPixels rows old new (Ok filled) =
+    IsPadded (take filled.items new) (pixels_of rows) × (filled.rows ≡ length rows)
+FillsPixels rows old new (Err (Room n)) =
+    (packed : List ℕ) × IsPadded packed (pixels_of rows) × (length packed ≡ n) × (length old < n)
 FillsPixels rows old new (Err refusal) = ⊥
 
 -- ---- reading
@@ -75,7 +80,8 @@ pub record StandInFront (width : ℕ) (runs : List ℕ) (n : ℕ) (rest : List �
   pub of_width : All (λ row. length row ≡ width) rows
 
 -- the octets hold the text of the page of rows whose runs these are
-pub record AreWritten (width : ℕ) (coding : Coding) (fine : Bool) (least_bits : ℕ) (runs octets : List ℕ) (n : ℕ) : Type 0 where
+pub record AreWritten (width : ℕ)
+    (coding : Coding) (fine : Bool) (least_bits : ℕ) (runs octets : List ℕ) (n : ℕ) : Type 0 where
   pub rows : List Elements
   pub are_rows : AreRows width rows
   pub so_many : length rows ≡ n
@@ -93,13 +99,17 @@ AreRunsOfPage width runs = (rows : List Elements) × AreRows width rows × AreRu
 abbrev pub RefusesRuns : ℕ → List ℕ → Refusal → Type 0
 RefusesRuns width runs (Page page.NoMemory) = AreRunsOfPage width runs
 RefusesRuns width runs (Page page.Empty) = runs ≡ []
-RefusesRuns width runs (Page page.TooManyRows) = (rest : List ℕ) × StandInFront width runs most_rows rest × (rest ≢ [])
-RefusesRuns width runs (Runs n) = (n < most_rows) × (rest : List ℕ) × StandInFront width runs n rest
-    × ((row : Elements) (first more : List ℕ) → length row ≡ width → AreRuns first row → rest ≡ first ++ more → ⊥)
+RefusesRuns width runs (Page page.TooManyRows) =
+    (rest : List ℕ) × StandInFront width runs most_rows rest × (rest ≢ [])
+RefusesRuns width runs (Runs n) = (n < most_rows)
+    × (rest : List ℕ) × StandInFront width runs n rest × ((row : Elements) (first more : List ℕ)
+    → length row ≡ width → AreRuns first row → rest ≡ first ++ more → ⊥)
 RefusesRuns width runs refusal = ⊥
 
-abbrev pub WritesRuns : ℕ → Coding → Bool → ℕ → List ℕ → List ℕ → List ℕ → Result FillCounts Refusal → Type 0
-WritesRuns width coding fine least runs old new (Ok filled) = AreWritten width coding fine least runs (take filled.items new) filled.rows
+abbrev pub WritesRuns : ℕ
+    → Coding → Bool → ℕ → List ℕ → List ℕ → List ℕ → Result FillCounts Refusal → Type 0
+WritesRuns width coding fine least runs old new (Ok filled) =
+    AreWritten width coding fine least runs (take filled.items new) filled.rows
 WritesRuns width coding fine least runs old new (Err (Room n)) = (octets : List ℕ) × (rows : ℕ)
     × AreWritten width coding fine least runs octets rows × (length octets ≡ n) × (length old < n)
 WritesRuns width coding fine least runs old new (Err Width) = IsWidth width → ⊥

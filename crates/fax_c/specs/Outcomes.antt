@@ -17,7 +17,8 @@ row_at_fault fault = 0
 -- the row at which it was, or how much room is wanted
 abbrev pub told : Result FillCounts Refusal → Outcome
 told (Ok filled) = record { status = 0; rows = filled.rows; filled = filled.items; wanted = 0 }
-told (Err (Page fault)) = record { status = page_fault_number fault; rows = row_at_fault fault; filled = 0; wanted = 0 }
+told (Err (Page fault)) =
+    record { status = page_fault_number fault; rows = row_at_fault fault; filled = 0; wanted = 0 }
 told (Err (Room n)) = record { status = 7; rows = 0; filled = 0; wanted = n }
 told (Err Width) = record { status = 8; rows = 0; filled = 0; wanted = 0 }
 told (Err (Runs n)) = record { status = 9; rows = n; filled = 0; wanted = 0 }

@@ -34,12 +34,15 @@ pub extern "C" fn fax_read_runs(
     two_dimensional: bool,
     runs: &mut [u16],
 ) -> Outcome
-    ensures page { (answer : Result FillCounts Refusal) × ReadsRuns width (coding_by two_dimensional) octets.now runs.old runs.new answer × (result ≡ told answer) }
+    ensures page { (answer : Result FillCounts Refusal)
+        × ReadsRuns width (coding_by two_dimensional) octets.now runs.old runs.new answer
+        × (result ≡ told answer) }
     ensures within { result.filled ≤ length runs.old }
     ensures after { drop result.filled runs.new ≡ drop result.filled runs.old }
     ensures untouched { result.status ≢ 0 → runs.new ≡ runs.old }
     ensures width_first { (IsWidth width → ⊥) → result ≡ told (Err Refusal.Width) }
-    ensures no_eol_next { IsWidth width → HasNoEol (coding_by two_dimensional) octets.now → result ≡ told (Err (Refusal.Page page_faults.NoEol)) }
+    ensures no_eol_next { IsWidth width → HasNoEol (coding_by two_dimensional) octets.now
+        → result ≡ told (Err (Refusal.Page page_faults.NoEol)) }
 {
     Outcome::of(reading::read_runs(alloc, octets, width, two_dimensional, runs))
 }
@@ -54,12 +57,15 @@ pub extern "C" fn fax_read_pixels(
     two_dimensional: bool,
     pixels: &mut [u8],
 ) -> Outcome
-    ensures page { (answer : Result FillCounts Refusal) × ReadsPixels width (coding_by two_dimensional) octets.now pixels.old pixels.new answer × (result ≡ told answer) }
+    ensures page { (answer : Result FillCounts Refusal)
+        × ReadsPixels width (coding_by two_dimensional) octets.now pixels.old pixels.new answer
+        × (result ≡ told answer) }
     ensures within { result.filled ≤ length pixels.old }
     ensures after { drop result.filled pixels.new ≡ drop result.filled pixels.old }
     ensures untouched { result.status ≢ 0 → pixels.new ≡ pixels.old }
     ensures width_first { (IsWidth width → ⊥) → result ≡ told (Err Refusal.Width) }
-    ensures no_eol_next { IsWidth width → HasNoEol (coding_by two_dimensional) octets.now → result ≡ told (Err (Refusal.Page page_faults.NoEol)) }
+    ensures no_eol_next { IsWidth width → HasNoEol (coding_by two_dimensional) octets.now
+        → result ≡ told (Err (Refusal.Page page_faults.NoEol)) }
 {
     Outcome::of(reading::read_pixels(alloc, octets, width, two_dimensional, pixels))
 }
@@ -76,13 +82,17 @@ pub extern "C" fn fax_write_runs(
     least_bits: u32,
     octets: &mut [u8],
 ) -> Outcome
-    ensures page { (answer : Result FillCounts Refusal) × WritesRuns width (coding_by two_dimensional) fine least_bits runs.now octets.old octets.new answer × (result ≡ told answer) }
+    ensures page { (answer : Result FillCounts Refusal)
+        × WritesRuns width (coding_by two_dimensional)
+        fine least_bits runs.now octets.old octets.new answer × (result ≡ told answer) }
     ensures within { result.filled ≤ length octets.old }
     ensures after { drop result.filled octets.new ≡ drop result.filled octets.old }
     ensures untouched { result.status ≢ 0 → octets.new ≡ octets.old }
     ensures width_first { (IsWidth width → ⊥) → result ≡ told (Err Refusal.Width) }
-    ensures least_bits_next { IsWidth width → most_least_bits < least_bits → result ≡ told (Err Refusal.LeastBits) }
-    ensures no_runs_next { IsWidth width → least_bits ≤ most_least_bits → runs.now ≡ [] → result ≡ told (Err (Refusal.Page page_faults.Empty)) }
+    ensures least_bits_next { IsWidth width
+        → most_least_bits < least_bits → result ≡ told (Err Refusal.LeastBits) }
+    ensures no_runs_next { IsWidth width → least_bits ≤ most_least_bits
+        → runs.now ≡ [] → result ≡ told (Err (Refusal.Page page_faults.Empty)) }
 {
     Outcome::of(writing::write_runs(
         alloc,

@@ -21,10 +21,12 @@ pub fn read_runs(
 ) -> Result<FillCounts, Refusal>
     ensures page { ReadsRuns width (coding_by two_dimensional) octets.now runs.old runs.new result }
     ensures within { IfOk result (λ filled. filled.items ≤ length runs.old) }
-    ensures after { IfOk result (λ filled. drop filled.items runs.new ≡ drop filled.items runs.old) }
+    ensures after { IfOk result
+        (λ filled. drop filled.items runs.new ≡ drop filled.items runs.old) }
     ensures untouched { OnErr result (runs.new ≡ runs.old) }
     ensures width_first { (IsWidth width → ⊥) → result ≡ Err Refusal.Width }
-    ensures no_eol_next { IsWidth width → HasNoEol (coding_by two_dimensional) octets.now → result ≡ Err (Refusal.Page PageFault.NoEol) }
+    ensures no_eol_next { IsWidth width → HasNoEol (coding_by two_dimensional) octets.now
+        → result ≡ Err (Refusal.Page PageFault.NoEol) }
 {
     let page = read_text(alloc, octets, width, two_dimensional)?;
     fill_runs(&page, runs)
@@ -38,12 +40,15 @@ pub fn read_pixels(
     two_dimensional: bool,
     pixels: &mut [u8],
 ) -> Result<FillCounts, Refusal>
-    ensures page { ReadsPixels width (coding_by two_dimensional) octets.now pixels.old pixels.new result }
+    ensures page { ReadsPixels width
+        (coding_by two_dimensional) octets.now pixels.old pixels.new result }
     ensures within { IfOk result (λ filled. filled.items ≤ length pixels.old) }
-    ensures after { IfOk result (λ filled. drop filled.items pixels.new ≡ drop filled.items pixels.old) }
+    ensures after { IfOk result
+        (λ filled. drop filled.items pixels.new ≡ drop filled.items pixels.old) }
     ensures untouched { OnErr result (pixels.new ≡ pixels.old) }
     ensures width_first { (IsWidth width → ⊥) → result ≡ Err Refusal.Width }
-    ensures no_eol_next { IsWidth width → HasNoEol (coding_by two_dimensional) octets.now → result ≡ Err (Refusal.Page PageFault.NoEol) }
+    ensures no_eol_next { IsWidth width → HasNoEol (coding_by two_dimensional) octets.now
+        → result ≡ Err (Refusal.Page PageFault.NoEol) }
 {
     let page = read_text(alloc, octets, width, two_dimensional)?;
     fill_pixels(&page, pixels)
@@ -56,10 +61,13 @@ fn read_text(
     width: u16,
     two_dimensional: bool,
 ) -> Result<Page<PackedRows>, Refusal>
-    ensures page { IfOk result (λ page. MeansRows width (coding_by two_dimensional) octets.now page.rows) }
-    ensures refusal { IfErr result (λ refusal. RefusesText width (coding_by two_dimensional) octets.now refusal) }
+    ensures page { IfOk result
+        (λ page. MeansRows width (coding_by two_dimensional) octets.now page.rows) }
+    ensures refusal { IfErr result
+        (λ refusal. RefusesText width (coding_by two_dimensional) octets.now refusal) }
     ensures width_first { (IsWidth width → ⊥) → result ≡ Err Refusal.Width }
-    ensures no_eol_next { IsWidth width → HasNoEol (coding_by two_dimensional) octets.now → result ≡ Err (Refusal.Page PageFault.NoEol) }
+    ensures no_eol_next { IsWidth width → HasNoEol (coding_by two_dimensional) octets.now
+        → result ≡ Err (Refusal.Page PageFault.NoEol) }
 {
     let format = Format {
         width: width_of(width)?,
@@ -73,7 +81,8 @@ fn read_text(
 fn fill_runs<S: RowStore>(page: &Page<S>, runs: &mut [u16]) -> Result<FillCounts, Refusal>
     ensures puts { FillsRuns page.now.rows runs.old runs.new result }
     ensures within { IfOk result (λ filled. filled.items ≤ length runs.old) }
-    ensures after { IfOk result (λ filled. drop filled.items runs.new ≡ drop filled.items runs.old) }
+    ensures after { IfOk result
+        (λ filled. drop filled.items runs.new ≡ drop filled.items runs.old) }
     ensures untouched { OnErr result (runs.new ≡ runs.old) }
 {
     let wanted = count_all_runs(page);
@@ -120,7 +129,8 @@ fn put_row(row: &RowRef<'_>, count: usize, runs: &mut [u16], from: usize) -> usi
     requires room { from + count ≤ length runs.old }
     ensures end { result ≡ from + count }
     ensures within { result ≤ length runs.new }
-    ensures runs { (list : List ℕ) × AreRuns list row.now × (take result runs.new ≡ take from runs.old ++ list) }
+    ensures runs { (list : List ℕ)
+        × AreRuns list row.now × (take result runs.new ≡ take from runs.old ++ list) }
     ensures after { drop result runs.new ≡ drop result runs.old }
     ensures same_room { length runs.new ≡ length runs.old }
 {
@@ -133,7 +143,8 @@ fn put_row(row: &RowRef<'_>, count: usize, runs: &mut [u16], from: usize) -> usi
 fn fill_pixels<S: RowStore>(page: &Page<S>, pixels: &mut [u8]) -> Result<FillCounts, Refusal>
     ensures puts { FillsPixels page.now.rows pixels.old pixels.new result }
     ensures within { IfOk result (λ filled. filled.items ≤ length pixels.old) }
-    ensures after { IfOk result (λ filled. drop filled.items pixels.new ≡ drop filled.items pixels.old) }
+    ensures after { IfOk result
+        (λ filled. drop filled.items pixels.new ≡ drop filled.items pixels.old) }
     ensures untouched { OnErr result (pixels.new ≡ pixels.old) }
 {
     let rows = page.rows();
@@ -177,7 +188,8 @@ fn clear(octets: &mut [u8], from: usize, end: usize)
 /// Puts items into a slice, from a place on, and answers the place after them, or `None` where they have
 /// no room.
 pub fn put<T: Copy>(slice: &mut [T], from: usize, items: &[T]) -> Option<usize>
-    ensures some { IfSome result (λ end. (end ≡ from + length items.now) × (take end slice.new ≡ take from slice.old ++ items.now)) }
+    ensures some { IfSome result (λ end. (end ≡ from + length items.now)
+        × (take end slice.new ≡ take from slice.old ++ items.now)) }
     ensures within { IfSome result (λ end. end ≤ length slice.old) }
     ensures same_room { length slice.new ≡ length slice.old }
     ensures after { IfSome result (λ end. drop end slice.new ≡ drop end slice.old) }

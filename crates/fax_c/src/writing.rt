@@ -25,13 +25,17 @@ pub fn write_runs(
     least_bits: u32,
     octets: &mut [u8],
 ) -> Result<FillCounts, Refusal>
-    ensures page { WritesRuns width (coding_by two_dimensional) fine least_bits runs.now octets.old octets.new result }
+    ensures page { WritesRuns width
+        (coding_by two_dimensional) fine least_bits runs.now octets.old octets.new result }
     ensures within { IfOk result (λ filled. filled.items ≤ length octets.old) }
-    ensures after { IfOk result (λ filled. drop filled.items octets.new ≡ drop filled.items octets.old) }
+    ensures after { IfOk result
+        (λ filled. drop filled.items octets.new ≡ drop filled.items octets.old) }
     ensures untouched { OnErr result (octets.new ≡ octets.old) }
     ensures width_first { (IsWidth width → ⊥) → result ≡ Err Refusal.Width }
-    ensures least_bits_next { IsWidth width → most_least_bits < least_bits → result ≡ Err Refusal.LeastBits }
-    ensures no_runs_next { IsWidth width → least_bits ≤ most_least_bits → runs.now ≡ [] → result ≡ Err (Refusal.Page PageFault.Empty) }
+    ensures least_bits_next { IsWidth width
+        → most_least_bits < least_bits → result ≡ Err Refusal.LeastBits }
+    ensures no_runs_next { IsWidth width → least_bits ≤ most_least_bits
+        → runs.now ≡ [] → result ≡ Err (Refusal.Page PageFault.Empty) }
 {
     let width = width_of(width)?;
     if least_bits > MOST_LEAST_BITS {
@@ -68,7 +72,8 @@ fn checked_rows<S: RowStore>(alloc: Global, runs: &[u16], width: Width) -> Resul
 fn rows_of_runs<S: RowStore>(alloc: Global, runs: &[u16], width: Width) -> Result<S, Refusal>
     ensures rows { IfOk result (λ rows. AreRows (elements_of width) (S.rows rows)) }
     ensures runs { IfOk result (λ rows. AreRunsOf runs.now (S.rows rows)) }
-    ensures refusal { IfErr result (λ refusal. refusal ≢ Refusal.Page PageFault.NoMemory → RefusesRuns (elements_of width) runs.now refusal) }
+    ensures refusal { IfErr result (λ refusal. refusal ≢ Refusal.Page PageFault.NoMemory
+        → RefusesRuns (elements_of width) runs.now refusal) }
     ensures no_runs { runs.now ≡ [] → result ≡ Err (Refusal.Page PageFault.Empty) }
 {
     if runs.is_empty() {
@@ -118,9 +123,11 @@ fn check_runs(runs: &[u16], width: Width) -> Result<(), Refusal>
 /// How many runs are those of a row of a width which stand in front of these; `None` where those of no such
 /// row do.
 fn row_in_front(runs: &[u16], width: Width) -> Option<usize>
-    ensures some { IfSome result (λ count. (row : Elements) × AreRuns (take count runs.now) row × (length row ≡ elements_of width)) }
+    ensures some { IfSome result (λ count. (row : Elements)
+        × AreRuns (take count runs.now) row × (length row ≡ elements_of width)) }
     ensures within { IfSome result (λ count. (0 < count) × (count ≤ length runs.now)) }
-    ensures none { IfNone result ((row : Elements) (first more : List ℕ) → length row ≡ elements_of width → AreRuns first row → runs.now ≡ first ++ more → ⊥) }
+    ensures none { IfNone result ((row : Elements) (first more : List ℕ)
+        → length row ≡ elements_of width → AreRuns first row → runs.now ≡ first ++ more → ⊥) }
 {
     let elements = width.elements();
     let mut place = 0;

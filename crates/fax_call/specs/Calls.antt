@@ -36,8 +36,18 @@ pub record CallerCore : Type 0 where
 
 -- no call was on the leg, and this pause is set
 abbrev pub new_calling : ℕ → Format → CallerCore
-new_calling pause format =
-    record { state = Idle; format = format; formats = format ∷ []; pages = 1; counts = no_counts; waiting = []; t1 = None; t4 = None; pace = new_pace pause; outcome = None }
+new_calling pause format = record {
+  state = Idle;
+  format = format;
+  formats = format ∷ [];
+  pages = 1;
+  counts = no_counts;
+  waiting = [];
+  t1 = None;
+  t4 = None;
+  pace = new_pace pause;
+  outcome = None;
+}
 
 -- the formats of the pages of a job
 abbrev pub formats_of : JobValue → List Format
@@ -78,22 +88,56 @@ not_placed a job =
 -- after a move; T1 and T4 are clear while packets wait
 abbrev pub replied_with : CallerCore → State → Counts → List Due → CallerCore
 replied_with a state c due =
-    record { state = state; format = a.format; formats = a.formats; pages = a.pages; counts = c; waiting = due; t1 = None; t4 = None; pace = a.pace; outcome = a.outcome }
+    record {
+      state = state;
+      format = a.format;
+      formats = a.formats;
+      pages = a.pages;
+      counts = c;
+      waiting = due;
+      t1 = None;
+      t4 = None;
+      pace = a.pace;
+      outcome = a.outcome;
+    }
 
 abbrev pub moved : CallerCore → Move → CallerCore
 moved a Stays = a
 moved a (Trains dis dcs c) = replied_with a (AwaitCfr dis dcs) c (training dcs)
-moved a (Sends dis dcs c) = replied_with a (AwaitMcf dis dcs) c (image (command_after a.formats a.pages c.page) c.page dcs)
+moved a (Sends dis dcs c) =
+    replied_with a (AwaitMcf dis dcs) c (image (command_after a.formats a.pages c.page) c.page dcs)
 moved a (AsksAgain c) = replied_with a a.state c (command (command_after a.formats a.pages c.page))
 moved a (Turns format t1 c) =
-    record { state = AwaitDis; format = format; formats = a.formats; pages = a.pages; counts = c; waiting = []; t1 = Some t1; t4 = None; pace = a.pace; outcome = a.outcome }
+    record {
+      state = AwaitDis;
+      format = format;
+      formats = a.formats;
+      pages = a.pages;
+      counts = c;
+      waiting = [];
+      t1 = Some t1;
+      t4 = None;
+      pace = a.pace;
+      outcome = a.outcome;
+    }
 moved a (Closes outcome c) = replied_with a (Closing outcome) c goodbye
-moved a HangsUp =
-    record { state = Idle; format = a.format; formats = a.formats; pages = a.pages; counts = a.counts; waiting = []; t1 = None; t4 = None; pace = a.pace; outcome = Some outcomes.HungUp }
+moved a HangsUp = record {
+  state = Idle;
+  format = a.format;
+  formats = a.formats;
+  pages = a.pages;
+  counts = a.counts;
+  waiting = [];
+  t1 = None;
+  t4 = None;
+  pace = a.pace;
+  outcome = Some outcomes.HungUp;
+}
 
 -- A PIECE comes: frames alone matter, and none while packets wait
 abbrev pub heard : CallerCore → pieces.Piece → ℕ → Move
-heard a (pieces.Frame octets) now = if waits a.waiting then Stays else on_frame now a.format (turn_after a.formats a.counts.page) a.pages a.state a.counts (frame_of octets)
+heard a (pieces.Frame octets) now = if waits a.waiting then Stays else on_frame
+    now a.format (turn_after a.formats a.counts.page) a.pages a.state a.counts (frame_of octets)
 heard a piece now = Stays
 
 abbrev pub came : CallerCore → pieces.Piece → ℕ → CallerCore
@@ -106,7 +150,8 @@ came_all a (piece ∷ more) now = came_all (came a piece now) more now
 
 -- A TICK. Timers act where no packet waits.
 abbrev pub timed : CallerCore → ℕ → CallerCore
-timed a now = moved a (if waits a.waiting then Stays else on_timers (is_due a.t1 now) (is_due a.t4 now) a.state a.counts)
+timed a now = moved a (if waits a.waiting
+    then Stays else on_timers (is_due a.t1 now) (is_due a.t4 now) a.state a.counts)
 
 -- the text of a page of the job under a DCS: in its coding, with its least bits of a line
 abbrev pub text_if : Writing → Dcs → Option PageValue → List ℕ
@@ -132,7 +177,8 @@ taken_text page dcs from text due =
 
 abbrev pub taken : Writing → JobValue → Due → List Due → TakenPart
 taken writes job (One packet) due = record { packet = packet; rest = due }
-taken writes job (Text page dcs from) due = taken_text page dcs from (text_at writes job page dcs) due
+taken writes job (Text page dcs from) due =
+    taken_text page dcs from (text_at writes job page dcs) due
 
 -- the last packet that waits is given: Closing becomes Idle, with its outcome, and T4 is set
 abbrev pub state_when_given : State → State
@@ -162,7 +208,8 @@ after_giving a now packet [] =
       pace = pace_after (signals_preamble packet) a.pace now;
       outcome = outcome_when_given a.state a.outcome;
     }
-after_giving a now packet (d ∷ due) = record a { waiting = d ∷ due; pace = pace_after (signals_preamble packet) a.pace now }
+after_giving a now packet (d ∷ due) =
+    record a { waiting = d ∷ due; pace = pace_after (signals_preamble packet) a.pace now }
 
 -- what a tick leaves, and the packet that it gives
 pub record TickResult : Type 0 where
@@ -177,8 +224,8 @@ given_first writes job a now (d ∷ due) =
     record { core = after_giving a now t.packet t.rest; given = Some t.packet }
 
 abbrev pub paced : Writing → JobValue → CallerCore → ℕ → TickResult
-paced writes job a now =
-    if pace_allows a.pace.last now then given_first writes job a now a.waiting else record { core = a; given = None }
+paced writes job a now = if pace_allows a.pace.last now
+    then given_first writes job a now a.waiting else record { core = a; given = None }
 
 abbrev pub ticked : Writing → JobValue → CallerCore → ℕ → TickResult
 ticked writes job a now = paced writes job (timed a now) now

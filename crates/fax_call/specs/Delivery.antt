@@ -27,7 +27,8 @@ answered_before [] = 0
 answered_before (Begins ∷ marks) = 0
 answered_before (Acknowledged ∷ marks) = answered_before marks
 answered_before (Refused ∷ marks) = answered_before marks
-answered_before (Gave e ∷ marks) = answered_if (emitted_at (elements_given marks) e) (replied marks) + answered_before marks
+answered_before (Gave e ∷ marks) =
+    answered_if (emitted_at (elements_given marks) e) (replied marks) + answered_before marks
 
 abbrev pub answered_images : List Mark → ℕ
 answered_images marks = good_one (replied marks) + answered_before marks
@@ -45,7 +46,8 @@ abbrev pub IsCutShort : Outcome → List CallEvent → Type 0
 IsCutShort outcome events = (outcome ≡ outcomes.NoReply) × AtTheLastMoment events
 
 abbrev pub CountsAnswers : Outcome → ℕ → List CallEvent → List Mark → Type 0
-CountsAnswers outcome n events marks = (n ≡ answered_images marks) ⊎ (IsCutShort outcome events × (n ≡ answered_before marks))
+CountsAnswers outcome n events marks =
+    (n ≡ answered_images marks) ⊎ (IsCutShort outcome events × (n ≡ answered_before marks))
 
 -- The pages whose images were answered with MCF or RTP, the last first.
 abbrev pub page_with : Option (Option ℕ) → List ℕ → List ℕ
@@ -66,7 +68,8 @@ pages_before [] = []
 pages_before (Begins ∷ marks) = []
 pages_before (Acknowledged ∷ marks) = pages_before marks
 pages_before (Refused ∷ marks) = pages_before marks
-pages_before (Gave e ∷ marks) = page_if (emitted_at (elements_given marks) e) (replied marks) (numbered marks) (pages_before marks)
+pages_before (Gave e ∷ marks) = page_if (emitted_at (elements_given marks) e)
+    (replied marks) (numbered marks) (pages_before marks)
 
 abbrev pub pages_answered : List Mark → List ℕ
 pages_answered marks = page_answered (replied marks) (numbered marks) (pages_before marks)
@@ -77,7 +80,8 @@ all_below zero = []
 all_below (suc n) = n ∷ all_below n
 
 abbrev pub AnswersThePages : Outcome → ℕ → List CallEvent → List Mark → Type 0
-AnswersThePages outcome n events marks = (pages_answered marks ≡ all_below n) ⊎ (IsCutShort outcome events × (pages_before marks ≡ all_below n))
+AnswersThePages outcome n events marks = (pages_answered marks ≡ all_below n)
+    ⊎ (IsCutShort outcome events × (pages_before marks ≡ all_below n))
 
 -- a command is given, the first time or again, only where its image has no answer yet
 abbrev pub IsOpen : (command : Bool) → Reply → Type 0
@@ -89,7 +93,9 @@ AsksTheUnanswered [] = Unit {0}
 AsksTheUnanswered (Begins ∷ marks) = Unit {0}
 AsksTheUnanswered (Acknowledged ∷ marks) = AsksTheUnanswered marks
 AsksTheUnanswered (Refused ∷ marks) = AsksTheUnanswered marks
-AsksTheUnanswered (Gave e ∷ marks) = IsOpen (is_command (frame_at (elements_given marks) e)) (replied marks) × AsksTheUnanswered marks
+AsksTheUnanswered (Gave e ∷ marks) =
+    IsOpen (is_command (frame_at (elements_given marks) e)) (replied marks)
+    × AsksTheUnanswered marks
 
 -- the image emitted last is that of page n, or of the page before it, and then MCF or RTP answered
 abbrev pub IsAfter : Option ℕ → Reply → ℕ → Type 0
@@ -99,7 +105,8 @@ IsAfter (Some m) r n = (n ≡ m) ⊎ ((n ≡ m + 1) × (r ≡ Answered true))
 -- Of a call that has ended: the pages below `delivered` went out, each to its end and in the order of the answers, and none
 -- after the next did; they are those that were answered with MCF or RTP, one each, and no answer was passed over and asked
 -- for again; and the outcome is Delivered exactly where they are all.
-pub record IsTold (job : JobValue) (outcome : Outcome) (delivered : ℕ) (events : List CallEvent) (marks : List Mark) : Type 0 where
+pub record IsTold (job : JobValue)
+    (outcome : Outcome) (delivered : ℕ) (events : List CallEvent) (marks : List Mark) : Type 0 where
   pub last : Option ℕ
   pub emits : Emits job marks last
   pub after : IsAfter last (replied marks) delivered
@@ -116,19 +123,18 @@ is_over Idle = true
 is_over state = false
 
 -- what the leg gave and heard in a call until it was over
-abbrev pub marks_until_over : Writing → JobValue → List Mark → CallerCore → List CallEvent → List Mark
+abbrev pub marks_until_over : Writing
+    → JobValue → List Mark → CallerCore → List CallEvent → List Mark
 marks_until_over writes job old a [] = Begins ∷ old
-marks_until_over writes job old a (e ∷ before) =
-    if is_over (after_events writes job a before).state then marks_until_over writes job old a before
-    else marks_after writes job old a (e ∷ before)
+marks_until_over writes job old a (e ∷ before) = if is_over (after_events writes job a before).state
+    then marks_until_over writes job old a before else marks_after writes job old a (e ∷ before)
 
 -- That holds of every call over one unchanged job: each that is over has an outcome, and gives nothing more.
 abbrev pub TellsWhatWasAnswered : Type 0
-TellsWhatWasAnswered =
-    (writes : Writing) (job : JobValue) (old : List Mark) (core : CallerCore) (start : ℕ) (events : List CallEvent) →
-    let begun : CallerCore = started core job start in
-    let over : CallerCore = after_events writes job begun events in
-    let marks : List Mark = marks_until_over writes job old begun events in
-    IsWriting writes → IsJob job → over.state ≡ Idle
-    → (outcome : Outcome) × (over.outcome ≡ Some outcome) × IsTold job outcome over.counts.delivered events marks
+TellsWhatWasAnswered = (writes : Writing) (job : JobValue) (old : List Mark) (core : CallerCore)
+    (start : ℕ) (events : List CallEvent) → let begun : CallerCore = started core job start
+    in let over : CallerCore = after_events writes job begun events
+    in let marks : List Mark = marks_until_over writes job old begun events in IsWriting writes
+    → IsJob job → over.state ≡ Idle → (outcome : Outcome)
+    × (over.outcome ≡ Some outcome) × IsTold job outcome over.counts.delivered events marks
     × (elements_given (marks_after writes job old begun events) ≡ elements_given marks)

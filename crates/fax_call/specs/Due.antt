@@ -20,7 +20,8 @@ timer_of (AwaitMcf dis dcs) t1 t4 = t4
 
 -- where packets wait, the moment from which on the pace lets one through
 abbrev pub due_at : CallerCore → Option ℕ
-due_at a = if waits a.waiting then on_clock (allowed_from a.pace.last) else timer_of a.state a.t1 a.t4
+due_at a =
+    if waits a.waiting then on_clock (allowed_from a.pace.last) else timer_of a.state a.t1 a.t4
 
 -- a tick that gives nothing and changes nothing
 abbrev pub untouched : CallerCore → TickResult
@@ -28,8 +29,8 @@ untouched a = record { core = a; given = None }
 
 -- no tick before that moment does anything
 abbrev pub RestsBefore : Type 0
-RestsBefore =
-    (writes : Writing) (job : JobValue) (a : CallerCore) (now : ℕ) → now < 2 ^ 64 → is_due (due_at a) now ≡ false → ticked writes job a now ≡ untouched a
+RestsBefore = (writes : Writing) (job : JobValue) (a : CallerCore) (now : ℕ)
+    → now < 2 ^ 64 → is_due (due_at a) now ≡ false → ticked writes job a now ≡ untouched a
 
 -- and from it on a tick does something: it gives a packet, or it leaves another core
 abbrev pub ActsFrom : Type 0

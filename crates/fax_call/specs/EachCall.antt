@@ -11,8 +11,11 @@ use Rattle.fax_call.specs.Reached.{IsReached, Rep}
 
 -- this is so of each writing, job, list of slots, the newest first, and core that led to it
 abbrev pub EachCall : Rep → (Writing → JobValue → List Slot → CallerCore → Type 0) → Type 0
-EachCall kept IsSo = (writes : Writing) (job : JobValue) (heard : List Slot) (core : CallerCore) → IsReached writes job heard core kept → IsSo writes job heard core
+EachCall kept IsSo = (writes : Writing) (job : JobValue) (heard : List Slot) (core : CallerCore)
+    → IsReached writes job heard core kept → IsSo writes job heard core
 
 -- this is so of each writing, job, core and writer of a page that this procedure follows
 abbrev pub EachCore : Procedure → (Writing → JobValue → CallerCore → WriterValue → Type 0) → Type 0
-EachCore procedure IsSo = (writes : Writing) (job : JobValue) (core : CallerCore) (writer : WriterValue) → Follows writes job core writer procedure → IsSo writes job core writer
+EachCore procedure IsSo =
+    (writes : Writing) (job : JobValue) (core : CallerCore) (writer : WriterValue)
+    → Follows writes job core writer procedure → IsSo writes job core writer

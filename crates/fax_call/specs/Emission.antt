@@ -36,7 +36,8 @@ one_more s = record { dcs = s.dcs; signals = s.signals + 1 }
 -- the frame that a field of V.21 data ends
 abbrev pub frame_by_end : ℕ → ℕ → Option (List ℕ) → Option Frame
 frame_by_end kind what None = None
-frame_by_end kind what (Some octets) = if pieces.is_frame_end kind what then frame_of octets else None
+frame_by_end kind what (Some octets) =
+    if pieces.is_frame_end kind what then frame_of octets else None
 
 unfoldable pub ended_frame : ℕ → ℕ → List elements.Element → Option Frame
 ended_frame kind what before = frame_by_end kind what (pieces.hdlc_since before)
@@ -44,19 +45,22 @@ ended_frame kind what before = frame_by_end kind what (pieces.hdlc_since before)
 abbrev pub since_dcs : List elements.Element → Option SinceDcs
 since_dcs [] = None
 since_dcs (elements.Missing ∷ before) = since_dcs before
-since_dcs (elements.Signal code ∷ before) = if pieces.is_training code then option_map one_more (since_dcs before) else since_dcs before
-since_dcs (elements.Field kind what octets ∷ before) = dcs_by (ended_frame kind what before) (since_dcs before)
+since_dcs (elements.Signal code ∷ before) =
+    if pieces.is_training code then option_map one_more (since_dcs before) else since_dcs before
+since_dcs (elements.Field kind what octets ∷ before) =
+    dcs_by (ended_frame kind what before) (since_dcs before)
 
 -- The first high-speed signal after a DCS is the training check; each later one whose end was given is an image.
-abbrev pub emitted_with : Option SinceDcs → Option pieces.Image → (begun : List ℕ) → ℕ → ℕ → List ℕ → Option Emission
+abbrev pub emitted_with : Option SinceDcs
+    → Option pieces.Image → (begun : List ℕ) → ℕ → ℕ → List ℕ → Option Emission
 emitted_with (Some s) (Some image) begun kind what octets =
     if nat_eq kind image.kind && (nat_eq what 7 && nat_lt 1 s.signals)
     then Some (record { octets = begun ++ octets; dcs = s.dcs }) else None
 emitted_with s image begun kind what octets = None
 
 abbrev pub emitted_at : List elements.Element → elements.Element → Option Emission
-emitted_at before (elements.Field kind what octets) =
-    emitted_with (since_dcs before) (pieces.open_image before) (image_octets before) kind what octets
+emitted_at before (elements.Field kind what octets) = emitted_with (since_dcs before)
+    (pieces.open_image before) (image_octets before) kind what octets
 emitted_at before e = None
 
 -- What the called leg gave and heard: a packet's elements, the frames MCF and RTP that came, the frames RTN that came, and
@@ -96,9 +100,11 @@ marks_given (Some packet) marks = gave_all (elements.elements_in (packet_of (wri
 -- over a call; `old` stood before it
 abbrev pub marks_after : Writing → JobValue → List Mark → CallerCore → List CallEvent → List Mark
 marks_after writes job old a [] = Begins ∷ old
-marks_after writes job old a (Comes piece now ∷ before) = marks_heard piece (marks_after writes job old a before)
+marks_after writes job old a (Comes piece now ∷ before) =
+    marks_heard piece (marks_after writes job old a before)
 marks_after writes job old a (Ticks now ∷ before) =
-    marks_given (ticked writes job (after_events writes job a before) now).given (marks_after writes job old a before)
+    marks_given (ticked writes job (after_events writes job a before) now).given
+    (marks_after writes job old a before)
 
 -- the image means page n of the job, its format included
 pub record IsPageOf (job : JobValue) (n : ℕ) (emission : Emission) : Type 0 where
@@ -153,9 +159,9 @@ replied [] = Unasked
 replied (Begins ∷ marks) = Unasked
 replied (Acknowledged ∷ marks) = reply_heard true (replied marks)
 replied (Refused ∷ marks) = reply_heard false (replied marks)
-replied (Gave e ∷ marks) =
-    let before = elements_given marks in
-    reply_or (emitted_at before e) (reply_given (is_command (frame_at before e)) (is_preamble (pieces.since_indicator before)) (replied marks))
+replied (Gave e ∷ marks) = let before = elements_given marks
+    in reply_or (emitted_at before e) (reply_given (is_command (frame_at before e))
+    (is_preamble (pieces.since_indicator before)) (replied marks))
 
 -- the first page is page 0; after MCF or RTP the next, after RTN the same again; and nothing without an answer
 abbrev pub IsAnswered : Option ℕ → Reply → ℕ → Type 0
@@ -170,7 +176,8 @@ IsAnswered (Some m) r n = ⊥
 abbrev pub EmitsBy : JobValue → Option Emission → Reply → Option ℕ → (Option ℕ → Type 0) → Type 0
 EmitsBy job None r last before = before last
 EmitsBy job (Some emission) r None before = ⊥
-EmitsBy job (Some emission) r (Some n) before = IsPageOf job n emission × (m : Option ℕ) × before m × IsAnswered m r n
+EmitsBy job (Some emission) r (Some n) before =
+    IsPageOf job n emission × (m : Option ℕ) × before m × IsAnswered m r n
 
 abbrev pub Emits : JobValue → List Mark → Option ℕ → Type 0
 Emits job [] None = Unit {0}
@@ -179,12 +186,12 @@ Emits job (Begins ∷ marks) None = Unit {0}
 Emits job (Begins ∷ marks) (Some n) = ⊥
 Emits job (Acknowledged ∷ marks) last = Emits job marks last
 Emits job (Refused ∷ marks) last = Emits job marks last
-Emits job (Gave e ∷ marks) last = EmitsBy job (emitted_at (elements_given marks) e) (replied marks) last (Emits job marks)
+Emits job (Gave e ∷ marks) last =
+    EmitsBy job (emitted_at (elements_given marks) e) (replied marks) last (Emits job marks)
 
 -- In every call over one unchanged job, whatever the called machine answers, the images emitted are pages of the job, in
 -- order.
 abbrev pub EmitsThePages : Type 0
-EmitsThePages =
-    (writes : Writing) (job : JobValue) (old : List Mark) (core : CallerCore) (start : ℕ) (events : List CallEvent)
-    → IsWriting writes → IsJob job
-    → (last : Option ℕ) × Emits job (marks_after writes job old (started core job start) events) last
+EmitsThePages = (writes : Writing) (job : JobValue) (old : List Mark) (core : CallerCore)
+    (start : ℕ) (events : List CallEvent) → IsWriting writes → IsJob job → (last : Option ℕ)
+    × Emits job (marks_after writes job old (started core job start) events) last

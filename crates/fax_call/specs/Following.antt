@@ -26,11 +26,14 @@ pub record IsFit (p : Procedure) : Type 0 where
 
 -- of the text of a page under a DCS so many octets were given, and a writer has those after them left
 abbrev pub HasTextLeft : Writing → JobValue → (page : ℕ) → Dcs → (from : ℕ) → WriterValue → Type 0
-HasTextLeft writes job page dcs from writer = (value : PageValue) → slice_get job.pages page ≡ Some value → HasLeft value (drop from (text_at writes job page dcs)) writer
+HasTextLeft writes job page dcs from writer = (value : PageValue)
+    → slice_get job.pages page ≡ Some value
+    → HasLeft value (drop from (text_at writes job page dcs)) writer
 
 -- what is left of the text of a page, while it is given
 abbrev pub IsLeft : Writing → JobValue → (page : ℕ) → (from : ℕ) → Pending → WriterValue → Type 0
-IsLeft writes job page from (pendings.Text dcs plain) writer = HasTextLeft writes job page dcs from writer
+IsLeft writes job page from (pendings.Text dcs plain) writer =
+    HasTextLeft writes job page dcs from writer
 IsLeft writes job page from pending writer = Unit {0}
 
 -- from the short training indicator of a page on, the format of the next page is stored, where it is another
@@ -40,7 +43,8 @@ KeepsTurn (AwaitMcf dis dcs) pending formats page turn = turn ≡ turn_after for
 KeepsTurn state pending formats page turn = Unit {0}
 
 -- a procedure that stands for a core in the call of a job; the writer of the text that is given is kept beside it
-pub record Follows (writes : Writing) (job : JobValue) (core : CallerCore) (writer : WriterValue) (p : Procedure) : Type 0 where
+pub record Follows (writes : Writing)
+    (job : JobValue) (core : CallerCore) (writer : WriterValue) (p : Procedure) : Type 0 where
   pub state : p.state ≡ core.state
   pub format : p.format ≡ core.format
   pub formats : (core.state ≡ Idle → ⊥) → core.formats ≡ formats_of job
@@ -48,7 +52,9 @@ pub record Follows (writes : Writing) (job : JobValue) (core : CallerCore) (writ
   pub pages : p.pages ≡ core.pages
   pub counts : counts_shown p.counts ≡ core.counts
   pub from : ℕ
-  pub waiting : waiting_of p.pending (command_after core.formats core.pages p.counts.page) p.counts.page from ≡ core.waiting
+  pub waiting :
+      waiting_of p.pending (command_after core.formats core.pages p.counts.page) p.counts.page from
+      ≡ core.waiting
   pub left : IsLeft writes job p.counts.page from p.pending writer
   pub t1 : p.t1 ≡ core.t1
   pub t4 : p.t4 ≡ core.t4
@@ -85,7 +91,8 @@ after_packet is_preamble pendings.Nothing p now =
       pace = pace_after is_preamble p.pace now;
       outcome = outcome_when_given p.state p.outcome;
     }
-after_packet is_preamble pending p now = record p { pending = pending; pace = pace_after is_preamble p.pace now }
+after_packet is_preamble pending p now =
+    record p { pending = pending; pace = pace_after is_preamble p.pace now }
 
 -- the command after the page due, by the next page's format that is kept
 abbrev pub command_kept : Procedure → Plain
@@ -93,19 +100,22 @@ command_kept p = command_by (is_last_page p.pages p.counts.page) p.turn
 
 -- where that is a packet of a text it may be the last one
 abbrev pub given_by : Procedure → (last : Bool) → ℕ → Procedure
-given_by p last now = after_packet (signals_preamble (packet_of p.pending)) (pending_after p.pending (command_kept p) last) p now
+given_by p last now = after_packet (signals_preamble (packet_of p.pending))
+    (pending_after p.pending (command_kept p) last) p now
 
 -- the job tells the next page's format
 abbrev pub with_turn : Procedure → JobValue → Procedure
 with_turn p job = record p { turn = turn_after (formats_of job) p.counts.page }
 
 -- the next packet is given, after which this is the writer of the text
-pub record GivesNext (writes : Writing) (job : JobValue) (core : CallerCore) (now : ℕ) (packet : Packet) (left : WriterValue) (new : Procedure) : Type 0 where
+pub record GivesNext (writes : Writing) (job : JobValue) (core : CallerCore)
+    (now : ℕ) (packet : Packet) (left : WriterValue) (new : Procedure) : Type 0 where
   pub follows : Follows writes job (given_first writes job core now core.waiting).core left new
   pub given : (given_first writes job core now core.waiting).given ≡ Some packet
 
 -- and these are its octets
-pub record GivesPacket (writes : Writing) (job : JobValue) (core : CallerCore) (now : ℕ) (given : Option (List ℕ)) (left : WriterValue) (new : Procedure) : Type 0 where
+pub record GivesPacket (writes : Writing) (job : JobValue) (core : CallerCore)
+    (now : ℕ) (given : Option (List ℕ)) (left : WriterValue) (new : Procedure) : Type 0 where
   pub packet : Packet
   pub octets : given ≡ Some (written packet)
   pub next : GivesNext writes job core now packet left new

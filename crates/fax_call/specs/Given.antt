@@ -19,10 +19,10 @@ use Rattle.fax_call.specs.Calls.{CallerCore, started, ticked, CallEvent, Comes, 
 -- In every call each packet that a tick gives can be read, and one of V.21 data ends at a boundary: so who hears some of them
 -- hears no frame but those that were given.
 abbrev pub GivesClosedPackets : Type 0
-GivesClosedPackets =
-    (writes : Writing) (job : JobValue) (core : CallerCore) (start now : ℕ) (events : List CallEvent) (packet : Packet) → IsWriting writes → IsJob job
-    → (ticked writes job (after_events writes job (started core job start) events) now).given ≡ Some packet
-    → is_closed (packet_of (written packet)) ≡ true
+GivesClosedPackets = (writes : Writing) (job : JobValue) (core : CallerCore)
+    (start now : ℕ) (events : List CallEvent) (packet : Packet) → IsWriting writes → IsJob job
+    → (ticked writes job (after_events writes job (started core job start) events) now).given
+    ≡ Some packet → is_closed (packet_of (written packet)) ≡ true
 
 -- the packets that a call gave, the newest first
 abbrev pub packets_with : Option Packet → List Packet → List Packet
@@ -33,7 +33,8 @@ abbrev pub packets_given : Writing → JobValue → CallerCore → List CallEven
 packets_given writes job a [] = []
 packets_given writes job a (Comes piece now ∷ before) = packets_given writes job a before
 packets_given writes job a (Ticks now ∷ before) =
-    packets_with (ticked writes job (after_events writes job a before) now).given (packets_given writes job a before)
+    packets_with (ticked writes job (after_events writes job a before) now).given
+    (packets_given writes job a before)
 
 -- the DCS that a packet tells
 abbrev pub dcs_in : Option Frame → Option Dcs
@@ -65,9 +66,10 @@ tells_eom packet = false
 -- under which of them an image is read.
 abbrev pub GivesOneKind : Type 0
 GivesOneKind =
-    (writes : Writing) (job : JobValue) (core : CallerCore) (start : ℕ) (events : List CallEvent) →
-    let given : List Packet = packets_given writes job (started core job start) events in
-    list_any tells_eom given ≡ false → (coding : Coding) × EachDcs (IsOfKind job.format coding) given
+    (writes : Writing) (job : JobValue) (core : CallerCore) (start : ℕ) (events : List CallEvent)
+    → let given : List Packet = packets_given writes job (started core job start) events
+    in list_any tells_eom given ≡ false
+    → (coding : Coding) × EachDcs (IsOfKind job.format coding) given
 
 -- Who hears all packets of a call, and no EOM among them, hears no DCS of another kind.
 abbrev pub is_eom_frame : pieces.Piece → Bool
@@ -76,8 +78,9 @@ is_eom_frame piece = false
 
 abbrev pub TellsOneKind : Type 0
 TellsOneKind =
-    (writes : Writing) (job : JobValue) (core : CallerCore) (start : ℕ) (events : List CallEvent) →
-    let heard : List pieces.Piece = pieces.pieces (map Some (map written (packets_given writes job (started core job start) events))) in
-    IsWriting writes → IsJob job → list_any is_eom_frame heard ≡ false
-    → (coding : Coding)
-    × ((octets : List ℕ) (dcs : Dcs) → Contains heard (pieces.Frame octets) → frame_of octets ≡ Some (frames.Dcs dcs) → IsOfKind job.format coding dcs)
+    (writes : Writing) (job : JobValue) (core : CallerCore) (start : ℕ) (events : List CallEvent)
+    → let heard : List pieces.Piece = pieces.pieces
+    (map Some (map written (packets_given writes job (started core job start) events)))
+    in IsWriting writes → IsJob job → list_any is_eom_frame heard ≡ false
+    → (coding : Coding) × ((octets : List ℕ) (dcs : Dcs) → Contains heard (pieces.Frame octets)
+    → frame_of octets ≡ Some (frames.Dcs dcs) → IsOfKind job.format coding dcs)

@@ -29,7 +29,8 @@ IsCheck octets = (n : ℕ) × (octets ≡ replicate n 0)
 
 -- The image of a page of the job: a tick gave its end, it means the page under the DCS that was given last before, and with that
 -- tick the page is the one emitted last.
-pub record IsImage (writes : Writing) (job : JobValue) (old : List Mark) (begun : CallerCore) (events : List CallEvent) (octets : List ℕ) : Type 0 where
+pub record IsImage (writes : Writing) (job : JobValue) (old : List Mark)
+    (begun : CallerCore) (events : List CallEvent) (octets : List ℕ) : Type 0 where
   pub page : ℕ
   pub dcs : Dcs
   pub later : List CallEvent
@@ -44,8 +45,8 @@ pub record IsImage (writes : Writing) (job : JobValue) (old : List Mark) (begun 
 -- In every call over one unchanged job each high-speed signal that is given to its end is a training check, or it means a page of
 -- the job under the DCS given last before it.
 abbrev pub GivesChecksAndPages : Type 0
-GivesChecksAndPages =
-    (writes : Writing) (job : JobValue) (old : List Mark) (core : CallerCore) (start : ℕ) (events : List CallEvent) (place : ℕ) (octets : List ℕ) →
-    let begun : CallerCore = started core job start in
-    IsWriting writes → IsJob job → signal_at (reverse (map written (packets_given writes job begun events))) place ≡ Some octets
+GivesChecksAndPages = (writes : Writing) (job : JobValue) (old : List Mark)
+    (core : CallerCore) (start : ℕ) (events : List CallEvent) (place : ℕ) (octets : List ℕ)
+    → let begun : CallerCore = started core job start in IsWriting writes → IsJob job
+    → signal_at (reverse (map written (packets_given writes job begun events))) place ≡ Some octets
     → IsCheck octets ⊎ IsImage writes job old begun events octets

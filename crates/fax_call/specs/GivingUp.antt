@@ -23,24 +23,26 @@ leaves_choice (Ok dcs) = true
 leaves_choice (Err refusal) = false
 
 abbrev pub is_accepted : State → (waits : Bool) → Format → (step : ℕ) → Option Frame → Bool
-is_accepted AwaitDis false format step (Some (frames.Dis dis)) = leaves_choice (choice dis format step)
+is_accepted AwaitDis false format step (Some (frames.Dis dis)) =
+    leaves_choice (choice dis format step)
 is_accepted state waits format step frame = false
 
 abbrev pub accepts : CallerCore → pieces.Piece → Bool
-accepts a (pieces.Frame octets) = is_accepted a.state (waits a.waiting) a.format a.counts.step (frame_of octets)
+accepts a (pieces.Frame octets) =
+    is_accepted a.state (waits a.waiting) a.format a.counts.step (frame_of octets)
 accepts a piece = false
 
 -- whether a DIS was accepted in the call
 abbrev pub was_accepted : Writing → JobValue → CallerCore → List CallEvent → Bool
 was_accepted writes job begun [] = false
-was_accepted writes job begun (Comes piece now ∷ before) = accepts (after_events writes job begun before) piece || was_accepted writes job begun before
+was_accepted writes job begun (Comes piece now ∷ before) =
+    accepts (after_events writes job begun before) piece || was_accepted writes job begun before
 was_accepted writes job begun (Ticks now ∷ before) = was_accepted writes job begun before
 
 -- Where T1 is due in Await DIS, the call ends with NoReply where a DIS was accepted before in it, else with NoAnswer.
 abbrev pub TellsWhyItGaveUp : Type 0
-TellsWhyItGaveUp =
-    (writes : Writing) (job : JobValue) (core : CallerCore) (start now : ℕ) (events : List CallEvent) →
-    let begun : CallerCore = started core job start in
-    let a : CallerCore = after_events writes job begun events in
-    a.state ≡ AwaitDis → a.waiting ≡ [] → is_due a.t1 now ≡ true
-    → (ticked writes job a now).core.state ≡ Closing (if was_accepted writes job begun events then outcomes.NoReply else outcomes.NoAnswer)
+TellsWhyItGaveUp = (writes : Writing) (job : JobValue) (core : CallerCore)
+    (start now : ℕ) (events : List CallEvent) → let begun : CallerCore = started core job start
+    in let a : CallerCore = after_events writes job begun events in a.state ≡ AwaitDis
+    → a.waiting ≡ [] → is_due a.t1 now ≡ true → (ticked writes job a now).core.state
+    ≡ Closing (if was_accepted writes job begun events then outcomes.NoReply else outcomes.NoAnswer)

@@ -17,12 +17,14 @@ since_by AwaitDis new now before = before
 since_by old AwaitDis now before = now
 since_by old new now before = before
 
-abbrev pub awaited_since : Writing → JobValue → (begun : CallerCore) → (start : ℕ) → List CallEvent → ℕ
+abbrev pub awaited_since : Writing
+    → JobValue → (begun : CallerCore) → (start : ℕ) → List CallEvent → ℕ
 awaited_since writes job begun start [] = start
 awaited_since writes job begun start (Comes piece now ∷ before) =
     let a : CallerCore = after_events writes job begun before in
     since_by a.state (came a piece now).state now (awaited_since writes job begun start before)
-awaited_since writes job begun start (Ticks now ∷ before) = awaited_since writes job begun start before
+awaited_since writes job begun start (Ticks now ∷ before) =
+    awaited_since writes job begun start before
 
 -- the moment of the packet that was given last
 abbrev pub last_by : Option Packet → (now : ℕ) → Option ℕ → Option ℕ
@@ -32,7 +34,9 @@ last_by None now before = before
 abbrev pub last_given : Writing → JobValue → (begun : CallerCore) → List CallEvent → Option ℕ
 last_given writes job begun [] = None
 last_given writes job begun (Comes piece now ∷ before) = last_given writes job begun before
-last_given writes job begun (Ticks now ∷ before) = last_by (ticked writes job (after_events writes job begun before) now).given now (last_given writes job begun before)
+last_given writes job begun (Ticks now ∷ before) =
+    last_by (ticked writes job (after_events writes job begun before) now).given
+    now (last_given writes job begun before)
 
 -- the timer of a state: T1 in Await DIS, T4 in Await CFR and Await MCF
 abbrev pub timer_since : State → (awaited : ℕ) → (given : Option ℕ) → Option ℕ
@@ -45,8 +49,9 @@ timer_since state awaited given = None
 -- changes nothing: no timer acts before its time.
 abbrev pub NoTimerIsEarly : Type 0
 NoTimerIsEarly =
-    (writes : Writing) (job : JobValue) (core : CallerCore) (start : ℕ) (events : List CallEvent) →
-    let begun : CallerCore = started core job start in
-    let a : CallerCore = after_events writes job begun events in
-    let timer : Option ℕ = timer_since a.state (awaited_since writes job begun start events) (last_given writes job begun events) in
-    a.waiting ≡ [] → (due_at a ≡ timer) × ((now : ℕ) → now < 2 ^ 64 → is_due timer now ≡ false → ticked writes job a now ≡ untouched a)
+    (writes : Writing) (job : JobValue) (core : CallerCore) (start : ℕ) (events : List CallEvent)
+    → let begun : CallerCore = started core job start
+    in let a : CallerCore = after_events writes job begun events
+    in let timer : Option ℕ = timer_since a.state (awaited_since writes job begun start events)
+    (last_given writes job begun events) in a.waiting ≡ [] → (due_at a ≡ timer)
+    × ((now : ℕ) → now < 2 ^ 64 → is_due timer now ≡ false → ticked writes job a now ≡ untouched a)

@@ -21,7 +21,9 @@ numbered [] = Some None
 numbered (Begins ∷ marks) = Some None
 numbered (Acknowledged ∷ marks) = numbered marks
 numbered (Refused ∷ marks) = numbered marks
-numbered (Gave e ∷ marks) = number_by (emitted_at (elements_given marks) e) (replied marks) (numbered marks)
+numbered (Gave e ∷ marks) =
+    number_by (emitted_at (elements_given marks) e) (replied marks) (numbered marks)
 
 abbrev pub NumbersAreFixed : Type 0
-NumbersAreFixed = (job : JobValue) (marks : List Mark) (last : Option ℕ) → Emits job marks last → numbered marks ≡ Some last
+NumbersAreFixed = (job : JobValue) (marks : List Mark) (last : Option ℕ)
+    → Emits job marks last → numbered marks ≡ Some last

@@ -21,18 +21,21 @@ pub record Rep : Type 0 where
   pub spare : ℕ
 
 -- these slots of the call, the newest first, and this core led to it
-pub record IsReached (writes : Writing) (job : JobValue) (heard : List Slot) (core : CallerCore) (kept : Rep) : Type 0 where
+pub record IsReached (writes : Writing)
+    (job : JobValue) (heard : List Slot) (core : CallerCore) (kept : Rep) : Type 0 where
   pub tracked : IsTracked heard kept.tracked
   pub follows : Follows writes job core kept.writer kept.procedure
 
 -- More slots, in the order of time, led on, whatever came before: their pieces came.
-pub record Hears (writes : Writing) (job : JobValue) (slots : List Slot) (now : ℕ) (heard : List Slot) (core : CallerCore) (new : Rep) : Type 0 where
+pub record Hears (writes : Writing) (job : JobValue)
+    (slots : List Slot) (now : ℕ) (heard : List Slot) (core : CallerCore) (new : Rep) : Type 0 where
   pub given : List Piece
   pub pieces : pieces (reverse slots ++ heard) ≡ pieces heard ++ given
   pub reached : IsReached writes job (reverse slots ++ heard) (came_all core given now) new
 
 -- the same, and this holds of what was told of them
-pub record HearsTold (Tells : List Telling → Type 0) (writes : Writing) (job : JobValue) (slots : List Slot) (now : ℕ) (heard : List Slot) (core : CallerCore) (new : Rep) : Type 0 where
+pub record HearsTold (Tells : List Telling → Type 0) (writes : Writing) (job : JobValue)
+    (slots : List Slot) (now : ℕ) (heard : List Slot) (core : CallerCore) (new : Rep) : Type 0 where
   pub hears : Hears writes job slots now heard core new
   pub told : Tells (tellings core hears.given now)
 

@@ -25,14 +25,15 @@ use Rattle.fax_call.specs.Emission.{Mark, Gave, elements_given, emitted_at, mark
 
 -- Where Await DIS takes a DIS that leaves no choice for the page due, the job ends with that refusal alone, whatever comes.
 abbrev pub EndsByRefusal : Type 0
-EndsByRefusal =
-    (writes : Writing) (job : JobValue) (core : CallerCore) (start : ℕ) (later events : List CallEvent) (now : ℕ) (octets : List ℕ) (dis : Dis) (page : PageValue) (refusal : Refusal) →
-    let begun : CallerCore = started core job start in
-    let a : CallerCore = after_events writes job begun events in
-    let z : CallerCore = after_events writes job begun (later ++ Comes (pieces.Frame octets) now ∷ events) in
-    IsJob job → a.state ≡ AwaitDis → a.waiting ≡ [] → frame_of octets ≡ Some (frames.Dis dis)
-    → slice_get job.pages a.counts.page ≡ Some page → choice dis page.format 0 ≡ Err refusal
-    → (z.state ≡ Closing (outcome_of refusal)) ⊎ ((z.state ≡ Idle) × (z.outcome ≡ Some (outcome_of refusal)))
+EndsByRefusal = (writes : Writing) (job : JobValue) (core : CallerCore)
+    (start : ℕ) (later events : List CallEvent) (now : ℕ) (octets : List ℕ) (dis : Dis)
+    (page : PageValue) (refusal : Refusal) → let begun : CallerCore = started core job start
+    in let a : CallerCore = after_events writes job begun events
+    in let z : CallerCore = after_events writes job begun (later
+    ++ Comes (pieces.Frame octets) now ∷ events) in IsJob job → a.state ≡ AwaitDis → a.waiting ≡ []
+    → frame_of octets ≡ Some (frames.Dis dis) → slice_get job.pages a.counts.page ≡ Some page
+    → choice dis page.format 0 ≡ Err refusal → (z.state ≡ Closing (outcome_of refusal))
+    ⊎ ((z.state ≡ Idle) × (z.outcome ≡ Some (outcome_of refusal)))
 
 -- the DIS that Await DIS took last: the frame came there while no packet waited
 abbrev pub dis_by : State → (waits : Bool) → Option Frame → Option Dis → Option Dis
@@ -45,7 +46,8 @@ dis_with a piece before = before
 
 abbrev pub dis_taken : Writing → JobValue → CallerCore → List CallEvent → Option Dis
 dis_taken writes job begun [] = None
-dis_taken writes job begun (Comes piece now ∷ before) = dis_with (after_events writes job begun before) piece (dis_taken writes job begun before)
+dis_taken writes job begun (Comes piece now ∷ before) =
+    dis_with (after_events writes job begun before) piece (dis_taken writes job begun before)
 dis_taken writes job begun (Ticks now ∷ before) = dis_taken writes job begun before
 
 -- no width or resolution of the format is lacking in a DIS
@@ -57,13 +59,17 @@ pub record Allows (dis : Dis) (format : Format) : Type 0 where
 -- these elements, given after that, end an image
 abbrev pub EndsImage : List elements.Element → List Mark → Type 0
 EndsImage [] marks = ⊥
-EndsImage (e ∷ es) marks = IsSome (emitted_at (elements_given marks) e) ⊎ EndsImage es (Gave e ∷ marks)
+EndsImage (e ∷ es) marks =
+    IsSome (emitted_at (elements_given marks) e) ⊎ EndsImage es (Gave e ∷ marks)
 
 -- An image is emitted only where the DIS that Await DIS took last before it allows the format of its page.
 abbrev pub NoneIsLacking : Type 0
-NoneIsLacking =
-    (writes : Writing) (job : JobValue) (old : List Mark) (core : CallerCore) (start : ℕ) (before : List CallEvent) (now : ℕ) (packet : Packet) (n : ℕ) →
-    let begun : CallerCore = started core job start in
-    IsWriting writes → IsJob job → (ticked writes job (after_events writes job begun before) now).given ≡ Some packet
-    → EndsImage (elements.elements_in (packet_of (written packet))) (marks_after writes job old begun before) → Emits job (marks_after writes job old begun (Ticks now ∷ before)) (Some n)
-    → (page : PageValue) × (slice_get job.pages n ≡ Some page) × (dis : Dis) × (dis_taken writes job begun before ≡ Some dis) × Allows dis page.format
+NoneIsLacking = (writes : Writing) (job : JobValue) (old : List Mark)
+    (core : CallerCore) (start : ℕ) (before : List CallEvent) (now : ℕ) (packet : Packet) (n : ℕ)
+    → let begun : CallerCore = started core job start in IsWriting writes
+    → IsJob job → (ticked writes job (after_events writes job begun before) now).given ≡ Some packet
+    → EndsImage (elements.elements_in (packet_of (written packet)))
+    (marks_after writes job old begun before)
+    → Emits job (marks_after writes job old begun (Ticks now ∷ before)) (Some n)
+    → (page : PageValue) × (slice_get job.pages n ≡ Some page)
+    × (dis : Dis) × (dis_taken writes job begun before ≡ Some dis) × Allows dis page.format

@@ -29,7 +29,8 @@ refused_with a piece n = n
 
 abbrev pub refusals : Writing → JobValue → CallerCore → List CallEvent → ℕ
 refusals writes job begun [] = 0
-refusals writes job begun (Comes piece now ∷ before) = refused_with (after_events writes job begun before) piece (refusals writes job begun before)
+refusals writes job begun (Comes piece now ∷ before) =
+    refused_with (after_events writes job begun before) piece (refusals writes job begun before)
 refusals writes job begun (Ticks now ∷ before) = refusals writes job begun before
 
 -- An RTN that comes in Await MCF while no packet waits: the third for a page ends the job, each before it leads to a training.
@@ -41,12 +42,12 @@ RefusesAtTheThird n dis dcs z =
 -- That holds in every call: no page has more than three, and a call ends so only where its page has three.
 abbrev pub ThirdRefusalEnds : Type 0
 ThirdRefusalEnds =
-    (writes : Writing) (job : JobValue) (core : CallerCore) (start : ℕ) (events : List CallEvent) →
-    let begun : CallerCore = started core job start in
-    let a : CallerCore = after_events writes job begun events in
-    let n : ℕ = refusals writes job begun events in
-    (n ≤ 3)
+    (writes : Writing) (job : JobValue) (core : CallerCore) (start : ℕ) (events : List CallEvent)
+    → let begun : CallerCore = started core job start
+    in let a : CallerCore = after_events writes job begun events
+    in let n : ℕ = refusals writes job begun events in (n ≤ 3)
     × (a.state ≡ Closing outcomes.PageRefused → n ≡ 3)
     × (a.outcome ≡ Some outcomes.PageRefused → n ≡ 3)
-    × ((dis : Dis) (dcs : Dcs) (octets : List ℕ) (now : ℕ) → a.state ≡ AwaitMcf dis dcs → a.waiting ≡ [] → frame_of octets ≡ Some frames.Rtn
+    × ((dis : Dis) (dcs : Dcs) (octets : List ℕ) (now : ℕ)
+    → a.state ≡ AwaitMcf dis dcs → a.waiting ≡ [] → frame_of octets ≡ Some frames.Rtn
     → RefusesAtTheThird n dis dcs (came a (pieces.Frame octets) now))

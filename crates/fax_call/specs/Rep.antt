@@ -24,7 +24,13 @@ use Rattle.fax_call.specs.Replies.{Packet, Signals, Tells, Part, Due, One, part_
 use Rattle.fax_call.specs.Table.{Counts, Move, Stays, Trains, Sends, AsksAgain, Turns, Closes, HangsUp}
 
 abbrev pub counts_shown : code_counts.Counts → Counts
-counts_shown c = record { page = c.page; step = c.step; tries = c.tries; refused = c.refused; delivered = c.delivered }
+counts_shown c = record {
+  page = c.page;
+  step = c.step;
+  tries = c.tries;
+  refused = c.refused;
+  delivered = c.delivered;
+}
 
 -- a move at some moment
 abbrev pub move_shown : (now : ℕ) → code_moves.Move → Move
@@ -43,7 +49,8 @@ frame_text (messages.Plain plain) = written_plain plain true
 
 -- what is left of a training check
 abbrev pub check_after : Dcs → ℕ → List Due
-check_after dcs given = parts_of (check_length dcs - given) (kind_of dcs.rate) (part_length dcs) (replicate (check_length dcs - given) 0)
+check_after dcs given = parts_of (check_length dcs
+    - given) (kind_of dcs.rate) (part_length dcs) (replicate (check_length dcs - given) 0)
 
 abbrev pub training_after : Dcs → List Due
 training_after dcs = One (Signals (training_of dcs.rate true)) ∷ training_check dcs
@@ -56,11 +63,13 @@ framed (messages.Plain plain) = One (Tells (written_plain plain true)) ∷ []
 abbrev pub waiting_of : Pending → (asks : Plain) → (page : ℕ) → (from : ℕ) → List Due
 waiting_of Nothing asks page from = []
 waiting_of Tone asks page from = calling_tone
-waiting_of (Preamble message) asks page from = One (Signals (indicator_code V21Preamble)) ∷ framed message
+waiting_of (Preamble message) asks page from =
+    One (Signals (indicator_code V21Preamble)) ∷ framed message
 waiting_of (Frame message) asks page from = framed message
 waiting_of (Training dcs) asks page from = training_after dcs
 waiting_of (Check dcs given) asks page from = check_after dcs given
-waiting_of (Image dcs) asks page from = One (Signals (training_of dcs.rate false)) ∷ replies.Text page dcs 0 ∷ command asks
+waiting_of (Image dcs) asks page from =
+    One (Signals (training_of dcs.rate false)) ∷ replies.Text page dcs 0 ∷ command asks
 waiting_of (Text dcs plain) asks page from = replies.Text page dcs from ∷ command plain
 
 -- the next packet of a training check, of which so many octets were given, and of a text, of which these octets are left
@@ -97,10 +106,11 @@ pending_after Tone asks last = Nothing
 pending_after (Preamble message) asks last = Frame message
 pending_after (Frame message) asks last = frame_after message
 pending_after (Training dcs) asks last = Check dcs 0
-pending_after (Check dcs given) asks last =
-    if nat_le (check_length dcs - given) (part_length dcs) then Nothing else Check dcs (given + part_length dcs)
+pending_after (Check dcs given) asks last = if nat_le (check_length dcs - given) (part_length dcs)
+    then Nothing else Check dcs (given + part_length dcs)
 pending_after (Image dcs) asks last = Text dcs asks
-pending_after (Text dcs plain) asks last = if last then Preamble (messages.Plain plain) else Text dcs plain
+pending_after (Text dcs plain) asks last =
+    if last then Preamble (messages.Plain plain) else Text dcs plain
 
 -- what waits after a move, where nothing waited, and this is the command after the page due
 abbrev pub pending_of : (asks : Plain) → code_moves.Move → Pending
@@ -145,7 +155,9 @@ abbrev pub FitsMove : (pages page : ℕ) → State → code_moves.Move → Type 
 FitsMove pages page state moves.Stay = Unit {0}
 FitsMove pages page state (moves.Train dis dcs c) = HasTerms dcs c × (c.page < pages)
 FitsMove pages page state (moves.Send dis dcs c) = HasTerms dcs c × (c.page < pages)
-FitsMove pages page state (moves.AskAgain c) = AwaitsMcf state × FitsState state c × (c.page ≡ page) × (c.page < pages)
-FitsMove pages page state (moves.Turn format c) = (c.step ≡ 0) × (c.delivered ≡ c.page) × (c.page < pages)
+FitsMove pages page state (moves.AskAgain c) =
+    AwaitsMcf state × FitsState state c × (c.page ≡ page) × (c.page < pages)
+FitsMove pages page state (moves.Turn format c) =
+    (c.step ≡ 0) × (c.delivered ≡ c.page) × (c.page < pages)
 FitsMove pages page state (moves.Close outcome c) = c.page < pages
 FitsMove pages page state moves.HangUp = Unit {0}

@@ -48,7 +48,8 @@ abbrev pub check_length : Dcs → ℕ
 check_length dcs = bits_a_second dcs.rate * 3 / 16
 
 unfoldable pub training_check : Dcs → List Due
-training_check dcs = parts_of (check_length dcs) (kind_of dcs.rate) (part_length dcs) (replicate (check_length dcs) 0)
+training_check dcs = parts_of (check_length dcs)
+    (kind_of dcs.rate) (part_length dcs) (replicate (check_length dcs) 0)
 
 -- whether a packet is the preamble before a frame
 abbrev pub signals_preamble : Packet → Bool
@@ -66,9 +67,8 @@ frame_reply frame = One (Signals (indicator_code V21Preamble)) ∷ One (Tells fr
 
 -- a training: the DCS, the long training indicator and the training check
 abbrev pub training : Dcs → List Due
-training dcs =
-    One (Signals (indicator_code V21Preamble)) ∷ One (Tells (written_dcs dcs)) ∷ One (Signals (training_of dcs.rate true))
-    ∷ training_check dcs
+training dcs = One (Signals (indicator_code V21Preamble))
+    ∷ One (Tells (written_dcs dcs)) ∷ One (Signals (training_of dcs.rate true)) ∷ training_check dcs
 
 abbrev pub is_last_page : (pages : ℕ) → (page : ℕ) → Bool
 is_last_page pages page = nat_eq (page + 1) pages

@@ -32,7 +32,8 @@ failed_with a piece n = n
 
 abbrev pub failures : Writing → JobValue → CallerCore → List CallEvent → ℕ
 failures writes job begun [] = 0
-failures writes job begun (Comes piece now ∷ before) = failed_with (after_events writes job begun before) piece (failures writes job begun before)
+failures writes job begun (Comes piece now ∷ before) =
+    failed_with (after_events writes job begun before) piece (failures writes job begun before)
 failures writes job begun (Ticks now ∷ before) = failures writes job begun before
 
 -- the rate of a DIS after so many FTTs
@@ -45,19 +46,21 @@ trained_at dis format (Some rate) = AwaitCfr dis (dcs_at dis format rate)
 trained_at dis format None = Closing outcomes.RatesSpent
 
 -- The DCS that was told last is that of a DIS, which Await DIS took last, at its first rate, or after n FTTs at rate n.
-pub record IsAtRate (format : Format) (n : ℕ) (taken : Option Dis) (dis : Dis) (dcs : Dcs) : Type 0 where
+pub record IsAtRate (format : Format) (n : ℕ) (taken : Option Dis) (dis : Dis) (dcs : Dcs) :
+    Type 0 where
   pub is_taken : taken ≡ Some dis
   pub rate : rate_after dis n ≡ Some dcs.rate
   pub dcs_is : dcs ≡ dcs_at dis format dcs.rate
 
 -- So it is in every call, and an FTT that comes in Await CFR while no packet waits leads to the next rate, until none is left.
 abbrev pub FttStepsTheRates : Type 0
-FttStepsTheRates =
-    (writes : Writing) (job : JobValue) (core : CallerCore) (start : ℕ) (events : List CallEvent) (dis : Dis) (dcs : Dcs) →
-    let begun : CallerCore = started core job start in
-    let a : CallerCore = after_events writes job begun events in
-    let n : ℕ = failures writes job begun events in
-    (a.state ≡ AwaitCfr dis dcs → IsAtRate a.format n (dis_taken writes job begun events) dis dcs)
+FttStepsTheRates = (writes : Writing) (job : JobValue)
+    (core : CallerCore) (start : ℕ) (events : List CallEvent) (dis : Dis) (dcs : Dcs)
+    → let begun : CallerCore = started core job start
+    in let a : CallerCore = after_events writes job begun events
+    in let n : ℕ = failures writes job begun events in (a.state ≡ AwaitCfr dis dcs
+    → IsAtRate a.format n (dis_taken writes job begun events) dis dcs)
     × (a.state ≡ AwaitMcf dis dcs → IsAtRate a.format n (dis_taken writes job begun events) dis dcs)
-    × ((octets : List ℕ) (now : ℕ) → a.state ≡ AwaitCfr dis dcs → a.waiting ≡ [] → frame_of octets ≡ Some frames.Ftt
+    × ((octets : List ℕ) (now : ℕ)
+    → a.state ≡ AwaitCfr dis dcs → a.waiting ≡ [] → frame_of octets ≡ Some frames.Ftt
     → (came a (pieces.Frame octets) now).state ≡ trained_at dis a.format (rate_after dis (n + 1)))

@@ -78,15 +78,18 @@ abbrev pub most_tries : ℕ
 most_tries = 3
 
 abbrev pub tries_again : Dis → Dcs → Counts → Move
-tries_again dis dcs c = if nat_lt c.tries most_tries then Trains dis dcs (next_try c) else Closes outcomes.NoReply c
+tries_again dis dcs c =
+    if nat_lt c.tries most_tries then Trains dis dcs (next_try c) else Closes outcomes.NoReply c
 
 -- AWAIT MCF, T4 due: the command again, three times in all
 abbrev pub asks_again : Counts → Move
-asks_again c = if nat_lt c.tries most_tries then AsksAgain (next_try c) else Closes outcomes.NoReply c
+asks_again c =
+    if nat_lt c.tries most_tries then AsksAgain (next_try c) else Closes outcomes.NoReply c
 
 -- AWAIT MCF, an RTN: the training again, and the same page after it; at the third for a page DCN (own)
 abbrev pub after_refusal : Dis → Dcs → Counts → Move
-after_refusal dis dcs c = if nat_lt c.refused 2 then Trains dis dcs (one_refused c) else Closes outcomes.PageRefused c
+after_refusal dis dcs c =
+    if nat_lt c.refused 2 then Trains dis dcs (one_refused c) else Closes outcomes.PageRefused c
 
 -- AWAIT MCF, an MCF or RTP, where pages are left: after EOM, since the next page is of another format, a DIS is awaited
 abbrev pub turns_or : (now : ℕ) → (turn : Option Format) → Counts → Move → Move
@@ -94,17 +97,23 @@ turns_or now (Some format) c m = Turns format (moment_after now spans.t1) (next_
 turns_or now None c m = m
 
 -- A frame, in each state, with the format of the page due and that of the next, where it is another.
-abbrev pub on_frame : (now : ℕ) → Format → (turn : Option Format) → (pages : ℕ) → State → Counts → Option Frame → Move
-on_frame now format turn pages AwaitDis c (Some (frames.Dis dis)) = by_choice dis (first_try c) (choice dis format c.step)
+abbrev pub on_frame : (now : ℕ)
+    → Format → (turn : Option Format) → (pages : ℕ) → State → Counts → Option Frame → Move
+on_frame now format turn pages AwaitDis c (Some (frames.Dis dis)) =
+    by_choice dis (first_try c) (choice dis format c.step)
 on_frame now format turn pages AwaitDis c (Some frames.Dcn) = HangsUp
 on_frame now format turn pages (AwaitCfr dis dcs) c (Some frames.Cfr) = Sends dis dcs (first_try c)
-on_frame now format turn pages (AwaitCfr dis dcs) c (Some frames.Ftt) = by_choice dis (next_step c) (choice dis format (c.step + 1))
-on_frame now format turn pages (AwaitCfr dis dcs) c (Some (frames.Dis other)) = tries_again dis dcs c
+on_frame now format turn pages (AwaitCfr dis dcs) c (Some frames.Ftt) =
+    by_choice dis (next_step c) (choice dis format (c.step + 1))
+on_frame now format turn pages (AwaitCfr dis dcs) c (Some (frames.Dis other)) =
+    tries_again dis dcs c
 on_frame now format turn pages (AwaitCfr dis dcs) c (Some frames.Dcn) = HangsUp
 on_frame now format turn pages (AwaitMcf dis dcs) c (Some frames.Mcf) =
-    if is_last_page pages c.page then Closes outcomes.Delivered (one_delivered c) else turns_or now turn c (Sends dis dcs (next_page c))
+    if is_last_page pages c.page then Closes outcomes.Delivered (one_delivered c)
+    else turns_or now turn c (Sends dis dcs (next_page c))
 on_frame now format turn pages (AwaitMcf dis dcs) c (Some frames.Rtp) =
-    if is_last_page pages c.page then Closes outcomes.Delivered (one_delivered c) else turns_or now turn c (Trains dis dcs (next_page c))
+    if is_last_page pages c.page then Closes outcomes.Delivered (one_delivered c)
+    else turns_or now turn c (Trains dis dcs (next_page c))
 on_frame now format turn pages (AwaitMcf dis dcs) c (Some frames.Rtn) = after_refusal dis dcs c
 on_frame now format turn pages (AwaitMcf dis dcs) c (Some frames.Dcn) = HangsUp
 on_frame now format turn pages state c frame = Stays

@@ -49,19 +49,24 @@ asked_by (Some packet) n = if asks packet then n + 1 else n
 
 abbrev pub asked : Writing → JobValue → CallerCore → List CallEvent → ℕ
 asked writes job begun [] = 0
-asked writes job begun (Comes piece now ∷ before) = if answers (after_events writes job begun before) piece then 0 else asked writes job begun before
-asked writes job begun (Ticks now ∷ before) = asked_by (ticked writes job (after_events writes job begun before) now).given (asked writes job begun before)
+asked writes job begun (Comes piece now ∷ before) =
+    if answers (after_events writes job begun before) piece
+    then 0 else asked writes job begun before
+asked writes job begun (Ticks now ∷ before) =
+    asked_by (ticked writes job (after_events writes job begun before) now).given
+    (asked writes job begun before)
 
 -- In every call at most three times is asked without an answer. Where T4 is due, the training or the command is given again
 -- exactly where it was given fewer than three times, and else the call ends, for want of a reply.
 abbrev pub ThreeTries : Type 0
 ThreeTries =
-    (writes : Writing) (job : JobValue) (core : CallerCore) (start : ℕ) (events : List CallEvent) →
-    let begun : CallerCore = started core job start in
-    let a : CallerCore = after_events writes job begun events in
-    let n : ℕ = asked writes job begun events in
-    (n ≤ 3)
-    × ((dis : Dis) (dcs : Dcs) (now : ℕ) → a.state ≡ AwaitCfr dis dcs → a.waiting ≡ [] → is_due a.t4 now ≡ true
-    → (ticked writes job a now).core.state ≡ (if nat_lt n 3 then AwaitCfr dis dcs else Closing outcomes.NoReply))
-    × ((dis : Dis) (dcs : Dcs) (now : ℕ) → a.state ≡ AwaitMcf dis dcs → a.waiting ≡ [] → is_due a.t4 now ≡ true
-    → (ticked writes job a now).core.state ≡ (if nat_lt n 3 then AwaitMcf dis dcs else Closing outcomes.NoReply))
+    (writes : Writing) (job : JobValue) (core : CallerCore) (start : ℕ) (events : List CallEvent)
+    → let begun : CallerCore = started core job start
+    in let a : CallerCore = after_events writes job begun events
+    in let n : ℕ = asked writes job begun events in (n ≤ 3)
+    × ((dis : Dis) (dcs : Dcs) (now : ℕ) → a.state ≡ AwaitCfr dis dcs
+    → a.waiting ≡ [] → is_due a.t4 now ≡ true → (ticked writes job a now).core.state
+    ≡ (if nat_lt n 3 then AwaitCfr dis dcs else Closing outcomes.NoReply))
+    × ((dis : Dis) (dcs : Dcs) (now : ℕ) → a.state ≡ AwaitMcf dis dcs
+    → a.waiting ≡ [] → is_due a.t4 now ≡ true → (ticked writes job a now).core.state
+    ≡ (if nat_lt n 3 then AwaitMcf dis dcs else Closing outcomes.NoReply))

@@ -31,7 +31,12 @@ pub record Telling : Type 0 where
   pub verdict : Decision
 
 abbrev pub telling : CallerCore → pieces.Piece → ℕ → Telling
-telling a piece now = record { state = a.state; waits = waits a.waiting; piece = piece; verdict = decision_of (heard a piece now) }
+telling a piece now = record {
+  state = a.state;
+  waits = waits a.waiting;
+  piece = piece;
+  verdict = decision_of (heard a piece now);
+}
 
 -- a lost slot is not told of: nothing is decided at it
 abbrev pub telling_with : pieces.Piece → Telling → List Telling → List Telling
@@ -44,12 +49,15 @@ telling_with (pieces.End whole) t more = t ∷ more
 -- of the pieces of a datagram, in the order of time
 abbrev pub tellings : CallerCore → List pieces.Piece → ℕ → List Telling
 tellings a [] now = []
-tellings a (piece ∷ more) now = telling_with piece (telling a piece now) (tellings (came a piece now) more now)
+tellings a (piece ∷ more) now =
+    telling_with piece (telling a piece now) (tellings (came a piece now) more now)
 
 -- A watcher was told just this, one after another, by what telling it makes of it.
-abbrev pub Watches : {W : Type 0} → (tells : Telling → W → W → Type 0) → (old new : W) → List Telling → Type 0
+abbrev pub Watches : {W : Type 0}
+    → (tells : Telling → W → W → Type 0) → (old new : W) → List Telling → Type 0
 Watches tells old new [] = new ≡ old
-Watches {W} tells old new (t ∷ more) = (between : W) × tells t old between × Watches tells between new more
+Watches {W} tells old new (t ∷ more) =
+    (between : W) × tells t old between × Watches tells between new more
 
 -- nothing was told
 abbrev pub TellsNothing : List Telling → Type 0
@@ -61,7 +69,8 @@ IfPassedOver decisions.PassOver P = P
 IfPassedOver decision P = Unit {0}
 
 abbrev pub TellsWhatIsDone : Type 0
-TellsWhatIsDone = (a : CallerCore) (piece : pieces.Piece) (now : ℕ) → IfPassedOver (telling a piece now).verdict (came a piece now ≡ a)
+TellsWhatIsDone = (a : CallerCore) (piece : pieces.Piece) (now : ℕ)
+    → IfPassedOver (telling a piece now).verdict (came a piece now ≡ a)
 
 -- TIMERS. The one that acts in a tick, where no packet waits
 abbrev pub acting_in : State → (t1_due : Bool) → (t4_due : Bool) → Option ActingTimer
@@ -72,7 +81,8 @@ acting_in (AwaitCfr dis dcs) t1_due t4_due = if t4_due then Some T4 else None
 acting_in (AwaitMcf dis dcs) t1_due t4_due = if t4_due then Some T4 else None
 
 abbrev pub acting : CallerCore → ℕ → Option ActingTimer
-acting a now = if waits a.waiting then None else acting_in a.state (is_due a.t1 now) (is_due a.t4 now)
+acting a now =
+    if waits a.waiting then None else acting_in a.state (is_due a.t1 now) (is_due a.t4 now)
 
 -- what it does: T1 ends the call, T4 gives the training or the command again, or ends it
 abbrev pub moves_by_t4 : State → CallerCore → Move

@@ -11,7 +11,8 @@ abbrev pub Writing : Type 0
 Writing = PageValue → Coding → ℕ → List ℕ
 
 -- octets that hold the written text of a page
-pub record IsWrittenAs (page : PageValue) (coding : Coding) (least : ℕ) (octets : List ℕ) : Type 0 where
+pub record IsWrittenAs (page : PageValue) (coding : Coding) (least : ℕ) (octets : List ℕ) :
+    Type 0 where
   pub are_octets : AreOctets octets
   pub text : List Bool
   pub writes : WritesPage coding page.format.fine least page.rows text
@@ -19,7 +20,8 @@ pub record IsWrittenAs (page : PageValue) (coding : Coding) (least : ℕ) (octet
 
 -- a function gives the text of each page
 abbrev pub IsWriting : Writing → Type 0
-IsWriting writes = (page : PageValue) (coding : Coding) (least : ℕ) → IsPage page → IsWrittenAs page coding least (writes page coding least)
+IsWriting writes = (page : PageValue) (coding : Coding) (least : ℕ)
+    → IsPage page → IsWrittenAs page coding least (writes page coding least)
 
 -- there is such a function
 abbrev pub PagesHaveTexts : Type 0

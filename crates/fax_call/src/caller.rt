@@ -59,7 +59,12 @@ impl Model for Caller {
 
     ghost Value = { Rep };
 
-    ghost view = { λ c. record { tracked = c.signals; procedure = c.procedure; writer = c.writer; spare = c.room } };
+    ghost view = { λ c. record {
+      tracked = c.signals;
+      procedure = c.procedure;
+      writer = c.writer;
+      spare = c.room;
+    } };
 
     ghost invariant = { λ c. IsFit c.procedure × HasText c.procedure.pending c.writer };
 }
@@ -68,7 +73,8 @@ impl Caller {
     /// A caller on whose leg no call was. The packet after a preamble is given so many milliseconds later, at most
     /// 2,000. It takes no memory.
     pub fn new(alloc: Global, preamble_ms: u16) -> Self
-        ensures reached { (writes : Writing) (job : JobValue) → IsReached writes job [] (new_calling preamble_ms result.procedure.format) result }
+        ensures reached { (writes : Writing) (job : JobValue)
+            → IsReached writes job [] (new_calling preamble_ms result.procedure.format) result }
         ensures idle { result.procedure.state ≡ State.Idle }
         ensures outcome { result.procedure.outcome ≡ None }
     {
@@ -85,7 +91,8 @@ impl Caller {
     /// none. An `Err` changes nothing.
     pub fn reserve(&mut self) -> Result<(), NoMemory>
         ensures room { OnOk result (1 ≤ self.new.spare) }
-        ensures reached { EachCall self.old (λ writes job heard core. IsReached writes job heard core self.new) }
+        ensures reached { EachCall self.old
+            (λ writes job heard core. IsReached writes job heard core self.new) }
         ensures same { self.new ≡ record self.old { spare = self.new.spare } }
         ensures err { OnErr result (self.new ≡ self.old) }
     {
@@ -97,9 +104,11 @@ impl Caller {
     pub fn start(&mut self, format: Format, pages: u32, now: u64)
         requires idle { self.old.procedure.state ≡ State.Idle }
         requires some { 1 ≤ pages }
-        ensures started { (writes others : Writing) (job other : JobValue) (heard : List SlotShown) (core : CallerCore) → IsReached others other heard core self.old
-            → job.format ≡ format → length job.pages ≡ pages → IsReached writes job [] (started core job now) self.new }
-        ensures job { (job : JobValue) → IsJob job → job.format ≡ format → length job.pages ≡ pages → IsJobOfCall self.new.procedure job }
+        ensures started { (writes others : Writing) (job other : JobValue) (heard : List SlotShown)
+            (core : CallerCore) → IsReached others other heard core self.old → job.format ≡ format
+            → length job.pages ≡ pages → IsReached writes job [] (started core job now) self.new }
+        ensures job { (job : JobValue) → IsJob job
+            → job.format ≡ format → length job.pages ≡ pages → IsJobOfCall self.new.procedure job }
         ensures tone { self.new.procedure.pending ≡ Pending.Tone }
         ensures spare { self.new.spare ≡ self.old.spare }
     {
@@ -113,8 +122,10 @@ impl Caller {
     pub fn fail_to_place(&mut self, format: Format, pages: u32)
         requires idle { self.old.procedure.state ≡ State.Idle }
         requires some { 1 ≤ pages }
-        ensures not_placed { (writes others : Writing) (job other : JobValue) (heard : List SlotShown) (core : CallerCore) → IsReached others other heard core self.old
-            → job.format ≡ format → length job.pages ≡ pages → IsReached writes job [] (not_placed core job) self.new }
+        ensures not_placed { (writes others : Writing)
+            (job other : JobValue) (heard : List SlotShown) (core : CallerCore)
+            → IsReached others other heard core self.old → job.format ≡ format
+            → length job.pages ≡ pages → IsReached writes job [] (not_placed core job) self.new }
         ensures over { self.new.procedure.state ≡ State.Idle }
         ensures spare { self.new.spare ≡ self.old.spare }
     {
@@ -167,15 +178,20 @@ impl Caller {
     /// nothing.
     pub fn tick<S: RowStore>(&mut self, job: &Job<S>, now: u64) -> Result<Option<Octets>, NoMemory>
         requires { IsJobOfCall self.old.procedure job.now }
-        ensures ticked { IfOk result (λ given. (writes : Writing) (heard : List SlotShown) (core : CallerCore) → IsWriting writes
-            → IsReached writes job.now heard core self.old
-            → IsReached writes job.now heard (ticked writes job.now core now).core self.new × IsGiven (ticked writes job.now core now) given) }
+        ensures ticked { IfOk result
+            (λ given. (writes : Writing) (heard : List SlotShown) (core : CallerCore)
+            → IsWriting writes → IsReached writes job.now heard core self.old
+            → IsReached writes job.now heard (ticked writes job.now core now).core self.new
+            × IsGiven (ticked writes job.now core now) given) }
         ensures job { OnOk result (IsJobOfCall self.new.procedure job.now) }
-        ensures idle { self.old.procedure.state ≡ State.Idle → (result ≡ Ok None) × (self.new ≡ self.old) }
+        ensures idle { self.old.procedure.state ≡ State.Idle
+            → (result ≡ Ok None) × (self.new ≡ self.old) }
         ensures err { OnErr result (self.new ≡ self.old) }
-        ensures memory { OnErr result ((writes : Writing) (heard : List SlotShown) (core : CallerCore) → IsReached writes job.now heard core self.old
+        ensures memory { OnErr result ((writes : Writing) (heard : List SlotShown)
+            (core : CallerCore) → IsReached writes job.now heard core self.old
             → IsSome (ticked writes job.now core now).given) }
-        ensures spared { self.old.procedure.pending ≡ Pending.Tone → OnErr result (self.old.spare ≡ 0) }
+        ensures spared { self.old.procedure.pending ≡ Pending.Tone
+            → OnErr result (self.old.spare ≡ 0) }
         ensures short { IfOk result (λ given. IfSome given (λ packet. length packet ≤ 100)) }
     {
         let mut procedure = self.procedure;
@@ -203,8 +219,10 @@ impl Caller {
         requires fit { IsFit procedure }
         requires page { procedure.counts.page < length job.now.pages }
         requires pending { procedure.pending ≡ Pending.Image dcs }
-        ensures packet { IfOk result (λ given. given ≡ Some (written (packet_of procedure.pending))) }
-        ensures left { OnOk result ((writes : Writing) → IsWriting writes → HasTextLeft writes job.now procedure.counts.page dcs 0 self.new.writer) }
+        ensures packet { IfOk result
+            (λ given. given ≡ Some (written (packet_of procedure.pending))) }
+        ensures left { OnOk result ((writes : Writing) → IsWriting writes
+            → HasTextLeft writes job.now procedure.counts.page dcs 0 self.new.writer) }
         ensures same { OnOk result (self.new ≡ record {
           tracked = self.old.tracked;
           procedure = given_by (with_turn procedure job.now) false now;
@@ -234,7 +252,8 @@ impl Caller {
         requires page { procedure.counts.page < length job.now.pages }
         requires pending { (asks : PlainShown) × (procedure.pending ≡ Pending.Text dcs asks) }
         requires more { HasMore self.old.writer }
-        ensures given { IfOk result (λ given. (writes : Writing) (core : CallerCore) → Follows writes job.now core self.old.writer procedure
+        ensures given { IfOk result (λ given. (writes : Writing) (core : CallerCore)
+            → Follows writes job.now core self.old.writer procedure
             → GivesPacket writes job.now core now given self.new.writer self.new.procedure) }
         ensures same { OnOk result ((last : Bool) × (self.new ≡ record {
           tracked = self.old.tracked;
@@ -261,8 +280,10 @@ impl Caller {
         requires fit { IsFit procedure }
         requires some { procedure.pending ≢ Pending.Nothing }
         requires no_image { (dcs : DcsShown) → procedure.pending ≢ Pending.Image dcs }
-        requires no_text { (dcs : DcsShown) (asks : PlainShown) → procedure.pending ≢ Pending.Text dcs asks }
-        ensures packet { IfOk result (λ given. given ≡ Some (written (packet_of procedure.pending))) }
+        requires no_text { (dcs : DcsShown) (asks : PlainShown)
+            → procedure.pending ≢ Pending.Text dcs asks }
+        ensures packet { IfOk result
+            (λ given. given ≡ Some (written (packet_of procedure.pending))) }
         ensures given { OnOk result (self.new ≡ record {
           tracked = self.old.tracked;
           procedure = given_by procedure false now;

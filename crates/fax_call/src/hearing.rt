@@ -23,8 +23,10 @@ impl Caller {
     /// MCF or RTP answers an EOM, T1 is set from this moment. It takes memory for packets of more than four fields, and
     /// none where no packet is decided. An `Err` changes nothing.
     pub fn slots(&mut self, decided: &Decided<'_>, now: u64) -> Result<(), NoMemory>
-        ensures heard { OnOk result (EachCall self.old (λ writes job heard core. Hears writes job (slots_in decided.now) now heard core self.new)) }
-        ensures job { (job : JobValue) → IsJobOfCall self.old.procedure job → IsJobOfCall self.new.procedure job }
+        ensures heard { OnOk result (EachCall self.old (λ writes job heard core.
+            Hears writes job (slots_in decided.now) now heard core self.new)) }
+        ensures job { (job : JobValue)
+            → IsJobOfCall self.old.procedure job → IsJobOfCall self.new.procedure job }
         ensures err { OnErr result (self.new ≡ self.old) }
         ensures no_packet { decided.now.packets ≡ [] → IsOk result }
     {
@@ -39,8 +41,11 @@ impl Caller {
         now: u64,
         watcher: &mut W,
     ) -> Result<(), NoMemory>
-        ensures heard { OnOk result (EachCall self.old (λ writes job heard core. HearsTold (Watches W.tells watcher.old watcher.new) writes job (slots_in decided.now) now heard core self.new)) }
-        ensures job { (job : JobValue) → IsJobOfCall self.old.procedure job → IsJobOfCall self.new.procedure job }
+        ensures heard { OnOk result (EachCall self.old
+            (λ writes job heard core. HearsTold (Watches W.tells watcher.old watcher.new)
+            writes job (slots_in decided.now) now heard core self.new)) }
+        ensures job { (job : JobValue)
+            → IsJobOfCall self.old.procedure job → IsJobOfCall self.new.procedure job }
         ensures err { OnErr result (self.new ≡ self.old) }
         ensures no_packet { decided.now.packets ≡ [] → IsOk result }
     {
@@ -61,8 +66,11 @@ impl Caller {
         now: u64,
         watcher: &mut W,
     ) -> Result<(), NoMemory>
-        ensures heard { OnOk result (EachCall self.old (λ writes job heard core. HearsTold (Watches W.tells watcher.old watcher.new) writes job (slots_in decided.now) now heard core self.new)) }
-        ensures job { (job : JobValue) → IsJobOfCall self.old.procedure job → IsJobOfCall self.new.procedure job }
+        ensures heard { OnOk result (EachCall self.old
+            (λ writes job heard core. HearsTold (Watches W.tells watcher.old watcher.new)
+            writes job (slots_in decided.now) now heard core self.new)) }
+        ensures job { (job : JobValue)
+            → IsJobOfCall self.old.procedure job → IsJobOfCall self.new.procedure job }
         ensures writer { self.new.writer ≡ self.old.writer }
         ensures spare { self.new.spare ≡ self.old.spare }
         ensures no_packet { decided.now.packets ≡ [] → IsOk result }
@@ -86,8 +94,11 @@ impl Caller {
         now: u64,
         watcher: &mut W,
     ) -> Result<(), NoMemory>
-        ensures heard { OnOk result (EachCall self.old (λ writes job heard core. HearsTold (Watches W.tells watcher.old watcher.new) writes job (Some packet.now ∷ []) now heard core self.new)) }
-        ensures job { (job : JobValue) → IsJobOfCall self.old.procedure job → IsJobOfCall self.new.procedure job }
+        ensures heard { OnOk result (EachCall self.old (λ writes job heard core.
+            HearsTold (Watches W.tells watcher.old watcher.new) writes job (Some packet.now
+            ∷ []) now heard core self.new)) }
+        ensures job { (job : JobValue)
+            → IsJobOfCall self.old.procedure job → IsJobOfCall self.new.procedure job }
         ensures writer { self.new.writer ≡ self.old.writer }
         ensures spare { self.new.spare ≡ self.old.spare }
     {
@@ -99,22 +110,27 @@ impl Caller {
 
     /// Hears pieces, in the order of time.
     fn hear_all<W: Watcher>(&mut self, pieces: &[Piece<'_>], now: u64, watcher: &mut W)
-        ensures heard { (writes : Writing) (job : JobValue) (core : CallerCore) → Follows writes job core self.old.writer self.old.procedure
-            → Follows writes job (came_all core (pieces_shown pieces.now) now) self.new.writer self.new.procedure }
-        ensures told { (writes : Writing) (job : JobValue) (core : CallerCore) → Follows writes job core self.old.writer self.old.procedure
-            → Watches W.tells watcher.old watcher.new (tellings core (pieces_shown pieces.now) now) }
+        ensures heard { (writes : Writing) (job : JobValue) (core : CallerCore)
+            → Follows writes job core self.old.writer self.old.procedure → Follows writes
+            job (came_all core (pieces_shown pieces.now) now) self.new.writer self.new.procedure }
+        ensures told { (writes : Writing) (job : JobValue) (core : CallerCore)
+            → Follows writes job core self.old.writer self.old.procedure
+            → Watches W.tells watcher.old
+            watcher.new (tellings core (pieces_shown pieces.now) now) }
         ensures tracked { self.new.tracked ≡ self.old.tracked }
         ensures writer { self.new.writer ≡ self.old.writer }
         ensures spare { self.new.spare ≡ self.old.spare }
-        ensures job { (job : JobValue) → IsJobOfCall self.old.procedure job → IsJobOfCall self.new.procedure job }
+        ensures job { (job : JobValue)
+            → IsJobOfCall self.old.procedure job → IsJobOfCall self.new.procedure job }
     {
         self.procedure.hear_all(pieces, now, watcher);
     }
 
     /// So many slots are missing.
     fn lose(&mut self, count: u16)
-        ensures heard { (writes : Writing) (job : JobValue) (now : ℕ) (heard : List SlotShown) (core : CallerCore)
-            → IsReached writes job heard core self.old → HearsTold TellsNothing writes job (lost_slots count) now heard core self.new }
+        ensures heard { (writes : Writing) (job : JobValue) (now : ℕ)
+            (heard : List SlotShown) (core : CallerCore) → IsReached writes job heard core self.old
+            → HearsTold TellsNothing writes job (lost_slots count) now heard core self.new }
         ensures procedure { self.new.procedure ≡ self.old.procedure }
         ensures writer { self.new.writer ≡ self.old.writer }
         ensures spare { self.new.spare ≡ self.old.spare }

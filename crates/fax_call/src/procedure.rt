@@ -60,7 +60,8 @@ impl Procedure {
     /// No call is on, and none was. The packet after a preamble waits so many milliseconds, at most 2,000.
     pub fn new(preamble_ms: u16) -> Self
         ensures fit { IsFit result }
-        ensures follows { (writes : Writing) (job : JobValue) (writer : WriterValue) → Follows writes job (new_calling preamble_ms result.format) writer result }
+        ensures follows { (writes : Writing) (job : JobValue) (writer : WriterValue)
+            → Follows writes job (new_calling preamble_ms result.format) writer result }
         ensures pending { result.pending ≡ Pending.Nothing }
         ensures idle { result.state ≡ State.Idle }
         ensures outcome { result.outcome ≡ None }
@@ -84,9 +85,12 @@ impl Procedure {
         requires { 1 ≤ pages }
         ensures fit { IsFit self.new }
         ensures pending { self.new.pending ≡ Pending.Tone }
-        ensures job { (job : JobValue) → IsJob job → job.format ≡ format → length job.pages ≡ pages → IsJobOfCall self.new job }
-        ensures started { (writes others : Writing) (job other : JobValue) (core : CallerCore) (writer left : WriterValue) → Follows others other core writer self.old
-            → job.format ≡ format → length job.pages ≡ pages → Follows writes job (started core job now) left self.new }
+        ensures job { (job : JobValue) → IsJob job
+            → job.format ≡ format → length job.pages ≡ pages → IsJobOfCall self.new job }
+        ensures started { (writes others : Writing)
+            (job other : JobValue) (core : CallerCore) (writer left : WriterValue)
+            → Follows others other core writer self.old → job.format ≡ format
+            → length job.pages ≡ pages → Follows writes job (started core job now) left self.new }
     {
         let mut t1 = Timer::new();
         t1.set(now, T1_MS);
@@ -110,8 +114,10 @@ impl Procedure {
         ensures fit { IsFit self.new }
         ensures pending { self.new.pending ≡ Pending.Nothing }
         ensures idle { self.new.state ≡ State.Idle }
-        ensures not_placed { (writes others : Writing) (job other : JobValue) (core : CallerCore) (writer left : WriterValue) → Follows others other core writer self.old
-            → job.format ≡ format → length job.pages ≡ pages → Follows writes job (not_placed core job) left self.new }
+        ensures not_placed { (writes others : Writing)
+            (job other : JobValue) (core : CallerCore) (writer left : WriterValue)
+            → Follows others other core writer self.old → job.format ≡ format
+            → length job.pages ≡ pages → Follows writes job (not_placed core job) left self.new }
     {
         *self = Procedure {
             state: State::Idle,
@@ -166,7 +172,8 @@ impl Procedure {
         ensures fit { IsFit self.new }
         ensures pending { self.new.pending ≡ pending_of (command_kept self.old) decided }
         ensures stays { decided ≡ Move.Stay → self.new ≡ self.old }
-        ensures made { (writes : Writing) (job : JobValue) (core : CallerCore) (writer left : WriterValue) → Follows writes job core writer self.old
+        ensures made { (writes : Writing) (job : JobValue) (core : CallerCore)
+            (writer left : WriterValue) → Follows writes job core writer self.old
             → Follows writes job (moved core (move_shown now decided)) left self.new }
     {
         match decided {
@@ -207,7 +214,8 @@ impl Procedure {
 
     /// A reply waits; T1 and T4 are clear.
     fn reply(&mut self, state: State, counts: Counts, pending: Pending)
-        ensures { self.new ≡ record self.old { state = state; counts = counts; pending = pending; t1 = None; t4 = None } }
+        ensures { self.new ≡ record self.old
+            { state = state; counts = counts; pending = pending; t1 = None; t4 = None } }
     {
         self.state = state;
         self.counts = counts;
@@ -222,9 +230,12 @@ impl Procedure {
         ensures fit { IsFit self.new }
         ensures idle { self.old.state ≡ State.Idle → self.new ≡ self.old }
         ensures job { (job : JobValue) → IsJobOfCall self.old job → IsJobOfCall self.new job }
-        ensures text { (writer : WriterValue) → HasText self.old.pending writer → HasText self.new.pending writer }
-        ensures heard { EachCore self.old (λ writes job core writer. Follows writes job (came_all core (pieces_shown pieces.now) now) writer self.new) }
-        ensures told { EachCore self.old (λ writes job core writer. Watches W.tells watcher.old watcher.new (tellings core (pieces_shown pieces.now) now)) }
+        ensures text { (writer : WriterValue)
+            → HasText self.old.pending writer → HasText self.new.pending writer }
+        ensures heard { EachCore self.old (λ writes job core writer.
+            Follows writes job (came_all core (pieces_shown pieces.now) now) writer self.new) }
+        ensures told { EachCore self.old (λ writes job core writer. Watches W.tells watcher.old
+            watcher.new (tellings core (pieces_shown pieces.now) now)) }
     {
         for piece in pieces {
             self.hear(piece, now, watcher);
@@ -235,10 +246,14 @@ impl Procedure {
     fn hear<W: Watcher>(&mut self, piece: &Piece<'_>, now: u64, watcher: &mut W)
         requires { IsFit self.old }
         ensures fit { IsFit self.new }
-        ensures text { (writer : WriterValue) → HasText self.old.pending writer → HasText self.new.pending writer }
+        ensures text { (writer : WriterValue)
+            → HasText self.old.pending writer → HasText self.new.pending writer }
         ensures idle { self.old.state ≡ State.Idle → self.new ≡ self.old }
-        ensures heard { EachCore self.old (λ writes job core writer. Follows writes job (came core (piece_of piece.now) now) writer self.new) }
-        ensures told { EachCore self.old (λ writes job core writer. Watches W.tells watcher.old watcher.new (telling_with (piece_of piece.now) (telling core (piece_of piece.now) now) [])) }
+        ensures heard { EachCore self.old (λ writes job core writer.
+            Follows writes job (came core (piece_of piece.now) now) writer self.new) }
+        ensures told { EachCore self.old
+            (λ writes job core writer. Watches W.tells watcher.old watcher.new
+            (telling_with (piece_of piece.now) (telling core (piece_of piece.now) now) [])) }
     {
         match piece {
             Piece::Frame(octets) => self.hear_frame(piece, octets.as_slice(), now, watcher),
@@ -252,7 +267,13 @@ impl Procedure {
     /// A piece is passed over, and that is told.
     fn pass_over<W: Watcher>(&self, piece: &Piece<'_>, watcher: &mut W)
         requires { IsFit self.now }
-        ensures { EachCore self.now (λ writes job core writer. W.tells (record { state = core.state; waits = waits core.waiting; piece = piece_of piece.now; verdict = Decision.PassOver }) watcher.old watcher.new) }
+        ensures { EachCore self.now (λ writes job core writer.
+            W.tells (record {
+              state = core.state;
+              waits = waits core.waiting;
+              piece = piece_of piece.now;
+              verdict = Decision.PassOver;
+            }) watcher.old watcher.new) }
     {
         watcher.tell(self.state, self.is_waiting(), piece, Decision::PassOver);
     }
@@ -268,10 +289,13 @@ impl Procedure {
         requires fit { IsFit self.old }
         requires frame { piece_of piece.now ≡ FrameShown octets.now }
         ensures fit { IsFit self.new }
-        ensures text { (writer : WriterValue) → HasText self.old.pending writer → HasText self.new.pending writer }
+        ensures text { (writer : WriterValue)
+            → HasText self.old.pending writer → HasText self.new.pending writer }
         ensures idle { self.old.state ≡ State.Idle → self.new ≡ self.old }
-        ensures heard { EachCore self.old (λ writes job core writer. Follows writes job (came core (FrameShown octets.now) now) writer self.new) }
-        ensures told { EachCore self.old (λ writes job core writer. Watches W.tells watcher.old watcher.new (telling core (FrameShown octets.now) now ∷ [])) }
+        ensures heard { EachCore self.old (λ writes job core writer.
+            Follows writes job (came core (FrameShown octets.now) now) writer self.new) }
+        ensures told { EachCore self.old (λ writes job core writer. Watches W.tells watcher.old
+            watcher.new (telling core (FrameShown octets.now) now ∷ [])) }
     {
         if self.is_waiting() {
             watcher.tell(self.state, true, piece, Decision::PassOver);
@@ -285,7 +309,9 @@ impl Procedure {
     /// What is decided at the octets of a frame, where no packet waits.
     fn decide(&self, octets: &[u8]) -> Move
         requires { IsFit self.now }
-        ensures decided { (now : ℕ) → move_shown now result ≡ on_frame now self.now.format self.now.turn self.now.pages self.now.state (counts_shown self.now.counts) (frame_of octets.now) }
+        ensures decided { (now : ℕ)
+            → move_shown now result ≡ on_frame now self.now.format self.now.turn
+            self.now.pages self.now.state (counts_shown self.now.counts) (frame_of octets.now) }
         ensures fits { FitsMove self.now.pages self.now.counts.page self.now.state result }
         ensures idle { self.now.state ≡ State.Idle → result ≡ Move.Stay }
     {
@@ -341,7 +367,8 @@ impl Procedure {
 
     /// The same where no packet waits.
     fn acting_timer(&self, now: u64) -> Option<ActingTimer>
-        ensures { result ≡ acting_in self.now.state (is_due self.now.t1 now) (is_due self.now.t4 now) }
+        ensures { result
+            ≡ acting_in self.now.state (is_due self.now.t1 now) (is_due self.now.t4 now) }
     {
         match self.state {
             State::AwaitDis if self.t1.due(now) => Some(ActingTimer::T1),
@@ -358,8 +385,10 @@ impl Procedure {
         ensures waiting { self.old.pending ≢ Pending.Nothing → self.new ≡ self.old }
         ensures idle { self.old.state ≡ State.Idle → self.new ≡ self.old }
         ensures job { (job : JobValue) → IsJobOfCall self.old job → IsJobOfCall self.new job }
-        ensures text { (writer : WriterValue) → HasText self.old.pending writer → HasText self.new.pending writer }
-        ensures acted { EachCore self.old (λ writes job core writer. Follows writes job (timed core now) writer self.new) }
+        ensures text { (writer : WriterValue)
+            → HasText self.old.pending writer → HasText self.new.pending writer }
+        ensures acted { EachCore self.old
+            (λ writes job core writer. Follows writes job (timed core now) writer self.new) }
     {
         if self.is_waiting() {
             return;

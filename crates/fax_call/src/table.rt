@@ -59,7 +59,9 @@ impl Procedure {
     /// What is decided at a frame, where no packet waits.
     pub fn on_frame(&self, frame: &Frame) -> Move
         requires { IsFit self.now }
-        ensures decided { (now : ℕ) → move_shown now result ≡ on_frame now self.now.format self.now.turn self.now.pages self.now.state (counts_shown self.now.counts) (Some frame.now) }
+        ensures decided { (now : ℕ)
+            → move_shown now result ≡ on_frame now self.now.format self.now.turn
+            self.now.pages self.now.state (counts_shown self.now.counts) (Some frame.now) }
         ensures fits { FitsMove self.now.pages self.now.counts.page self.now.state result }
         ensures idle { self.now.state ≡ State.Idle → result ≡ Move.Stay }
     {
@@ -75,7 +77,9 @@ impl Procedure {
     fn on_identification(&self, frame: &Frame) -> Move
         requires fit { IsFit self.now }
         requires state { self.now.state ≡ State.AwaitDis }
-        ensures decided { (now : ℕ) → move_shown now result ≡ on_frame now self.now.format self.now.turn self.now.pages State.AwaitDis (counts_shown self.now.counts) (Some frame.now) }
+        ensures decided { (now : ℕ)
+            → move_shown now result ≡ on_frame now self.now.format self.now.turn
+            self.now.pages State.AwaitDis (counts_shown self.now.counts) (Some frame.now) }
         ensures fits { FitsMove self.now.pages self.now.counts.page self.now.state result }
     {
         match *frame {
@@ -89,7 +93,9 @@ impl Procedure {
     fn on_training_answer(&self, dis: Dis, dcs: Dcs, frame: &Frame) -> Move
         requires fit { IsFit self.now }
         requires state { self.now.state ≡ State.AwaitCfr dis dcs }
-        ensures decided { (now : ℕ) → move_shown now result ≡ on_frame now self.now.format self.now.turn self.now.pages (State.AwaitCfr dis dcs) (counts_shown self.now.counts) (Some frame.now) }
+        ensures decided { (now : ℕ) → move_shown now result
+            ≡ on_frame now self.now.format self.now.turn self.now.pages (State.AwaitCfr dis dcs)
+            (counts_shown self.now.counts) (Some frame.now) }
         ensures fits { FitsMove self.now.pages self.now.counts.page self.now.state result }
     {
         match *frame {
@@ -105,7 +111,9 @@ impl Procedure {
     fn on_page_answer(&self, dis: Dis, dcs: Dcs, frame: &Frame) -> Move
         requires fit { IsFit self.now }
         requires state { self.now.state ≡ State.AwaitMcf dis dcs }
-        ensures decided { (now : ℕ) → move_shown now result ≡ on_frame now self.now.format self.now.turn self.now.pages (State.AwaitMcf dis dcs) (counts_shown self.now.counts) (Some frame.now) }
+        ensures decided { (now : ℕ) → move_shown now result
+            ≡ on_frame now self.now.format self.now.turn self.now.pages (State.AwaitMcf dis dcs)
+            (counts_shown self.now.counts) (Some frame.now) }
         ensures fits { FitsMove self.now.pages self.now.counts.page self.now.state result }
     {
         let pages = self.pages;
@@ -135,7 +143,8 @@ impl Procedure {
     fn by_choice(&self, dis: Dis, counts: Counts) -> Move
         requires page { counts.page < self.now.pages }
         requires delivered { counts.delivered ≡ counts.page }
-        ensures decided { (now : ℕ) → move_shown now result ≡ by_choice dis (counts_shown counts) (choice dis self.now.format counts.step) }
+        ensures decided { (now : ℕ) → move_shown now result
+            ≡ by_choice dis (counts_shown counts) (choice dis self.now.format counts.step) }
         ensures fits { FitsMove self.now.pages self.now.counts.page self.now.state result }
     {
         match choose(&dis, self.format, counts.step) {
@@ -148,7 +157,8 @@ impl Procedure {
     fn try_again(&self, dis: Dis, dcs: Dcs) -> Move
         requires fit { IsFit self.now }
         requires terms { HasTerms dcs self.now.counts }
-        ensures decided { (now : ℕ) → move_shown now result ≡ tries_again dis dcs (counts_shown self.now.counts) }
+        ensures decided { (now : ℕ)
+            → move_shown now result ≡ tries_again dis dcs (counts_shown self.now.counts) }
         ensures fits { FitsMove self.now.pages self.now.counts.page self.now.state result }
     {
         if self.counts.tries < MOST_TRIES {
@@ -161,7 +171,8 @@ impl Procedure {
     /// What is decided where timers are due, while no packet waits.
     pub fn on_timers(&self, t1_due: bool, t4_due: bool) -> Move
         requires { IsFit self.now }
-        ensures decided { (now : ℕ) → move_shown now result ≡ on_timers t1_due t4_due self.now.state (counts_shown self.now.counts) }
+        ensures decided { (now : ℕ) → move_shown now result
+            ≡ on_timers t1_due t4_due self.now.state (counts_shown self.now.counts) }
         ensures fits { FitsMove self.now.pages self.now.counts.page self.now.state result }
         ensures idle { self.now.state ≡ State.Idle → result ≡ Move.Stay }
     {
@@ -176,7 +187,8 @@ impl Procedure {
     /// The end where no DIS came in time: nobody answered, or, where a DIS was accepted before, no reply came.
     fn give_up_dis(&self) -> Move
         requires { IsFit self.now }
-        ensures decided { (now : ℕ) → move_shown now result ≡ gives_up_dis (counts_shown self.now.counts) }
+        ensures decided { (now : ℕ)
+            → move_shown now result ≡ gives_up_dis (counts_shown self.now.counts) }
         ensures fits { FitsMove self.now.pages self.now.counts.page self.now.state result }
     {
         if self.counts.delivered == 0 {
@@ -190,7 +202,8 @@ impl Procedure {
     fn ask_again(&self) -> Move
         requires fit { IsFit self.now }
         requires state { AwaitsMcf self.now.state }
-        ensures decided { (now : ℕ) → move_shown now result ≡ asks_again (counts_shown self.now.counts) }
+        ensures decided { (now : ℕ)
+            → move_shown now result ≡ asks_again (counts_shown self.now.counts) }
         ensures fits { FitsMove self.now.pages self.now.counts.page self.now.state result }
     {
         if self.counts.tries < MOST_TRIES {

@@ -29,7 +29,8 @@ const IMAGE_HEAD: usize = 5;
 /// takes no memory.
 pub(crate) fn writer_of<S: RowStore>(alloc: Global, job: &Job<S>, page: u32, dcs: Dcs) -> PageWriter
     requires { page < length job.now.pages }
-    ensures left { (writes : Writing) → IsWriting writes → HasTextLeft writes job.now page dcs 0 result }
+    ensures left { (writes : Writing)
+        → IsWriting writes → HasTextLeft writes job.now page dcs 0 result }
     ensures more { HasMore result }
 {
     let format = job.pages().as_slice()[page as usize].format();
@@ -45,9 +46,12 @@ pub(crate) fn text_packet<S: RowStore>(
     dcs: Dcs,
 ) -> Result<TextPacket, NoMemory>
     requires { HasMore writer.old }
-    ensures packet { IfOk result (λ packet. (left : List ℕ) → HasLeft page.now left writer.old → packet.octets ≡ written (text_part dcs left)) }
-    ensures last { IfOk result (λ packet. (left : List ℕ) → HasLeft page.now left writer.old → packet.is_last ≡ nat_le (length left) (part_length dcs)) }
-    ensures left { OnOk result ((left : List ℕ) → HasLeft page.now left writer.old → HasLeft page.now (drop (part_length dcs) left) writer.new) }
+    ensures packet { IfOk result (λ packet. (left : List ℕ)
+        → HasLeft page.now left writer.old → packet.octets ≡ written (text_part dcs left)) }
+    ensures last { IfOk result (λ packet. (left : List ℕ) → HasLeft page.now left writer.old
+        → packet.is_last ≡ nat_le (length left) (part_length dcs)) }
+    ensures left { OnOk result ((left : List ℕ) → HasLeft page.now left writer.old
+        → HasLeft page.now (drop (part_length dcs) left) writer.new) }
     ensures more { IfOk result (λ packet. packet.is_last ≡ false → HasMore writer.new) }
     ensures short { IfOk result (λ packet. length packet.octets ≤ 100) }
     ensures err { OnErr result (writer.new ≡ writer.old) }

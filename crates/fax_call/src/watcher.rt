@@ -13,7 +13,12 @@ pub trait Watcher {
 
     /// A piece was taken: the call stood there before it, a packet waited or none did, and this was decided at it.
     fn tell(&mut self, state: State, waits: bool, piece: &Piece<'_>, decision: Decision)
-        ensures { tells (record { state = state; waits = waits; piece = piece_of piece.now; verdict = decision }) self.old self.new };
+        ensures { tells (record {
+          state = state;
+          waits = waits;
+          piece = piece_of piece.now;
+          verdict = decision;
+        }) self.old self.new };
 }
 
 /// Who is told and keeps nothing.

@@ -20,7 +20,8 @@ HasPort None port = Unit {0}
 HasPort (Some wanted) port = wanted ≡ port
 
 abbrev pub IsAt : Address → EndpointValue → Type 0
-IsAt address endpoint = (host_octets address.host ≡ endpoint.host) × HasPort address.port endpoint.port
+IsAt address endpoint =
+    (host_octets address.host ≡ endpoint.host) × HasPort address.port endpoint.port
 
 -- the same as tests
 abbrev pub has_port : Option ℕ → ℕ → Bool
@@ -28,7 +29,8 @@ has_port None port = true
 has_port (Some wanted) port = wanted == port
 
 abbrev pub is_at : Address → EndpointValue → Bool
-is_at address endpoint = bytes_eq (host_octets address.host) endpoint.host && has_port address.port endpoint.port
+is_at address endpoint =
+    bytes_eq (host_octets address.host) endpoint.host && has_port address.port endpoint.port
 
 -- Two addresses have an endpoint in common where they have the host in common, and a port.
 abbrev pub ShareAPort : Option ℕ → Option ℕ → Type 0
@@ -37,7 +39,8 @@ ShareAPort (Some one) port = HasPort port one
 
 -- or none
 abbrev pub AreApart : Address → Address → Type 0
-AreApart one other = (host_octets one.host ≡ host_octets other.host) → ShareAPort one.port other.port → ⊥
+AreApart one other = (host_octets one.host ≡ host_octets other.host)
+    → ShareAPort one.port other.port → ⊥
 
 -- a datagram went in fragments, of which the first has not all of its data
 abbrev pub is_in_fragments : DatagramValue → Bool
@@ -60,14 +63,16 @@ IsAtKnown (Some address) endpoint = IsAt address endpoint
 
 -- Whoever sends a datagram decides, the caller first: a capture at the gateway has what they send to the gateway.
 abbrev pub IsRole : Option Address → Option Address → DatagramValue → Role → Type 0
-IsRole caller called datagram FromCaller = IsAtKnown caller datagram.source × (is_in_fragments datagram ≡ false)
-IsRole caller called datagram FromCalled =
-    (IsAtKnown caller datagram.source → ⊥) × IsAtKnown called datagram.source × (is_in_fragments datagram ≡ false)
-IsRole caller called datagram CallerInFragments = IsAtKnown caller datagram.source × (is_in_fragments datagram ≡ true)
-IsRole caller called datagram CalledInFragments =
-    (IsAtKnown caller datagram.source → ⊥) × IsAtKnown called datagram.source × (is_in_fragments datagram ≡ true)
-IsRole caller called datagram ToCaller =
-    (IsAtKnown caller datagram.source → ⊥) × (IsAtKnown called datagram.source → ⊥) × IsAtKnown caller datagram.destination
+IsRole caller called datagram FromCaller =
+    IsAtKnown caller datagram.source × (is_in_fragments datagram ≡ false)
+IsRole caller called datagram FromCalled = (IsAtKnown caller datagram.source → ⊥)
+    × IsAtKnown called datagram.source × (is_in_fragments datagram ≡ false)
+IsRole caller called datagram CallerInFragments =
+    IsAtKnown caller datagram.source × (is_in_fragments datagram ≡ true)
+IsRole caller called datagram CalledInFragments = (IsAtKnown caller datagram.source → ⊥)
+    × IsAtKnown called datagram.source × (is_in_fragments datagram ≡ true)
+IsRole caller called datagram ToCaller = (IsAtKnown caller datagram.source → ⊥)
+    × (IsAtKnown called datagram.source → ⊥) × IsAtKnown caller datagram.destination
 IsRole caller called datagram ToCalled =
     (IsAtKnown caller datagram.source → ⊥) × (IsAtKnown called datagram.source → ⊥)
     × (IsAtKnown caller datagram.destination → ⊥) × IsAtKnown called datagram.destination

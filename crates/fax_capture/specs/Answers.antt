@@ -20,7 +20,8 @@ most_octets = 16777216
 
 -- So far a capture was read, record by record, and its datagrams were told: what is told of the capture then, and the octets
 -- after.
-pub record ToldSoFar (options : CaptureOptions) (input : List ℕ) (head : HeadValue) (after : List ℕ) (told : ScriptSoFar) : Type 0 where
+pub record ToldSoFar (options : CaptureOptions)
+    (input : List ℕ) (head : HeadValue) (after : List ℕ) (told : ScriptSoFar) : Type 0 where
   pub found : List (Option TimedPacket)
   pub follow : Follow untold_head input found head after
   pub tells : TellsAll options (only_ring options) found told
@@ -40,17 +41,20 @@ LacksAt told head octets = (captured : TimedPacket) × (next : HeadValue) × (af
 -- The record at the front of octets is refused, or some of its datagram is lacking; that octets lack at the end is another fault.
 abbrev pub Refuses : ScriptSoFar → HeadValue → List ℕ → CaptureFault → Type 0
 Refuses told head octets capture.Cut = ⊥
-Refuses told head octets capture.Snapped = (read_of (record_at head octets) ≡ Err capture.Snapped) ⊎ LacksAt told head octets
+Refuses told head octets capture.Snapped =
+    (read_of (record_at head octets) ≡ Err capture.Snapped) ⊎ LacksAt told head octets
 Refuses told head octets fault = read_of (record_at head octets) ≡ Err fault
 
 -- the capture ends inside a record, or before it begins
 abbrev pub Ends : HeadValue → List ℕ → CaptureFault → Type 0
-Ends head left fault = (read_of (record_at head left) ≡ Err capture.Cut) × (fault_of_end head.kind left ≡ Some fault)
+Ends head left fault =
+    (read_of (record_at head left) ≡ Err capture.Cut) × (fault_of_end head.kind left ≡ Some fault)
 
 -- a fault of the capture is met after the records that were read
 abbrev pub FailsCapture : CaptureOptions → List ℕ → CaptureFault → Type 0
-FailsCapture options input fault = (head : HeadValue) × (after : List ℕ) × (told : ScriptSoFar)
-    × ToldSoFar options input head after told × (Refuses told head after fault ⊎ Ends head after fault)
+FailsCapture options input fault = (head : HeadValue)
+    × (after : List ℕ) × (told : ScriptSoFar) × ToldSoFar options input head after told
+    × (Refuses told head after fault ⊎ Ends head after fault)
 
 -- Memory may be wanting at any input.
 abbrev pub FailsReading : CaptureOptions → List ℕ → CaptureFault → Type 0
@@ -61,16 +65,17 @@ FailsReading options input fault = FailsCapture options input fault
 -- that is asked for; or the script of so much of it is too long
 abbrev pub Fails : CaptureOptions → List ℕ → ScriptFault → Type 0
 Fails options input (Capture fault) = FailsReading options input fault
-Fails options input (NoAddress counts) = (told : ScriptSoFar) × ToldWhole options input told × (told.ticks ≡ 0)
-    × (told.counts.of_other_calls ≡ 0) × (counts ≡ told.counts)
-Fails options input (NoCall counts) = (told : ScriptSoFar) × ToldWhole options input told × (told.ticks ≡ 0)
-    × (0 < told.counts.of_other_calls) × (counts ≡ told.counts)
-Fails options input TooLong = (head : HeadValue) × (after : List ℕ) × (told : ScriptSoFar)
-    × ToldSoFar options input head after told × (most_octets < length (text_of_lines (script_lines told)))
+Fails options input (NoAddress counts) = (told : ScriptSoFar) × ToldWhole options input told
+    × (told.ticks ≡ 0) × (told.counts.of_other_calls ≡ 0) × (counts ≡ told.counts)
+Fails options input (NoCall counts) = (told : ScriptSoFar) × ToldWhole options input told
+    × (told.ticks ≡ 0) × (0 < told.counts.of_other_calls) × (counts ≡ told.counts)
+Fails options input TooLong = (head : HeadValue)
+    × (after : List ℕ) × (told : ScriptSoFar) × ToldSoFar options input head after told
+    × (most_octets < length (text_of_lines (script_lines told)))
 
 abbrev pub Allows : CaptureOptions → List ℕ → Outcome → Type 0
-Allows options input (Ok made) = (told : ScriptSoFar) × ToldWhole options input told × (0 < told.ticks)
-    × (made.0 ≡ text_of_lines (script_lines told)) × (made.1 ≡ told.counts)
+Allows options input (Ok made) = (told : ScriptSoFar) × ToldWhole options input told
+    × (0 < told.ticks) × (made.0 ≡ text_of_lines (script_lines told)) × (made.1 ≡ told.counts)
 Allows options input (Err fault) = Fails options input fault
 
 abbrev pub capture_fault_line : CaptureFault → List ℕ
@@ -109,7 +114,8 @@ counts_of (Ok made) = Some made.1
 counts_of (Err fault) = fault_counts fault
 
 -- The exit status, the counts and the text that a run may answer to an input, for these options.
-pub record Answers (options : CaptureOptions) (input : List ℕ) (status : ℕ) (counts : Option Counts) (text : List ℕ) : Type 0 where
+pub record Answers (options : CaptureOptions)
+    (input : List ℕ) (status : ℕ) (counts : Option Counts) (text : List ℕ) : Type 0 where
   pub outcome : Outcome
   pub allowed : Allows options input outcome
   pub status_is : status ≡ status_of outcome

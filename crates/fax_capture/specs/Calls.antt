@@ -27,7 +27,8 @@ lateness number = if number == 0 then 0 else 8
 -- A number lies further below the last one, and not so far that the numbers only went on from 65,535 to 0.
 abbrev pub starts_over : Option ℕ → ℕ → Bool
 starts_over None number = false
-starts_over (Some last) number = nat_lt (number + lateness number) last && nat_lt last (number + 65528)
+starts_over (Some last) number =
+    nat_lt (number + lateness number) last && nat_lt last (number + 65528)
 
 -- More than 60 s passed, in nanoseconds.
 abbrev pub is_silence : Option ℕ → Option ℕ → Bool
@@ -37,8 +38,10 @@ is_silence last time = false
 -- A call begins anew where the numbers start over of what comes from the caller, or of what goes to it, or after more than 60 s in
 -- which nothing did.
 abbrev pub begins_anew : CallingLeg → Role → Option ℕ → Option ℕ → Bool
-begins_anew leg FromCaller (Some number) time = starts_over leg.from_caller number || is_silence leg.time time
-begins_anew leg ToCaller (Some number) time = starts_over leg.to_caller number || is_silence leg.time time
+begins_anew leg FromCaller (Some number) time =
+    starts_over leg.from_caller number || is_silence leg.time time
+begins_anew leg ToCaller (Some number) time =
+    starts_over leg.to_caller number || is_silence leg.time time
 begins_anew leg role number time = false
 
 -- With a call the numbers of the other way begin anew too.
@@ -48,8 +51,10 @@ kept false last = last
 
 -- what was heard last, after a datagram with which a call begins, or goes on
 abbrev pub leg_with : CallingLeg → Role → Option ℕ → Option ℕ → Bool → CallingLeg
-leg_with leg FromCaller (Some number) time begins = record { from_caller = Some number; to_caller = kept begins leg.to_caller; time = time }
-leg_with leg ToCaller (Some number) time begins = record { from_caller = kept begins leg.from_caller; to_caller = Some number; time = time }
+leg_with leg FromCaller (Some number) time begins =
+    record { from_caller = Some number; to_caller = kept begins leg.to_caller; time = time }
+leg_with leg ToCaller (Some number) time begins =
+    record { from_caller = kept begins leg.from_caller; to_caller = Some number; time = time }
 leg_with leg role number time begins = leg
 
 -- the call that is asked for, counted from 1, or each

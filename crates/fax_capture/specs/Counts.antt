@@ -8,7 +8,16 @@ use Rattle.fax_capture.specs.Signals.{seems_exchanged}
 
 -- A capture begins with its first call.
 abbrev pub no_counts : Machines → Counts
-no_counts machines = record { machines = machines; from_caller = 0; from_called = 0; in_fragments = 0; passed_over = 0; calls = 1; of_other_calls = 0; exchanged = 0 }
+no_counts machines = record {
+  machines = machines;
+  from_caller = 0;
+  from_called = 0;
+  in_fragments = 0;
+  passed_over = 0;
+  calls = 1;
+  of_other_calls = 0;
+  exchanged = 0;
+}
 
 -- one more, of as many as 64 bits count
 abbrev pub one_more : ℕ → ℕ
@@ -30,7 +39,9 @@ counts_with counts Unrelated = record counts { passed_over = one_more counts.pas
 
 -- one datagram more that is told
 abbrev pub counts_told : Counts → Role → List ℕ → Counts
-counts_told counts role octets = record (counts_with counts role) { exchanged = one_more_if (seems_exchanged role octets) counts.exchanged }
+counts_told counts role octets = record (counts_with counts role) {
+  exchanged = one_more_if (seems_exchanged role octets) counts.exchanged;
+}
 
 -- One of the datagrams in fragments is put together. Of as many as 64 bits count it is not known how many are left.
 abbrev pub one_less : ℕ → ℕ

@@ -40,9 +40,10 @@ under_way_with old role datagram = old
 
 -- A fragment goes on where those before it end. No datagram of UDP has more than 65,527 octets of data.
 abbrev pub goes_on : UnfinishedValue → FragmentValue → Bool
-goes_on unfinished fragment =
-    bytes_eq unfinished.source fragment.source && (bytes_eq unfinished.destination fragment.destination && ((unfinished.number == fragment.number)
-    && ((length unfinished.octets == fragment.place) && not (nat_lt 65527 (fragment.place + length fragment.octets)))))
+goes_on unfinished fragment = bytes_eq unfinished.source fragment.source
+    && (bytes_eq unfinished.destination fragment.destination
+    && ((unfinished.number == fragment.number) && ((length unfinished.octets == fragment.place)
+    && not (nat_lt 65527 (fragment.place + length fragment.octets)))))
 
 -- with its last fragment a datagram is whole, where it has all octets that its header counts
 abbrev pub whole_of : UnfinishedValue → Option WholeValue
@@ -58,7 +59,8 @@ abbrev pub after_fragment : UnfinishedValue → Bool → Option UnfinishedValue 
 after_fragment unfinished false = (Some unfinished, None)
 after_fragment unfinished true = (None, whole_of unfinished)
 
-abbrev pub put_together : Option UnfinishedValue → FragmentValue → Option UnfinishedValue × Option WholeValue
+abbrev pub put_together : Option UnfinishedValue
+    → FragmentValue → Option UnfinishedValue × Option WholeValue
 put_together None fragment = (None, None)
-put_together (Some unfinished) fragment =
-    if goes_on unfinished fragment then after_fragment (grown unfinished fragment) fragment.is_last else (Some unfinished, None)
+put_together (Some unfinished) fragment = if goes_on unfinished fragment
+    then after_fragment (grown unfinished fragment) fragment.is_last else (Some unfinished, None)

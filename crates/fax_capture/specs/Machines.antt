@@ -14,16 +14,19 @@ use Rattle.fax_capture.specs.Signals.{ced, cng, is_primary}
 
 -- from whom to whom a call goes, as its CNG tells, or its CED from the other end
 abbrev pub call_of : DatagramValue → Option (EndpointValue × EndpointValue)
-call_of datagram =
-    if is_primary cng (datagram_of datagram.octets) then Some (datagram.source, datagram.destination)
-    else if is_primary ced (datagram_of datagram.octets) then Some (datagram.destination, datagram.source)
-    else None
+call_of datagram = if is_primary cng (datagram_of datagram.octets) then Some (
+  datagram.source,
+  datagram.destination,
+) else if is_primary ced (datagram_of datagram.octets)
+    then Some (datagram.destination, datagram.source) else None
 
 abbrev pub host_of : List ℕ → Option Host
-host_of octets = if length octets == 4 then Some (V4 octets) else if length octets == 16 then Some (V6 octets) else None
+host_of octets = if length octets == 4
+    then Some (V4 octets) else if length octets == 16 then Some (V6 octets) else None
 
 abbrev pub address_of : EndpointValue → Option Address
-address_of endpoint = option_map (λ host. record { host = host; port = Some endpoint.port }) (host_of endpoint.host)
+address_of endpoint =
+    option_map (λ host. record { host = host; port = Some endpoint.port }) (host_of endpoint.host)
 
 abbrev pub caller_found : Option Address → Option Host → Machines
 caller_found (Some caller) (Some gateway) = CallerKnown caller gateway
@@ -38,8 +41,8 @@ called_found caller gateway None = CallerKnown caller gateway
 abbrev pub machines_by : Machines → EndpointValue → EndpointValue → Machines
 machines_by (Known caller called) from to = Known caller called
 machines_by (CallerKnown caller gateway) from to =
-    if bytes_eq (host_octets gateway) from.host && not (is_at caller from) then called_found caller gateway (address_of to)
-    else CallerKnown caller gateway
+    if bytes_eq (host_octets gateway) from.host && not (is_at caller from)
+    then called_found caller gateway (address_of to) else CallerKnown caller gateway
 machines_by Unknown from to = caller_found (address_of from) (host_of to.host)
 
 abbrev pub machines_in : Machines → Option (EndpointValue × EndpointValue) → Machines

@@ -28,7 +28,8 @@ abbrev pub EachSoFar : Script → (ScriptSoFar → Type 0) → Type 0
 EachSoFar script IsSo = (told : ScriptSoFar) → Holds script told → IsSo told
 
 -- Records at the front of octets were read, and told: what is told of the capture then, the octets after, and the script.
-pub record TakesRecords (options : CaptureOptions) (old : HeadValue) (octets : List ℕ) (told : ScriptSoFar) (new : HeadValue) (after : List ℕ) (script : Script) : Type 0 where
+pub record TakesRecords (options : CaptureOptions) (old : HeadValue) (octets : List ℕ)
+    (told : ScriptSoFar) (new : HeadValue) (after : List ℕ) (script : Script) : Type 0 where
   pub found : List (Option TimedPacket)
   pub next : ScriptSoFar
   pub follow : Follow old octets found new after
@@ -36,7 +37,8 @@ pub record TakesRecords (options : CaptureOptions) (old : HeadValue) (octets : L
   pub holds : Holds script next
 
 -- and the octets after end inside of a record
-pub record TakesAllRecords (options : CaptureOptions) (old : HeadValue) (octets : List ℕ) (told : ScriptSoFar) (new : HeadValue) (left : List ℕ) (script : Script) : Type 0 where
+pub record TakesAllRecords (options : CaptureOptions) (old : HeadValue) (octets : List ℕ)
+    (told : ScriptSoFar) (new : HeadValue) (left : List ℕ) (script : Script) : Type 0 where
   pub took : TakesRecords options old octets told new left script
   pub waits : read_of (record_at new left) ≡ Err Cut
 
@@ -49,26 +51,30 @@ BreaksAt head octets told (NoCall counts) = ⊥
 BreaksAt head octets told TooLong = most_octets < length (text_of_lines (script_lines told))
 
 abbrev pub Breaks : CaptureOptions → HeadValue → List ℕ → ScriptSoFar → ScriptFault → Type 0
-Breaks options old octets told fault = (found : List (Option TimedPacket)) × (head : HeadValue) × (after : List ℕ) × (next : ScriptSoFar)
-    × Follow old octets found head after × TellsAll options told found next × BreaksAt head after next fault
+Breaks options old octets told fault = (found : List (Option TimedPacket)) × (head : HeadValue)
+    × (after : List ℕ) × (next : ScriptSoFar) × Follow old octets found head after
+    × TellsAll options told found next × BreaksAt head after next fault
 
 -- a datagram is not told: some of it is lacking, or with it the text stops to grow
 abbrev pub UntoldIn : CaptureOptions → ScriptSoFar → Option ℕ → Found → ScriptFault → Type 0
-UntoldIn options told time found fault = (IsLackingIn told found × (fault ≡ Capture Snapped))
-    ⊎ ((next : ScriptSoFar) × TellsPacket options told time found next × Stops fault (text_of_lines next.lines))
+UntoldIn options told time found fault =
+    (IsLackingIn told found × (fault ≡ Capture Snapped)) ⊎ ((next : ScriptSoFar)
+    × TellsPacket options told time found next × Stops fault (text_of_lines next.lines))
 
 abbrev pub Untold : CaptureOptions → ScriptSoFar → Option TimedPacket → ScriptFault → Type 0
 Untold options told None fault = ⊥
 Untold options told (Some captured) fault = UntoldIn options told captured.time captured.found fault
 
 -- All whole records of what was read of a capture were told: what is told of the capture, the script, and the octets that are left.
-pub record HasRead (options : CaptureOptions) (read : List ℕ) (head : HeadValue) (script : Script) (left : List ℕ) : Type 0 where
+pub record HasRead (options : CaptureOptions)
+    (read : List ℕ) (head : HeadValue) (script : Script) (left : List ℕ) : Type 0 where
   pub few : script.ticks ≤ 2 ^ 103
   pub took : TakesRecords options untold_head read (only_ring options) head left script
   pub waits : read_of (record_at head left) ≡ Err Cut
 
 -- this is so of all octets that were read, with which it stands so
-abbrev pub EachRead : CaptureOptions → HeadValue → Script → (left : List ℕ) → (List ℕ → Type 0) → Type 0
+abbrev pub EachRead : CaptureOptions
+    → HeadValue → Script → (left : List ℕ) → (List ℕ → Type 0) → Type 0
 EachRead options head script left IsSo =
     (read : List ℕ) → HasRead options read head script left → IsSo read
 

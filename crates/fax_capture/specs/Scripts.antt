@@ -50,7 +50,14 @@ pub record ScriptSoFar : Type 0 where
 
 -- it rings
 abbrev pub only_ring : CaptureOptions → ScriptSoFar
-only_ring options = record { start = None; ticks = 0; lines = codes "R" ∷ []; leg = silent_leg; under_way = None; counts = no_counts options.machines }
+only_ring options = record {
+  start = None;
+  ticks = 0;
+  lines = codes "R" ∷ [];
+  leg = silent_leg;
+  under_way = None;
+  counts = no_counts options.machines;
+}
 
 abbrev pub start_of : Option ℕ → Option ℕ → Option ℕ
 start_of None time = time
@@ -73,7 +80,8 @@ ticks_to told time = max told.ticks (tick_of (start_of told.start time) time + 1
 -- first answer comes at that tick.
 abbrev pub lines_to : ScriptSoFar → Option ℕ → List (List ℕ) → List (List ℕ)
 lines_to told time rings =
-    ((told.lines ++ tick_lines told.ticks (ticks_before told time - told.ticks)) ++ rings) ++ tick_lines (ticks_before told time) (ticks_to told time - ticks_before told time)
+    ((told.lines ++ tick_lines told.ticks (ticks_before told time - told.ticks)) ++ rings)
+    ++ tick_lines (ticks_before told time) (ticks_to told time - ticks_before told time)
 
 abbrev pub told_with : ScriptSoFar → Option ℕ → List ℕ → Role → List (List ℕ) → ScriptSoFar
 told_with told time octets role rings = record told {
@@ -96,48 +104,59 @@ heard_with told time octets role = record told {
 
 -- a datagram of the call that is on: where another one is asked for it is counted alone
 abbrev pub told_in : Option ℕ → ScriptSoFar → Option ℕ → List ℕ → Role → Bool → ScriptSoFar
-told_in asked told time octets role begins =
-    if is_asked asked told.counts.calls then told_with told time octets role (ring_lines asked begins)
+told_in asked told time octets role begins = if is_asked asked told.counts.calls
+    then told_with told time octets role (ring_lines asked begins)
     else record told { counts = counts_of_other told.counts }
 
 -- one datagram more, which was captured at a time and has these octets; one that is passed over is counted alone
 abbrev pub told_of : Option ℕ → ScriptSoFar → Option ℕ → List ℕ → Role → ScriptSoFar
 told_of asked told time octets role =
-    if is_passed_over role then record told { counts = counts_with told.counts role }
-    else told_in asked (heard_with told time octets role) time octets role (begins_with told time octets role)
+    if is_passed_over role then record told { counts = counts_with told.counts role } else told_in
+    asked (heard_with told time octets role) time octets role (begins_with told time octets role)
 
 -- Machines may be found by a datagram.
 abbrev pub found_with : ScriptSoFar → DatagramValue → ScriptSoFar
-found_with told datagram = record told { counts = record told.counts { machines = machines_with told.counts.machines datagram } }
+found_with told datagram = record told {
+  counts = record told.counts { machines = machines_with told.counts.machines datagram };
+}
 
 -- what a datagram is to the machines that are known
 abbrev pub IsRoleIn : ScriptSoFar → DatagramValue → Role → Type 0
-IsRoleIn told datagram role = IsRole (caller_of told.counts.machines) (called_of told.counts.machines) datagram role
+IsRoleIn told datagram role =
+    IsRole (caller_of told.counts.machines) (called_of told.counts.machines) datagram role
 
 -- A datagram may begin in it, as the first of fragments.
 abbrev pub begun_with : ScriptSoFar → DatagramValue → Role → ScriptSoFar
-begun_with told datagram role = record told { under_way = under_way_with told.under_way role datagram }
+begun_with told datagram role =
+    record told { under_way = under_way_with told.under_way role datagram }
 
 abbrev pub Tells : CaptureOptions → ScriptSoFar → Option ℕ → DatagramValue → ScriptSoFar → Type 0
-Tells options old time datagram new = (role : Role) × IsRoleIn (found_with old datagram) datagram role × (lacks role datagram.is_whole ≡ false)
-    × (new ≡ told_of options.call (begun_with (found_with old datagram) datagram role) time datagram.octets role)
+Tells options old time datagram new =
+    (role : Role) × IsRoleIn (found_with old datagram) datagram role
+    × (lacks role datagram.is_whole ≡ false) × (new ≡ told_of
+    options.call (begun_with (found_with old datagram) datagram role) time datagram.octets role)
 
 -- one fragment more: with the last one the datagram that is put together is told, at its time
 abbrev pub told_whole : Option ℕ → ScriptSoFar → Option ℕ → Option WholeValue → ScriptSoFar
 told_whole asked told time None = told
-told_whole asked told time (Some whole) = told_of asked (record told { counts = counts_of_whole told.counts }) time whole.octets whole.role
+told_whole asked told time (Some whole) = told_of asked (record told {
+  counts = counts_of_whole told.counts;
+}) time whole.octets whole.role
 
 abbrev pub told_fragment : Option ℕ → ScriptSoFar → Option ℕ → FragmentValue → ScriptSoFar
 told_fragment asked told time fragment =
-    told_whole asked (record told { under_way = (put_together told.under_way fragment).0 }) time (put_together told.under_way fragment).1
+    told_whole asked (record told { under_way = (put_together told.under_way fragment).0 })
+    time (put_together told.under_way fragment).1
 
 abbrev pub TellsPacket : CaptureOptions → ScriptSoFar → Option ℕ → Found → ScriptSoFar → Type 0
 TellsPacket options old time (Datagram datagram) new = Tells options old time datagram new
-TellsPacket options old time (Fragment fragment) new = new ≡ told_fragment options.call old time fragment
+TellsPacket options old time (Fragment fragment) new =
+    new ≡ told_fragment options.call old time fragment
 
 -- some is lacking of a datagram that one of the two sent, so that it is not told
 abbrev pub IsLackingIn : ScriptSoFar → Found → Type 0
-IsLackingIn told (Datagram datagram) = (role : Role) × IsRoleIn (found_with told datagram) datagram role × (lacks role datagram.is_whole ≡ true)
+IsLackingIn told (Datagram datagram) = (role : Role)
+    × IsRoleIn (found_with told datagram) datagram role × (lacks role datagram.is_whole ≡ true)
 IsLackingIn told (Fragment fragment) = ⊥
 
 abbrev pub IsLacking : ScriptSoFar → TimedPacket → Type 0
@@ -146,11 +165,14 @@ IsLacking told captured = IsLackingIn told captured.found
 -- what was found in the records of a capture, one by one
 abbrev pub TellsFound : CaptureOptions → ScriptSoFar → Option TimedPacket → ScriptSoFar → Type 0
 TellsFound options old None new = new ≡ old
-TellsFound options old (Some captured) new = TellsPacket options old captured.time captured.found new
+TellsFound options old (Some captured) new =
+    TellsPacket options old captured.time captured.found new
 
-abbrev pub TellsAll : CaptureOptions → ScriptSoFar → List (Option TimedPacket) → ScriptSoFar → Type 0
+abbrev pub TellsAll : CaptureOptions
+    → ScriptSoFar → List (Option TimedPacket) → ScriptSoFar → Type 0
 TellsAll options old [] new = new ≡ old
-TellsAll options old (found ∷ more) new = (next : ScriptSoFar) × TellsFound options old found next × TellsAll options next more new
+TellsAll options old (found ∷ more) new =
+    (next : ScriptSoFar) × TellsFound options old found next × TellsAll options next more new
 
 -- 40 s after the last tick of a datagram: a thousand ticks more
 abbrev pub script_lines : ScriptSoFar → List (List ℕ)

@@ -25,7 +25,8 @@ pub(crate) enum Answer {
 impl Answer {
     /// Writes the text, and hands it on. It takes no memory.
     pub fn write<O: Sink>(&self, sink: &mut O) -> Result<(), WriteFault>
-        ensures text { OnOk result (Appends (O.contents sink.old) (O.contents sink.new) (text_of_answer self.now)) }
+        ensures text { OnOk result (Appends (O.contents sink.old)
+            (O.contents sink.new) (text_of_answer self.now)) }
         ensures failed { O.failed sink.new ≡ failed_after_write (O.failed sink.old) result }
         ensures handed_on { OnOk result (O.held_back sink.new ≡ false) }
     {
@@ -63,8 +64,11 @@ pub(crate) fn answer_to<I: Source>(
     source: &mut I,
     options: &CaptureOptions,
 ) -> Option<Answer>
-    ensures answers { IfSome result (λ answer. IfSome (I.remaining source.old) (λ input. Answers options.now input (status_of_answer answer) (counts_of_answer answer) (text_of_answer answer))) }
-    ensures failed { result ≡ None → I.reads source.old ≡ 0 → (I.failed source.new ≡ true) ⊎ (I.reads source.new ≡ greatest_count) }
+    ensures answers { IfSome result (λ answer. IfSome (I.remaining source.old)
+        (λ input. Answers options.now input (status_of_answer answer)
+        (counts_of_answer answer) (text_of_answer answer))) }
+    ensures failed { result ≡ None → I.reads source.old ≡ 0
+        → (I.failed source.new ≡ true) ⊎ (I.reads source.new ≡ greatest_count) }
     ensures unfailed { result ≢ None → I.failed source.new ≡ I.failed source.old }
 {
     match script_of(alloc, source, options) {

@@ -28,7 +28,14 @@ impl Model for Unfinished {
 
     ghost Value = { UnfinishedValue };
 
-    ghost view = { λ u. record { source = u.source.items; destination = u.destination.items; number = u.number; role = u.role; length = u.length; octets = u.octets.items } };
+    ghost view = { λ u. record {
+      source = u.source.items;
+      destination = u.destination.items;
+      number = u.number;
+      role = u.role;
+      length = u.length;
+      octets = u.octets.items;
+    } };
 }
 
 /// A datagram that was put together: from whom it is, and its data.

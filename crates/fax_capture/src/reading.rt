@@ -29,10 +29,14 @@ pub(crate) fn script_of<I: Source>(
     source: &mut I,
     options: &CaptureOptions,
 ) -> Result<Made, ReadingFault>
-    ensures ok { IfOk result (λ made. IfSome (I.remaining source.old) (λ input. Allows options.now input (Ok (made.text.items, made.counts)))) }
-    ensures err { IfErr result (λ e. IfSome (I.remaining source.old) (λ input. FailsSo options.now input e)) }
-    ensures failed { result ≡ Err ReadingFault.Stream → I.reads source.old ≡ 0 → (I.failed source.new ≡ true) ⊎ (I.reads source.new ≡ greatest_count) }
-    ensures unfailed { result ≢ Err ReadingFault.Stream → I.failed source.new ≡ I.failed source.old }
+    ensures ok { IfOk result (λ made. IfSome (I.remaining source.old)
+        (λ input. Allows options.now input (Ok (made.text.items, made.counts)))) }
+    ensures err { IfErr result
+        (λ e. IfSome (I.remaining source.old) (λ input. FailsSo options.now input e)) }
+    ensures failed { result ≡ Err ReadingFault.Stream → I.reads source.old ≡ 0
+        → (I.failed source.new ≡ true) ⊎ (I.reads source.new ≡ greatest_count) }
+    ensures unfailed { result ≢ Err ReadingFault.Stream
+        → I.failed source.new ≡ I.failed source.old }
 {
     let mut capture = Capture::new(alloc);
     let mut script = Script::new(alloc, options.machines)?;
@@ -93,9 +97,8 @@ fn take_records(
 ) -> Result<Vec<u8>, ScriptFault>
     requires few { script.old.ticks ≤ 2 ^ 103 }
     ensures few { OnOk result (script.new.ticks ≤ 2 ^ 103) }
-    ensures ok { EachSoFar script.old (λ told.
-        IfOk result (λ left.
-        TakesAllRecords options.now capture.old octets.now told capture.new left.items script.new)) }
+    ensures ok { EachSoFar script.old (λ told. IfOk result (λ left. TakesAllRecords options.now
+        capture.old octets.now told capture.new left.items script.new)) }
     ensures err { EachSoFar script.old (λ told.
         IfErr result (λ e. Breaks options.now capture.old octets.now told e)) }
 {

@@ -30,10 +30,19 @@ pub fn run_capture<I: Source, O: Sink>(
 ) -> CaptureRun
     // Where the input is known, what is written is the answer to it, unless a read or a write failed; in which pieces it came is
     // all one.
-    ensures answers { result.status ≢ 4 → IfSome (I.remaining source.old) (λ input. (text : List ℕ)
-        × Answers options.now input result.status result.counts text × Appends (O.contents sink.old) (O.contents sink.new) text) }
-    ensures run { IsLongRun record { remaining = I.remaining; reads = I.reads; given = I.given; failed = I.failed }
-        record { contents = O.contents; failed = O.failed; held_back = O.held_back } source.old source.new sink.old sink.new result.status }
+    ensures answers { result.status ≢ 4 → IfSome (I.remaining source.old)
+        (λ input. (text : List ℕ) × Answers options.now input result.status result.counts text
+        × Appends (O.contents sink.old) (O.contents sink.new) text) }
+    ensures run { IsLongRun record {
+      remaining = I.remaining;
+      reads = I.reads;
+      given = I.given;
+      failed = I.failed;
+    } record {
+      contents = O.contents;
+      failed = O.failed;
+      held_back = O.held_back;
+    } source.old source.new sink.old sink.new result.status }
 {
     let Some(answer) = answer_to(alloc, source, options) else {
         return failed();

@@ -64,7 +64,8 @@ impl Script {
     /// It rings.
     pub fn new(alloc: Global, machines: Machines) -> Result<Script, NoMemory>
         ensures few { IfOk result (λ script. script.ticks ≤ 2 ^ 103) }
-        ensures ring { (options : CaptureOptions) → options.machines ≡ machines → IfOk result (λ script. Holds script (only_ring options)) }
+        ensures ring { (options : CaptureOptions) → options.machines ≡ machines
+            → IfOk result (λ script. Holds script (only_ring options)) }
     {
         Ok(Script {
             start: None,
@@ -242,9 +243,9 @@ impl Script {
         ensures ok { EachSoFar self.old (λ told.
             (lines : List (List ℕ)) → rings.now ≡ text_of_lines lines
             → OnOk result (Holds self.new (told_with told time octets.now role lines))) }
-        ensures err { EachSoFar self.old (λ told.
-            (lines : List (List ℕ)) → rings.now ≡ text_of_lines lines
-            → IfErr result (λ e. Stops e (text_of_lines (told_with told time octets.now role lines).lines))) }
+        ensures err { EachSoFar self.old
+            (λ told. (lines : List (List ℕ)) → rings.now ≡ text_of_lines lines → IfErr result
+            (λ e. Stops e (text_of_lines (told_with told time octets.now role lines).lines))) }
     {
         let start = start_at(self.start, time);
         let tick = tick_at(start, time);
@@ -313,8 +314,10 @@ fn tick_at(start: Option<u128>, time: Option<u128>) -> u128
 fn push_ticks(alloc: Global, text: &mut Vec<u8>, from: u128, to: u128) -> Result<(), ScriptFault>
     requires few { to ≤ 2 ^ 104 }
     requires order { from ≤ to }
-    ensures ok { OnOk result (text.new.items ≡ text.old.items ++ text_of_lines (tick_lines from (to - from))) }
-    ensures err { IfErr result (λ e. Stops e (text.old.items ++ text_of_lines (tick_lines from (to - from)))) }
+    ensures ok { OnOk result (text.new.items
+        ≡ text.old.items ++ text_of_lines (tick_lines from (to - from))) }
+    ensures err { IfErr result
+        (λ e. Stops e (text.old.items ++ text_of_lines (tick_lines from (to - from)))) }
 {
     for tick in from..to {
         push_tick(alloc, text, tick)?;
@@ -351,8 +354,10 @@ fn push_datagram(
     role: Role,
     octets: &[u8],
 ) -> Result<(), ScriptFault>
-    ensures ok { OnOk result (text.new.items ≡ text.old.items ++ text_of_lines (role_lines role octets.now)) }
-    ensures err { IfErr result (λ e. Stops e (text.old.items ++ text_of_lines (role_lines role octets.now))) }
+    ensures ok { OnOk result (text.new.items
+        ≡ text.old.items ++ text_of_lines (role_lines role octets.now)) }
+    ensures err { IfErr result
+        (λ e. Stops e (text.old.items ++ text_of_lines (role_lines role octets.now))) }
 {
     match role {
         Role::FromCaller => push_octets(alloc, text, b"A ", octets),
@@ -372,8 +377,10 @@ fn push_octets(
     letter: &[u8],
     octets: &[u8],
 ) -> Result<(), ScriptFault>
-    ensures ok { OnOk result (text.new.items ≡ text.old.items ++ ((letter.now ++ encode_lower octets.now) ++ 10 ∷ [])) }
-    ensures err { IfErr result (λ e. Stops e (text.old.items ++ ((letter.now ++ encode_lower octets.now) ++ 10 ∷ []))) }
+    ensures ok { OnOk result (text.new.items
+        ≡ text.old.items ++ ((letter.now ++ encode_lower octets.now) ++ 10 ∷ [])) }
+    ensures err { IfErr result
+        (λ e. Stops e (text.old.items ++ ((letter.now ++ encode_lower octets.now) ++ 10 ∷ []))) }
 {
     let line = line_of_octets(alloc, letter, octets)?;
     push(text, line.as_slice())
@@ -381,7 +388,8 @@ fn push_octets(
 
 /// A letter and a space, octets as hex text, in lower case, and a line feed.
 fn line_of_octets(alloc: Global, letter: &[u8], octets: &[u8]) -> Result<Vec<u8>, NoMemory>
-    ensures { IfOk result (λ line. line.items ≡ (letter.now ++ encode_lower octets.now) ++ 10 ∷ []) }
+    ensures { IfOk result
+        (λ line. line.items ≡ (letter.now ++ encode_lower octets.now) ++ 10 ∷ []) }
 {
     let digits = hex::encode(alloc, octets)?;
     let mut line = Vec::from_slice(alloc, letter)?;

@@ -47,7 +47,13 @@ silent = record { said = nothing_said; told = nothing_told; watches = None }
 
 -- a client that wants events: those that waited already go on waiting
 abbrev pub wanting : ClientValue → ClientValue
-wanting client = record client { told = record { due = client.told.due; events = Some (unwrap_or client.told.events []); lost = client.told.lost } }
+wanting client = record client {
+  told = record {
+    due = client.told.due;
+    events = Some (unwrap_or client.told.events []);
+    lost = client.told.lost;
+  };
+}
 
 -- a client that watches this line, and no other
 abbrev pub watching : (line : ℕ) → ClientValue → ClientValue
@@ -55,7 +61,8 @@ watching line client = record client { watches = Some line }
 
 -- standard input and output: one client, which wants events
 abbrev pub standard_alone : ClientsValue
-standard_alone = record { has_socket = false; journal = None; clients = wanting silent ∷ []; lost = 0 }
+standard_alone =
+    record { has_socket = false; journal = None; clients = wanting silent ∷ []; lost = 0 }
 
 -- a record of events in which nothing is
 abbrev pub new_journal : ClientOutput
@@ -98,11 +105,19 @@ changed_at change zero (client ∷ others) = change client ∷ others
 changed_at change (suc place) (client ∷ others) = client ∷ changed_at change place others
 
 abbrev pub with_client : (ClientValue → ClientValue) → ℕ → ClientsValue → ClientsValue
-with_client change place clients = record { has_socket = clients.has_socket; journal = clients.journal; clients = changed_at change place clients.clients; lost = clients.lost }
+with_client change place clients =
+    record {
+      has_socket = clients.has_socket;
+      journal = clients.journal;
+      clients = changed_at change place clients.clients;
+      lost = clients.lost;
+    }
 
 -- the text is what a client is told now, from its beginning
 abbrev pub answered : List ℕ → ClientValue → ClientValue
-answered text client = record client { told = record { due = text; events = client.told.events; lost = client.told.lost } }
+answered text client = record client {
+  told = record { due = text; events = client.told.events; lost = client.told.lost };
+}
 
 -- ---- what is heard
 
@@ -136,8 +151,10 @@ pub record HearsLine (heard : HeardLine) (old new : ClientValue) : Type 0 where
 
 -- The client at a place is the first of which a line is heard, and no one after it was asked.
 abbrev pub Hears : ℕ → HeardLine → List ClientValue → List ClientValue → Type 0
-Hears zero heard (one ∷ others) (new_one ∷ new_others) = HearsLine heard one new_one × (new_others ≡ others)
-Hears (suc place) heard (one ∷ others) (new_one ∷ new_others) = HearsNoLine one new_one × Hears place heard others new_others
+Hears zero heard (one ∷ others) (new_one ∷ new_others) =
+    HearsLine heard one new_one × (new_others ≡ others)
+Hears (suc place) heard (one ∷ others) (new_one ∷ new_others) =
+    HearsNoLine one new_one × Hears place heard others new_others
 Hears place heard _ _ = ⊥
 
 -- ---- what is read and written
@@ -172,13 +189,18 @@ pub record TakesNext (old new : ClientOutput) : Type 0 where
   pub waiting : List QueuedLine
   pub events : old.events ≡ Some (next ++ waiting)
   pub some : 0 < length next
-  pub taken : let lost = min (old.lost + lost_in next) greatest_count in
-      (new ≡ record { due = flat_map telling_text next; events = Some waiting; lost = lost })
-      ⊎ (new ≡ record { due = []; events = Some waiting; lost = min (lost + lines_in next) greatest_count })
+  pub taken : let lost = min (old.lost + lost_in next) greatest_count
+      in (new ≡ record { due = flat_map telling_text next; events = Some waiting; lost = lost })
+      ⊎ (new ≡ record {
+        due = [];
+        events = Some waiting;
+        lost = min (lost + lines_in next) greatest_count;
+      })
 
 -- It is so where nothing is still to be written, and an event waits; else nothing changes.
 abbrev pub GoesOn : ClientOutput → ClientOutput → Type 0
-GoesOn old new = TakesNext old new ⊎ (((0 < length old.due) ⊎ (unwrap_or old.events [] ≡ [])) × (new ≡ old))
+GoesOn old new =
+    TakesNext old new ⊎ (((0 < length old.due) ⊎ (unwrap_or old.events [] ≡ [])) × (new ≡ old))
 
 pub record IsAsked (old new : ClientValue) : Type 0 where
   pub said : new.said ≡ old.said
@@ -198,7 +220,8 @@ pub record AreServed (old new : List ClientValue) : Type 0 where
 
 -- the lines that it lost were counted
 abbrev pub counted : ClientValue → ClientValue
-counted client = record client { told = record { due = client.told.due; events = client.told.events; lost = 0 } }
+counted client =
+    record client { told = record { due = client.told.due; events = client.told.events; lost = 0 } }
 
 abbrev pub IsCounted : ClientValue → ClientValue → Type 0
 IsCounted old new = new ≡ counted old
@@ -222,16 +245,23 @@ pub record AreWaitedFor (old new : List ClientValue) : Type 0 where
   pub each : List ClientValue
   pub waited : AllZip IsWaitedFor old each
   pub stays : List Bool
-  pub left : (new ≡ items_where_true stays each) ⊎ (new ≡ items_where_true stays each ++ silent ∷ [])
+  pub left : (new ≡ items_where_true stays each)
+      ⊎ (new ≡ items_where_true stays each ++ silent ∷ [])
 
 -- ---- what is told
 
 -- A line of an event waits after the others of a client that wants events, or is lost for want of memory. One that wants
 -- none is not told.
 abbrev pub HasTold : List ℕ → ClientOutput → ClientOutput → Type 0
-HasTold line old new = MatchOption old.events (new ≡ old)
-    (λ waiting. (new ≡ record { due = old.due; events = Some (after_line waiting line); lost = old.lost })
-    ⊎ (new ≡ record { due = old.due; events = old.events; lost = min (old.lost + 1) greatest_count }))
+HasTold line old new = MatchOption old.events (new ≡ old) (λ waiting. (new ≡ record {
+  due = old.due;
+  events = Some (after_line waiting line);
+  lost = old.lost;
+}) ⊎ (new ≡ record {
+  due = old.due;
+  events = old.events;
+  lost = min (old.lost + 1) greatest_count;
+}))
 
 pub record IsTold (line : List ℕ) (old new : ClientValue) : Type 0 where
   pub said : new.said ≡ old.said
@@ -252,7 +282,8 @@ IsToldOfLine line event old new = IsToldIf (is_line line old.watches) event old 
 -- one after the other, each as the next text, some octets of it are written
 abbrev pub WritesTimes : ℕ → ClientOutput → ClientOutput → Type 0
 WritesTimes zero old new = new ≡ old
-WritesTimes (suc times) old new = (before asked : ClientOutput) × WritesTimes times old before × GoesOn before asked × IsWritten asked new
+WritesTimes (suc times) old new = (before asked : ClientOutput)
+    × WritesTimes times old before × GoesOn before asked × IsWritten asked new
 
 abbrev pub WritesOn : ClientOutput → ClientOutput → Type 0
 WritesOn old new = (times : ℕ) × WritesTimes times old new
@@ -263,7 +294,8 @@ counted_output output = record { due = output.due; events = output.events; lost 
 -- What is to be recorded is written as it is taken, and what was lost is counted.
 abbrev pub JournalGoesOn : Option ClientOutput → Option ClientOutput → Type 0
 JournalGoesOn None new = new ≡ None
-JournalGoesOn (Some old) new = (written : ClientOutput) × WritesOn old written × (new ≡ Some (counted_output written))
+JournalGoesOn (Some old) new =
+    (written : ClientOutput) × WritesOn old written × (new ≡ Some (counted_output written))
 
 -- A line of an event is recorded after the others, or is lost for want of memory.
 abbrev pub JournalTold : List ℕ → Option ClientOutput → Option ClientOutput → Type 0

@@ -90,7 +90,12 @@ impl Model for Clients {
 
     ghost Value = { ClientsValue };
 
-    ghost view = { λ c. record { has_socket = is_some c.listener; journal = c.journal; clients = c.clients.items; lost = c.lost } };
+    ghost view = { λ c. record {
+      has_socket = is_some c.listener;
+      journal = c.journal;
+      clients = c.clients.items;
+      lost = c.lost;
+    } };
 
     ghost invariant = { λ c. length c.clients.items ≤ 64 };
 }
@@ -161,7 +166,8 @@ impl Clients {
         ensures clients { AreWaitedFor self.old.clients self.new.clients }
         ensures journal { JournalGoesOn self.old.journal self.new.journal }
         // Clients come in by the socket alone.
-        ensures no_more { self.old.has_socket ≡ false → length self.new.clients ≤ length self.old.clients }
+        ensures no_more { self.old.has_socket ≡ false
+            → length self.new.clients ≤ length self.old.clients }
         ensures few { length self.new.clients ≤ MOST_CLIENTS }
     {
         self.wait_for_clients(most_ms);
@@ -174,7 +180,8 @@ impl Clients {
         ensures lost { self.old.lost ≤ self.new.lost }
         ensures clients { AreWaitedFor self.old.clients self.new.clients }
         ensures journal { self.new.journal ≡ self.old.journal }
-        ensures no_more { self.old.has_socket ≡ false → length self.new.clients ≤ length self.old.clients }
+        ensures no_more { self.old.has_socket ≡ false
+            → length self.new.clients ≤ length self.old.clients }
         ensures few { length self.new.clients ≤ MOST_CLIENTS }
     {
         let door = self.door();
@@ -227,7 +234,8 @@ impl Clients {
         ensures socket { self.new.has_socket ≡ self.old.has_socket }
         ensures lost { self.new.lost ≡ self.old.lost }
         ensures journal { self.new.journal ≡ self.old.journal }
-        ensures one { (self.new.clients ≡ self.old.clients) ⊎ (self.new.clients ≡ self.old.clients ++ silent ∷ []) }
+        ensures one { (self.new.clients ≡ self.old.clients)
+            ⊎ (self.new.clients ≡ self.old.clients ++ silent ∷ []) }
         ensures none { self.old.has_socket ≡ false → self.new.clients ≡ self.old.clients }
         ensures few { length self.new.clients ≤ MOST_CLIENTS }
     {
@@ -249,8 +257,10 @@ impl Clients {
     /// The next line that a client said whose last one was answered, and who it was.
     pub fn hear(&mut self) -> Option<(Asker, HeardLine)>
         ensures none { IfNone result (AllZip HearsNoLine self.old.clients self.new.clients) }
-        ensures heard { IfSome result (λ said. Hears said.0 said.1 self.old.clients self.new.clients) }
-        ensures told { map (λ client. client.told) self.new.clients ≡ map (λ client. client.told) self.old.clients }
+        ensures heard { IfSome result
+            (λ said. Hears said.0 said.1 self.old.clients self.new.clients) }
+        ensures told { map (λ client. client.told) self.new.clients ≡ map
+            (λ client. client.told) self.old.clients }
         ensures journal { self.new.journal ≡ self.old.journal }
         ensures socket { self.new.has_socket ≡ self.old.has_socket }
         ensures lost { self.new.lost ≡ self.old.lost }
@@ -330,7 +340,8 @@ impl Clients {
     pub fn finish(&mut self)
         ensures socket { self.new.has_socket ≡ self.old.has_socket }
         ensures lost { self.old.lost ≤ self.new.lost }
-        ensures no_more { self.old.has_socket ≡ false → length self.new.clients ≤ length self.old.clients }
+        ensures no_more { self.old.has_socket ≡ false
+            → length self.new.clients ≤ length self.old.clients }
     {
         for _ in 0..MOST_FINISHING {
             if !self.is_telling() {

@@ -39,7 +39,11 @@ impl Model for Inbox {
 
     ghost Value = { ClientInput };
 
-    ghost view = { λ b. record { more = b.is_open; unheard = drop b.start (take b.end b.octets); begun = b.lines } };
+    ghost view = { λ b. record {
+      more = b.is_open;
+      unheard = drop b.start (take b.end b.octets);
+      begun = b.lines;
+    } };
 
     ghost invariant = { λ b. (b.start ≤ b.end) × (b.end ≤ 512) };
 }

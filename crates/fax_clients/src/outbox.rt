@@ -44,7 +44,11 @@ impl Model for Outbox {
 
     ghost Value = { ClientOutput };
 
-    ghost view = { λ b. record { due = drop b.written b.text.items; events = option_map due_of b.events; lost = b.lost } };
+    ghost view = { λ b. record {
+      due = drop b.written b.text.items;
+      events = option_map due_of b.events;
+      lost = b.lost;
+    } };
 
     ghost invariant = { λ b. b.written ≤ length b.text.items };
 }
@@ -85,7 +89,8 @@ impl Outbox {
 
     /// From now on events are told.
     pub(crate) fn want_events(&mut self) -> Result<(), NoMemory>
-        ensures ok { OnOk result (self.new ≡ record self.old { events = Some (unwrap_or self.old.events []) }) }
+        ensures ok { OnOk result (self.new
+            ≡ record self.old { events = Some (unwrap_or self.old.events []) }) }
         ensures err { OnErr result (self.new ≡ self.old) }
     {
         if self.events.is_none() {

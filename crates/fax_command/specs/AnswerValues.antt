@@ -22,7 +22,8 @@ status_of_answer answer.NoMemory = 3
 
 -- the text is that of what an input came to
 abbrev pub IsTextOf : Product → List ℕ → Type 0
-IsTextOf (product.Lines of) text = (lines : List (List ℕ)) × TellRows lines of.rows × (text ≡ text_of_lines lines)
+IsTextOf (product.Lines of) text =
+    (lines : List (List ℕ)) × TellRows lines of.rows × (text ≡ text_of_lines lines)
 IsTextOf (product.Picture of) text = IsPicture (elements_of of.format.width) of.rows text
 IsTextOf (product.Hex octets) text = AreOctets octets × (text ≡ encode_lower octets ++ 10 ∷ [])
 

@@ -70,21 +70,26 @@ IsHexOf input octets = decode_of (without_white_space input) ≡ Ok octets
 
 -- What is wrong with hex text: it is none, or its octets meet a fault. Memory may be wanting at any input.
 abbrev pub RefusesPage : PageOptions → List ℕ → InputFault → Type 0
-RefusesPage options input Hex = (error : FromHexError) × (decode_of (without_white_space input) ≡ Err error)
-RefusesPage options input (Page fault) = (octets : List ℕ) × IsHexOf input octets × FailsPage (row_width options) options.coding octets fault
+RefusesPage options input Hex =
+    (error : FromHexError) × (decode_of (without_white_space input) ≡ Err error)
+RefusesPage options input (Page fault) = (octets : List ℕ)
+    × IsHexOf input octets × FailsPage (row_width options) options.coding octets fault
 RefusesPage options input (Row n) = ⊥
 RefusesPage options input NoMemory = Unit {0}
 
 -- the outcome for hex text: the lines of the rows that its octets mean, or what is wrong
 abbrev pub AnswersPage : PageOptions → List ℕ → Outcome → Type 0
-AnswersPage options input (Ok text) = (octets : List ℕ) × (rows : List Elements) × (lines : List (List ℕ))
-    × IsHexOf input octets × MeansRows (row_width options) options.coding octets rows × TellRows lines rows × (text ≡ text_of_lines lines)
+AnswersPage options input (Ok text) =
+    (octets : List ℕ) × (rows : List Elements) × (lines : List (List ℕ))
+    × IsHexOf input octets × MeansRows (row_width options) options.coding octets rows
+    × TellRows lines rows × (text ≡ text_of_lines lines)
 AnswersPage options input (Err fault) = RefusesPage options input fault
 
 -- the outcome for hex text, with `--pbm`: the picture of the rows that its octets mean, or what is wrong
 abbrev pub AnswersPicture : PageOptions → List ℕ → Outcome → Type 0
 AnswersPicture options input (Ok text) = (octets : List ℕ) × (rows : List Elements)
-    × IsHexOf input octets × MeansRows (row_width options) options.coding octets rows × IsPicture (row_width options) rows text
+    × IsHexOf input octets × MeansRows (row_width options) options.coding octets rows
+    × IsPicture (row_width options) rows text
 AnswersPicture options input (Err fault) = RefusesPage options input fault
 
 -- ---- from rows to their page
@@ -111,13 +116,15 @@ RefusesLines width input Hex = ⊥
 RefusesLines width input (Page fault) =
     ((fault ≡ page.Empty) × (lines_of input ≡ []))
     ⊎ ((fault ≡ page.TooManyRows) × (line : List ℕ) × ComesAfter width input most_rows line)
-RefusesLines width input (Row n) = (n < most_rows) × (line : List ℕ) × ComesAfter width input n line × (IsRowLine width line → ⊥)
+RefusesLines width input (Row n) =
+    (n < most_rows) × (line : List ℕ) × ComesAfter width input n line × (IsRowLine width line → ⊥)
 RefusesLines width input NoMemory = Unit {0}
 
 -- the outcome for lines: the hex text of the page of the rows that they tell, or what is wrong
 abbrev pub AnswersRows : PageOptions → List ℕ → Outcome → Type 0
-AnswersRows options input (Ok text) = (rows : List Elements) × (octets : List ℕ)
-    × AreRows (row_width options) rows × TellRows (lines_of input) rows × HoldPage options octets rows × (text ≡ encode_lower octets ++ 10 ∷ [])
+AnswersRows options input (Ok text) = (rows : List Elements)
+    × (octets : List ℕ) × AreRows (row_width options) rows × TellRows (lines_of input) rows
+    × HoldPage options octets rows × (text ≡ encode_lower octets ++ 10 ∷ [])
 AnswersRows options input (Err fault) = RefusesLines (row_width options) input fault
 
 -- ---- each of them
@@ -133,7 +140,8 @@ abbrev pub Allows : PageOptions → List ℕ → Outcome → Type 0
 Allows options input outcome = AllowsOutput options.output options input outcome
 
 -- The exit status and the text that a run may answer to an input, under its options.
-pub record Answers (options : PageOptions) (input : List ℕ) (status : ℕ) (text : List ℕ) : Type 0 where
+pub record Answers (options : PageOptions) (input : List ℕ) (status : ℕ) (text : List ℕ) :
+    Type 0 where
   pub outcome : Outcome
   pub allowed : Allows options input outcome
   pub status_is : status ≡ status_of outcome

@@ -7,13 +7,14 @@ use Rattle.fax_runcodes.specs.Rows.{Elements}
 
 -- the head: the name of the form, how many elements each row has, and how many rows there are
 abbrev pub picture_head : ℕ → ℕ → List ℕ
-picture_head width rows = codes "P4\n" ++ (decimal width ++ (codes " " ++ (decimal rows ++ codes "\n")))
+picture_head width rows =
+    codes "P4\n" ++ (decimal width ++ (codes " " ++ (decimal rows ++ codes "\n")))
 
 -- the octets of rows, one row after the other: a bit an element, 1 for black, and zeros up to a whole octet
 abbrev pub AreRowsOctets : List ℕ → List Elements → Type 0
 AreRowsOctets octets [] = octets ≡ []
-AreRowsOctets octets (row ∷ rows) =
-    (first : List ℕ) × (rest : List ℕ) × (octets ≡ first ++ rest) × IsPadded first (map pixel row) × AreRowsOctets rest rows
+AreRowsOctets octets (row ∷ rows) = (first : List ℕ) × (rest : List ℕ)
+    × (octets ≡ first ++ rest) × IsPadded first (map pixel row) × AreRowsOctets rest rows
 
 -- The text is the picture of rows of this width.
 pub record IsPicture (width : ℕ) (rows : List Elements) (text : List ℕ) : Type 0 where

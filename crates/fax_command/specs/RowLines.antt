@@ -31,4 +31,5 @@ text_of_lines lines = flat_map (λ line. line ++ 10 ∷ []) lines
 -- the lines of a text: each ends at a line feed, or at the end of the text where it is not empty
 unfoldable pub lines_of : List ℕ → List (List ℕ)
 lines_of [] = []
-lines_of (octet ∷ text) = if octet == 10 then [] ∷ lines_of text else onto_first octet (lines_of text)
+lines_of (octet ∷ text) =
+    if octet == 10 then [] ∷ lines_of text else onto_first octet (lines_of text)

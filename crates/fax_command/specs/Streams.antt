@@ -26,5 +26,6 @@ failed_after_write failed (Err fault) = true
 
 -- A text was put into a sink, or after the octets that wait to be written to it: what it holds and what waits,
 -- before and after.
-pub record Puts (old : Option (List ℕ)) (waiting : List ℕ) (new : Option (List ℕ)) (still_waiting text : List ℕ) : Type 0 where
+pub record Puts (old : Option (List ℕ))
+    (waiting : List ℕ) (new : Option (List ℕ)) (still_waiting text : List ℕ) : Type 0 where
   pub grows : Appends (append_known old waiting) (append_known new still_waiting) text

@@ -64,7 +64,8 @@ impl Answer {
 
 /// Writes the text of an answer, and hands it on.
 pub fn write_answer<O: Sink>(alloc: Global, sink: &mut O, answer: &Answer) -> Result<(), WriteFault>
-    ensures text { OnOk result ((text : List ℕ) × IsAnswerText answer.now text × Appends (O.contents sink.old) (O.contents sink.new) text) }
+    ensures text { OnOk result ((text : List ℕ) × IsAnswerText answer.now text
+        × Appends (O.contents sink.old) (O.contents sink.new) text) }
     ensures failed { O.failed sink.new ≡ failed_after_write (O.failed sink.old) result }
     ensures handed_on { OnOk result (O.held_back sink.new ≡ false) }
 {
@@ -80,8 +81,9 @@ fn put_answer<O: Sink>(
     waiting: &mut Vec<u8>,
     answer: &Answer,
 ) -> Result<(), WriteFault>
-    ensures text { OnOk result ((text : List ℕ) × IsAnswerText answer.now text
-        × Puts (O.contents sink.old) waiting.old.items (O.contents sink.new) waiting.new.items text) }
+    ensures text { OnOk result ((text : List ℕ)
+        × IsAnswerText answer.now text × Puts (O.contents sink.old)
+        waiting.old.items (O.contents sink.new) waiting.new.items text) }
     ensures failed { O.failed sink.new ≡ failed_after_write (O.failed sink.old) result }
 {
     match answer {
@@ -97,8 +99,9 @@ fn put_product<O: Sink>(
     waiting: &mut Vec<u8>,
     product: &Product,
 ) -> Result<(), WriteFault>
-    ensures text { OnOk result ((text : List ℕ) × IsTextOf product.now text
-        × Puts (O.contents sink.old) waiting.old.items (O.contents sink.new) waiting.new.items text) }
+    ensures text { OnOk result ((text : List ℕ)
+        × IsTextOf product.now text × Puts (O.contents sink.old)
+        waiting.old.items (O.contents sink.new) waiting.new.items text) }
     ensures failed { O.failed sink.new ≡ failed_after_write (O.failed sink.old) result }
 {
     match product {
@@ -110,7 +113,8 @@ fn put_product<O: Sink>(
 
 /// The answer to an input.
 pub fn answer_to(alloc: Global, input: Vec<u8>, options: PageOptions) -> Answer
-    ensures { (text : List ℕ) → IsAnswerText result text → Answers options input.items (status_of_answer result) text }
+    ensures { (text : List ℕ)
+        → IsAnswerText result text → Answers options input.items (status_of_answer result) text }
 {
     match product_of(alloc, input, options) {
         Ok(product) => Answer::Done(product),
@@ -124,7 +128,8 @@ pub fn answer_to(alloc: Global, input: Vec<u8>, options: PageOptions) -> Answer
 
 /// What an input comes to, or what is wrong with it.
 fn product_of(alloc: Global, input: Vec<u8>, options: PageOptions) -> Result<Product, InputFault>
-    ensures product { IfOk result (λ product. (text : List ℕ) → IsTextOf product text → Allows options input.items (Ok text)) }
+    ensures product { IfOk result (λ product. (text : List ℕ)
+        → IsTextOf product text → Allows options input.items (Ok text)) }
     ensures fault { IfErr result (λ fault. Allows options input.items (Err fault)) }
 {
     match options.output {
@@ -141,8 +146,9 @@ pub fn page_of_hex(
     input: Vec<u8>,
     options: PageOptions,
 ) -> Result<Page<PackedRows>, InputFault>
-    ensures page { IfOk result (λ page. (page.format ≡ options.format)
-        × (octets : List ℕ) × IsHexOf input.items octets × MeansRows (row_width options) options.coding octets page.rows) }
+    ensures page { IfOk result
+        (λ page. (page.format ≡ options.format) × (octets : List ℕ) × IsHexOf input.items octets
+        × MeansRows (row_width options) options.coding octets page.rows) }
     ensures fault { IfErr result (λ fault. RefusesPage options input.items fault) }
 {
     let octets = octets_of_hex(alloc, input)?;
@@ -153,7 +159,8 @@ pub fn page_of_hex(
 /// The octets of hex text, in which white space is passed over.
 fn octets_of_hex(alloc: Global, mut input: Vec<u8>) -> Result<Vec<u8>, InputFault>
     ensures ok { IfOk result (λ octets. IsHexOf input.items octets.items) }
-    ensures fault { IfErr result (λ fault. (options : PageOptions) → RefusesPage options input.items fault) }
+    ensures fault { IfErr result
+        (λ fault. (options : PageOptions) → RefusesPage options input.items fault) }
 {
     drop_white_space(&mut input);
     match hex::decode(alloc, input.as_slice()) {
@@ -172,9 +179,10 @@ fn drop_white_space(text: &mut Vec<u8>)
 
 /// The octets of the page of the rows that lines tell.
 fn octets_of_lines(alloc: Global, input: &[u8], options: PageOptions) -> Result<Octets, InputFault>
-    ensures octets { IfOk result (λ octets. (rows : List Elements) × (bits : List Bool)
-        × AreRows (row_width options) rows × TellRows (lines_of input.now) rows
-        × WritesPage options.coding options.format.fine options.least_bits rows bits × IsPadded octets bits) }
+    ensures octets { IfOk result (λ octets. (rows : List Elements)
+        × (bits : List Bool) × AreRows (row_width options) rows × TellRows (lines_of input.now) rows
+        × WritesPage options.coding options.format.fine options.least_bits rows bits
+        × IsPadded octets bits) }
     ensures fault { IfErr result (λ fault. RefusesLines (row_width options) input.now fault) }
 {
     let rows: PackedRows = rows_of_lines(alloc, input, options.format.width)?;

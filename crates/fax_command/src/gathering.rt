@@ -12,7 +12,8 @@ const MOST_WAITING: usize = 65_536;
 /// Puts octets after those that wait. Where there is no memory for them they are written at once.
 #[inline]
 pub fn put<O: Sink>(sink: &mut O, waiting: &mut Vec<u8>, octets: &[u8]) -> Result<(), WriteFault>
-    ensures text { OnOk result (Puts (O.contents sink.old) waiting.old.items (O.contents sink.new) waiting.new.items octets.now) }
+    ensures text { OnOk result (Puts (O.contents sink.old)
+        waiting.old.items (O.contents sink.new) waiting.new.items octets.now) }
     ensures octets { AreOctets octets.now }
     ensures failed { O.failed sink.new ≡ failed_after_write (O.failed sink.old) result }
 {
@@ -32,7 +33,8 @@ pub fn put_number<O: Sink>(
     number: u32,
     after: u8,
 ) -> Result<(), WriteFault>
-    ensures text { OnOk result (Puts (O.contents sink.old) waiting.old.items (O.contents sink.new) waiting.new.items (decimal number ++ after ∷ [])) }
+    ensures text { OnOk result (Puts (O.contents sink.old)
+        waiting.old.items (O.contents sink.new) waiting.new.items (decimal number ++ after ∷ [])) }
     ensures failed { O.failed sink.new ≡ failed_after_write (O.failed sink.old) result }
 {
     put(sink, waiting, Buffer::new().format(number).as_bytes())?;
@@ -42,7 +44,8 @@ pub fn put_number<O: Sink>(
 /// Puts one octet as [`put`] does, but looks not whether much waits.
 #[inline]
 fn put_octet<O: Sink>(sink: &mut O, waiting: &mut Vec<u8>, octet: u8) -> Result<(), WriteFault>
-    ensures text { OnOk result (Puts (O.contents sink.old) waiting.old.items (O.contents sink.new) waiting.new.items (octet ∷ [])) }
+    ensures text { OnOk result (Puts (O.contents sink.old)
+        waiting.old.items (O.contents sink.new) waiting.new.items (octet ∷ [])) }
     ensures failed { O.failed sink.new ≡ failed_after_write (O.failed sink.old) result }
 {
     if waiting.push(octet).is_ok() {
@@ -55,7 +58,8 @@ fn put_octet<O: Sink>(sink: &mut O, waiting: &mut Vec<u8>, octet: u8) -> Result<
 /// Writes what waits, where that is much.
 #[inline]
 fn write_many<O: Sink>(sink: &mut O, waiting: &mut Vec<u8>) -> Result<(), WriteFault>
-    ensures text { OnOk result (Puts (O.contents sink.old) waiting.old.items (O.contents sink.new) waiting.new.items []) }
+    ensures text { OnOk result
+        (Puts (O.contents sink.old) waiting.old.items (O.contents sink.new) waiting.new.items []) }
     ensures failed { O.failed sink.new ≡ failed_after_write (O.failed sink.old) result }
 {
     if waiting.len() >= MOST_WAITING {
@@ -68,7 +72,8 @@ fn write_many<O: Sink>(sink: &mut O, waiting: &mut Vec<u8>) -> Result<(), WriteF
 /// Writes what waits.
 #[inline(never)]
 pub fn write_waiting<O: Sink>(sink: &mut O, waiting: &mut Vec<u8>) -> Result<(), WriteFault>
-    ensures text { OnOk result (Puts (O.contents sink.old) waiting.old.items (O.contents sink.new) waiting.new.items []) }
+    ensures text { OnOk result
+        (Puts (O.contents sink.old) waiting.old.items (O.contents sink.new) waiting.new.items []) }
     ensures none { OnOk result (waiting.new.items ≡ []) }
     ensures failed { O.failed sink.new ≡ failed_after_write (O.failed sink.old) result }
 {

@@ -27,7 +27,8 @@ impl From<AllocError> for InputError {
 
 /// Reads all that a source has.
 pub fn read_input<I: Source>(alloc: Global, source: &mut I) -> Result<Vec<u8>, InputError>
-    ensures whole { IfOk result (λ input. IfSome (I.remaining source.old) (λ octets. input.items ≡ octets)) }
+    ensures whole { IfOk result
+        (λ input. IfSome (I.remaining source.old) (λ octets. input.items ≡ octets)) }
     ensures short { IfOk result (λ input. vec_len input ≤ MOST_OCTETS) }
     ensures failed { result ≡ Err InputError.Failed → I.failed source.new ≡ true }
     ensures unfailed { result ≢ Err InputError.Failed → I.failed source.new ≡ I.failed source.old }
@@ -35,8 +36,10 @@ pub fn read_input<I: Source>(alloc: Global, source: &mut I) -> Result<Vec<u8>, I
     ensures given { I.given source.new ≤ I.given source.old + MOST_OCTETS + MOST_AT_ONCE }
 
     // The counts of a source that was not read are 0.
-    ensures within { I.given source.old ≡ 0 → result ≢ Err InputError.TooLong → I.given source.new ≤ MOST_OCTETS }
-    ensures too_long { I.reads source.old ≡ 0 → I.given source.old ≡ 0 → result ≡ Err InputError.TooLong
+    ensures within { I.given source.old ≡ 0
+        → result ≢ Err InputError.TooLong → I.given source.new ≤ MOST_OCTETS }
+    ensures too_long { I.reads source.old ≡ 0
+        → I.given source.old ≡ 0 → result ≡ Err InputError.TooLong
         → (I.reads source.new ≡ MOST_READS) ⊎ (MOST_OCTETS < I.given source.new) }
 {
     let mut input = Vec::new(alloc);

@@ -55,8 +55,10 @@ fn number_of(text: &[u8]) -> Option<u16>
 
 /// The numbers of which a line is made, with one space between.
 fn numbers_of(alloc: Global, line: &[u8]) -> Result<Option<Vec<u16>>, NoMemory>
-    ensures some { IfOk result (λ found. IfSome found (λ numbers. line.now ≡ line_of numbers.items)) }
-    ensures only { (numbers : List ℕ) → 0 < sum numbers → sum numbers < 2 ^ 16 → line.now ≡ line_of numbers
+    ensures some { IfOk result
+        (λ found. IfSome found (λ numbers. line.now ≡ line_of numbers.items)) }
+    ensures only { (numbers : List ℕ)
+        → 0 < sum numbers → sum numbers < 2 ^ 16 → line.now ≡ line_of numbers
         → IfOk result (λ found. IsSomeAnd found (λ v. v.items ≡ numbers)) }
 {
     let mut numbers = Vec::new(alloc);
@@ -71,8 +73,10 @@ fn numbers_of(alloc: Global, line: &[u8]) -> Result<Option<Vec<u16>>, NoMemory>
 
 /// The row of a width that a line tells.
 pub fn row_of_line(alloc: Global, line: &[u8], width: Width) -> Result<Option<Row>, NoMemory>
-    ensures some { IfOk result (λ found. IfSome found (λ row. (length row ≡ elements_of width) × TellsRow line.now row)) }
-    ensures none { IfOk result (λ found. IfNone found (IsRowLine (elements_of width) line.now → ⊥)) }
+    ensures some { IfOk result
+        (λ found. IfSome found (λ row. (length row ≡ elements_of width) × TellsRow line.now row)) }
+    ensures none { IfOk result
+        (λ found. IfNone found (IsRowLine (elements_of width) line.now → ⊥)) }
 {
     let Some(runs) = numbers_of(alloc, line)? else {
         return Ok(None);

@@ -44,8 +44,9 @@ pub fn put_lines<O: Sink, S: RowStore>(
     waiting: &mut Vec<u8>,
     rows: &S,
 ) -> Result<(), WriteFault>
-    ensures text { OnOk result ((lines : List (List ℕ)) × TellRows lines (S.rows rows.now)
-        × Puts (O.contents sink.old) waiting.old.items (O.contents sink.new) waiting.new.items (text_of_lines lines)) }
+    ensures text { OnOk result ((lines : List (List ℕ))
+        × TellRows lines (S.rows rows.now) × Puts (O.contents sink.old)
+        waiting.old.items (O.contents sink.new) waiting.new.items (text_of_lines lines)) }
     ensures failed { O.failed sink.new ≡ failed_after_write (O.failed sink.old) result }
 {
     for i in 0..rows.len() {
@@ -61,7 +62,8 @@ fn put_line<O: Sink>(
     row: &RowRef<'_>,
 ) -> Result<(), WriteFault>
     ensures text { OnOk result ((line : List ℕ) × TellsRow line row.now
-        × Puts (O.contents sink.old) waiting.old.items (O.contents sink.new) waiting.new.items (line ++ 10 ∷ [])) }
+        × Puts (O.contents sink.old) waiting.old.items (O.contents sink.new) waiting.new.items (line
+        ++ 10 ∷ [])) }
     ensures failed { O.failed sink.new ≡ failed_after_write (O.failed sink.old) result }
 {
     let places = row.changes();
@@ -79,8 +81,10 @@ pub fn put_picture<O: Sink, S: RowStore>(
     waiting: &mut Vec<u8>,
     page: &Page<S>,
 ) -> Result<(), WriteFault>
-    ensures text { OnOk result ((text : List ℕ) × IsPicture (elements_of page.now.format.width) page.now.rows text
-        × Puts (O.contents sink.old) waiting.old.items (O.contents sink.new) waiting.new.items text) }
+    ensures text { OnOk result ((text : List ℕ)
+        × IsPicture (elements_of page.now.format.width) page.now.rows text
+        × Puts (O.contents sink.old)
+        waiting.old.items (O.contents sink.new) waiting.new.items text) }
     ensures failed { O.failed sink.new ≡ failed_after_write (O.failed sink.old) result }
 {
     let rows = page.rows();
@@ -97,8 +101,9 @@ fn put_pixels<O: Sink, S: RowStore>(
     waiting: &mut Vec<u8>,
     rows: &S,
 ) -> Result<(), WriteFault>
-    ensures text { OnOk result ((octets : List ℕ) × AreRowsOctets octets (S.rows rows.now) × AreOctets octets
-        × Puts (O.contents sink.old) waiting.old.items (O.contents sink.new) waiting.new.items octets) }
+    ensures text { OnOk result ((octets : List ℕ)
+        × AreRowsOctets octets (S.rows rows.now) × AreOctets octets × Puts (O.contents sink.old)
+        waiting.old.items (O.contents sink.new) waiting.new.items octets) }
     ensures failed { O.failed sink.new ≡ failed_after_write (O.failed sink.old) result }
 {
     for i in 0..rows.len() {
@@ -109,8 +114,9 @@ fn put_pixels<O: Sink, S: RowStore>(
 
 /// Puts the picture elements of a row.
 fn put_row<O: Sink>(sink: &mut O, waiting: &mut Vec<u8>, row: &RowRef<'_>) -> Result<(), WriteFault>
-    ensures text { OnOk result ((octets : List ℕ) × IsPadded octets (map pixel row.now) × AreOctets octets
-        × Puts (O.contents sink.old) waiting.old.items (O.contents sink.new) waiting.new.items octets) }
+    ensures text { OnOk result ((octets : List ℕ)
+        × IsPadded octets (map pixel row.now) × AreOctets octets × Puts (O.contents sink.old)
+        waiting.old.items (O.contents sink.new) waiting.new.items octets) }
     ensures failed { O.failed sink.new ≡ failed_after_write (O.failed sink.old) result }
 {
     let mut room = [0; MOST_OCTETS_OF_ROW];
@@ -125,7 +131,8 @@ pub fn put_hex_line<O: Sink>(
     waiting: &mut Vec<u8>,
     octets: &[u8],
 ) -> Result<(), WriteFault>
-    ensures text { OnOk result (Puts (O.contents sink.old) waiting.old.items (O.contents sink.new) waiting.new.items (encode_lower octets.now ++ 10 ∷ [])) }
+    ensures text { OnOk result (Puts (O.contents sink.old) waiting.old.items
+        (O.contents sink.new) waiting.new.items (encode_lower octets.now ++ 10 ∷ [])) }
     ensures octets { AreOctets octets.now }
     ensures failed { O.failed sink.new ≡ failed_after_write (O.failed sink.old) result }
 {
@@ -141,7 +148,8 @@ pub fn put_hex_line<O: Sink>(
 /// Puts the hex text of a few octets.
 fn put_hex<O: Sink>(sink: &mut O, waiting: &mut Vec<u8>, octets: &[u8]) -> Result<(), WriteFault>
     requires { length octets.now ≤ HEX_AT_ONCE }
-    ensures text { OnOk result (Puts (O.contents sink.old) waiting.old.items (O.contents sink.new) waiting.new.items (encode_lower octets.now)) }
+    ensures text { OnOk result (Puts (O.contents sink.old)
+        waiting.old.items (O.contents sink.new) waiting.new.items (encode_lower octets.now)) }
     ensures failed { O.failed sink.new ≡ failed_after_write (O.failed sink.old) result }
 {
     let mut room = [0; 2 * HEX_AT_ONCE];

@@ -21,10 +21,19 @@ pub fn run_page<I: Source, O: Sink>(
 ) -> u8
     // Where the input is known, what is written is the answer to it, unless a read or a write failed or
     // the input went past its bound.
-    ensures answers { result ≢ 4 → IfSome (I.remaining source.old) (λ input. (text : List ℕ)
-        × Answers options input result text × Appends (O.contents sink.old) (O.contents sink.new) text) }
-    ensures run { IsRun record { remaining = I.remaining; reads = I.reads; given = I.given; failed = I.failed }
-        record { contents = O.contents; failed = O.failed; held_back = O.held_back } source.old source.new sink.old sink.new result }
+    ensures answers { result ≢ 4 → IfSome (I.remaining source.old)
+        (λ input. (text : List ℕ) × Answers options input result text
+        × Appends (O.contents sink.old) (O.contents sink.new) text) }
+    ensures run { IsRun record {
+      remaining = I.remaining;
+      reads = I.reads;
+      given = I.given;
+      failed = I.failed;
+    } record {
+      contents = O.contents;
+      failed = O.failed;
+      held_back = O.held_back;
+    } source.old source.new sink.old sink.new result }
 {
     let answer = match read_input(alloc, source) {
         Ok(input) => answer_to(alloc, input, options),

@@ -100,7 +100,8 @@ impl<R: Read> StdSource<R> {
     /// A source that was not read.
     pub fn new(reader: R) -> Self
         ensures same { ⟦<StdSource<R> as Source>⟧.remaining result ≡ R.remaining reader }
-        ensures unread { (⟦<StdSource<R> as Source>⟧.reads result ≡ 0) × (⟦<StdSource<R> as Source>⟧.given result ≡ 0) }
+        ensures unread { (⟦<StdSource<R> as Source>⟧.reads result ≡ 0)
+            × (⟦<StdSource<R> as Source>⟧.given result ≡ 0) }
         ensures unfailed { ⟦<StdSource<R> as Source>⟧.failed result ≡ false }
     {
         StdSource {
@@ -161,8 +162,10 @@ impl<W: Write> StdSink<W> {
 
     /// Keeps in mind why a write failed.
     fn noted(&mut self, written: io::Result<()>) -> Result<(), WriteFault>
-        ensures same { (self.new.writer ≡ self.old.writer) × (self.new.held_back ≡ self.old.held_back) }
-        ensures failed { is_some self.new.failure ≡ failed_after_write (is_some self.old.failure) result }
+        ensures same { (self.new.writer ≡ self.old.writer)
+            × (self.new.held_back ≡ self.old.held_back) }
+        ensures failed { is_some self.new.failure
+            ≡ failed_after_write (is_some self.old.failure) result }
         ensures ok { IsOk result ↔ IsOk written }
     {
         match written {
@@ -202,12 +205,15 @@ pub fn fault_of_streams<R: Read, W: Write>(
     source: &StdSource<R>,
     sink: &StdSink<W>,
 ) -> Option<StreamFault>
-    ensures is { IfSome result (IsFaultOf (⟦<StdSource<R> as Source>⟧.failed source.now) (⟦<StdSink<W> as Sink>⟧.failed sink.now)
-        (⟦<StdSource<R> as Source>⟧.given source.now) (⟦<StdSource<R> as Source>⟧.reads source.now)) }
+    ensures is { IfSome result (IsFaultOf (⟦<StdSource<R> as Source>⟧.failed source.now)
+        (⟦<StdSink<W> as Sink>⟧.failed sink.now) (⟦<StdSource<R> as Source>⟧.given source.now)
+        (⟦<StdSource<R> as Source>⟧.reads source.now)) }
 
     // It tells one wherever a run ends so.
-    ensures told { (⟦<StdSource<R> as Source>⟧.failed source.now ≡ true) ⊎ (⟦<StdSink<W> as Sink>⟧.failed sink.now ≡ true)
-        ⊎ (MOST_OCTETS < ⟦<StdSource<R> as Source>⟧.given source.now) ⊎ (⟦<StdSource<R> as Source>⟧.reads source.now ≡ MOST_READS) → IsSome result }
+    ensures told { (⟦<StdSource<R> as Source>⟧.failed source.now ≡ true)
+        ⊎ (⟦<StdSink<W> as Sink>⟧.failed sink.now ≡ true)
+        ⊎ (MOST_OCTETS < ⟦<StdSource<R> as Source>⟧.given source.now)
+        ⊎ (⟦<StdSource<R> as Source>⟧.reads source.now ≡ MOST_READS) → IsSome result }
 {
     if let Some(error) = source.failure {
         return Some(StreamFault::Unread(error));

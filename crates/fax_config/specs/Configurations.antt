@@ -32,7 +32,8 @@ IsMemory octets = (16777216 ≤ octets) × (octets ≤ 1099511627776)
 
 -- no two in the list are alike
 abbrev pub AreUnlike : {X : Type 0} → List X → Type 0
-AreUnlike {X} xs = (i j : ℕ) (default : X) → i < j → j < length xs → get_or xs i default ≢ get_or xs j default
+AreUnlike {X} xs = (i j : ℕ) (default : X)
+    → i < j → j < length xs → get_or xs i default ≢ get_or xs j default
 
 abbrev pub names_of_lines : List LineConfig → List (List ℕ)
 names_of_lines lines = map (λ line. string_bytes line.name) lines
@@ -124,11 +125,13 @@ IsRetryIf (Some members) retry = IsRetry members retry
 
 -- the document does: never, where it says nothing
 abbrev pub IsRetryAt : Members → RetryConfig → Type 0
-IsRetryAt members retry = (inner : Option Members) × IsTableIfAt (codes "retry") members inner × IsRetryIf inner retry
+IsRetryAt members retry =
+    (inner : Option Members) × IsTableIfAt (codes "retry") members inner × IsRetryIf inner retry
 
 -- the local address of no leg of a line
 abbrev pub IsAtNoLegOfLines : List LineConfig → SocketAddr → Type 0
-IsAtNoLegOfLines lines address = All (λ line. (line.calling.local ≢ address) × (line.called.local ≢ address)) lines
+IsAtNoLegOfLines lines address =
+    All (λ line. (line.calling.local ≢ address) × (line.called.local ≢ address)) lines
 
 -- that of no redial line's called leg
 abbrev pub IsAtNoRedial : List RedialConfig → SocketAddr → Type 0
@@ -141,12 +144,14 @@ IsAtNoLeg lines redials address = IsAtNoLegOfLines lines address × IsAtNoRedial
 -- what SIP and audio are at is that of no leg
 abbrev pub IsUnlikeSip : List LineConfig → List RedialConfig → Option SipConfig → Type 0
 IsUnlikeSip lines redials None = Unit {0}
-IsUnlikeSip lines redials (Some sip) = IsAtNoLeg lines redials sip.local × IsAtNoLeg lines redials sip.audio
+IsUnlikeSip lines redials (Some sip) =
+    IsAtNoLeg lines redials sip.local × IsAtNoLeg lines redials sip.audio
 
 -- The document tells this configuration.
 pub record IsConfig (members : Members) (config : Config) : Type 0 where
   pub keys : HasKnownKeys levels.Top members
-  pub control : IsPathAt (codes "control") members (option_map (λ path. string_bytes path) config.control)
+  pub control :
+      IsPathAt (codes "control") members (option_map (λ path. string_bytes path) config.control)
   pub spool : IsPathAt (codes "spool") members (option_map (λ path. string_bytes path) config.spool)
   pub http : IsAddressAt (codes "http") members config.http
   pub stop_seconds : IsNumberAt (codes "stop_seconds") members 120 config.stop_seconds
@@ -166,4 +171,5 @@ pub record IsConfig (members : Members) (config : Config) : Type 0 where
 
 -- the text is a TOML document that tells this configuration
 abbrev pub Tells : List ℕ → Config → Type 0
-Tells text config = (members : Members) × (parse_document text ≡ Some members) × IsConfig members config
+Tells text config =
+    (members : Members) × (parse_document text ≡ Some members) × IsConfig members config

@@ -11,14 +11,18 @@ use Rattle.fax_config.specs.declared.keys.Level.TheVariants as levels
 
 -- the keys that a table may have: the document, a line, a leg of a line, what says when jobs are tried again, a redial line, and those of SIP
 abbrev pub known_keys : Level → List (List ℕ)
-known_keys levels.Top =
-    codes "control" ∷ codes "spool" ∷ codes "http" ∷ codes "stop_seconds" ∷ codes "memory" ∷ codes "lines" ∷ codes "retry" ∷ codes "redial" ∷ codes "sip" ∷ codes "trunks" ∷ codes "routes" ∷ []
-known_keys levels.Line = codes "name" ∷ codes "calling" ∷ codes "called" ∷ codes "redundancy" ∷ codes "preamble_ms" ∷ codes "repeat" ∷ codes "dial_seconds" ∷ codes "line_memory" ∷ codes "most_waiting" ∷ []
+known_keys levels.Top = codes "control"
+    ∷ codes "spool" ∷ codes "http" ∷ codes "stop_seconds" ∷ codes "memory" ∷ codes "lines"
+    ∷ codes "retry" ∷ codes "redial" ∷ codes "sip" ∷ codes "trunks" ∷ codes "routes" ∷ []
+known_keys levels.Line =
+    codes "name" ∷ codes "calling" ∷ codes "called" ∷ codes "redundancy" ∷ codes "preamble_ms"
+    ∷ codes "repeat" ∷ codes "dial_seconds" ∷ codes "line_memory" ∷ codes "most_waiting" ∷ []
 known_keys levels.Leg = codes "local" ∷ codes "peer" ∷ []
 known_keys levels.Retry = codes "after_seconds" ∷ []
 known_keys levels.Redial = codes "name" ∷ codes "called" ∷ []
 known_keys levels.Sip = codes "local" ∷ codes "audio" ∷ codes "ring_seconds" ∷ []
-known_keys levels.Trunk = codes "name" ∷ codes "address" ∷ codes "allow" ∷ codes "user" ∷ codes "password_file" ∷ codes "register" ∷ codes "call_with" ∷ codes "calls" ∷ []
+known_keys levels.Trunk = codes "name" ∷ codes "address" ∷ codes "allow" ∷ codes "user"
+    ∷ codes "password_file" ∷ codes "register" ∷ codes "call_with" ∷ codes "calls" ∷ []
 known_keys levels.Route = codes "prefix" ∷ codes "trunk" ∷ codes "strip" ∷ codes "add" ∷ []
 
 -- the keys of some members, in order
@@ -37,8 +41,8 @@ IsTextAt key members (Some text) = get_member key members ≡ Some (string text)
 
 -- the number at a key, or the default where there is none
 abbrev pub IsNumberAt : List ℕ → Members → ℕ → ℕ → Type 0
-IsNumberAt key members default n =
-    ((get_member key members ≡ None) × (n ≡ default)) ⊎ (get_member key members ≡ Some (integer (pos n)))
+IsNumberAt key members default n = ((get_member key members ≡ None) × (n ≡ default))
+    ⊎ (get_member key members ≡ Some (integer (pos n)))
 
 -- the number at a key, or that there is none
 abbrev pub IsNumberIfAt : List ℕ → Members → Option ℕ → Type 0
@@ -54,7 +58,8 @@ IsPathAt key members (Some path) = (get_member key members ≡ Some (string path
 abbrev pub IsAddressAt : List ℕ → Members → Option SocketAddr → Type 0
 IsAddressAt key members None = get_member key members ≡ None
 IsAddressAt key members (Some address) =
-    (text : List ℕ) × (get_member key members ≡ Some (string text)) × IsSocketText text address × (socket_port address ≢ 0)
+    (text : List ℕ) × (get_member key members ≡ Some (string text))
+    × IsSocketText text address × (socket_port address ≢ 0)
 
 -- the table at a key
 abbrev pub IsTableAt : List ℕ → Members → Members → Type 0
@@ -72,12 +77,13 @@ repeat_text repeat.None = codes "none"
 
 -- which datagrams are sent again: all, where nothing is said
 abbrev pub IsRepeatAt : Members → Repeat → Type 0
-IsRepeatAt members kind =
-    ((get_member (codes "repeat") members ≡ None) × (kind ≡ repeat.Full)) ⊎ (get_member (codes "repeat") members ≡ Some (string (repeat_text kind)))
+IsRepeatAt members kind = ((get_member (codes "repeat") members ≡ None) × (kind ≡ repeat.Full))
+    ⊎ (get_member (codes "repeat") members ≡ Some (string (repeat_text kind)))
 
 -- the text can be the name of a line: 1 to 64 octets, none of them a space or a control character of ASCII below it, and not `any`
 abbrev pub IsLineName : List ℕ → Type 0
-IsLineName text = (0 < length text) × (length text ≤ 64) × (text ≢ codes "any") × All (λ octet. 32 < octet) text
+IsLineName text =
+    (0 < length text) × (length text ≤ 64) × (text ≢ codes "any") × All (λ octet. 32 < octet) text
 
 -- each item tells the one at its place, and there are as many
 abbrev pub AreTold : {X : Type 0} → (Data → X → Type 0) → Items → List X → Type 0
@@ -88,5 +94,5 @@ AreTold tells (item value items) (one ∷ others) = tells value one × AreTold t
 
 -- what the list at a key tells: none, where there is none
 abbrev pub AreToldAt : {X : Type 0} → (Data → X → Type 0) → List ℕ → Members → List X → Type 0
-AreToldAt tells key members all =
-    ((get_member key members ≡ None) × (all ≡ [])) ⊎ ((items : Items) × (get_member key members ≡ Some (array items)) × AreTold tells items all)
+AreToldAt tells key members all = ((get_member key members ≡ None) × (all ≡ []))
+    ⊎ ((items : Items) × (get_member key members ≡ Some (array items)) × AreTold tells items all)

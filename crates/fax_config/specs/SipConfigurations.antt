@@ -14,17 +14,20 @@ use Rattle.fax_config.specs.SipMembers.{AreNetworksAt, IsCallWithAt, IsTruthAt, 
 
 -- no two of these names are alike
 abbrev pub AreUnlikeNames : List (List ℕ) → Type 0
-AreUnlikeNames names = (i j : ℕ) (default : List ℕ) → i < j → j < length names → get_or names i default ≢ get_or names j default
+AreUnlikeNames names = (i j : ℕ) (default : List ℕ)
+    → i < j → j < length names → get_or names i default ≢ get_or names j default
 
 -- The table tells where a trunk is.
-pub record IsReach (members : Members) (name : List ℕ) (address : SocketAddr) (allow : List Network) : Type 0 where
+pub record IsReach (members : Members)
+    (name : List ℕ) (address : SocketAddr) (allow : List Network) : Type 0 where
   pub name_at : IsTextAt (codes "name") members (Some name)
   pub is_name : IsLineName name
   pub address_at : IsAddressAt (codes "address") members (Some address)
   pub allow_at : AreNetworksAt (codes "allow") members allow
 
 -- The table tells as whom a trunk is called: a password and a registration have a user.
-pub record IsAccount (members : Members) (user : Option (List ℕ)) (password_file : Option (List ℕ)) (registers : Bool) : Type 0 where
+pub record IsAccount (members : Members)
+    (user : Option (List ℕ)) (password_file : Option (List ℕ)) (registers : Bool) : Type 0 where
   pub user_at : IsUserAt members user
   pub password_file_at : IsPathAt (codes "password_file") members password_file
   pub register_at : IsTruthAt (codes "register") members registers
@@ -35,7 +38,8 @@ pub record IsAccount (members : Members) (user : Option (List ℕ)) (password_fi
 pub record IsTrunk (members : Members) (trunk : TrunkConfig) : Type 0 where
   pub keys : HasKnownKeys levels.Trunk members
   pub reach : IsReach members (string_bytes trunk.name) trunk.address trunk.allow.items
-  pub account : IsAccount members (option_map (λ user. string_bytes user) trunk.user) (option_map (λ path. string_bytes path) trunk.password_file) trunk.registers
+  pub account : IsAccount members (option_map (λ user. string_bytes user) trunk.user) (option_map
+      (λ path. string_bytes path) trunk.password_file) trunk.registers
   pub call_with : IsCallWithAt members trunk.call_with
   pub calls : IsNumberAt (codes "calls") members 100 trunk.calls
   pub least_calls : 1 ≤ trunk.calls
@@ -55,7 +59,8 @@ names_of_trunks trunks = map (λ trunk. string_bytes trunk.name) trunks
 
 -- what is put in front of a number: nothing, where nothing is said
 abbrev pub IsAddAt : Members → List ℕ → Type 0
-IsAddAt members add = ((get_member (codes "add") members ≡ None) × (add ≡ [])) ⊎ (get_member (codes "add") members ≡ Some (string add))
+IsAddAt members add = ((get_member (codes "add") members ≡ None) × (add ≡ []))
+    ⊎ (get_member (codes "add") members ≡ Some (string add))
 
 -- The table tells this route, over the trunk at this place: its prefix is a number, and what it adds can stand in front of one.
 pub record IsRouteOver (trunk : ℕ) (members : Members) (route : RouteConfig) : Type 0 where
@@ -65,20 +70,24 @@ pub record IsRouteOver (trunk : ℕ) (members : Members) (route : RouteConfig) :
   pub strip : IsNumberAt (codes "strip") members 0 route.strip
   pub most_strip : route.strip ≤ 32
   pub add : IsAddAt members (string_bytes route.add)
-  pub is_dialled : IsOk (route_of (string_bytes route.prefix) trunk route.strip (string_bytes route.add))
+  pub is_dialled :
+      IsOk (route_of (string_bytes route.prefix) trunk route.strip (string_bytes route.add))
 
 -- the first trunk of this name
 abbrev pub place_of_trunk : List TrunkConfig → List ℕ → Option ℕ
 place_of_trunk trunks name = position (λ trunk. bytes_eq (string_bytes trunk.name) name) trunks
 
 -- The table tells this route, over one of these trunks.
-pub record IsRoute (trunks : List TrunkConfig) (members : Members) (route : RouteConfig) : Type 0 where
+pub record IsRoute (trunks : List TrunkConfig) (members : Members) (route : RouteConfig) :
+    Type 0 where
   pub keys : HasKnownKeys levels.Route members
-  pub trunk : (name : List ℕ) × IsTextAt (codes "trunk") members (Some name) × (place_of_trunk trunks name ≡ Some route.trunk)
+  pub trunk : (name : List ℕ) × IsTextAt (codes "trunk") members (Some name)
+      × (place_of_trunk trunks name ≡ Some route.trunk)
   pub rest : IsRouteOver route.trunk members route
 
 abbrev pub IsRouteOf : List TrunkConfig → Data → RouteConfig → Type 0
-IsRouteOf trunks value route = (members : Members) × (value ≡ table members) × IsRoute trunks members route
+IsRouteOf trunks value route =
+    (members : Members) × (value ≡ table members) × IsRoute trunks members route
 
 abbrev pub AreRoutes : List TrunkConfig → Items → List RouteConfig → Type 0
 AreRoutes trunks items routes = AreTold (IsRouteOf trunks) items routes
@@ -87,7 +96,8 @@ abbrev pub AreRoutesAt : List TrunkConfig → Members → List RouteConfig → T
 AreRoutesAt trunks members routes = AreToldAt (IsRouteOf trunks) (codes "routes") members routes
 
 -- The table tells where SIP and audio are, which differ, and how long a call waits for its answer.
-pub record IsHead (members : Members) (local : SocketAddr) (audio : SocketAddr) (ring_seconds : ℕ) : Type 0 where
+pub record IsHead (members : Members) (local : SocketAddr) (audio : SocketAddr) (ring_seconds : ℕ) :
+    Type 0 where
   pub keys : HasKnownKeys levels.Sip members
   pub local_at : IsAddressAt (codes "local") members (Some local)
   pub audio_at : IsAddressAt (codes "audio") members (Some audio)
@@ -97,7 +107,8 @@ pub record IsHead (members : Members) (local : SocketAddr) (audio : SocketAddr) 
   pub most_ring : ring_seconds ≤ 600
 
 abbrev pub IsHeadAt : Members → SocketAddr → SocketAddr → ℕ → Type 0
-IsHeadAt members local audio ring_seconds = (inner : Members) × IsTableAt (codes "sip") members inner × IsHead inner local audio ring_seconds
+IsHeadAt members local audio ring_seconds = (inner : Members)
+    × IsTableAt (codes "sip") members inner × IsHead inner local audio ring_seconds
 
 -- The document tells this of SIP.
 pub record IsSip (members : Members) (sip : SipConfig) : Type 0 where

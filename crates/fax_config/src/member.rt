@@ -13,15 +13,18 @@ use toml::{Table, Value};
 
 /// The value at a key, if there is one.
 pub fn value_at<'a>(table: &'a Table, key: &str) -> Option<&'a Value>
-    ensures { option_map (λ value. view value.now) result ≡ get_member key.now (table_view table.now) }
+    ensures { option_map
+        (λ value. view value.now) result ≡ get_member key.now (table_view table.now) }
 {
     table.get(key)
 }
 
 /// The text at a key, if there is one.
 pub fn text_at<'a>(table: &'a Table, key: &'static str) -> Result<Option<&'a str>, Flaw>
-    ensures ok { IfOk result (λ text. IsTextAt key.now (table_view table.now) (option_map (λ octets. octets.now) text)) }
-    ensures fault { IfErr result (λ flaw. (level : Level) → HasFlaw level (table_view table.now) flaw) }
+    ensures ok { IfOk result (λ text.
+        IsTextAt key.now (table_view table.now) (option_map (λ octets. octets.now) text)) }
+    ensures fault { IfErr result
+        (λ flaw. (level : Level) → HasFlaw level (table_view table.now) flaw) }
 {
     let Some(value) = value_at(table, key) else {
         return Ok(None);
@@ -34,8 +37,10 @@ pub fn text_at<'a>(table: &'a Table, key: &'static str) -> Result<Option<&'a str
 
 /// The path at a key, if there is one. It has an octet at least.
 pub fn path_at<'a>(table: &'a Table, key: &'static str) -> Result<Option<&'a str>, Flaw>
-    ensures ok { IfOk result (λ path. IsPathAt key.now (table_view table.now) (option_map (λ octets. octets.now) path)) }
-    ensures fault { IfErr result (λ flaw. (level : Level) → HasFlaw level (table_view table.now) flaw) }
+    ensures ok { IfOk result (λ path.
+        IsPathAt key.now (table_view table.now) (option_map (λ octets. octets.now) path)) }
+    ensures fault { IfErr result
+        (λ flaw. (level : Level) → HasFlaw level (table_view table.now) flaw) }
 {
     let Some(path) = text_at(table, key)? else {
         return Ok(None);
@@ -75,7 +80,8 @@ pub fn number_at(
     requires within { (least ≤ default) × (default ≤ most) }
     ensures ok { IfOk result (λ number. IsNumberAt key.now (table_view table.now) default number) }
     ensures in_range { IfOk result (λ number. (least ≤ number) × (number ≤ most)) }
-    ensures fault { IfErr result (λ flaw. (level : Level) → HasFlaw level (table_view table.now) flaw) }
+    ensures fault { IfErr result
+        (λ flaw. (level : Level) → HasFlaw level (table_view table.now) flaw) }
 {
     let Some(value) = value_at(table, key) else {
         return Ok(default);
@@ -116,7 +122,8 @@ pub fn large_number_at(
 ) -> Result<Option<u64>, Flaw>
     ensures ok { IfOk result (λ number. IsNumberIfAt key.now (table_view table.now) number) }
     ensures in_range { IfOk result (λ number. IfSome number (λ n. (least ≤ n) × (n ≤ most))) }
-    ensures fault { IfErr result (λ flaw. (level : Level) → HasFlaw level (table_view table.now) flaw) }
+    ensures fault { IfErr result
+        (λ flaw. (level : Level) → HasFlaw level (table_view table.now) flaw) }
 {
     let Some(value) = value_at(table, key) else {
         return Ok(None);
@@ -133,7 +140,8 @@ pub fn large_number_at(
 /// The address at a key, if there is one. Its port is not 0.
 pub fn address_at(table: &Table, key: &'static str) -> Result<Option<SocketAddr>, Flaw>
     ensures ok { IfOk result (λ address. IsAddressAt key.now (table_view table.now) address) }
-    ensures fault { IfErr result (λ flaw. (level : Level) → HasFlaw level (table_view table.now) flaw) }
+    ensures fault { IfErr result
+        (λ flaw. (level : Level) → HasFlaw level (table_view table.now) flaw) }
 {
     let Some(text) = text_at(table, key)? else {
         return Ok(None);
@@ -147,8 +155,10 @@ pub fn address_at(table: &Table, key: &'static str) -> Result<Option<SocketAddr>
 
 /// The table at a key, which has to be there.
 pub fn table_at<'a>(table: &'a Table, key: &'static str) -> Result<&'a Table, Flaw>
-    ensures ok { IfOk result (λ inner. IsTableAt key.now (table_view table.now) (table_view inner.now)) }
-    ensures fault { IfErr result (λ flaw. (level : Level) → HasFlaw level (table_view table.now) flaw) }
+    ensures ok { IfOk result
+        (λ inner. IsTableAt key.now (table_view table.now) (table_view inner.now)) }
+    ensures fault { IfErr result
+        (λ flaw. (level : Level) → HasFlaw level (table_view table.now) flaw) }
 {
     let Some(value) = value_at(table, key) else {
         return Err(Flaw::At(key, Trouble::Absent));
@@ -161,8 +171,10 @@ pub fn table_at<'a>(table: &'a Table, key: &'static str) -> Result<&'a Table, Fl
 
 /// The table at a key, if there is one.
 pub fn table_if_at<'a>(table: &'a Table, key: &'static str) -> Result<Option<&'a Table>, Flaw>
-    ensures ok { IfOk result (λ inner. IsTableIfAt key.now (table_view table.now) (option_map (λ found. table_view found.now) inner)) }
-    ensures fault { IfErr result (λ flaw. (level : Level) → HasFlaw level (table_view table.now) flaw) }
+    ensures ok { IfOk result (λ inner. IsTableIfAt key.now (table_view table.now) (option_map
+        (λ found. table_view found.now) inner)) }
+    ensures fault { IfErr result
+        (λ flaw. (level : Level) → HasFlaw level (table_view table.now) flaw) }
 {
     let Some(value) = value_at(table, key) else {
         return Ok(None);
@@ -176,7 +188,8 @@ pub fn table_if_at<'a>(table: &'a Table, key: &'static str) -> Result<Option<&'a
 /// Which datagrams are sent again, as `repeat` says.
 pub fn repeat_of(table: &Table) -> Result<Repeat, Flaw>
     ensures ok { IfOk result (λ repeat. IsRepeatAt (table_view table.now) repeat) }
-    ensures fault { IfErr result (λ flaw. (level : Level) → HasFlaw level (table_view table.now) flaw) }
+    ensures fault { IfErr result
+        (λ flaw. (level : Level) → HasFlaw level (table_view table.now) flaw) }
 {
     let Some(text) = text_at(table, "repeat")? else {
         return Ok(Repeat::Full);
@@ -210,9 +223,11 @@ fn is_name(text: &str) -> bool
 
 /// The name of a line.
 pub fn name_of<'a>(table: &'a Table) -> Result<&'a str, Flaw>
-    ensures ok { IfOk result (λ name. IsTextAt (codes "name") (table_view table.now) (Some name.now)) }
+    ensures ok { IfOk result
+        (λ name. IsTextAt (codes "name") (table_view table.now) (Some name.now)) }
     ensures is_name { IfOk result (λ name. IsLineName name.now) }
-    ensures fault { IfErr result (λ flaw. (level : Level) → HasFlaw level (table_view table.now) flaw) }
+    ensures fault { IfErr result
+        (λ flaw. (level : Level) → HasFlaw level (table_view table.now) flaw) }
 {
     let Some(name) = text_at(table, "name")? else {
         return Err(Flaw::At("name", Trouble::Absent));

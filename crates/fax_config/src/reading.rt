@@ -140,12 +140,16 @@ struct Service {
 /// What a document tells beside its lines.
 fn top_of(alloc: Global, table: &Table) -> Result<Service, Flaw>
     ensures keys { OnOk result (HasKnownKeys levels.Top (table_view table.now)) }
-    ensures control { IfOk result (λ top. IsPathAt (codes "control") (table_view table.now) (option_map (λ path. string_bytes path) top.control)) }
-    ensures spool { IfOk result (λ top. IsPathAt (codes "spool") (table_view table.now) (option_map (λ path. string_bytes path) top.spool)) }
+    ensures control { IfOk result (λ top. IsPathAt (codes "control")
+        (table_view table.now) (option_map (λ path. string_bytes path) top.control)) }
+    ensures spool { IfOk result (λ top. IsPathAt (codes "spool") (table_view table.now) (option_map
+        (λ path. string_bytes path) top.spool)) }
     ensures http { IfOk result (λ top. IsAddressAt (codes "http") (table_view table.now) top.http) }
-    ensures stop { IfOk result (λ top. IsNumberAt (codes "stop_seconds") (table_view table.now) 120 top.stop_seconds) }
+    ensures stop { IfOk result
+        (λ top. IsNumberAt (codes "stop_seconds") (table_view table.now) 120 top.stop_seconds) }
     ensures stop_in_range { IfOk result (λ top. top.stop_seconds ≤ 86400) }
-    ensures memory { IfOk result (λ top. IsNumberIfAt (codes "memory") (table_view table.now) top.memory) }
+    ensures memory { IfOk result
+        (λ top. IsNumberIfAt (codes "memory") (table_view table.now) top.memory) }
     ensures memory_in_range { IfOk result (λ top. IfSome top.memory IsMemory) }
     ensures fault { IfErr result (HasFlaw levels.Top (table_view table.now)) }
 {
@@ -166,7 +170,8 @@ fn top_of(alloc: Global, table: &Table) -> Result<Service, Flaw>
 
 /// A copy of a text.
 pub(crate) fn owned(alloc: Global, text: Option<&str>) -> Result<Option<String>, AllocError>
-    ensures { IfOk result (λ copy. option_map (λ s. string_bytes s) copy ≡ option_map (λ t. t.now) text.entry) }
+    ensures { IfOk result
+        (λ copy. option_map (λ s. string_bytes s) copy ≡ option_map (λ t. t.now) text.entry) }
 {
     match text {
         None => Ok(None),
@@ -196,7 +201,8 @@ fn lines_of_items(alloc: Global, items: &Array) -> Result<Vec<LineConfig>, Misfi
     ensures told { IfOk result (λ lines. AreLines (array_view items.now) lines.items) }
     ensures in_range { IfOk result (λ lines. All IsInRange lines.items) }
     ensures as_many { IfOk result (λ lines. length lines.items ≡ length items.now.items) }
-    ensures fault { IfErr result (λ misfit. (members : Members) → get_member (codes "lines") members ≡ Some (array (array_view items.now)) → IsMisfitOf members misfit) }
+    ensures fault { IfErr result (λ misfit. (members : Members) → get_member (codes "lines") members
+        ≡ Some (array (array_view items.now)) → IsMisfitOf members misfit) }
 {
     let mut lines = Vec::new(alloc);
     for item in items {

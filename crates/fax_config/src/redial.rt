@@ -18,7 +18,8 @@ use toml::value::Array;
 
 /// The redial lines of a document.
 pub fn redials_of(alloc: Global, table: &Table) -> Result<Vec<RedialConfig>, Misfit>
-    ensures told { IfOk result (λ redials. AreToldAt IsRedialOf (codes "redial") (table_view table.now) redials.items) }
+    ensures told { IfOk result
+        (λ redials. AreToldAt IsRedialOf (codes "redial") (table_view table.now) redials.items) }
     ensures few { IfOk result (λ redials. length redials.items ≤ 4000) }
     ensures fault { IfErr result (IsMisfitOf (table_view table.now)) }
 {
@@ -34,9 +35,12 @@ pub fn redials_of(alloc: Global, table: &Table) -> Result<Vec<RedialConfig>, Mis
 
 /// The redial lines that the items of a list tell.
 fn redials_of_items(alloc: Global, items: &Array) -> Result<Vec<RedialConfig>, Misfit>
-    ensures told { IfOk result (λ redials. AreTold IsRedialOf (array_view items.now) redials.items) }
+    ensures told { IfOk result
+        (λ redials. AreTold IsRedialOf (array_view items.now) redials.items) }
     ensures as_many { IfOk result (λ redials. length redials.items ≡ length items.now.items) }
-    ensures fault { IfErr result (λ misfit. (members : Members) → get_member (codes "redial") members ≡ Some (array (array_view items.now)) → IsMisfitOf members misfit) }
+    ensures fault { IfErr result (λ misfit. (members : Members)
+        → get_member (codes "redial") members ≡ Some (array (array_view items.now))
+        → IsMisfitOf members misfit) }
 {
     let mut redials = Vec::new(alloc);
     for item in items {

@@ -36,7 +36,8 @@ pub fn retry_of(alloc: Global, table: &Table) -> Result<RetryConfig, Misfit>
 /// How long is waited for each time, as a table tells.
 fn waits_of(alloc: Global, table: &Table) -> Result<Vec<u32>, Flaw>
     ensures keys { IfOk result (λ _. HasKnownKeys levels.Retry (table_view table.now)) }
-    ensures told { IfOk result (λ waits. AreToldAt IsWait (codes "after_seconds") (table_view table.now) waits.items) }
+    ensures told { IfOk result
+        (λ waits. AreToldAt IsWait (codes "after_seconds") (table_view table.now) waits.items) }
     ensures few { IfOk result (λ waits. length waits.items ≤ 16) }
     ensures fault { IfErr result (HasFlaw levels.Retry (table_view table.now)) }
 {
@@ -58,7 +59,9 @@ fn waits_of(alloc: Global, table: &Table) -> Result<Vec<u32>, Flaw>
 fn waits_of_items(alloc: Global, items: &Array) -> Result<Vec<u32>, Flaw>
     ensures told { IfOk result (λ waits. AreTold IsWait (array_view items.now) waits.items) }
     ensures as_many { IfOk result (λ waits. length waits.items ≡ length items.now.items) }
-    ensures fault { IfErr result (λ flaw. (members : Members) → get_member (codes "after_seconds") members ≡ Some (array (array_view items.now)) → HasFlaw levels.Retry members flaw) }
+    ensures fault { IfErr result (λ flaw. (members : Members)
+        → get_member (codes "after_seconds") members ≡ Some (array (array_view items.now))
+        → HasFlaw levels.Retry members flaw) }
 {
     let mut waits = Vec::new(alloc);
     for item in items {

@@ -23,9 +23,11 @@ pub fn routes_of(
     table: &Table,
     trunks: &[TrunkConfig],
 ) -> Result<Vec<RouteConfig>, SipMisfit>
-    ensures told { IfOk result (λ routes. AreRoutesAt trunks.now (table_view table.now) routes.items) }
+    ensures told { IfOk result
+        (λ routes. AreRoutesAt trunks.now (table_view table.now) routes.items) }
     ensures few { IfOk result (λ routes. length routes.items ≤ 1000) }
-    ensures fault { IfErr result (λ misfit. AreTrunksAt (table_view table.now) trunks.now → IsSipMisfitOf (table_view table.now) misfit) }
+    ensures fault { IfErr result (λ misfit. AreTrunksAt (table_view table.now) trunks.now
+        → IsSipMisfitOf (table_view table.now) misfit) }
 {
     let Some(value) = value_at(table, "routes") else {
         return Ok(Vec::new(alloc));
@@ -43,9 +45,12 @@ fn routes_of_items(
     items: &Array,
     trunks: &[TrunkConfig],
 ) -> Result<Vec<RouteConfig>, SipMisfit>
-    ensures told { IfOk result (λ routes. AreRoutes trunks.now (array_view items.now) routes.items) }
+    ensures told { IfOk result
+        (λ routes. AreRoutes trunks.now (array_view items.now) routes.items) }
     ensures as_many { IfOk result (λ routes. length routes.items ≡ length items.now.items) }
-    ensures fault { IfErr result (λ misfit. (members : Members) → get_member (codes "routes") members ≡ Some (array (array_view items.now)) → AreTrunksAt members trunks.now → IsSipMisfitOf members misfit) }
+    ensures fault { IfErr result (λ misfit. (members : Members)
+        → get_member (codes "routes") members ≡ Some (array (array_view items.now))
+        → AreTrunksAt members trunks.now → IsSipMisfitOf members misfit) }
 {
     let mut routes = Vec::new(alloc);
     for item in items {
@@ -91,7 +96,8 @@ fn trunk_named(trunks: &[TrunkConfig], name: &str) -> Option<usize>
 /// The name of the trunk of the route that a table tells, whose keys are known.
 fn trunk_name_of<'a>(alloc: Global, table: &'a Table) -> Result<&'a str, Flaw>
     ensures keys { OnOk result (HasKnownKeys levels.Route (table_view table.now)) }
-    ensures ok { IfOk result (λ name. IsTextAt (codes "trunk") (table_view table.now) (Some name.now)) }
+    ensures ok { IfOk result
+        (λ name. IsTextAt (codes "trunk") (table_view table.now) (Some name.now)) }
     ensures fault { IfErr result (HasFlaw levels.Route (table_view table.now)) }
 {
     only_known_keys(alloc, table, Level::Route)?;

@@ -19,7 +19,8 @@ const MOST_USER_OCTETS: usize = 64;
 /// What is said at a key is so; where nothing is said, it is not.
 pub fn truth_at(table: &Table, key: &'static str) -> Result<bool, Flaw>
     ensures ok { IfOk result (λ truth. IsTruthAt key.now (table_view table.now) truth) }
-    ensures fault { IfErr result (λ flaw. (level : Level) → HasFlaw level (table_view table.now) flaw) }
+    ensures fault { IfErr result
+        (λ flaw. (level : Level) → HasFlaw level (table_view table.now) flaw) }
 {
     let Some(value) = value_at(table, key) else {
         return Ok(false);
@@ -33,7 +34,8 @@ pub fn truth_at(table: &Table, key: &'static str) -> Result<bool, Flaw>
 /// What a call offers first, as `call_with` says.
 pub fn call_with_of(table: &Table) -> Result<CallWith, Flaw>
     ensures ok { IfOk result (λ with. IsCallWithAt (table_view table.now) with) }
-    ensures fault { IfErr result (λ flaw. (level : Level) → HasFlaw level (table_view table.now) flaw) }
+    ensures fault { IfErr result
+        (λ flaw. (level : Level) → HasFlaw level (table_view table.now) flaw) }
 {
     let Some(text) = text_at(table, "call_with")? else {
         return Ok(CallWith::T38);
@@ -70,8 +72,10 @@ fn is_user(text: &str) -> bool
 
 /// The user that `user` says, where it says one.
 pub fn user_at(table: &Table) -> Result<Option<&str>, Flaw>
-    ensures ok { IfOk result (λ user. IsUserAt (table_view table.now) (option_map (λ octets. octets.now) user)) }
-    ensures fault { IfErr result (λ flaw. (level : Level) → HasFlaw level (table_view table.now) flaw) }
+    ensures ok { IfOk result
+        (λ user. IsUserAt (table_view table.now) (option_map (λ octets. octets.now) user)) }
+    ensures fault { IfErr result
+        (λ flaw. (level : Level) → HasFlaw level (table_view table.now) flaw) }
 {
     let Some(user) = text_at(table, "user")? else {
         return Ok(None);
@@ -99,8 +103,10 @@ fn network_of(value: &Value) -> Option<Network>
 
 /// The networks at a key; none where there is nothing.
 pub fn networks_at(alloc: Global, table: &Table, key: &'static str) -> Result<Vec<Network>, Flaw>
-    ensures ok { IfOk result (λ networks. AreNetworksAt key.now (table_view table.now) networks.items) }
-    ensures fault { IfErr result (λ flaw. (level : Level) → HasFlaw level (table_view table.now) flaw) }
+    ensures ok { IfOk result
+        (λ networks. AreNetworksAt key.now (table_view table.now) networks.items) }
+    ensures fault { IfErr result
+        (λ flaw. (level : Level) → HasFlaw level (table_view table.now) flaw) }
 {
     let Some(value) = value_at(table, key) else {
         return Ok(Vec::new(alloc));
@@ -116,7 +122,8 @@ pub fn networks_at(alloc: Global, table: &Table, key: &'static str) -> Result<Ve
 
 /// The networks that the items of a list tell; none, where one of them tells none.
 fn networks_of(alloc: Global, items: &Array) -> Result<Option<Vec<Network>>, AllocError>
-    ensures told { IfOk result (λ found. IfSome found (λ networks. AreNetworks (array_view items.now) networks.items)) }
+    ensures told { IfOk result
+        (λ found. IfSome found (λ networks. AreNetworks (array_view items.now) networks.items)) }
     ensures none { IfOk result (λ found. IfNone found (HasNoNetwork (array_view items.now))) }
 {
     let mut networks = Vec::new(alloc);

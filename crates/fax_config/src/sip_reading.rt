@@ -73,7 +73,8 @@ struct Head {
 
 /// What the table of `sip` tells, whose addresses differ.
 fn head_of(alloc: Global, table: &Table) -> Result<Head, SipMisfit>
-    ensures told { IfOk result (λ head. IsHead (table_view table.now) head.local head.audio head.ring_seconds) }
+    ensures told { IfOk result
+        (λ head. IsHead (table_view table.now) head.local head.audio head.ring_seconds) }
     ensures fault { IfErr result (HasHeadMisfit (table_view table.now)) }
 {
     let head = match head_in(alloc, table) {
@@ -89,9 +90,12 @@ fn head_of(alloc: Global, table: &Table) -> Result<Head, SipMisfit>
 /// What the table of `sip` tells.
 fn head_in(alloc: Global, table: &Table) -> Result<Head, Flaw>
     ensures keys { OnOk result (HasKnownKeys levels.Sip (table_view table.now)) }
-    ensures local { IfOk result (λ head. IsAddressAt (codes "local") (table_view table.now) (Some head.local)) }
-    ensures audio { IfOk result (λ head. IsAddressAt (codes "audio") (table_view table.now) (Some head.audio)) }
-    ensures ring { IfOk result (λ head. IsNumberAt (codes "ring_seconds") (table_view table.now) 90 head.ring_seconds) }
+    ensures local { IfOk result
+        (λ head. IsAddressAt (codes "local") (table_view table.now) (Some head.local)) }
+    ensures audio { IfOk result
+        (λ head. IsAddressAt (codes "audio") (table_view table.now) (Some head.audio)) }
+    ensures ring { IfOk result
+        (λ head. IsNumberAt (codes "ring_seconds") (table_view table.now) 90 head.ring_seconds) }
     ensures least { IfOk result (λ head. 1 ≤ head.ring_seconds) }
     ensures most { IfOk result (λ head. head.ring_seconds ≤ 600) }
     ensures fault { IfErr result (HasFlaw levels.Sip (table_view table.now)) }

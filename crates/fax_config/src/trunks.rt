@@ -42,7 +42,9 @@ pub fn trunks_of(alloc: Global, table: &Table) -> Result<Vec<TrunkConfig>, SipMi
 fn trunks_of_items(alloc: Global, items: &Array) -> Result<Vec<TrunkConfig>, SipMisfit>
     ensures told { IfOk result (λ trunks. AreTrunks (array_view items.now) trunks.items) }
     ensures as_many { IfOk result (λ trunks. length trunks.items ≡ length items.now.items) }
-    ensures fault { IfErr result (λ misfit. (members : Members) → get_member (codes "trunks") members ≡ Some (array (array_view items.now)) → IsSipMisfitOf members misfit) }
+    ensures fault { IfErr result (λ misfit. (members : Members)
+        → get_member (codes "trunks") members ≡ Some (array (array_view items.now))
+        → IsSipMisfitOf members misfit) }
 {
     let mut trunks = Vec::new(alloc);
     for item in items {
@@ -106,7 +108,8 @@ fn trunk_of(alloc: Global, table: &Table) -> Result<TrunkConfig, Flaw>
 
 /// Where the trunk that a table tells is.
 fn reach_of(alloc: Global, table: &Table) -> Result<Reach, Flaw>
-    ensures told { IfOk result (λ reach. IsReach (table_view table.now) (string_bytes reach.name) reach.address reach.allow.items) }
+    ensures told { IfOk result (λ reach.
+        IsReach (table_view table.now) (string_bytes reach.name) reach.address reach.allow.items) }
     ensures fault { IfErr result (HasFlaw levels.Trunk (table_view table.now)) }
 {
     let name = name_of(table)?;
@@ -123,7 +126,9 @@ fn reach_of(alloc: Global, table: &Table) -> Result<Reach, Flaw>
 
 /// As whom the trunk that a table tells is called. A password and a registration want a user.
 fn account_of(alloc: Global, table: &Table) -> Result<Account, Flaw>
-    ensures told { IfOk result (λ account. IsAccount (table_view table.now) (option_map (λ user. string_bytes user) account.user) (option_map (λ path. string_bytes path) account.password_file) account.registers) }
+    ensures told { IfOk result (λ account. IsAccount (table_view table.now) (option_map
+        (λ user. string_bytes user) account.user) (option_map
+        (λ path. string_bytes path) account.password_file) account.registers) }
     ensures fault { IfErr result (HasFlaw levels.Trunk (table_view table.now)) }
 {
     let user = user_at(table)?;

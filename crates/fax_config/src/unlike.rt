@@ -41,7 +41,8 @@ fn repeated_value<K: Eq + Hash + Copy>(alloc: Global, keys: &[K]) -> Result<Opti
 
 /// The names of lines.
 fn names_of_lines(alloc: Global, lines: &[LineConfig]) -> Result<Vec<&str>, Misfit>
-    ensures told { IfOk result (λ names. map (λ name. name.now) names.items ≡ names_of_lines lines.now) }
+    ensures told { IfOk result
+        (λ names. map (λ name. name.now) names.items ≡ names_of_lines lines.now) }
     ensures fault { IfErr result (λ misfit. misfit ≡ misfits.NoMemory) }
 {
     let mut names = Vec::new(alloc);
@@ -53,7 +54,8 @@ fn names_of_lines(alloc: Global, lines: &[LineConfig]) -> Result<Vec<&str>, Misf
 
 /// These names, and those of redial lines after them.
 fn names_with<'a>(names: Vec<&'a str>, redials: &'a [RedialConfig]) -> Result<Vec<&'a str>, Misfit>
-    ensures told { IfOk result (λ all. map (λ name. name.now) all.items ≡ map (λ name. name.now) names.entry.items ++ names_of_redials redials.now) }
+    ensures told { IfOk result (λ all. map (λ name. name.now) all.items ≡ map
+        (λ name. name.now) names.entry.items ++ names_of_redials redials.now) }
     ensures fault { IfErr result (λ misfit. misfit ≡ misfits.NoMemory) }
 {
     let mut all = names;
@@ -70,7 +72,8 @@ pub fn names_unlike(
     redials: &[RedialConfig],
 ) -> Result<(), Misfit>
     ensures ok { OnOk result (AreUnlike (names_of_all lines.now redials.now)) }
-    ensures fault { IfErr result (λ misfit. (members : Members) → AreLinesAt members lines.now → AreRedialsAt members redials.now → IsMisfitOf members misfit) }
+    ensures fault { IfErr result (λ misfit. (members : Members) → AreLinesAt members lines.now
+        → AreRedialsAt members redials.now → IsMisfitOf members misfit) }
 {
     let names = names_of_lines(alloc, lines)?;
     let all = names_with(names, redials)?;
@@ -112,7 +115,8 @@ pub fn locals_unlike(
     redials: &[RedialConfig],
 ) -> Result<(), Misfit>
     ensures ok { OnOk result (AreUnlike (locals_of_all lines.now redials.now)) }
-    ensures fault { IfErr result (λ misfit. (members : Members) → AreLinesAt members lines.now → AreRedialsAt members redials.now → IsMisfitOf members misfit) }
+    ensures fault { IfErr result (λ misfit. (members : Members) → AreLinesAt members lines.now
+        → AreRedialsAt members redials.now → IsMisfitOf members misfit) }
 {
     let locals = locals_of_lines(alloc, lines)?;
     let all = locals_with(locals, redials)?;
@@ -162,7 +166,8 @@ fn last_leg_of_lines(
 /// Refuses trunks of which two have one name.
 pub fn trunks_unlike(alloc: Global, trunks: &[TrunkConfig]) -> Result<(), SipMisfit>
     ensures ok { OnOk result (AreUnlike (names_of_trunks trunks.now)) }
-    ensures fault { IfErr result (λ misfit. (members : Members) → AreTrunksAt members trunks.now → IsSipMisfitOf members misfit) }
+    ensures fault { IfErr result (λ misfit. (members : Members)
+        → AreTrunksAt members trunks.now → IsSipMisfitOf members misfit) }
 {
     let mut names = Vec::new(alloc);
     for trunk in trunks {

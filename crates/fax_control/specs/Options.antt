@@ -17,7 +17,8 @@ StartsOtherwise front rest = IfSome rest (λ text. ¬ (BeginsWith front text))
 
 -- what follows begins as no option does
 abbrev pub IsNoOption : Option (List ℕ) → Type 0
-IsNoOption rest = StartsOtherwise (codes "redundancy=") rest × StartsOtherwise (codes "octets=") rest
+IsNoOption rest =
+    StartsOtherwise (codes "redundancy=") rest × StartsOtherwise (codes "octets=") rest
 
 -- what follows begins with an option, if there is anything: a tag could not stand there
 abbrev pub MayFollowNoTag : Option (List ℕ) → Type 0

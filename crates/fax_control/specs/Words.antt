@@ -28,7 +28,8 @@ pub data Order : Type 0 where
   Stop : Order
 
 abbrev pub order_of : Word → Order
-order_of (word.Ring ring) = Ring (option_map (λ text. text.now) ring.line) (option_map (λ text. text.now) ring.tag) ring.bounds
+order_of (word.Ring ring) = Ring (option_map
+    (λ text. text.now) ring.line) (option_map (λ text. text.now) ring.tag) ring.bounds
 order_of (word.Peer peer) = Peer peer.line.now peer.leg peer.address peer.bounds peer.is_moved
 order_of (word.HangUp line leg) = HangUp line.now leg
 order_of (word.Refuse line cause) = Refuse line.now cause.now
@@ -80,7 +81,8 @@ option_led name (Some value) rest = Some (led (name ++ decimal value) rest)
 
 -- what follows, after what is said of bounds
 abbrev pub bounds_led : Bounds → Option (List ℕ) → Option (List ℕ)
-bounds_led bounds rest = option_led (codes "redundancy=") bounds.redundancy (option_led (codes "octets=") bounds.octets rest)
+bounds_led bounds rest = option_led
+    (codes "redundancy=") bounds.redundancy (option_led (codes "octets=") bounds.octets rest)
 
 -- that a peer has moved is the last word of all
 abbrev pub moved_text : Bool → Option (List ℕ)
@@ -100,7 +102,8 @@ BeginsWith front text = (rest : List ℕ) × (text ≡ front ++ rest)
 
 -- the text can be the tag of a ring: it begins as no option does
 abbrev pub IsRingTag : List ℕ → Type 0
-IsRingTag text = IsTag text × ¬ (BeginsWith (codes "redundancy=") text) × ¬ (BeginsWith (codes "octets=") text)
+IsRingTag text =
+    IsTag text × ¬ (BeginsWith (codes "redundancy=") text) × ¬ (BeginsWith (codes "octets=") text)
 
 -- what says which line is rung: its name, or `any`, which is the name of none
 abbrev pub rung_text : Option (List ℕ) → List ℕ
@@ -131,16 +134,22 @@ frames_text line = spaced (codes "events") (spaced (codes "frames") line)
 -- the text spells the order
 abbrev pub Spells : List ℕ → Order → Type 0
 Spells text (Ring line tag bounds) =
-    (text ≡ spaced (codes "ring") (led (rung_text line) (word_led tag (bounds_led bounds None)))) × IsRungLine line × IfSome tag IsRingTag × IsInRange bounds
+    (text ≡ spaced (codes "ring") (led (rung_text line) (word_led tag (bounds_led bounds None))))
+    × IsRungLine line × IfSome tag IsRingTag × IsInRange bounds
 Spells text (Peer line leg address bounds is_moved) =
-    (peer_text : List ℕ) × (text ≡ spaced (codes "peer") (spaced line (spaced (leg_text leg) (led peer_text (bounds_led bounds (moved_text is_moved))))))
+    (peer_text : List ℕ) × (text ≡ spaced (codes "peer")
+    (spaced line (spaced (leg_text leg) (led peer_text (bounds_led bounds (moved_text is_moved))))))
     × IsName line × IsPeerText leg peer_text address × IsInRange bounds
-Spells text (HangUp line leg) = (text ≡ spaced (codes "hangup") (spaced line (leg_text leg))) × IsName line
-Spells text (Refuse line cause) = (text ≡ spaced (codes "refuse") (spaced line cause)) × IsName line × IsCause cause
+Spells text (HangUp line leg) =
+    (text ≡ spaced (codes "hangup") (spaced line (leg_text leg))) × IsName line
+Spells text (Refuse line cause) =
+    (text ≡ spaced (codes "refuse") (spaced line cause)) × IsName line × IsCause cause
 Spells text (Report line) = (text ≡ spaced (codes "report") line) × IsName line
 Spells text (Undelivered line) = (text ≡ led (codes "undelivered") line) × IfSome line IsName
-Spells text (Discard line life call) = (text ≡ spaced (codes "discard") (call_text line life call)) × IsName line × IsCallNumber life × IsCallNumber call
-Spells text (Retry line life call) = (text ≡ spaced (codes "retry") (call_text line life call)) × IsName line × IsCallNumber life × IsCallNumber call
+Spells text (Discard line life call) = (text ≡ spaced (codes "discard") (call_text line life call))
+    × IsName line × IsCallNumber life × IsCallNumber call
+Spells text (Retry line life call) = (text ≡ spaced (codes "retry") (call_text line life call))
+    × IsName line × IsCallNumber life × IsCallNumber call
 Spells text Status = text ≡ codes "status"
 Spells text Metrics = text ≡ codes "metrics"
 Spells text Events = text ≡ codes "events"

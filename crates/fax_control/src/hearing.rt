@@ -51,10 +51,12 @@ impl ClientLines {
         // No line ends in these octets: all of them are kept.
         ensures no_end { IfNone result.0 (HasNoLineFeed octets.now) }
         ensures no_rest { IfNone result.0 (result.1.now ≡ []) }
-        ensures waits { IfNone result.0 ((part : List ℕ) → self.old ≡ fitting part → self.new ≡ fitting (part ++ octets.now)) }
+        ensures waits { IfNone result.0 ((part : List ℕ)
+            → self.old ≡ fitting part → self.new ≡ fitting (part ++ octets.now)) }
         // A line ends: it is what had come of it and what comes before the line feed, or it is too long.
-        ensures line { IfSome result.0 (λ heard. (end : List ℕ) × EndsALine octets.now end result.1.now
-            × ((part : List ℕ) → self.old ≡ fitting part → octets_of_heard heard ≡ fitting (part ++ end))) }
+        ensures line { IfSome result.0
+            (λ heard. (end : List ℕ) × EndsALine octets.now end result.1.now × ((part : List ℕ)
+            → self.old ≡ fitting part → octets_of_heard heard ≡ fitting (part ++ end))) }
         ensures begins { IfSome result.0 (λ _. self.new ≡ fitting []) }
     {
         match line_feed(octets) {

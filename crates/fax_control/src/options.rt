@@ -30,8 +30,8 @@ pub fn tag_of(words: Option<&str>) -> Option<(Option<&str>, Option<&str>)>
     ensures said { IfSome result (λ parts. text_of words.entry
         ≡ word_led (text_of parts.0) (text_of parts.1)) }
     ensures tag { IfSome result (λ parts. IfSome (text_of parts.0) IsRingTag) }
-    ensures only { (tag rest : Option (List ℕ)) → text_of words.entry ≡ word_led tag rest → IfSome tag IsRingTag
-        → (tag ≡ None → MayFollowNoTag rest)
+    ensures only { (tag rest : Option (List ℕ)) → text_of words.entry ≡ word_led tag rest
+        → IfSome tag IsRingTag → (tag ≡ None → MayFollowNoTag rest)
         → IsSomeAnd result (λ parts. (text_of parts.0 ≡ tag) × (text_of parts.1 ≡ rest)) }
 {
     let Some(text) = words else {
@@ -78,10 +78,12 @@ fn option_of<'a>(
     words: Option<&'a str>,
 ) -> Option<(Option<u32>, Option<&'a str>)>
     requires { HasNoSpace name.now }
-    ensures said { IfSome result (λ parts. text_of words.entry ≡ option_led name.now parts.0 (text_of parts.1)) }
+    ensures said { IfSome result
+        (λ parts. text_of words.entry ≡ option_led name.now parts.0 (text_of parts.1)) }
     ensures within { IfSome result (λ parts. IsWithin least most parts.0) }
-    ensures only { (value : Option ℕ) (rest : Option (List ℕ)) → text_of words.entry ≡ option_led name.now value rest → IsWithin least most value
-        → (value ≡ None → StartsOtherwise name.now rest)
+    ensures only { (value : Option ℕ) (rest : Option (List ℕ))
+        → text_of words.entry ≡ option_led name.now value rest
+        → IsWithin least most value → (value ≡ None → StartsOtherwise name.now rest)
         → IsSomeAnd result (λ parts. (parts.0 ≡ value) × (text_of parts.1 ≡ rest)) }
 {
     let Some(text) = words else {
@@ -104,9 +106,11 @@ fn option_of<'a>(
 
 /// The bounds that words begin with, if they do, and what follows them.
 pub fn bounds_of(words: Option<&str>) -> Option<(Bounds, Option<&str>)>
-    ensures said { IfSome result (λ parts. text_of words.entry ≡ bounds_led parts.0 (text_of parts.1)) }
+    ensures said { IfSome result
+        (λ parts. text_of words.entry ≡ bounds_led parts.0 (text_of parts.1)) }
     ensures range { IfSome result (λ parts. IsInRange parts.0) }
-    ensures only { (bounds : BoundsShown) (rest : Option (List ℕ)) → text_of words.entry ≡ bounds_led bounds rest → IsInRange bounds → IsNoOption rest
+    ensures only { (bounds : BoundsShown) (rest : Option (List ℕ))
+        → text_of words.entry ≡ bounds_led bounds rest → IsInRange bounds → IsNoOption rest
         → IsSomeAnd result (λ parts. (parts.0 ≡ bounds) × (text_of parts.1 ≡ rest)) }
 {
     let (redundancy, words) = option_of("redundancy=", 0, 8, words)?;
@@ -141,7 +145,8 @@ fn double_octet_of(number: Option<u32>) -> Option<u16>
 /// Whether words are `moved`, alone; none where they are others.
 pub fn moved_of(words: Option<&str>) -> Option<bool>
     ensures said { IfSome result (λ is_moved. text_of words.entry ≡ moved_text is_moved) }
-    ensures only { (is_moved : Bool) → text_of words.entry ≡ moved_text is_moved → result ≡ Some is_moved }
+    ensures only { (is_moved : Bool)
+        → text_of words.entry ≡ moved_text is_moved → result ≡ Some is_moved }
 {
     let Some(text) = words else {
         return Some(false);

@@ -15,7 +15,8 @@ use std::net::SocketAddr;
 /// The word that the octets of a line say, its line feed aside; none where they say none.
 pub fn read_word(line: &[u8]) -> Option<Word<'_>>
     ensures said { IfSome result (λ word. Says line.now (order_of word)) }
-    ensures only { (order : Order) → Says line.now order → IsSomeAnd result (λ word. order_of word ≡ order) }
+    ensures only { (order : Order)
+        → Says line.now order → IsSomeAnd result (λ word. order_of word ≡ order) }
 {
     if line.len() > MOST_OCTETS {
         return None;
@@ -29,7 +30,8 @@ pub fn read_word(line: &[u8]) -> Option<Word<'_>>
 /// The word that a text spells.
 fn word_of(text: &str) -> Option<Word<'_>>
     ensures said { IfSome result (λ word. Spells text.now (order_of word)) }
-    ensures only { (order : Order) → Spells text.now order → IsSomeAnd result (λ word. order_of word ≡ order) }
+    ensures only { (order : Order)
+        → Spells text.now order → IsSomeAnd result (λ word. order_of word ≡ order) }
 {
     match cut(text) {
         None => bare_word(text),
@@ -63,7 +65,8 @@ fn word_of(text: &str) -> Option<Word<'_>>
 fn bare_word(text: &str) -> Option<Word<'_>>
     requires { HasNoSpace text.now }
     ensures said { IfSome result (λ word. Spells text.now (order_of word)) }
-    ensures only { (order : Order) → Spells text.now order → IsSomeAnd result (λ word. order_of word ≡ order) }
+    ensures only { (order : Order)
+        → Spells text.now order → IsSomeAnd result (λ word. order_of word ≡ order) }
 {
     if text == "status" {
         Some(Word::Status)
@@ -85,7 +88,8 @@ fn bare_word(text: &str) -> Option<Word<'_>>
 /// What follows `ring`: the name of a line, or `any`, a tag if there is one, and bounds.
 fn ring_of(rest: &str) -> Option<Word<'_>>
     ensures said { IfSome result (λ word. Spells (spaced (codes "ring") rest.now) (order_of word)) }
-    ensures only { (order : Order) → Spells (spaced (codes "ring") rest.now) order → IsSomeAnd result (λ word. order_of word ≡ order) }
+    ensures only { (order : Order) → Spells (spaced (codes "ring") rest.now) order
+        → IsSomeAnd result (λ word. order_of word ≡ order) }
 {
     let (line, words) = first_word(rest);
     let line = rung_line(line)?;
@@ -116,8 +120,10 @@ fn rung_line(word: &str) -> Option<Option<&str>>
 
 /// What follows `report`: the name of a line.
 fn report_of(rest: &str) -> Option<Word<'_>>
-    ensures said { IfSome result (λ word. Spells (spaced (codes "report") rest.now) (order_of word)) }
-    ensures only { (order : Order) → Spells (spaced (codes "report") rest.now) order → IsSomeAnd result (λ word. order_of word ≡ order) }
+    ensures said { IfSome result
+        (λ word. Spells (spaced (codes "report") rest.now) (order_of word)) }
+    ensures only { (order : Order) → Spells (spaced (codes "report") rest.now) order
+        → IsSomeAnd result (λ word. order_of word ≡ order) }
 {
     if rest.is_empty() {
         return None;
@@ -130,8 +136,10 @@ fn report_of(rest: &str) -> Option<Word<'_>>
 
 /// What follows `undelivered`: the name of a line.
 fn undelivered_of(rest: &str) -> Option<Word<'_>>
-    ensures said { IfSome result (λ word. Spells (spaced (codes "undelivered") rest.now) (order_of word)) }
-    ensures only { (order : Order) → Spells (spaced (codes "undelivered") rest.now) order → IsSomeAnd result (λ word. order_of word ≡ order) }
+    ensures said { IfSome result
+        (λ word. Spells (spaced (codes "undelivered") rest.now) (order_of word)) }
+    ensures only { (order : Order) → Spells (spaced (codes "undelivered") rest.now) order
+        → IsSomeAnd result (λ word. order_of word ≡ order) }
 {
     if rest.is_empty() {
         return None;
@@ -144,8 +152,10 @@ fn undelivered_of(rest: &str) -> Option<Word<'_>>
 
 /// What follows `discard`: which call.
 fn discard_of(rest: &str) -> Option<Word<'_>>
-    ensures said { IfSome result (λ word. Spells (spaced (codes "discard") rest.now) (order_of word)) }
-    ensures only { (order : Order) → Spells (spaced (codes "discard") rest.now) order → IsSomeAnd result (λ word. order_of word ≡ order) }
+    ensures said { IfSome result
+        (λ word. Spells (spaced (codes "discard") rest.now) (order_of word)) }
+    ensures only { (order : Order) → Spells (spaced (codes "discard") rest.now) order
+        → IsSomeAnd result (λ word. order_of word ≡ order) }
 {
     match call_of(rest) {
         Some(call) => Some(Word::Discard(call)),
@@ -155,8 +165,10 @@ fn discard_of(rest: &str) -> Option<Word<'_>>
 
 /// What follows `retry`: which call.
 fn retry_of(rest: &str) -> Option<Word<'_>>
-    ensures said { IfSome result (λ word. Spells (spaced (codes "retry") rest.now) (order_of word)) }
-    ensures only { (order : Order) → Spells (spaced (codes "retry") rest.now) order → IsSomeAnd result (λ word. order_of word ≡ order) }
+    ensures said { IfSome result
+        (λ word. Spells (spaced (codes "retry") rest.now) (order_of word)) }
+    ensures only { (order : Order) → Spells (spaced (codes "retry") rest.now) order
+        → IsSomeAnd result (λ word. order_of word ≡ order) }
 {
     match call_of(rest) {
         Some(call) => Some(Word::Retry(call)),
@@ -166,8 +178,10 @@ fn retry_of(rest: &str) -> Option<Word<'_>>
 
 /// What follows `events`: `frames`, and the name of a line.
 fn events_of(rest: &str) -> Option<Word<'_>>
-    ensures said { IfSome result (λ word. Spells (spaced (codes "events") rest.now) (order_of word)) }
-    ensures only { (order : Order) → Spells (spaced (codes "events") rest.now) order → IsSomeAnd result (λ word. order_of word ≡ order) }
+    ensures said { IfSome result
+        (λ word. Spells (spaced (codes "events") rest.now) (order_of word)) }
+    ensures only { (order : Order) → Spells (spaced (codes "events") rest.now) order
+        → IsSomeAnd result (λ word. order_of word ≡ order) }
 {
     let (what, line) = cut(rest)?;
     if what == "frames" {
@@ -180,7 +194,8 @@ fn events_of(rest: &str) -> Option<Word<'_>>
 /// What follows `events frames`: the name of a line.
 fn frames_of(line: &str) -> Option<Word<'_>>
     ensures said { IfSome result (λ word. Spells (frames_text line.now) (order_of word)) }
-    ensures only { (order : Order) → Spells (frames_text line.now) order → IsSomeAnd result (λ word. order_of word ≡ order) }
+    ensures only { (order : Order)
+        → Spells (frames_text line.now) order → IsSomeAnd result (λ word. order_of word ≡ order) }
 {
     if line.is_empty() {
         return None;
@@ -196,8 +211,9 @@ fn call_of(text: &str) -> Option<CallWord<'_>>
     ensures said { IfSome result (λ word. text.now ≡ call_text word.line.now word.life word.call) }
     ensures name { IfSome result (λ word. IsName word.line.now) }
     ensures range { IfSome result (λ word. IsCallNumber word.life × IsCallNumber word.call) }
-    ensures only { (line : List ℕ) (life call : ℕ) → text.now ≡ call_text line life call → IsName line → IsCallNumber life → IsCallNumber call
-        → IsSomeAnd result (λ word. (word.line.now ≡ line) × (word.life ≡ life) × (word.call ≡ call)) }
+    ensures only { (line : List ℕ) (life call : ℕ) → text.now ≡ call_text line life call
+        → IsName line → IsCallNumber life → IsCallNumber call → IsSomeAnd result
+        (λ word. (word.line.now ≡ line) × (word.life ≡ life) × (word.call ≡ call)) }
 {
     let (line, numbers) = cut(text)?;
     let (first, second) = cut(numbers)?;
@@ -212,8 +228,10 @@ fn call_of(text: &str) -> Option<CallWord<'_>>
 
 /// What follows `refuse`: the name of a line, and a cause.
 fn refuse_of(rest: &str) -> Option<Word<'_>>
-    ensures said { IfSome result (λ word. Spells (spaced (codes "refuse") rest.now) (order_of word)) }
-    ensures only { (order : Order) → Spells (spaced (codes "refuse") rest.now) order → IsSomeAnd result (λ word. order_of word ≡ order) }
+    ensures said { IfSome result
+        (λ word. Spells (spaced (codes "refuse") rest.now) (order_of word)) }
+    ensures only { (order : Order) → Spells (spaced (codes "refuse") rest.now) order
+        → IsSomeAnd result (λ word. order_of word ≡ order) }
 {
     let (line, cause) = cut(rest)?;
     if line.is_empty() {
@@ -228,8 +246,10 @@ fn refuse_of(rest: &str) -> Option<Word<'_>>
 
 /// What follows `hangup`: the name of a line, and a leg.
 fn hang_up_of(rest: &str) -> Option<Word<'_>>
-    ensures said { IfSome result (λ word. Spells (spaced (codes "hangup") rest.now) (order_of word)) }
-    ensures only { (order : Order) → Spells (spaced (codes "hangup") rest.now) order → IsSomeAnd result (λ word. order_of word ≡ order) }
+    ensures said { IfSome result
+        (λ word. Spells (spaced (codes "hangup") rest.now) (order_of word)) }
+    ensures only { (order : Order) → Spells (spaced (codes "hangup") rest.now) order
+        → IsSomeAnd result (λ word. order_of word ≡ order) }
 {
     let (line, leg) = cut(rest)?;
     let leg = leg_of(leg)?;
@@ -243,7 +263,8 @@ fn hang_up_of(rest: &str) -> Option<Word<'_>>
 /// What follows `peer`: the name of a line, a leg, who its peer is, bounds, and `moved`.
 fn peer_of(rest: &str) -> Option<Word<'_>>
     ensures said { IfSome result (λ word. Spells (spaced (codes "peer") rest.now) (order_of word)) }
-    ensures only { (order : Order) → Spells (spaced (codes "peer") rest.now) order → IsSomeAnd result (λ word. order_of word ≡ order) }
+    ensures only { (order : Order) → Spells (spaced (codes "peer") rest.now) order
+        → IsSomeAnd result (λ word. order_of word ≡ order) }
 {
     let (line, rest) = cut(rest)?;
     let (leg, rest) = cut(rest)?;
@@ -269,7 +290,8 @@ fn peer_of(rest: &str) -> Option<Word<'_>>
 fn peer_address(leg: Leg, word: &str) -> Option<Option<SocketAddr>>
     requires { HasNoSpace word.now }
     ensures said { IfSome result (λ address. IsPeerText leg word.now address) }
-    ensures only { (address : Option SocketAddrShown) → IsPeerText leg word.now address → result ≡ Some address }
+    ensures only { (address : Option SocketAddrShown)
+        → IsPeerText leg word.now address → result ≡ Some address }
 {
     if word == "any" {
         return any_address(leg);
@@ -283,7 +305,8 @@ fn peer_address(leg: Leg, word: &str) -> Option<Option<SocketAddr>>
 /// That the peer of a leg is any: none, where it cannot be.
 fn any_address(leg: Leg) -> Option<Option<SocketAddr>>
     ensures said { IfSome result (λ address. IsPeerText leg (codes "any") address) }
-    ensures only { (address : Option SocketAddrShown) → IsPeerText leg (codes "any") address → result ≡ Some address }
+    ensures only { (address : Option SocketAddrShown)
+        → IsPeerText leg (codes "any") address → result ≡ Some address }
 {
     match leg {
         Leg::Calling => Some(None),

@@ -5,7 +5,8 @@ ghost use Rattle.fax_control.specs.Words.{HasNoSpace, led, spaced};
 
 /// A text up to its first space, and what follows that.
 pub fn cut(text: &str) -> Option<(&str, &str)>
-    ensures some { IfSome result (λ parts. (text.now ≡ spaced parts.0.now parts.1.now) × HasNoSpace parts.0.now) }
+    ensures some { IfSome result
+        (λ parts. (text.now ≡ spaced parts.0.now parts.1.now) × HasNoSpace parts.0.now) }
     ensures none { IfNone result (HasNoSpace text.now) }
 {
     text.split_once(' ')

@@ -36,7 +36,8 @@ moment_text moment = decimal moment ++ (replicate (9 - length (decimal moment)) 
 
 -- the line that tells a thing at a moment: the moment, where it happened, and what
 abbrev pub line_text : (moment : ℕ) → Description → List ℕ
-line_text moment telling = moment_text moment ++ (lane_picture telling.lane ++ (codes "  " ++ telling.words))
+line_text moment telling =
+    moment_text moment ++ (lane_picture telling.lane ++ (codes "  " ++ telling.words))
 
 -- the lines that tell these things at a moment, and nothing else
 abbrev pub paragraph_text : (moment : ℕ) → List Description → List ℕ

@@ -42,7 +42,8 @@ modulation_name V17At14400 = codes "V.17"
 
 -- rates after one of this recommendation: each by its bits a second, those of a modulation after its name
 abbrev pub modulation_text : (last : ℕ) → Rate → List ℕ
-modulation_text last rate = if recommendation_of rate == last then [] else codes ", " ++ modulation_name rate
+modulation_text last rate =
+    if recommendation_of rate == last then [] else codes ", " ++ modulation_name rate
 
 abbrev pub rate_text : (last : ℕ) → Rate → List ℕ
 rate_text last rate = modulation_text last rate ++ (codes " " ++ decimal (bits_a_second rate))
@@ -72,12 +73,13 @@ codings_text true = codes "MH MR"
 codings_text false = codes "MH"
 
 abbrev pub offer_text : ℕ → List ℕ
-offer_text caps =
-    codes "DIS " ++ (receives_text (has_bit 10 caps) ++ (codes ", " ++ (widths_text (has_width W2048 caps) (has_width W2432 caps) ++ (codes ", "
+offer_text caps = codes "DIS " ++ (receives_text (has_bit 10 caps)
+    ++ (codes ", " ++ (widths_text (has_width W2048 caps) (has_width W2432 caps) ++ (codes ", "
     ++ (resolutions_text (has_bit 15 caps) ++ (codes ", " ++ codings_text (has_bit 16 caps)))))))
 
 abbrev pub times_text : ℕ → List ℕ
-times_text caps = codes ", " ++ (decimal (scan_time caps false) ++ (codes " ms a row, fine " ++ (decimal (scan_time caps true) ++ codes " ms")))
+times_text caps = codes ", " ++ (decimal (scan_time caps false)
+    ++ (codes " ms a row, fine " ++ (decimal (scan_time caps true) ++ codes " ms")))
 
 abbrev pub dis_text : ℕ → List ℕ
 dis_text caps = offer_text caps ++ (rates_text 0 (rates_in caps) ++ times_text caps)
@@ -88,21 +90,23 @@ coding_name true = codes "MR"
 coding_name false = codes "MH"
 
 abbrev pub choice_text : Dcs → List ℕ
-choice_text dcs = codes "DCS " ++ (decimal (elements_of dcs.width) ++ (codes ", " ++ (resolution_name dcs.fine ++ (codes ", " ++ coding_name dcs.two_d))))
+choice_text dcs = codes "DCS " ++ (decimal (elements_of dcs.width)
+    ++ (codes ", " ++ (resolution_name dcs.fine ++ (codes ", " ++ coding_name dcs.two_d))))
 
 abbrev pub dcs_text : Dcs → List ℕ
-dcs_text dcs =
-    choice_text dcs ++ (codes ", " ++ (modulation_name dcs.rate ++ (codes " " ++ (decimal (bits_a_second dcs.rate) ++ (codes ", " ++ (decimal dcs.scan_ms
-    ++ codes " ms a row"))))))
+dcs_text dcs = choice_text dcs
+    ++ (codes ", " ++ (modulation_name dcs.rate ++ (codes " " ++ (decimal (bits_a_second dcs.rate)
+    ++ (codes ", " ++ (decimal dcs.scan_ms ++ codes " ms a row"))))))
 
 -- a frame that this project does not read, by its facsimile control field, which is told in hex
 abbrev pub field_text : ℕ → List ℕ
-field_text field = codes "a frame that is not read: " ++ (digit_glyph false (field / 16) ∷ digit_glyph false (field % 16) ∷ [])
+field_text field = codes "a frame that is not read: "
+    ++ (digit_glyph false (field / 16) ∷ digit_glyph false (field % 16) ∷ [])
 
 abbrev pub other_text : ℕ → List ℕ
-other_text field =
-    if field == 0x01 then codes "DIS that is not read: fewer than three octets"
-    else if (field == 0x41) || (field == 0xC1) then codes "DCS that is not read: error correction, or no rate or width of ours"
+other_text field = if field == 0x01 then codes "DIS that is not read: fewer than three octets"
+    else if (field == 0x41) || (field == 0xC1)
+    then codes "DCS that is not read: error correction, or no rate or width of ours"
     else field_text field
 
 -- the name of a frame
@@ -139,7 +143,8 @@ frame_text octets = text_as octets (frame_of octets)
 
 -- a format as a job's line has it
 abbrev pub format_text : Format → List ℕ
-format_text format = decimal (elements_of format.width) ++ (codes " " ++ resolution_name format.fine)
+format_text format =
+    decimal (elements_of format.width) ++ (codes " " ++ resolution_name format.fine)
 
 -- the modulation and the rate of a type of data
 abbrev pub kind_name : ℕ → List ℕ
@@ -155,8 +160,8 @@ abbrev pub last_number : (first count : ℕ) → ℕ
 last_number first count = (first + (count - 1)) % 65536
 
 abbrev pub numbers_text : (first count : ℕ) → List ℕ
-numbers_text first count =
-    if last_number first count == first then decimal first else decimal first ++ (codes "-" ++ decimal (last_number first count))
+numbers_text first count = if last_number first count == first
+    then decimal first else decimal first ++ (codes "-" ++ decimal (last_number first count))
 
 -- whether an image is whole, and which datagrams are missing in it if it is not
 abbrev pub wholeness_text : Bool → (missing : List ℕ) → List ℕ

@@ -14,7 +14,8 @@ pub(crate) fn paragraph_of(
     moment: u64,
     entries: &[Entry],
 ) -> Result<Vec<u8>, NoMemory>
-    ensures { IfOk result (λ text. text.items ≡ paragraph_text moment (map telling_of entries.now)) }
+    ensures { IfOk result
+        (λ text. text.items ≡ paragraph_text moment (map telling_of entries.now)) }
 {
     let mut text = Vec::new(alloc);
     for entry in entries {
@@ -25,7 +26,8 @@ pub(crate) fn paragraph_of(
 
 /// Adds the line of a thing that happened at a moment.
 fn push_line(text: &mut Vec<u8>, moment: u64, entry: &Entry) -> Result<(), NoMemory>
-    ensures { OnOk result (text.new.items ≡ text.old.items ++ (line_text moment (telling_of entry.now) ++ 10 ∷ [])) }
+    ensures { OnOk result (text.new.items
+        ≡ text.old.items ++ (line_text moment (telling_of entry.now) ++ 10 ∷ [])) }
 {
     push_moment(text, moment)?;
     text.extend_from_slice(entry.lane.picture().as_bytes())?;

@@ -61,7 +61,8 @@ impl Tale {
 
     /// One thing more happened.
     pub fn tell(&mut self, lane: Lane, words: &str) -> Result<(), NoMemory>
-        ensures { OnOk result (self.new ≡ self.old ++ record { lane = lane; words = words.now } ∷ []) }
+        ensures { OnOk result (self.new
+            ≡ self.old ++ record { lane = lane; words = words.now } ∷ []) }
     {
         let words = String::from_str(self.alloc, words)?;
         self.entries.push(Entry { lane, words })?;

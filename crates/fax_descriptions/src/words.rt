@@ -139,7 +139,8 @@ fn words_of_codings(has_two_d: bool) -> &'static str
 
 /// Adds rates, those of a modulation after its name.
 fn add_rates(alloc: Global, words: &mut String, rates: &[Rate]) -> Result<(), NoMemory>
-    ensures { OnOk result (string_bytes words.new ≡ string_bytes words.old ++ rates_text 0 rates.now) }
+    ensures { OnOk result (string_bytes words.new
+        ≡ string_bytes words.old ++ rates_text 0 rates.now) }
 {
     let mut last = 0;
     for rate in rates {

@@ -36,7 +36,8 @@ abbrev pub other_may_hold : List Card → (ℕ → Option LineView) → (i j : �
 other_may_hold cards lines i j = if nat_eq i j then 0 else may_hold_if (slice_get cards j) (lines j)
 
 abbrev pub others_may_hold : List Card → (ℕ → Option LineView) → ℕ → ℕ
-others_may_hold cards lines i = sum (map (λ j. other_may_hold cards lines i j) (range_with_len 0 (length cards)))
+others_may_hold cards lines i =
+    sum (map (λ j. other_may_hold cards lines i j) (range_with_len 0 (length cards)))
 
 abbrev pub memory_if : Option Card → ℕ
 memory_if None = 0
@@ -45,7 +46,8 @@ memory_if (Some card) = card.limits.memory
 -- THERE IS MEMORY for a call on line i where what all others may come to hold leaves as much as its limit says.
 abbrev pub has_memory : Option ℕ → List Card → (ℕ → Option LineView) → ℕ → Bool
 has_memory None cards lines i = true
-has_memory (Some most) cards lines i = nat_le (others_may_hold cards lines i + memory_if (slice_get cards i)) most
+has_memory (Some most) cards lines i =
+    nat_le (others_may_hold cards lines i + memory_if (slice_get cards i)) most
 
 -- what a ring comes to on a line that is full or not, and for which there is memory or not
 abbrev pub bounded : (is_full has_memory : Bool) → Next → Next

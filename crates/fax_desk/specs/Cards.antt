@@ -17,7 +17,19 @@ use Rattle.fax_desk.specs.declared.view.FirstJob.{FirstJob}
 -- nothing happened on its line in this life
 abbrev pub card_new : ℕ → Card
 card_new seconds =
-    record { tags = buffer [] 256; counts = record { calls = 0; pages = 0 }; pages_in_call = 0; is_closed = false; jobs = 0; restored_jobs = 0; dial_seconds = seconds; question = None; refused = buffer [] 64; waiting = 0; limits = record { memory = 0; most_waiting = 2 ^ 32 - 1 } }
+    record {
+      tags = buffer [] 256;
+      counts = record { calls = 0; pages = 0 };
+      pages_in_call = 0;
+      is_closed = false;
+      jobs = 0;
+      restored_jobs = 0;
+      dial_seconds = seconds;
+      question = None;
+      refused = buffer [] 64;
+      waiting = 0;
+      limits = record { memory = 0; most_waiting = 2 ^ 32 - 1 };
+    }
 
 -- ---- tags: of a call of this life, and of the job that is first in turn
 
@@ -33,7 +45,8 @@ abbrev pub job_tag : Card → FirstJob → ℕ → Option Tag
 job_tag card first call = if first.is_restored then first.tag else tag_of card call
 
 abbrev pub cause_of : Card → ℕ → Option Cause
-cause_of card job = option_map (λ refused. refused.cause) (find (λ refused. nat_eq refused.job job) card.refused.items)
+cause_of card job = option_map
+    (λ refused. refused.cause) (find (λ refused. nat_eq refused.job job) card.refused.items)
 
 abbrev pub tagged_of : Card → ℕ → TaggedCall
 tagged_of card call = record { call = call; tag = tag_of card call }
@@ -44,27 +57,40 @@ tagged_job card first call = record { call = call; tag = job_tag card first call
 -- What is told of report k of so many that are kept: the last is of the job that ended last. Of one that was confirmed in an earlier
 -- life no tag is known.
 abbrev pub report_texts : ℕ → ℕ → ℕ → Card → ReportTexts
-report_texts k kept call card =
-    record {
-      tag = (if nat_lt (card.jobs - (kept - k)) card.restored_jobs then None else tag_of card call);
-      cause = (if nat_lt card.jobs (kept - k) then None else cause_of card (card.jobs - (kept - k)));
-    }
+report_texts k kept call card = record {
+  tag = (if nat_lt (card.jobs - (kept - k)) card.restored_jobs then None else tag_of card call);
+  cause = (if nat_lt card.jobs (kept - k) then None else cause_of card (card.jobs - (kept - k)));
+}
 
 -- ---- what becomes of it
 
 abbrev pub tags_with : ℕ → Option Tag → Buffer TaggedCall → Buffer TaggedCall
 tags_with call None tags = tags
-tags_with call (Some tag) tags = buffer (take tags.capacity (record { call = call; tag = Some tag } ∷ tags.items)) tags.capacity
+tags_with call (Some tag) tags =
+    buffer (take tags.capacity (record { call = call; tag = Some tag } ∷ tags.items)) tags.capacity
 
 -- a call was rung, with this tag
 abbrev pub rung_card : ℕ → Option Tag → Card → Card
 rung_card call tag card =
-    record card { tags = tags_with call tag card.tags; counts = record card.counts { calls = min (card.counts.calls + 1) (2 ^ 64 - 1) }; pages_in_call = 0; is_closed = false }
+    record card {
+      tags = tags_with call tag card.tags;
+      counts = record card.counts {
+        calls = min (card.counts.calls + 1) (2 ^ 64 - 1);
+      };
+      pages_in_call = 0;
+      is_closed = false;
+    }
 
 -- the call of the job that is first in turn could not be placed
 abbrev pub after_refusal : Cause → Card → Card
 after_refusal why card =
-    record card { question = None; refused = buffer (take card.refused.capacity (record { job = card.jobs; cause = why } ∷ card.refused.items)) card.refused.capacity }
+    record card {
+      question = None;
+      refused = buffer (take card.refused.capacity (record {
+        job = card.jobs;
+        cause = why;
+      } ∷ card.refused.items)) card.refused.capacity;
+    }
 
 abbrev pub after_ring : Note → ℕ → Card → Card
 after_ring (note.Ring tag) call card = rung_card call tag card
@@ -101,9 +127,19 @@ one_more_if false count = count
 abbrev pub after_page : Bool → Option Kept → Card → Card
 after_page is_stored None card = card
 after_page is_stored (Some kept) card =
-    record card { counts = record card.counts { pages = one_more_if is_stored card.counts.pages }; pages_in_call = min (card.pages_in_call + 1) (2 ^ 32 - 1); waiting = min (card.waiting + 1) (2 ^ 64 - 1); is_closed = kept.closes }
+    record card {
+      counts = record card.counts { pages = one_more_if is_stored card.counts.pages };
+      pages_in_call = min (card.pages_in_call + 1) (2 ^ 32 - 1);
+      waiting = min (card.waiting + 1) (2 ^ 64 - 1);
+      is_closed = kept.closes;
+    }
 
 -- the pages of a job that ended wait no more
 abbrev pub after_job : Bool → Option Report → Card → Card
 after_job is_restored None card = card
-after_job is_restored (Some report) card = record card { jobs = min (card.jobs + 1) (2 ^ 64 - 1); waiting = card.waiting - report.pages; restored_jobs = one_more_if is_restored card.restored_jobs }
+after_job is_restored (Some report) card =
+    record card {
+      jobs = min (card.jobs + 1) (2 ^ 64 - 1);
+      waiting = card.waiting - report.pages;
+      restored_jobs = one_more_if is_restored card.restored_jobs;
+    }

@@ -58,7 +58,23 @@ use Rattle.fax_desk.specs.Words.{next_of, refusal_order, refuses, reply_to, ring
 -- nothing happened
 abbrev pub desk_new : Vec (String Global) Global → Vec Card Global → ℕ → Desk
 desk_new names cards within =
-    record { names = names; cards = cards; stop = stop.No; stop_ms = within; damage = record { records = 0; octets = 0 }; failed = None; time = record { heard = 0; last = 0 }; is_heard = false; waits = None; any_from = 0; memory = None; reload = reload.No }
+    record {
+      names = names;
+      cards = cards;
+      stop = stop.No;
+      stop_ms = within;
+      damage = record {
+        records = 0;
+        octets = 0;
+      };
+      failed = None;
+      time = record { heard = 0; last = 0 };
+      is_heard = false;
+      waits = None;
+      any_from = 0;
+      memory = None;
+      reload = reload.No;
+    }
 
 -- the line of this name
 abbrev pub line_named : List (String Global) → List ℕ → Option ℕ
@@ -87,7 +103,8 @@ next_here cards lines said None = refuses refusal.NoLine
 next_here cards lines said (Some i) = next_there cards i said (lines i)
 
 abbrev pub next_at : Desk → (ℕ → Option LineView) → List ℕ → Ask → Next
-next_at desk lines name said = next_here desk.cards.items lines said (line_named desk.names.items name)
+next_at desk lines name said =
+    next_here desk.cards.items lines said (line_named desk.names.items name)
 
 -- a line can be rung before its peer is said: its calling leg is idle, the configuration gives it no peer, and it is not full
 abbrev pub is_idle_line : Option ℕ → Bool → Bool
@@ -103,7 +120,8 @@ abbrev pub is_free_at : List Card → (ℕ → Option LineView) → ℕ → Bool
 is_free_at cards lines i = is_free_line (lines i) && not (is_full_at cards i)
 
 abbrev pub first_free : List Card → ℕ → ℕ → (ℕ → Option LineView) → Option ℕ
-first_free cards from to lines = find (λ i. is_free_at cards lines i) (range_with_len from (to - from))
+first_free cards from to lines =
+    find (λ i. is_free_at cards lines i) (range_with_len from (to - from))
 
 abbrev pub free_or : Option ℕ → Option ℕ → Option ℕ
 free_or None other = other
@@ -111,22 +129,27 @@ free_or (Some i) other = Some i
 
 -- the first of so many, from this one on, and round
 abbrev pub free_line : List Card → ℕ → ℕ → (ℕ → Option LineView) → Option ℕ
-free_line cards from count lines = free_or (first_free cards from count lines) (first_free cards 0 from lines)
+free_line cards from count lines =
+    free_or (first_free cards from count lines) (first_free cards 0 from lines)
 
 -- A ring that names a line, or any, is bounded by what is said in `Budgets`, before what the line is is looked at.
 abbrev pub bounded_at : Desk → (ℕ → Option LineView) → ℕ → Next → Next
-bounded_at desk lines i to = bounded (is_full_at desk.cards.items i) (has_memory desk.memory desk.cards.items lines i) to
+bounded_at desk lines i to =
+    bounded (is_full_at desk.cards.items i) (has_memory desk.memory desk.cards.items lines i) to
 
 abbrev pub any_if : Desk → (ℕ → Option LineView) → RingAsk → Option ℕ → Next
 any_if desk lines ring None = refuses refusal.Busy
-any_if desk lines ring (Some i) = bounded_at desk lines i (next.Orders (ring_order i true ring.bounds (note.RingAny ring.tag)))
+any_if desk lines ring (Some i) =
+    bounded_at desk lines i (next.Orders (ring_order i true ring.bounds (note.RingAny ring.tag)))
 
 abbrev pub next_any : Desk → (ℕ → Option LineView) → RingAsk → Next
-next_any desk lines ring = any_if desk lines ring (free_line desk.cards.items desk.any_from (length desk.names.items) lines)
+next_any desk lines ring = any_if
+    desk lines ring (free_line desk.cards.items desk.any_from (length desk.names.items) lines)
 
 abbrev pub named_if : Desk → (ℕ → Option LineView) → RingAsk → Option ℕ → Next
 named_if desk lines ring None = refuses refusal.NoLine
-named_if desk lines ring (Some i) = bounded_at desk lines i (next_there desk.cards.items i (ask.Ring ring) (lines i))
+named_if desk lines ring (Some i) =
+    bounded_at desk lines i (next_there desk.cards.items i (ask.Ring ring) (lines i))
 
 abbrev pub next_named : Desk → (ℕ → Option LineView) → List ℕ → RingAsk → Next
 next_named desk lines name ring = named_if desk lines ring (line_named desk.names.items name)
@@ -135,19 +158,24 @@ abbrev pub ring_on : Desk → (ℕ → Option LineView) → Option (List ℕ) �
 ring_on desk lines None ring = next_any desk lines ring
 ring_on desk lines (Some name) ring = next_named desk lines name ring
 
-abbrev pub ring_tagged : Desk → (ℕ → Option LineView) → Option (List ℕ) → SaidBounds → Option (Option Tag) → Next
+abbrev pub ring_tagged : Desk
+    → (ℕ → Option LineView) → Option (List ℕ) → SaidBounds → Option (Option Tag) → Next
 ring_tagged desk lines name bounds None = refuses refusal.NoWord
-ring_tagged desk lines name bounds (Some tag) = ring_on desk lines name (record { tag = tag; bounds = bounds_of bounds })
+ring_tagged desk lines name bounds (Some tag) =
+    ring_on desk lines name (record { tag = tag; bounds = bounds_of bounds })
 
-abbrev pub ring_if : (takes_calls has_failed : Bool) → Desk → (ℕ → Option LineView) → Option (List ℕ) → SaidBounds → Option (Option Tag) → Next
+abbrev pub ring_if : (takes_calls has_failed : Bool)
+    → Desk → (ℕ → Option LineView) → Option (List ℕ) → SaidBounds → Option (Option Tag) → Next
 ring_if false has_failed desk lines name bounds tag = refuses refusal.Stopping
 ring_if true true desk lines name bounds tag = refuses refusal.NoSpool
 ring_if true false desk lines name bounds tag = ring_tagged desk lines name bounds tag
 
 -- A ring needs a server that takes calls, and whose spool has not failed: whichever line it names, and whatever that is. Then it needs
 -- a tag that is none too long; a line that is there, or any that can be rung; one that is not full; memory; and a peer.
-abbrev pub next_ring : Desk → (ℕ → Option LineView) → (has_failed : Bool) → (name tag : Option (List ℕ)) → SaidBounds → Next
-next_ring desk lines has_failed name tag bounds = ring_if (takes_calls desk.stop desk.reload) has_failed desk lines name bounds (tag_said tag)
+abbrev pub next_ring : Desk
+    → (ℕ → Option LineView) → (has_failed : Bool) → (name tag : Option (List ℕ)) → SaidBounds → Next
+next_ring desk lines has_failed name tag bounds =
+    ring_if (takes_calls desk.stop desk.reload) has_failed desk lines name bounds (tag_said tag)
 
 abbrev pub peer_next : Desk → (ℕ → Option LineView) → List ℕ → Option PeerAsk → Next
 peer_next desk lines name None = refuses refusal.NoWord
@@ -158,10 +186,14 @@ refuse_next desk lines name None = refuses refusal.NoWord
 refuse_next desk lines name (Some why) = next_at desk lines name (ask.Refuse why)
 
 abbrev pub step_of : Desk → (ℕ → Option LineView) → (has_failed : Bool) → Word → Next
-step_of desk lines has_failed (word.Ring ring) = next_ring desk lines has_failed (option_map (λ text. text.now) ring.line) (option_map (λ text. text.now) ring.tag) ring.bounds
-step_of desk lines has_failed (word.Peer peer) = peer_next desk lines peer.line.now (peer_said peer.leg peer.address peer.bounds peer.is_moved)
-step_of desk lines has_failed (word.HangUp name leg) = next_at desk lines name.now (ask.HangUp (record { leg = leg }))
-step_of desk lines has_failed (word.Refuse name why) = refuse_next desk lines name.now (tag_of_text why.now)
+step_of desk lines has_failed (word.Ring ring) = next_ring desk lines has_failed (option_map
+    (λ text. text.now) ring.line) (option_map (λ text. text.now) ring.tag) ring.bounds
+step_of desk lines has_failed (word.Peer peer) =
+    peer_next desk lines peer.line.now (peer_said peer.leg peer.address peer.bounds peer.is_moved)
+step_of desk lines has_failed (word.HangUp name leg) =
+    next_at desk lines name.now (ask.HangUp (record { leg = leg }))
+step_of desk lines has_failed (word.Refuse name why) =
+    refuse_next desk lines name.now (tag_of_text why.now)
 step_of desk lines has_failed (word.Report name) = next_at desk lines name.now ask.Report
 step_of desk lines has_failed (word.Undelivered name) = next.Undelivered
 step_of desk lines has_failed (word.Discard said) = next.Discards
@@ -203,7 +235,8 @@ closed_at cards i = changed_at cards i (option_map (λ card. closed_card card) (
 
 abbrev pub connected_happened : Option Card → Note → Option LineEvent
 connected_happened None said = None
-connected_happened (Some card) (note.Connect job) = Some (happened.Connected (tagged_job card job.first job.call))
+connected_happened (Some card) (note.Connect job) =
+    Some (happened.Connected (tagged_job card job.first job.call))
 connected_happened (Some card) note.Nothing = None
 connected_happened (Some card) (note.Ring tag) = None
 connected_happened (Some card) (note.RingAny tag) = None
@@ -213,21 +246,27 @@ abbrev pub happened_of : List Card → Order → Option LineAnswer → Option Li
 happened_of cards order None = None
 happened_of cards order (Some (answered.Rung (Ok call))) = rung_happened order.note call
 happened_of cards order (Some (answered.Rung (Err fault))) = None
-happened_of cards order (Some (answered.Placed (Ok done))) = connected_happened (slice_get cards order.line) order.note
+happened_of cards order (Some (answered.Placed (Ok done))) =
+    connected_happened (slice_get cards order.line) order.note
 happened_of cards order (Some (answered.Placed (Err fault))) = None
 happened_of cards order (Some answered.NoRoute) = None
 happened_of cards order (Some answered.Done) = None
 
 abbrev pub done_with : List Card → Waits → Option LineAnswer → OrderEnd
-done_with cards waits told =
-    record { asker = waits.asker; line = waits.order.line; reply = reply_to waits.order told; happened = happened_of cards waits.order told }
+done_with cards waits told = record {
+  asker = waits.asker;
+  line = waits.order.line;
+  reply = reply_to waits.order told;
+  happened = happened_of cards waits.order told;
+}
 
 abbrev pub done_of : List Card → Option Waits → Option LineAnswer → Option OrderEnd
 done_of cards None told = None
 done_of cards (Some waits) told = Some (done_with cards waits told)
 
 abbrev pub noted_at : List Card → Order → Option LineAnswer → List Card
-noted_at cards order told = changed_at cards order.line (option_map (λ card. after_done order.note told card) (slice_get cards order.line))
+noted_at cards order told = changed_at cards order.line (option_map
+    (λ card. after_done order.note told card) (slice_get cards order.line))
 
 abbrev pub noted : List Card → Option Waits → Option LineAnswer → List Card
 noted cards None told = cards
@@ -239,12 +278,14 @@ abbrev pub told_at : List Card → ℕ → Turn → Option TurnEvents
 told_at cards i turn = option_map (λ card. told_of card turn) (slice_get cards i)
 
 abbrev pub turned_at : List Card → ℕ → Turn → List Card
-turned_at cards i turn = changed_at cards i (option_map (λ card. card_after card turn) (slice_get cards i))
+turned_at cards i turn =
+    changed_at cards i (option_map (λ card. card_after card turn) (slice_get cards i))
 
 -- ---- QUESTIONS: their time goes on only while a client hears events
 
 abbrev pub heard_until : ℕ → Bool → HeardTime → HeardTime
-heard_until now is_heard time = record { heard = heard_after is_heard (now - time.last) time.heard; last = max time.last now }
+heard_until now is_heard time =
+    record { heard = heard_after is_heard (now - time.last) time.heard; last = max time.last now }
 
 abbrev pub due_of : Option Question → ℕ → Bool → Bool
 due_of None heard asks = asks
@@ -257,17 +298,21 @@ over_if i false = looked.Nothing
 
 -- it is asked while a client hears events
 abbrev pub asks_if : Card → FirstJob → ℕ → AskedView → Bool → LookOutcome
-asks_if card first heard job true = looked.Asks (asked_happened card first (question_after card heard None) heard job)
+asks_if card first heard job true =
+    looked.Asks (asked_happened card first (question_after card heard None) heard job)
 asks_if card first heard job false = looked.Nothing
 
 abbrev pub asks_now : Card → FirstJob → ℕ → AskedView → Option Question → LookOutcome
 asks_now card first heard job None = looked.Nothing
-asks_now card first heard job (Some question) = looked.Asks (asked_happened card first question heard job)
+asks_now card first heard job (Some question) =
+    looked.Asks (asked_happened card first question heard job)
 
-abbrev pub looked_of : Card → FirstJob → ℕ → ℕ → Bool → Option Question → Option AskedView → LookOutcome
+abbrev pub looked_of : Card
+    → FirstJob → ℕ → ℕ → Bool → Option Question → Option AskedView → LookOutcome
 looked_of card first i heard is_heard question None = looked.Nothing
 looked_of card first i heard is_heard None (Some job) = asks_if card first heard job is_heard
-looked_of card first i heard is_heard (Some question) (Some job) = over_if i (nat_le question.until heard)
+looked_of card first i heard is_heard (Some question) (Some job) =
+    over_if i (nat_le question.until heard)
 
 abbrev pub asked_if : ℕ → Bool → Card → Card
 asked_if heard true card = asking_card heard card
@@ -280,13 +325,16 @@ looked_card heard is_heard (Some job) card = asked_if heard is_heard card
 
 abbrev pub looked_if : Option Card → FirstJob → ℕ → ℕ → Bool → Option AskedView → LookOutcome
 looked_if None first i heard is_heard job = looked.Nothing
-looked_if (Some card) first i heard is_heard job = looked_of card first i heard is_heard card.question job
+looked_if (Some card) first i heard is_heard job =
+    looked_of card first i heard is_heard card.question job
 
 abbrev pub looked_at : Desk → ℕ → LineView → LookOutcome
-looked_at desk i line = looked_if (slice_get desk.cards.items i) line.first i desk.time.heard desk.is_heard line.asked
+looked_at desk i line =
+    looked_if (slice_get desk.cards.items i) line.first i desk.time.heard desk.is_heard line.asked
 
 abbrev pub looked_cards : Desk → ℕ → LineView → List Card
-looked_cards desk i line = changed_at desk.cards.items i (option_map (λ card. looked_card desk.time.heard desk.is_heard line.asked card) (slice_get desk.cards.items i))
+looked_cards desk i line = changed_at desk.cards.items i (option_map (λ card.
+    looked_card desk.time.heard desk.is_heard line.asked card) (slice_get desk.cards.items i))
 
 -- a client is told what is on: the question is open, where the line asks for a call
 abbrev pub asked_card : ℕ → Option AskedView → Card → Card
@@ -294,7 +342,8 @@ asked_card heard None card = card
 asked_card heard (Some job) card = asking_card heard card
 
 abbrev pub asked_cards : List Card → ℕ → ℕ → LineView → List Card
-asked_cards cards heard i line = changed_at cards i (option_map (λ card. asked_card heard line.asked card) (slice_get cards i))
+asked_cards cards heard i line =
+    changed_at cards i (option_map (λ card. asked_card heard line.asked card) (slice_get cards i))
 
 -- ---- what is on on line i, and what is told of it
 

@@ -33,8 +33,10 @@ pub data DeskEvent : Type 0 where
 abbrev pub Passes : List DeskEvent → Option Waits → Type 0
 Passes [] waits = waits ≡ None
 Passes (Said asker came ∷ earlier) waits = Passes earlier None × (waits ≡ waits_if asker came)
-Passes (Lapsed order ∷ earlier) waits = Passes earlier None × (waits ≡ unasked_if (looked.Orders order))
-Passes (Told told ended ∷ earlier) waits = (cards : List Card) × (before : Option Waits) × Passes earlier before × (ended ≡ done_of cards before told) × (waits ≡ None)
+Passes (Lapsed order ∷ earlier) waits =
+    Passes earlier None × (waits ≡ unasked_if (looked.Orders order))
+Passes (Told told ended ∷ earlier) waits = (cards : List Card) × (before : Option Waits)
+    × Passes earlier before × (ended ≡ done_of cards before told) × (waits ≡ None)
 
 -- the orders that were given, and what was answered to them
 abbrev pub order_of : Next → List Order
@@ -103,11 +105,13 @@ answered (Told told ended ∷ earlier) = who_is_told ended ++ answered earlier
 
 -- EACH WORD IS ANSWERED ONCE, IN THE ORDER IN WHICH THEY CAME, but for the one whose order waits.
 abbrev pub AnsweredOnce : Type 0
-AnsweredOnce = (passed : List DeskEvent) (waits : Option Waits) → Passes passed waits → who_waits waits ++ answered passed ≡ asked passed
+AnsweredOnce = (passed : List DeskEvent) (waits : Option Waits)
+    → Passes passed waits → who_waits waits ++ answered passed ≡ asked passed
 
 -- An order that was given: by a word of this asker, or by a question that nobody answered.
 abbrev pub Gives : DeskEvent → Option ℕ → Order → Type 0
-Gives (Said asker (next.Orders given)) (Some who_asked) order = (asker ≡ who_asked) × (given ≡ order)
+Gives (Said asker (next.Orders given)) (Some who_asked) order =
+    (asker ≡ who_asked) × (given ≡ order)
 Gives (Said asker (next.Orders given)) None order = ⊥
 Gives (Said asker (next.Replies reply)) who_asked order = ⊥
 Gives (Said asker (next.Reports line)) who_asked order = ⊥
@@ -126,35 +130,47 @@ Gives (Told told _) who_asked order = ⊥
 -- WHO IS ANSWERED AFTER AN ORDER gave that order by the word just before, and the answer is what its line answered to it, told of
 -- that line: so what was answered `ok` was done.
 abbrev pub AnswersWhatWasDone : Type 0
-AnswersWhatWasDone = (told : Option LineAnswer) (done : OrderEnd) (earlier : List DeskEvent) (waits : Option Waits)
+AnswersWhatWasDone =
+    (told : Option LineAnswer) (done : OrderEnd) (earlier : List DeskEvent) (waits : Option Waits)
     → Passes (Told told (Some done) ∷ earlier) waits
-    → (given : DeskEvent) × (before : List DeskEvent) × (order : Order) × (earlier ≡ given ∷ before) × Gives given done.asker order × (done.line ≡ order.line) × (done.reply ≡ reply_to order told)
+    → (given : DeskEvent) × (before : List DeskEvent) × (order : Order) × (earlier ≡ given ∷ before)
+    × Gives given done.asker order × (done.line ≡ order.line) × (done.reply ≡ reply_to order told)
 
 -- AN ORDER GOES TO THE LINE THAT WAS NAMED.
 abbrev pub OrdersTheNamed : Type 0
-OrdersTheNamed = (desk : Desk) (lines : ℕ → Option LineView) (name : List ℕ) (said : Ask) (given : Order)
-    → next_at desk lines name said ≡ next.Orders given → line_named desk.names.items name ≡ Some given.line
+OrdersTheNamed =
+    (desk : Desk) (lines : ℕ → Option LineView) (name : List ℕ) (said : Ask) (given : Order)
+    → next_at desk lines name said ≡ next.Orders given
+    → line_named desk.names.items name ≡ Some given.line
 
 -- NO RING COMES TO AN ORDER at a server that stops, or whose lines take no call any more, since another run is to serve them.
 abbrev pub NoRingWhileStopping : Type 0
-NoRingWhileStopping = (desk : Desk) (lines : ℕ → Option LineView) (has_failed : Bool) (name tag : Option (List ℕ)) (bounds : Bounds) (given : Order)
-    → next_ring desk lines has_failed name tag bounds ≡ next.Orders given → (takes_rings desk.stop ≡ true) × (takes_calls desk.stop desk.reload ≡ true)
+NoRingWhileStopping = (desk : Desk) (lines : ℕ → Option LineView)
+    (has_failed : Bool) (name tag : Option (List ℕ)) (bounds : Bounds) (given : Order)
+    → next_ring desk lines has_failed name tag bounds ≡ next.Orders given
+    → (takes_rings desk.stop ≡ true) × (takes_calls desk.stop desk.reload ≡ true)
 
 -- NO RING COMES TO AN ORDER while the spool takes no page.
 abbrev pub NoRingWithoutASpool : Type 0
-NoRingWithoutASpool = (desk : Desk) (lines : ℕ → Option LineView) (has_failed : Bool) (name tag : Option (List ℕ)) (bounds : Bounds) (given : Order)
+NoRingWithoutASpool = (desk : Desk) (lines : ℕ → Option LineView)
+    (has_failed : Bool) (name tag : Option (List ℕ)) (bounds : Bounds) (given : Order)
     → next_ring desk lines has_failed name tag bounds ≡ next.Orders given → has_failed ≡ false
 
 -- NO RING COMES TO AN ORDER of a line of which as many pages wait as may.
 abbrev pub NoRingOnAFullLine : Type 0
-NoRingOnAFullLine = (desk : Desk) (lines : ℕ → Option LineView) (has_failed : Bool) (name tag : Option (List ℕ)) (bounds : Bounds) (given : Order)
-    → next_ring desk lines has_failed name tag bounds ≡ next.Orders given → is_full_at desk.cards.items given.line ≡ false
+NoRingOnAFullLine = (desk : Desk) (lines : ℕ → Option LineView)
+    (has_failed : Bool) (name tag : Option (List ℕ)) (bounds : Bounds) (given : Order)
+    → next_ring desk lines has_failed name tag bounds ≡ next.Orders given
+    → is_full_at desk.cards.items given.line ≡ false
 
 -- NO RING COMES TO AN ORDER whose line may come to hold more than the others leave of what all together may hold.
 abbrev pub NoRingBeyondTheMemory : Type 0
-NoRingBeyondTheMemory = (desk : Desk) (lines : ℕ → Option LineView) (has_failed : Bool) (name tag : Option (List ℕ)) (bounds : Bounds) (given : Order)
-    → next_ring desk lines has_failed name tag bounds ≡ next.Orders given → has_memory desk.memory desk.cards.items lines given.line ≡ true
+NoRingBeyondTheMemory = (desk : Desk) (lines : ℕ → Option LineView)
+    (has_failed : Bool) (name tag : Option (List ℕ)) (bounds : Bounds) (given : Order)
+    → next_ring desk lines has_failed name tag bounds ≡ next.Orders given
+    → has_memory desk.memory desk.cards.items lines given.line ≡ true
 
 -- NO CALL ENDS FOR A RELOAD: a run that was not told to stop, and whose spool has not failed, is over only where no line has a call.
 abbrev pub NoCallEndsForAReload : Type 0
-NoCallEndsForAReload = (asked : Reload) (now : ℕ) (are_idle are_calm : Bool) → run_is_over stop.No None asked now are_idle are_calm ≡ true → are_calm ≡ true
+NoCallEndsForAReload = (asked : Reload) (now : ℕ) (are_idle are_calm : Bool)
+    → run_is_over stop.No None asked now are_idle are_calm ≡ true → are_calm ≡ true

@@ -27,13 +27,19 @@ tag_said None = Some None
 tag_said (Some text) = option_map (λ tag. Some tag) (tag_of_text text)
 
 abbrev pub peer_with : Leg → Option SocketAddr → SaidBounds → Bool → PeerAsk
-peer_with at address bounds is_moved = record { leg = at; peer = record { address = address; bounds = bounds_of bounds }; is_moved = is_moved }
+peer_with at address bounds is_moved = record {
+  leg = at;
+  peer = record { address = address; bounds = bounds_of bounds };
+  is_moved = is_moved;
+}
 
 -- the peer that is said; none: any, of a called leg
 abbrev pub peer_said : Leg → Option SocketAddr → SaidBounds → Bool → Option PeerAsk
-peer_said legs.Calling address bounds is_moved = Some (peer_with legs.Calling address bounds is_moved)
+peer_said legs.Calling address bounds is_moved =
+    Some (peer_with legs.Calling address bounds is_moved)
 peer_said legs.Called None bounds is_moved = None
-peer_said legs.Called (Some address) bounds is_moved = Some (peer_with legs.Called (Some address) bounds is_moved)
+peer_said legs.Called (Some address) bounds is_moved =
+    Some (peer_with legs.Called (Some address) bounds is_moved)
 
 -- Where a word gives an order, who asked waits for its end; no one else does. An asker is known by its place.
 abbrev pub waits_if : ℕ → Next → Option Waits

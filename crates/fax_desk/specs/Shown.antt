@@ -20,21 +20,31 @@ CauseShows None shown = shown ≡ None
 CauseShows (Some why) shown = IsUtf8 (cause_text why) → shown ≡ Some (cause_text why)
 
 abbrev pub Shows : LineEvent → What → Type 0
-Shows (happened.Rung tagged) (what.Rung call tag) = (call ≡ tagged.call) × TagShows tagged.tag (option_map (λ text. text.now) tag)
+Shows (happened.Rung tagged) (what.Rung call tag) =
+    (call ≡ tagged.call) × TagShows tagged.tag (option_map (λ text. text.now) tag)
 Shows (happened.Rung tagged) other = ⊥
-Shows (happened.NotStored tagged) (what.NotStored call tag) = (call ≡ tagged.call) × TagShows tagged.tag (option_map (λ text. text.now) tag)
+Shows (happened.NotStored tagged) (what.NotStored call tag) =
+    (call ≡ tagged.call) × TagShows tagged.tag (option_map (λ text. text.now) tag)
 Shows (happened.NotStored tagged) other = ⊥
-Shows (happened.Page page said) (what.Page kept tag) = (kept ≡ page) × TagShows said (option_map (λ text. text.now) tag)
+Shows (happened.Page page said) (what.Page kept tag) =
+    (kept ≡ page) × TagShows said (option_map (λ text. text.now) tag)
 Shows (happened.Page page said) other = ⊥
-Shows (happened.RefusedPage refused said) (what.RefusedPage call tag why) = (call ≡ refused.call) × (why ≡ refused.why) × TagShows said (option_map (λ text. text.now) tag)
+Shows (happened.RefusedPage refused said) (what.RefusedPage call tag why) =
+    (call ≡ refused.call) × (why ≡ refused.why) × TagShows said (option_map (λ text. text.now) tag)
 Shows (happened.RefusedPage refused said) other = ⊥
-Shows (happened.Ended tagged how) (what.Ended call tag ending) = (call ≡ tagged.call) × (ending ≡ how) × TagShows tagged.tag (option_map (λ text. text.now) tag)
+Shows (happened.Ended tagged how) (what.Ended call tag ending) =
+    (call ≡ tagged.call) × (ending ≡ how) × TagShows tagged.tag (option_map (λ text. text.now) tag)
 Shows (happened.Ended tagged how) other = ⊥
-Shows (happened.Job report said why) (what.Job told tag cause) = (told ≡ report) × TagShows said (option_map (λ text. text.now) tag) × CauseShows why (option_map (λ text. text.now) cause)
+Shows (happened.Job report said why) (what.Job told tag cause) =
+    (told ≡ report) × TagShows said (option_map (λ text. text.now) tag)
+    × CauseShows why (option_map (λ text. text.now) cause)
 Shows (happened.Job report said why) other = ⊥
-Shows (happened.Dial tagged) (what.Dial call tag) = (call ≡ tagged.call) × TagShows tagged.tag (option_map (λ text. text.now) tag)
+Shows (happened.Dial tagged) (what.Dial call tag) =
+    (call ≡ tagged.call) × TagShows tagged.tag (option_map (λ text. text.now) tag)
 Shows (happened.Dial tagged) other = ⊥
-Shows (happened.Asked job said) (what.Asked asked tag) = (asked ≡ job) × TagShows said (option_map (λ text. text.now) tag)
+Shows (happened.Asked job said) (what.Asked asked tag) =
+    (asked ≡ job) × TagShows said (option_map (λ text. text.now) tag)
 Shows (happened.Asked job said) other = ⊥
-Shows (happened.Connected tagged) (what.Connected call tag) = (call ≡ tagged.call) × TagShows tagged.tag (option_map (λ text. text.now) tag)
+Shows (happened.Connected tagged) (what.Connected call tag) =
+    (call ≡ tagged.call) × TagShows tagged.tag (option_map (λ text. text.now) tag)
 Shows (happened.Connected tagged) other = ⊥

@@ -21,10 +21,12 @@ use Rattle.fax_desk.specs.Stops.{is_over, takes_rings}
 -- ---- A SPOOL THAT HAS FAILED ends the run: 10 s later at the earliest, where no line has a call, and as late as a stop does at the latest
 
 abbrev pub failed_at : (now within : ℕ) → SpoolFailure
-failed_at now within = record { first = min (now + 10000) (2 ^ 64 - 1); last = min (now + within) (2 ^ 64 - 1) }
+failed_at now within =
+    record { first = min (now + 10000) (2 ^ 64 - 1); last = min (now + within) (2 ^ 64 - 1) }
 
 -- it counts from the moment at which that was seen first
-abbrev pub failed_after : Option SpoolFailure → (has_failed : Bool) → (now within : ℕ) → Option SpoolFailure
+abbrev pub failed_after : Option SpoolFailure
+    → (has_failed : Bool) → (now within : ℕ) → Option SpoolFailure
 failed_after (Some failed) has_failed now within = Some failed
 failed_after None false now within = None
 failed_after None true now within = Some (failed_at now within)
@@ -35,7 +37,8 @@ is_news None has_failed = has_failed
 
 abbrev pub is_drained : Option SpoolFailure → (now : ℕ) → (are_calm : Bool) → Bool
 is_drained None now are_calm = false
-is_drained (Some failed) now are_calm = nat_le failed.first now && (are_calm || nat_le failed.last now)
+is_drained (Some failed) now are_calm =
+    nat_le failed.first now && (are_calm || nat_le failed.last now)
 
 -- What a stop waits for: that no line has a call or a job; where the spool has failed, that none has a call, since jobs that wait are on
 -- the disk, and none is asked for any more.
@@ -44,7 +47,8 @@ are_at_rest failed are_idle are_calm = if is_some failed then are_calm else are_
 
 -- THE RUN IS OVER: one that was told to stop as a stop says; else one whose spool has failed, or whose configuration is to be served by
 -- another run
-abbrev pub run_is_over : Stop → Option SpoolFailure → Reload → (now : ℕ) → (are_idle are_calm : Bool) → Bool
+abbrev pub run_is_over : Stop
+    → Option SpoolFailure → Reload → (now : ℕ) → (are_idle are_calm : Bool) → Bool
 run_is_over before failed asked now are_idle are_calm =
     if takes_rings before then is_drained failed now are_calm || reloads_now failed asked are_calm
     else is_over before now (are_at_rest failed are_idle are_calm)
@@ -59,7 +63,8 @@ end_of stop.Now failed asked = run_end.Stopped
 -- ---- WHAT IS TOLD OF THE SPOOL FIRST, to each client that comes later too: what the start found damaged, and that it has failed
 
 abbrev pub damage_told : Damage → Option What
-damage_told damage = if nat_eq damage.records 0 && nat_eq damage.octets 0 then None else Some (what.Damaged damage.records damage.octets)
+damage_told damage = if nat_eq damage.records 0 && nat_eq damage.octets 0
+    then None else Some (what.Damaged damage.records damage.octets)
 
 abbrev pub failure_told : Option SpoolFailure → Option What
 failure_told None = None

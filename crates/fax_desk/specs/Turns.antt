@@ -41,8 +41,12 @@ not_stored_told card false (Some kept) = Some (happened.NotStored (tagged_of car
 abbrev pub page_told : Card → Bool → Option Kept → Option LineEvent
 page_told card is_stored None = None
 page_told card false (Some kept) = None
-page_told card true (Some kept) =
-    Some (happened.Page (record { call = kept.call; number = min (card.pages_in_call + 1) (2 ^ 32 - 1); format = kept.format; rows = kept.rows }) (tag_of card kept.call))
+page_told card true (Some kept) = Some (happened.Page (record {
+  call = kept.call;
+  number = min (card.pages_in_call + 1) (2 ^ 32 - 1);
+  format = kept.format;
+  rows = kept.rows;
+}) (tag_of card kept.call))
 
 abbrev pub refused_told : Card → Option RefusedPage → Option LineEvent
 refused_told card None = None
@@ -50,18 +54,21 @@ refused_told card (Some refused) = Some (happened.RefusedPage refused (tag_of ca
 
 abbrev pub ended_told : Card → Turn → Option ℕ → Option LineEvent
 ended_told card turn None = None
-ended_told card turn (Some call) = Some (happened.Ended (tagged_of card call) (ending_of turn.is_silenced turn.is_hung_up (is_some turn.turned.gave_up) card.is_closed))
+ended_told card turn (Some call) = Some (happened.Ended (tagged_of card call)
+    (ending_of turn.is_silenced turn.is_hung_up (is_some turn.turned.gave_up) card.is_closed))
 
 abbrev pub job_told : Card → FirstJob → Option Report → Option LineEvent
 job_told card first None = None
-job_told card first (Some report) = Some (happened.Job report (job_tag card first report.call) (cause_of card card.jobs))
+job_told card first (Some report) =
+    Some (happened.Job report (job_tag card first report.call) (cause_of card card.jobs))
 
 abbrev pub dial_told : Card → FirstJob → Option ℕ → Option LineEvent
 dial_told card first None = None
 dial_told card first (Some call) = Some (happened.Dial (tagged_job card first call))
 
 abbrev pub card_after : Card → Turn → Card
-card_after card turn = after_job turn.first.is_restored turn.turned.report (after_page turn.is_stored turn.turned.kept card)
+card_after card turn = after_job
+    turn.first.is_restored turn.turned.report (after_page turn.is_stored turn.turned.kept card)
 
 -- EACH TURN IS TOLD by exactly this: its page, with the tag of its call; the job that ended, with the tag of its own, and the cause for
 -- which its call was not placed; and so on.
@@ -79,10 +86,16 @@ told_of card turn =
 -- ---- questions: the job whose call is asked for, for the first time, when events were heard for so long
 
 abbrev pub asked_job : Question → AskedView → ℕ → AskedJob
-asked_job question job heard = record { call = job.call; tries = 1; pages = job.pages; seconds = seconds_left question.until heard }
+asked_job question job heard = record {
+  call = job.call;
+  tries = 1;
+  pages = job.pages;
+  seconds = seconds_left question.until heard;
+}
 
 abbrev pub asked_happened : Card → FirstJob → Question → ℕ → AskedView → LineEvent
-asked_happened card first question heard job = happened.Asked (asked_job question job heard) (job_tag card first job.call)
+asked_happened card first question heard job =
+    happened.Asked (asked_job question job heard) (job_tag card first job.call)
 
 -- a question that is not open is open from now on
 abbrev pub question_after : Card → ℕ → Option Question → Question
@@ -96,7 +109,8 @@ asking_card heard card = record card { question = Some (question_after card hear
 
 abbrev pub asked_told : Card → FirstJob → ℕ → Option Question → Option AskedView → Option LineEvent
 asked_told card first heard None job = None
-asked_told card first heard (Some question) job = option_map (asked_happened card first question heard) job
+asked_told card first heard (Some question) job =
+    option_map (asked_happened card first question heard) job
 
 abbrev pub connected_told : Card → FirstJob → Bool → ℕ → Option LineEvent
 connected_told card first true call = Some (happened.Connected (tagged_job card first call))
@@ -110,7 +124,8 @@ abbrev pub rung_told : Card → Option ℕ → Option LineEvent
 rung_told card call = option_map (λ number. happened.Rung (tagged_of card number)) call
 
 abbrev pub state_of : Card → LineView → ℕ → LineState
-state_of card line heard = record { rung = rung_told card line.call; job = job_on card line heard line.sending }
+state_of card line heard =
+    record { rung = rung_told card line.call; job = job_on card line heard line.sending }
 
 -- the tags of the call that is on, and of the job that is under way
 abbrev pub call_tag_if : Card → Option ℕ → Option Tag
@@ -122,4 +137,7 @@ job_tag_on card first None = None
 job_tag_on card first (Some call) = job_tag card first call
 
 abbrev pub tags_on : Card → LineView → TagsOn
-tags_on card line = record { calling = call_tag_if card line.call; called = job_tag_on card line.first line.sending }
+tags_on card line = record {
+  calling = call_tag_if card line.call;
+  called = job_tag_on card line.first line.sending;
+}

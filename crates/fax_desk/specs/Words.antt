@@ -39,19 +39,34 @@ orders_if false why order = refuses why
 
 -- a ring of any line forgets the peer of the call before
 abbrev pub ring_order : ℕ → Bool → Bounds → Note → Order
-ring_order i forgets bounds kept = record { line = i; what = asked.Ring (record { bounds = bounds; forgets_peer = forgets }); note = kept }
+ring_order i forgets bounds kept = record {
+  line = i;
+  what = asked.Ring (record { bounds = bounds; forgets_peer = forgets });
+  note = kept;
+}
 
 abbrev pub peer_order : ℕ → PeerAsk → Order
-peer_order i said = record { line = i; what = asked.Peer (record { leg = said.leg; peer = said.peer }); note = note.Nothing }
+peer_order i said = record {
+  line = i;
+  what = asked.Peer (record { leg = said.leg; peer = said.peer });
+  note = note.Nothing;
+}
 
 abbrev pub connect_order : ℕ → PeerAsk → FirstJob → AskedView → Order
-connect_order i said first job = record { line = i; what = asked.Connect (record { peer = said.peer }); note = note.Connect (record { call = job.call; first = first }) }
+connect_order i said first job = record {
+  line = i;
+  what = asked.Connect (record {
+    peer = said.peer;
+  });
+  note = note.Connect (record { call = job.call; first = first });
+}
 
 abbrev pub refusal_order : ℕ → Cause → Order
 refusal_order i why = record { line = i; what = asked.NotConnected; note = note.Refuse why }
 
 abbrev pub hang_up_order : ℕ → Leg → Order
-hang_up_order i leg = record { line = i; what = asked.HangUp (record { leg = leg }); note = note.Nothing }
+hang_up_order i leg =
+    record { line = i; what = asked.HangUp (record { leg = leg }); note = note.Nothing }
 
 -- ---- what a line is
 
@@ -76,7 +91,8 @@ takes_peer has_call leg is_moved = not (has_call && leg.is_heard && not is_moved
 -- ---- WHAT IS ASKED OF LINE i, which is so, where this question of it is open, comes to this
 
 abbrev pub peer_if : Bool → ℕ → LineView → PeerAsk → Next
-peer_if true i line peer = orders_if (takes_peer true line.called peer.is_moved) refusal.InCall (peer_order i peer)
+peer_if true i line peer =
+    orders_if (takes_peer true line.called peer.is_moved) refusal.InCall (peer_order i peer)
 peer_if false i line peer = refuses refusal.NoCall
 
 -- A peer of the called leg: the configuration's stays; where the call of a job is asked for, that begins; else a call is on.
@@ -86,18 +102,22 @@ called_peer false (Some job) i line peer = next.Orders (connect_order i peer lin
 called_peer false None i line peer = peer_if (is_connected line) i line peer
 
 abbrev pub peer_of : Leg → Option Question → ℕ → LineView → PeerAsk → Next
-peer_of legs.Calling question i line peer = orders_if (takes_peer (is_some line.call) line.calling peer.is_moved) refusal.InCall (peer_order i peer)
-peer_of legs.Called question i line peer = called_peer line.called.is_fixed (job_asked question line) i line peer
+peer_of legs.Calling question i line peer = orders_if
+    (takes_peer (is_some line.call) line.calling peer.is_moved) refusal.InCall (peer_order i peer)
+peer_of legs.Called question i line peer =
+    called_peer line.called.is_fixed (job_asked question line) i line peer
 
 abbrev pub refuse_of : Option AskedView → ℕ → Cause → Next
 refuse_of None i why = refuses refusal.NoCall
 refuse_of (Some job) i why = next.Orders (refusal_order i why)
 
 abbrev pub next_of : Option Question → ℕ → LineView → Ask → Next
-next_of question i line (ask.Ring rung) = orders_if line.calling.has_peer refusal.NoPeer (ring_order i false rung.bounds (note.Ring rung.tag))
+next_of question i line (ask.Ring rung) = orders_if
+    line.calling.has_peer refusal.NoPeer (ring_order i false rung.bounds (note.Ring rung.tag))
 next_of question i line (ask.Peer peer) = peer_of peer.leg question i line peer
 next_of question i line (ask.Refuse why) = refuse_of (job_asked question line) i (cause.Said why)
-next_of question i line (ask.HangUp gone) = orders_if (is_on gone.leg line) refusal.NoCall (hang_up_order i gone.leg)
+next_of question i line (ask.HangUp gone) =
+    orders_if (is_on gone.leg line) refusal.NoCall (hang_up_order i gone.leg)
 next_of question i line ask.Report = next.Reports i
 next_of question i line ask.Frames = next.Frames i
 

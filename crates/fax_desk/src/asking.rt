@@ -24,7 +24,8 @@ impl Card {
         heard: u64,
         is_heard: bool,
     ) -> LookOutcome
-        ensures looked { result ≡ looked_of self.old line.first i heard is_heard self.old.question line.asked }
+        ensures looked { result
+            ≡ looked_of self.old line.first i heard is_heard self.old.question line.asked }
         ensures card { self.new ≡ looked_card heard is_heard line.asked self.old }
     {
         let Some(job) = line.asked else {

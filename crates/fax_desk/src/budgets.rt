@@ -17,7 +17,8 @@ pub(crate) fn bounded<V: View>(
     i: usize,
     to: Next,
 ) -> Next
-    ensures { result ≡ bounded (is_full_at cards.now i) (has_memory memory cards.now (V.line view.now) i) to }
+    ensures { result
+        ≡ bounded (is_full_at cards.now i) (has_memory memory cards.now (V.line view.now) i) to }
 {
     if is_full_at(cards, i) {
         return refuses(Refusal::Full);

@@ -151,7 +151,8 @@ impl Desk {
         ensures waits { self.new.waits ≡ waits_if asker result }
         ensures stop { self.new.stop ≡ stop_then word.entry now self.old.stop_ms self.old.stop }
         ensures any { self.new.any_from ≡ any_after self.old.any_from result }
-        ensures same { self.new ≡ record self.old { waits = self.new.waits; stop = self.new.stop; any_from = self.new.any_from } }
+        ensures same { self.new ≡ record self.old
+            { waits = self.new.waits; stop = self.new.stop; any_from = self.new.any_from } }
     {
         let next = self.next(word, view);
         if let Word::Stop = word {
@@ -217,7 +218,9 @@ impl Desk {
 
     /// What a ring comes to.
     fn ring<V: View>(&self, ring: RingWord<'_>, view: &V) -> Next
-        ensures { result ≡ next_ring self.now (V.line view.now) (V.failed view.now) (option_map (λ text. text.now) ring.entry.line) (option_map (λ text. text.now) ring.entry.tag) ring.entry.bounds }
+        ensures { result ≡ next_ring self.now (V.line view.now) (V.failed view.now) (option_map
+            (λ text. text.now) ring.entry.line) (option_map
+            (λ text. text.now) ring.entry.tag) ring.entry.bounds }
     {
         if !self.takes_calls() {
             return refuses(Refusal::Stopping);
@@ -264,7 +267,8 @@ impl Desk {
 
     /// The first line that can be rung without its peer, from the one after that which was taken last.
     fn free_line<V: View>(&self, view: &V) -> Option<usize>
-        ensures { result ≡ free_line self.now.cards.items self.now.any_from (length self.now.names.items) (V.line view.now) }
+        ensures { result ≡ free_line self.now.cards.items
+            self.now.any_from (length self.now.names.items) (V.line view.now) }
     {
         let cards = self.cards.as_slice();
         match first_free(cards, view, self.any_from, self.names.len()) {
@@ -289,7 +293,8 @@ impl Desk {
 
     /// What it comes to that the peer of a leg is said.
     fn say_peer<V: View>(&self, peer: PeerWord<'_>, view: &V) -> Next
-        ensures { result ≡ peer_next self.now (V.line view.now) peer.entry.line.now (peer_said peer.entry.leg peer.entry.address peer.entry.bounds peer.entry.is_moved) }
+        ensures { result ≡ peer_next self.now (V.line view.now) peer.entry.line.now
+            (peer_said peer.entry.leg peer.entry.address peer.entry.bounds peer.entry.is_moved) }
     {
         match peer_of(peer) {
             Some(ask) => self.ask(peer.line, Ask::Peer(ask), view),
@@ -350,7 +355,8 @@ impl Desk {
 
     /// The same where the call of a job was placed, or could not be.
     fn connected(&self, order: Order) -> Option<LineEvent>
-        ensures { result ≡ connected_happened (slice_get self.now.cards.items order.line) order.note }
+        ensures { result
+            ≡ connected_happened (slice_get self.now.cards.items order.line) order.note }
     {
         let Note::Connect(job) = order.note else {
             return None;
@@ -387,7 +393,8 @@ impl Desk {
 
     /// Time goes on to this moment, and a client hears events meanwhile, or none does.
     pub fn go_on(&mut self, now: u64, is_heard: bool)
-        ensures { self.new ≡ record self.old { time = heard_until now is_heard self.old.time; is_heard = is_heard } }
+        ensures { self.new ≡ record self.old
+            { time = heard_until now is_heard self.old.time; is_heard = is_heard } }
     {
         self.time.go_on(now, is_heard);
         self.is_heard = is_heard;
@@ -410,7 +417,8 @@ impl Desk {
         ensures looked { result ≡ looked_at self.old i line }
         ensures cards { self.new.cards.items ≡ looked_cards self.old i line }
         ensures waits { self.new.waits ≡ unasked_if result }
-        ensures same { self.new ≡ record self.old { cards = self.new.cards; waits = self.new.waits } }
+        ensures same { self.new
+            ≡ record self.old { cards = self.new.cards; waits = self.new.waits } }
     {
         if i < self.cards.len() {
             let looked = self.cards[i].look(i, line, self.time.heard, self.is_heard);
@@ -423,7 +431,8 @@ impl Desk {
 
     /// The question of line i is open from now on, where the line asks for a call, since a client is told what is on.
     pub fn ask_at(&mut self, i: usize, line: LineView)
-        ensures cards { self.new.cards.items ≡ asked_cards self.old.cards.items self.old.time.heard i line }
+        ensures cards { self.new.cards.items
+            ≡ asked_cards self.old.cards.items self.old.time.heard i line }
         ensures same { self.new ≡ record self.old { cards = self.new.cards } }
     {
         if i < self.cards.len() {
@@ -433,7 +442,8 @@ impl Desk {
 
     /// It is asked to stop.
     pub fn stop(&mut self, now: u64)
-        ensures { self.new ≡ record self.old { stop = stop_after self.old.stop now self.old.stop_ms } }
+        ensures { self.new
+            ≡ record self.old { stop = stop_after self.old.stop now self.old.stop_ms } }
     {
         self.stop = self.stop.asked(now, self.stop_ms);
     }
@@ -455,7 +465,8 @@ impl Desk {
     /// The configuration was read again, and is to be served by another run, once no line has a call. Lines take calls for as long as a stop
     /// takes.
     pub fn reload(&mut self, now: u64)
-        ensures { self.new ≡ record self.old { reload = reload_after self.old.reload now self.old.stop_ms } }
+        ensures { self.new
+            ≡ record self.old { reload = reload_after self.old.reload now self.old.stop_ms } }
     {
         self.reload = self.reload.asked(now, self.stop_ms);
     }
@@ -494,7 +505,8 @@ impl Desk {
     /// At this moment the spool has failed, or not. It answers whether that is news.
     pub fn see_spool(&mut self, has_failed: bool, now: u64) -> bool
         ensures news { result ≡ is_news self.old.failed has_failed }
-        ensures failed { self.new ≡ record self.old { failed = failed_after self.old.failed has_failed now self.old.stop_ms } }
+        ensures failed { self.new ≡ record self.old
+            { failed = failed_after self.old.failed has_failed now self.old.stop_ms } }
     {
         let is_news = self.failed.is_none() && has_failed;
         self.failed = failed_after(self.failed, has_failed, now, self.stop_ms);
@@ -510,7 +522,8 @@ impl Desk {
 
     /// Whether the run is over at this moment, where no line has a call or a job, or one has; and no line a call, or one has.
     pub fn is_over(&self, now: u64, are_idle: bool, are_calm: bool) -> bool
-        ensures { result ≡ run_is_over self.now.stop self.now.failed self.now.reload now are_idle are_calm }
+        ensures { result
+            ≡ run_is_over self.now.stop self.now.failed self.now.reload now are_idle are_calm }
     {
         if self.stop.takes_rings() {
             is_drained(self.failed, now, are_calm)

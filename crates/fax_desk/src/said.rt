@@ -40,7 +40,8 @@ pub(crate) fn tag_said(text: Option<&str>) -> Option<Option<Tag>>
 
 /// The peer that a word says. `None`: it says any of a called leg.
 pub(crate) fn peer_of(word: PeerWord<'_>) -> Option<PeerAsk>
-    ensures { result ≡ peer_said word.entry.leg word.entry.address word.entry.bounds word.entry.is_moved }
+    ensures { result
+        ≡ peer_said word.entry.leg word.entry.address word.entry.bounds word.entry.is_moved }
 {
     let is_called = match word.leg {
         Leg::Calling => false,

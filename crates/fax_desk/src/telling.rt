@@ -43,7 +43,8 @@ fn tell_told<L: Listener>(listener: &mut L, line: &str, at: u64, told: TurnEvent
 
 /// Line i had a turn: exactly what is told of that is told, of the line of its name.
 pub fn tell_turn<L: Listener>(desk: &mut Desk, i: usize, turn: Turn, now: u64, listener: &mut L)
-    ensures told { TellsAt L.tells (name_at desk.old.names.items i) (told_at desk.old.cards.items i turn) now listener.old listener.new }
+    ensures told { TellsAt L.tells (name_at desk.old.names.items i)
+        (told_at desk.old.cards.items i turn) now listener.old listener.new }
     ensures cards { desk.new.cards.items ≡ turned_at desk.old.cards.items i turn }
     ensures same { desk.new ≡ record desk.old { cards = desk.new.cards } }
 {

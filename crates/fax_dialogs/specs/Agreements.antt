@@ -18,4 +18,5 @@ refresher_by Uas false = We
 -- asks for refreshes, or else it itself (this project's profile); where it does not, we do.
 abbrev pub agreement : ℕ → Option Agent → Bool → Agreement
 agreement seconds asked supported =
-    if nat_lt seconds 90 then (if supported then TooSmall else Without) else (if supported then With (unwrap_or asked Uac) else With Uas)
+    if nat_lt seconds 90 then (if supported then TooSmall else Without)
+    else (if supported then With (unwrap_or asked Uac) else With Uas)

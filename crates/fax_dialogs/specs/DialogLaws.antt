@@ -13,7 +13,8 @@ given (Err fault) = []
 -- the numbers of so many requests of ours, one after another
 abbrev pub numbers_of : ℕ → DialogValue → List ℕ
 numbers_of zero dialog = []
-numbers_of (suc count) dialog = given (number_after dialog.local_number) ++ numbers_of count (numbered dialog)
+numbers_of (suc count) dialog =
+    given (number_after dialog.local_number) ++ numbers_of count (numbered dialog)
 
 -- each is above the one before, and below 2 ^ 31
 abbrev pub Rising : ℕ → List ℕ → Type 0
@@ -23,11 +24,12 @@ Rising last (number ∷ numbers) = (last < number) × (number < 2 ^ 31) × Risin
 -- The numbers of our requests rise.
 -- Ruled out: a number that is given twice; one that begins anew after 2 ^ 31 - 1; one that goes back at an answer.
 abbrev pub NumbersRise : Type 0
-NumbersRise = (count : ℕ) (dialog : DialogValue) → Rising dialog.local_number (numbers_of count dialog)
+NumbersRise = (count : ℕ) (dialog : DialogValue)
+    → Rising dialog.local_number (numbers_of count dialog)
 
 -- A request is of one dialog at most: of two that take it, the Call-ID and both tags are the same.
 -- Ruled out: a dialog that takes each request of its Call-ID; one that takes what has its own tag alone; one that takes tags in either order.
 abbrev pub OneTakesIt : Type 0
-OneTakesIt =
-    (one other : DialogValue) (request : MessageText) → is_of one request ≡ true → is_of other request ≡ true
-    → (one.call_id ≡ other.call_id) × (one.local_tag ≡ other.local_tag) × (one.remote_tag ≡ other.remote_tag)
+OneTakesIt = (one other : DialogValue) (request : MessageText)
+    → is_of one request ≡ true → is_of other request ≡ true → (one.call_id ≡ other.call_id)
+    × (one.local_tag ≡ other.local_tag) × (one.remote_tag ≡ other.remote_tag)

@@ -16,7 +16,8 @@ use Rattle.fax_sip.specs.Starts.{StartText, Request, Answer}
 
 -- and on, where there was no fault
 infixl 10 ◌>>=◌
-abbrev pub ◌>>=◌ : {A B : Type 0} → Result A DialogFault → (A → Result B DialogFault) → Result B DialogFault
+abbrev pub ◌>>=◌ : {A B : Type 0}
+    → Result A DialogFault → (A → Result B DialogFault) → Result B DialogFault
 (Ok x) >>= f = f x
 (Err fault) >>= f = Err fault
 
@@ -39,7 +40,9 @@ contact_of message = contact_in (first_of (elements_of name.Contact message.line
 -- the addresses of `Record-Route`, in their order after those before, each kept, and at most 8 (this project's profile)
 abbrev pub routes_after : List (List ℕ) → List (List ℕ) → Result (List (List ℕ)) DialogFault
 routes_after routes [] = Ok routes
-routes_after routes (element ∷ elements) = kept (uri_of element) >>= (λ route. if nat_lt (length routes) 8 then routes_after (routes ++ route ∷ []) elements else Err ManyRoutes)
+routes_after routes (element ∷ elements) =
+    kept (uri_of element) >>= (λ route. if nat_lt (length routes) 8
+    then routes_after (routes ++ route ∷ []) elements else Err ManyRoutes)
 
 abbrev pub routes_of : MessageText → Result (List (List ℕ)) DialogFault
 routes_of message = routes_after [] (elements_of name.RecordRoute message.lines)
@@ -73,9 +76,9 @@ is_success (Answer status) = nat_le 200 status && nat_lt status 300
 
 -- a 2xx to this request: the same Call-ID, our tag, the same number and method
 abbrev pub accepts : MessageText → MessageText → Bool
-accepts request answer =
-    is_success answer.start && (bytes_eq answer.call_id request.call_id && (bytes_eq (tag_of answer.from) (tag_of request.from)
-    && (answer.sequence.number == request.sequence.number && bytes_eq answer.sequence.method request.sequence.method)))
+accepts request answer = is_success answer.start && (bytes_eq answer.call_id request.call_id
+    && (bytes_eq (tag_of answer.from) (tag_of request.from) && (answer.sequence.number
+    == request.sequence.number && bytes_eq answer.sequence.method request.sequence.method)))
 
 -- 12.1.2: from our INVITE the Call-ID, our tag, both addresses and our number; from its 2xx their tag, the target, and the route in reverse
 abbrev pub caller_ends : MessageText → MessageText → Ends
@@ -109,8 +112,8 @@ begun_by_caller request answer = do
   Ok (dialog_with Caller ends request.sequence.number None target (reverse routes))
 
 abbrev pub dialog_of_caller : MessageText → MessageText → Result DialogValue DialogFault
-dialog_of_caller request answer =
-    if not (is_invite request.start) then Err NoInvite else if not (accepts request answer) then Err OtherCall else begun_by_caller request answer
+dialog_of_caller request answer = if not (is_invite request.start) then Err NoInvite
+    else if not (accepts request answer) then Err OtherCall else begun_by_caller request answer
 
 -- 12.1.1: from their INVITE the Call-ID, their tag, both addresses, their number, the target and the route; our tag is that of our 2xx
 abbrev pub answerer_ends : MessageText → List ℕ → Ends
@@ -131,21 +134,23 @@ begun_by_answerer request tag = do
 
 -- an INVITE whose `To` has a tag is one within a dialog
 abbrev pub dialog_of_answerer : MessageText → List ℕ → Result DialogValue DialogFault
-dialog_of_answerer request tag =
-    if not (is_invite request.start) then Err NoInvite else
-    if is_some (parameter_of (codes "tag") request.to) then Err HasTag else begun_by_answerer request tag
+dialog_of_answerer request tag = if not (is_invite request.start)
+    then Err NoInvite else if is_some (parameter_of (codes "tag") request.to)
+    then Err HasTag else begun_by_answerer request tag
 
 -- ---- which messages are of it
 
 -- a request of the other end within the dialog: that Call-ID, our tag in `To` and theirs in `From`, octet for octet (12)
 abbrev pub is_of : DialogValue → MessageText → Bool
 is_of dialog request =
-    bytes_eq request.call_id dialog.call_id && (bytes_eq (tag_of request.to) dialog.local_tag && bytes_eq (tag_of request.from) dialog.remote_tag)
+    bytes_eq request.call_id dialog.call_id && (bytes_eq (tag_of request.to) dialog.local_tag
+    && bytes_eq (tag_of request.from) dialog.remote_tag)
 
 -- an answer to a request of ours within it: our tag in `From`, theirs in `To`
 abbrev pub is_answer_of : DialogValue → MessageText → Bool
 is_answer_of dialog answer =
-    bytes_eq answer.call_id dialog.call_id && (bytes_eq (tag_of answer.from) dialog.local_tag && bytes_eq (tag_of answer.to) dialog.remote_tag)
+    bytes_eq answer.call_id dialog.call_id && (bytes_eq (tag_of answer.from) dialog.local_tag
+    && bytes_eq (tag_of answer.to) dialog.remote_tag)
 
 -- ---- what changes it
 
@@ -156,14 +161,16 @@ is_low (Some last) number = nat_lt number last
 
 -- 12.2.2: a number that is not below the last one takes its place
 abbrev pub heard : DialogValue → ℕ → DialogValue
-heard dialog number = if is_low dialog.remote_number number then dialog else record dialog { remote_number = Some number }
+heard dialog number = if is_low dialog.remote_number number
+    then dialog else record dialog { remote_number = Some number }
 
 -- 12.2.1.1: the number of the next request of ours is one more than the last, and below 2 ^ 31 (8.1.1.5)
 abbrev pub number_after : ℕ → Result ℕ DialogFault
 number_after last = if nat_lt last (2 ^ 31 - 1) then Ok (last + 1) else Err NumbersSpent
 
 abbrev pub numbered : DialogValue → DialogValue
-numbered dialog = if nat_lt dialog.local_number (2 ^ 31 - 1) then record dialog { local_number = dialog.local_number + 1 } else dialog
+numbered dialog = if nat_lt dialog.local_number (2 ^ 31 - 1)
+    then record dialog { local_number = dialog.local_number + 1 } else dialog
 
 -- 12.2.1.2, 12.2.2: a re-INVITE or its 2xx has a new target, where it has a `Contact`
 abbrev pub target_after : List ℕ → Option (List ℕ) → Result (List ℕ) DialogFault
@@ -171,4 +178,5 @@ target_after target None = Ok target
 target_after target (Some value) = kept (uri_of value)
 
 abbrev pub target_by : DialogValue → MessageText → Result (List ℕ) DialogFault
-target_by dialog message = target_after dialog.target (first_of (elements_of name.Contact message.lines))
+target_by dialog message =
+    target_after dialog.target (first_of (elements_of name.Contact message.lines))

@@ -35,14 +35,16 @@ ending now = Ending (later now timeout)
 
 -- What comes in any state. 13.2.2.4: each 2xx to an INVITE of ours gets an ACK, a repeat of it again. Nothing else is heard.
 abbrev pub other_row : Session → SessionEvent → Session × SessionAction
-other_row state (Answered status pause) = if is_success status then (state, Acknowledge) else (state, Nothing)
+other_row state (Answered status pause) =
+    if is_success status then (state, Acknowledge) else (state, Nothing)
 other_row state AnsweredAgain = (state, Acknowledge)
 other_row state other = (state, Nothing)
 
 -- our re-INVITE is to be sent from this moment on
 abbrev pub wished : Option ℕ → ℕ → Session × SessionAction
 wished None now = (Confirmed None, Nothing)
-wished (Some at) now = if nat_lt now at then (Confirmed (Some at), Nothing) else (Inviting, SendInvite)
+wished (Some at) now =
+    if nat_lt now at then (Confirmed (Some at), Nothing) else (Inviting, SendInvite)
 
 -- a re-INVITE of ours is wished for while it may be sent; after 491 it waits all the same (14.1)
 abbrev pub sent_or_waiting : Option ℕ → Session × SessionAction
@@ -77,8 +79,10 @@ acknowledged Bye now = (ending now, SendBye)
 -- INVITE is refused meanwhile.
 abbrev pub accepted_row : ℕ → ℕ → ℕ → Next → ℕ → SessionEvent → Session × SessionAction
 accepted_row again pause until next now TimePassed =
-    if nat_lt now again then (Accepted again pause until next, Nothing) else (Accepted (later now (longer pause)) (longer pause) until next, SendAgain)
-accepted_row again pause until next now Reinvite = (Accepted again pause until (next_with next now), Nothing)
+    if nat_lt now again then (Accepted again pause until next, Nothing)
+    else (Accepted (later now (longer pause)) (longer pause) until next, SendAgain)
+accepted_row again pause until next now Reinvite =
+    (Accepted again pause until (next_with next now), Nothing)
 accepted_row again pause until next now HangUp = (Accepted again pause until Bye, Nothing)
 accepted_row again pause until next now InviteCame = (Accepted again pause until next, Refuse 500)
 accepted_row again pause until next now AckCame = acknowledged next now
@@ -87,11 +91,10 @@ accepted_row again pause until next now other = other_row (Accepted again pause 
 
 -- An answer to our INVITE. 491: it is sent again after a pause (14.1). 408, 481: the session ends by BYE (12.2.1.2). Another refusal is told.
 abbrev pub answered_row : ℕ → ℕ → ℕ → Session × SessionAction
-answered_row now status pause =
-    if nat_lt status 200 then (Inviting, Nothing) else
-    if nat_lt status 300 then (Confirmed None, TellAndAcknowledge) else
-    if status == 491 then (Confirmed (Some (later now pause)), Nothing) else
-    if status == 408 || status == 481 then (ending now, TellAndSendBye) else (Confirmed None, TellRefused status)
+answered_row now status pause = if nat_lt status 200 then (Inviting, Nothing)
+    else if nat_lt status 300 then (Confirmed None, TellAndAcknowledge) else if status == 491
+    then (Confirmed (Some (later now pause)), Nothing) else if status == 408 || status == 481
+    then (ending now, TellAndSendBye) else (Confirmed None, TellRefused status)
 
 -- Inviting: our INVITE is under way, and theirs gets 491 (14.2).
 abbrev pub inviting_row : ℕ → SessionEvent → Session × SessionAction
@@ -104,8 +107,8 @@ inviting_row now other = other_row Inviting other
 -- the user answers their INVITE
 abbrev pub answer_row : Option ℕ → ℕ → ℕ → Session × SessionAction
 answer_row reinvite now status =
-    if nat_lt status 200 then (Invited reinvite, SendAnswer) else
-    if nat_lt status 300 then (accepted now (next_of reinvite), SendAnswer) else (Confirmed reinvite, SendAnswer)
+    if nat_lt status 200 then (Invited reinvite, SendAnswer) else if nat_lt status 300
+    then (accepted now (next_of reinvite), SendAnswer) else (Confirmed reinvite, SendAnswer)
 
 -- Invited: their INVITE is under way; ours waits (14.1), and another of theirs gets 500 (14.2). With the session ends their INVITE, by 487 (15.1.2).
 abbrev pub invited_row : Option ℕ → ℕ → SessionEvent → Session × SessionAction
@@ -133,8 +136,8 @@ ended_row other = other_row Ended other
 -- sent 64 T1 ago.
 abbrev pub row : Session → ℕ → SessionEvent → Session × SessionAction
 row (Confirmed reinvite) now event = confirmed_row reinvite now event
-row (Accepted again pause until next) now event =
-    if nat_le until now then (ending until, TellAndSendBye) else accepted_row again pause until next now event
+row (Accepted again pause until next) now event = if nat_le until now
+    then (ending until, TellAndSendBye) else accepted_row again pause until next now event
 row Inviting now event = inviting_row now event
 row (Invited reinvite) now event = invited_row reinvite now event
 row (Ending until) now event = if nat_le until now then (Ended, Nothing) else ending_row until event

@@ -23,7 +23,8 @@ uri_by target (route ∷ routes) = if is_some (parameter_of (codes "lr") route) 
 -- the addresses of `Route`: all, in their order; over a strict router those after the first, and then the target
 abbrev pub route_by : List ℕ → List (List ℕ) → List (List ℕ)
 route_by target [] = []
-route_by target (route ∷ routes) = if is_some (parameter_of (codes "lr") route) then route ∷ routes else routes ++ target ∷ []
+route_by target (route ∷ routes) =
+    if is_some (parameter_of (codes "lr") route) then route ∷ routes else routes ++ target ∷ []
 
 -- ---- the request
 
@@ -49,7 +50,8 @@ tag_in [] = None
 tag_in (octet ∷ octets) = Some (octet ∷ octets)
 
 -- A request of ours within a dialog: the Request-URI and `Route` by its route, its Call-ID, our end in `From` and theirs in `To`, and all else as it is told.
-pub record IsWithin (dialog : DialogValue) (within : Within) (fields : List (Name × List ℕ)) (request : Request) : Type 0 where
+pub record IsWithin (dialog : DialogValue)
+    (within : Within) (fields : List (Name × List ℕ)) (request : Request) : Type 0 where
   pub method : request.method.now ≡ within.method.now
   pub uri : request.uri.now ≡ uri_by dialog.target dialog.routes
   pub sent_by : request.sent_by.now ≡ within.sent_by.now
@@ -64,12 +66,16 @@ pub record IsWithin (dialog : DialogValue) (within : Within) (fields : List (Nam
   pub body : request.body.now ≡ within.body.now
 
 abbrev pub Asks : DialogValue → Within → Request → Type 0
-Asks dialog within request = IsWithin dialog within (route_fields (route_by dialog.target dialog.routes) ++ map field_text within.fields.now) request
+Asks dialog within request =
+    IsWithin dialog within (route_fields (route_by dialog.target dialog.routes)
+    ++ map field_text within.fields.now) request
 
 -- its octets, where it has no fault
 abbrev pub IsWritten : DialogValue → Within → List ℕ → Type 0
-IsWritten dialog within octets = (request : Request) × Asks dialog within request × (request_fault request ≡ None) × (octets ≡ request_octets request)
+IsWritten dialog within octets = (request : Request) × Asks dialog within request
+    × (request_fault request ≡ None) × (octets ≡ request_octets request)
 
 -- why it is not written
 abbrev pub HasFault : DialogValue → Within → WriteFault → Type 0
-HasFault dialog within fault = (fault ≡ NoMemory) ⊎ ((request : Request) × Asks dialog within request × (request_fault request ≡ Some fault))
+HasFault dialog within fault = (fault ≡ NoMemory)
+    ⊎ ((request : Request) × Asks dialog within request × (request_fault request ≡ Some fault))

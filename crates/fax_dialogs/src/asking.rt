@@ -49,7 +49,8 @@ impl Dialog {
 
     /// The addresses of `Route`, each after a comma.
     fn route(&self, alloc: Global) -> Result<Vec<u8>, AllocError>
-        ensures { IfOk result (λ octets. octets.items ≡ flat_map route_part (route_by self.now.target self.now.routes)) }
+        ensures { IfOk result (λ octets.
+            octets.items ≡ flat_map route_part (route_by self.now.target self.now.routes)) }
     {
         let mut octets = Vec::new(alloc);
         put_route_by(&mut octets, self.target.as_slice(), self.routes.as_slice())?;
@@ -86,7 +87,8 @@ fn uri_of_request<'a>(target: &'a [u8], routes: &'a [Text]) -> &'a [u8]
 
 /// Writes the addresses of `Route`.
 fn put_route_by(octets: &mut Vec<u8>, target: &[u8], routes: &[Text]) -> Result<(), AllocError>
-    ensures { OnOk result (octets.new.items ≡ octets.old.items ++ flat_map route_part (route_by target.now routes.now)) }
+    ensures { OnOk result (octets.new.items
+        ≡ octets.old.items ++ flat_map route_part (route_by target.now routes.now)) }
 {
     match routes {
         [] => Ok(()),
@@ -126,7 +128,8 @@ fn fields_with<'a>(
     route: &'a [u8],
     fields: &[Field<'a>],
 ) -> Result<Vec<Field<'a>>, AllocError>
-    ensures { IfOk result (λ all. map field_text all.items ≡ route_line route.now ++ map field_text fields.now) }
+    ensures { IfOk result
+        (λ all. map field_text all.items ≡ route_line route.now ++ map field_text fields.now) }
 {
     let mut all = Vec::new(alloc);
     if let [_, value @ ..] = route {

@@ -109,7 +109,8 @@ impl Dialog {
     /// A request of the other end within this dialog, neither an ACK nor a CANCEL, has this number. `Err` means that it is out of order, and
     /// is answered 500 (12.2.2); then nothing changes.
     pub fn hear(&mut self, number: u32) -> Result<(), DialogFault>
-        ensures low { is_low self.old.remote_number number ≡ true → result ≡ Err DialogFault.LowNumber }
+        ensures low { is_low self.old.remote_number number ≡ true
+            → result ≡ Err DialogFault.LowNumber }
         ensures in_order { is_low self.old.remote_number number ≡ false → IsOk result }
         ensures dialog { self.new ≡ heard_by self.old number }
     {
@@ -138,8 +139,10 @@ impl Dialog {
     /// A re-INVITE that was answered with a 2xx, or the 2xx to ours, has a new target where it has a `Contact` (12.2.1.2, 12.2.2). `Err` means
     /// that its address is too long; then nothing changes.
     pub fn refresh(&mut self, message: &Message<'_>) -> Result<(), DialogFault>
-        ensures ok { OnOk result (target_by self.old (message_text message.now) ≡ Ok self.new.target) }
-        ensures fails { IfErr result (λ fault. target_by self.old (message_text message.now) ≡ Err fault) }
+        ensures ok { OnOk result (target_by self.old (message_text message.now)
+            ≡ Ok self.new.target) }
+        ensures fails { IfErr result
+            (λ fault. target_by self.old (message_text message.now) ≡ Err fault) }
         ensures rest { self.new ≡ record self.old { target = self.new.target } }
         ensures unchanged { OnErr result (self.new ≡ self.old) }
     {

@@ -24,7 +24,8 @@ with_colon text other = text ++ 58 ∷ [] ++ other
 
 -- A1: the user, the realm and the password (3.4.2)
 abbrev pub who_asks : Credentials → List ℕ
-who_asks credentials = with_colon (with_colon credentials.user.now credentials.realm.now) credentials.password.now
+who_asks credentials =
+    with_colon (with_colon credentials.user.now credentials.realm.now) credentials.password.now
 
 -- A2: the method and the Request-URI (3.4.3)
 abbrev pub what_is_asked : Credentials → List ℕ
@@ -33,9 +34,11 @@ what_is_asked credentials = with_colon credentials.method.now credentials.uri.no
 -- the digest of A1, the nonce, its count, our nonce, the quality, and the digest of A2
 abbrev pub what_is_said : Credentials → List ℕ → List ℕ → List ℕ
 what_is_said credentials who what =
-    with_colon (with_colon (with_colon (with_colon (with_colon who credentials.nonce.now) credentials.count.now) credentials.client_nonce.now) (codes "auth")) what
+    with_colon (with_colon (with_colon (with_colon (with_colon who credentials.nonce.now)
+    credentials.count.now) credentials.client_nonce.now) (codes "auth")) what
 
 -- `response` (3.4.1)
 abbrev pub response_of : Algorithm → Credentials → List ℕ
 response_of algorithm credentials =
-    hash algorithm (what_is_said credentials (hash algorithm (who_asks credentials)) (hash algorithm (what_is_asked credentials)))
+    hash algorithm (what_is_said credentials (hash algorithm (who_asks credentials))
+    (hash algorithm (what_is_asked credentials)))

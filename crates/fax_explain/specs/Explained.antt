@@ -12,14 +12,16 @@ use Rattle.fax_trace.specs.Answers.{Outcome, Ends, status_of, fault_lines}
 use Rattle.fax_explain.specs.Ladders.{TellAll}
 
 -- A new gateway answers the events by a trace, where this function gives the texts of pages, and lines tell them and its answers.
-pub record AreExplained (setup : Setup) (writes : Writing) (events : List ScriptEvent) (lines : List (List ℕ)) : Type 0 where
+pub record AreExplained (setup : Setup)
+    (writes : Writing) (events : List ScriptEvent) (lines : List (List ℕ)) : Type 0 where
   pub played : PlayedScript
   pub told : TellAll setup writes nothing_played events played lines
   pub is_trace : IsTrace setup writes played.trace
 
 -- The lines of a script were read as events up to where playing ended, as `faxgate trace` reads them, and a text tells these
 -- events and what a new gateway with these settings answers to them.
-pub record HasTold (settings : Settings) (script : List ℕ) (outcome : Outcome) (text : List ℕ) : Type 0 where
+pub record HasTold (settings : Settings) (script : List ℕ) (outcome : Outcome) (text : List ℕ) :
+    Type 0 where
   pub before : List (List ℕ)
   pub others : List (List ℕ)
   pub lines_are : lines_of script ≡ before ++ others
@@ -27,7 +29,8 @@ pub record HasTold (settings : Settings) (script : List ℕ) (outcome : Outcome)
   pub tell : TellEvents before events
   pub ends : Ends (length before) others outcome
   pub lines : List (List ℕ)
-  pub told : (setup : Setup) (writes : Writing) → AreSet setup settings → IsWriting writes → AreExplained setup writes events lines
+  pub told : (setup : Setup) (writes : Writing)
+      → AreSet setup settings → IsWriting writes → AreExplained setup writes events lines
   pub text_is : text ≡ text_of_lines lines
 
 -- this is so of the settings and the octets of each script that was told in this text, up to such
@@ -39,7 +42,8 @@ EachTold outcome text IsSo =
 
 -- The exit status and the text that a run with these settings may answer to an input: its events are told, up to where playing
 -- ends, with the line of a fault that ends it.
-pub record Explains (settings : Settings) (input : List ℕ) (status : ℕ) (text : List ℕ) : Type 0 where
+pub record Explains (settings : Settings) (input : List ℕ) (status : ℕ) (text : List ℕ) :
+    Type 0 where
   pub ladder : List ℕ
   pub outcome : Outcome
   pub has_told : HasTold settings input outcome ladder

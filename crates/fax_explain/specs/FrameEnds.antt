@@ -15,11 +15,13 @@ ends_wrongly what = (what == 3) || (what == 5)
 -- so many fields of V.21 data in a packet end a frame so
 abbrev pub ends_in : (ℕ → Bool) → Packet → ℕ
 ends_in ends (Indicator code) = 0
-ends_in ends (Message kind fields) = if kind == 0 then count_by (λ field. ends field.what) fields else 0
+ends_in ends (Message kind fields) =
+    if kind == 0 then count_by (λ field. ends field.what) fields else 0
 
 -- the ends of frames in a packet, none in one that cannot be read
 abbrev pub AreEnds : Result Packet IfpFault → FrameEnds → Type 0
-AreEnds (Ok packet) ends = (ends.good ≡ ends_in ends_rightly packet) × (ends.bad ≡ ends_in ends_wrongly packet)
+AreEnds (Ok packet) ends =
+    (ends.good ≡ ends_in ends_rightly packet) × (ends.bad ≡ ends_in ends_wrongly packet)
 AreEnds (Err fault) ends = (ends.good ≡ 0) × (ends.bad ≡ 0)
 
 -- so many of these pieces are whole frames

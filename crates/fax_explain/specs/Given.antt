@@ -27,12 +27,15 @@ arrived_after arrived (Some octets) = arrived_with arrived (datagram_of octets)
 -- after packets that were given in a call, the newest first: the datagrams of them
 abbrev pub given_datagrams : Setup → List (List ℕ) → List DatagramValue
 given_datagrams setup [] = []
-given_datagrams setup (packet ∷ given) = arrived_with (given_datagrams setup given) (datagram_of (sent setup given packet))
+given_datagrams setup (packet ∷ given) =
+    arrived_with (given_datagrams setup given) (datagram_of (sent setup given packet))
 
 -- the pieces of one that is given have no marks of their own
-abbrev pub TellsGiven : Ear → List DatagramValue → Option (List ℕ) → (old new : List Description) → Type 0
+abbrev pub TellsGiven : Ear
+    → List DatagramValue → Option (List ℕ) → (old new : List Description) → Type 0
 TellsGiven ear arrived None old new = new ≡ old
-TellsGiven ear arrived (Some octets) old new = TellsDatagram ear [] arrived (datagram_of octets) old new
+TellsGiven ear arrived (Some octets) old new =
+    TellsDatagram ear [] arrived (datagram_of octets) old new
 
 -- this is so of whatever was given on a direction, however it is heard
 abbrev pub EachGiven : Listener → (Ear → List DatagramValue → Type 0) → Type 0
@@ -40,7 +43,8 @@ EachGiven ours IsSo = EachEar ours (λ ear. EachHearing ours (λ arrived. IsSo e
 
 -- what is given from now on is a signal of this kind
 abbrev pub given_mark : Signal → Mark
-given_mark signal = record { signal = signal; passed = Heard; is_good = false; trains_again = false }
+given_mark signal =
+    record { signal = signal; passed = Heard; is_good = false; trains_again = false }
 
 abbrev pub giving : Signal → Listener → Listener
 giving signal ours = record ours { usual = given_mark signal }

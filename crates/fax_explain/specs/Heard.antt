@@ -30,14 +30,16 @@ pub record BeginsAsOneOf (last : List ℕ) (opening : Opening) (words : List ℕ
 
 -- a line in this lane begins so, and where no call is on it says that last
 abbrev pub Opens : Ear → Opening → Description → Type 0
-Opens ear opening telling = (telling.lane ≡ ear.lane) × BeginsAsOneOf (outside_text ear.is_outside) opening telling.words
+Opens ear opening telling =
+    (telling.lane ≡ ear.lane) × BeginsAsOneOf (outside_text ear.is_outside) opening telling.words
 
 -- these lines begin so, one for each
 abbrev pub AreOpened : Ear → List Opening → List Description → Type 0
 AreOpened ear [] [] = Unit {0}
 AreOpened ear [] (telling ∷ told) = ⊥
 AreOpened ear (opening ∷ openings) [] = ⊥
-AreOpened ear (opening ∷ openings) (telling ∷ told) = Opens ear opening telling × AreOpened ear openings told
+AreOpened ear (opening ∷ openings) (telling ∷ told) =
+    Opens ear opening telling × AreOpened ear openings told
 
 -- after what was told such lines are told, and no others
 pub record Adds (ear : Ear) (openings : List Opening) (old new : List Description) : Type 0 where
@@ -46,8 +48,10 @@ pub record Adds (ear : Ear) (openings : List Opening) (old new : List Descriptio
   pub is : new ≡ old ++ own
 
 -- a line more of a listener: these words, and where no call is on that
-pub record AddsLine (listener : Listener) (text : List ℕ) (old new : List Description) : Type 0 where
-  pub is : new ≡ old ++ record { lane = listener.lane; words = text ++ outside_text listener.is_outside } ∷ []
+pub record AddsLine (listener : Listener) (text : List ℕ) (old new : List Description) :
+    Type 0 where
+  pub is : new ≡ old
+      ++ record { lane = listener.lane; words = text ++ outside_text listener.is_outside } ∷ []
 
 -- a listener hears so
 pub record IsEar (ear : Ear) (listener : Listener) : Type 0 where
@@ -60,14 +64,17 @@ abbrev pub EachEar : Listener → (Ear → Type 0) → Type 0
 EachEar listener IsSo = (ear : Ear) → IsEar ear listener → IsSo ear
 
 -- Such lines are told of what a listener hears, which hears on.
-pub record Hears (ear : Ear) (openings : List Opening) (old new : Listener) (told now_told : List Description) : Type 0 where
+pub record Hears (ear : Ear)
+    (openings : List Opening) (old new : Listener) (told now_told : List Description) : Type 0 where
   pub adds : Adds ear openings told now_told
   pub is_ear : IsEar ear new
   pub receiver : new.receiver ≡ old.receiver
 
 -- that is so however it hears
-abbrev pub HearsThese : List Opening → (old new : Listener) → (told now_told : List Description) → Type 0
-HearsThese openings old new told now_told = EachEar old (λ ear. Hears ear openings old new told now_told)
+abbrev pub HearsThese : List Opening
+    → (old new : Listener) → (told now_told : List Description) → Type 0
+HearsThese openings old new told now_told =
+    EachEar old (λ ear. Hears ear openings old new told now_told)
 
 -- ---- what is kept
 
@@ -94,16 +101,18 @@ arrived_with arrived (Err fault) = arrived
 
 -- After these datagrams octets come, whose pieces were taken as these marks say: what they bring is told, the words of each piece
 -- those of its mark.
-abbrev pub TellsDatagram : Ear → List Mark → List DatagramValue → Result DatagramValue UdptlFault → (old new : List Description) → Type 0
+abbrev pub TellsDatagram : Ear → List Mark
+    → List DatagramValue → Result DatagramValue UdptlFault → (old new : List Description) → Type 0
 TellsDatagram ear marks arrived (Ok datagram) old new =
-    (decided : DecidedValue) × Decides arrived datagram decided × Adds ear (datagram_openings ear marks (newest_slots arrived) datagram.number decided) old new
+    (decided : DecidedValue) × Decides arrived datagram decided
+    × Adds ear (datagram_openings ear marks (newest_slots arrived) datagram.number decided) old new
 TellsDatagram ear marks arrived (Err fault) old new = Adds ear (unread_opening ∷ []) old new
 
 -- EACH PIECE HAS ITS MARK: there are just as many marks as pieces that have one in the packets that octets bring after these
 abbrev pub AreAll : List Mark → List DatagramValue → Result DatagramValue UdptlFault → Type 0
-AreAll marks arrived (Ok datagram) =
-    (decided : DecidedValue) → Decides arrived datagram decided
-    → length marks ≡ count_by has_mark (pieces_in (lost_slots decided.lost ++ newest_slots arrived) decided.packets)
+AreAll marks arrived (Ok datagram) = (decided : DecidedValue) → Decides arrived datagram decided
+    → length marks ≡ count_by has_mark (pieces_in (lost_slots decided.lost
+    ++ newest_slots arrived) decided.packets)
 AreAll marks arrived (Err fault) = marks ≡ []
 
 -- ---- over whatever came
@@ -121,8 +130,8 @@ HearsOn old datagram new =
 -- what it brings after them, with these marks, is told as the listener hears
 abbrev pub TellsComing : Listener → List Mark → Result DatagramValue UdptlFault
     → (old new : List Description) → Type 0
-TellsComing listener marks datagram old new =
-    EachEar listener (λ ear. EachHearing listener (λ arrived. TellsDatagram ear marks arrived datagram old new))
+TellsComing listener marks datagram old new = EachEar listener
+    (λ ear. EachHearing listener (λ arrived. TellsDatagram ear marks arrived datagram old new))
 
 -- and it hears on so
 abbrev pub KeepsEar : (old new : Listener) → Type 0

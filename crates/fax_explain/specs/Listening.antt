@@ -34,7 +34,8 @@ is_heard frame = true
 
 -- why a frame is passed over that came on this way, after its words: one that is heard in no state is so without a word
 abbrev pub unasked_text : Lane → Frame → List ℕ
-unasked_text FromCaller frame = if is_command frame then codes ", passed over: no page is due" else codes ", passed over: it is no command"
+unasked_text FromCaller frame = if is_command frame
+    then codes ", passed over: no page is due" else codes ", passed over: it is no command"
 unasked_text lane frame = codes ", passed over: it answers nothing"
 
 -- or that a training goes out again, for a DIS in place of an answer
@@ -45,8 +46,10 @@ training_text trains_again frame = []
 abbrev pub passed_as : Passed → (trains_again : Bool) → Lane → Frame → List ℕ
 passed_as passed.Heard trains_again lane frame = training_text trains_again frame
 passed_as passed.Outside trains_again lane frame = codes ", passed over: no call is on"
-passed_as passed.Sending trains_again lane frame = if is_heard frame then codes ", passed over while the gateway sends" else []
-passed_as passed.Unasked trains_again lane frame = if is_heard frame then unasked_text lane frame else []
+passed_as passed.Sending trains_again lane frame =
+    if is_heard frame then codes ", passed over while the gateway sends" else []
+passed_as passed.Unasked trains_again lane frame =
+    if is_heard frame then unasked_text lane frame else []
 
 -- what a frame was taken as, after its words
 abbrev pub taken_text : Mark → Lane → Option Frame → List ℕ
@@ -77,7 +80,8 @@ is_same (Some last) dis = last.caps.0 == dis.caps.0
 
 -- what a frame says: a DIS like the last one is told as such
 abbrev pub words_after : Option Offer → (octets : List ℕ) → Option Frame → List ℕ
-words_after last octets (Some (Dis dis)) = if is_same last dis then codes "DIS as before" else frame_text octets
+words_after last octets (Some (Dis dis)) =
+    if is_same last dis then codes "DIS as before" else frame_text octets
 words_after last octets frame = frame_text octets
 
 -- what a signal is called, and what a training check was
@@ -173,16 +177,20 @@ image_text octets true = codes "image of " ++ (decimal octets ++ codes " octets,
 image_text octets false = codes "image of " ++ (decimal octets ++ codes " octets, not whole, ")
 
 abbrev pub signal_text : (octets : ℕ) → Signal → (is_outside : Bool) → List ℕ
-signal_text octets signal is_outside = codes "a signal of " ++ (decimal octets ++ (codes " octets" ++ strange_text signal is_outside))
+signal_text octets signal is_outside =
+    codes "a signal of " ++ (decimal octets ++ (codes " octets" ++ strange_text signal is_outside))
 
-abbrev pub end_text : Signal → (is_good : Bool) → Lane → (is_outside : Bool) → (octets : ℕ) → (whole : Bool) → List ℕ
-end_text (Check dcs) is_good lane is_outside octets whole = check_text (is_judged lane) (whole && is_good)
+abbrev pub end_text : Signal
+    → (is_good : Bool) → Lane → (is_outside : Bool) → (octets : ℕ) → (whole : Bool) → List ℕ
+end_text (Check dcs) is_good lane is_outside octets whole =
+    check_text (is_judged lane) (whole && is_good)
 end_text (Page dcs) is_good lane is_outside octets whole = image_text octets whole
 end_text Late is_good lane is_outside octets whole = image_text octets whole
 end_text signal is_good lane is_outside octets whole = signal_text octets signal is_outside
 
 abbrev pub marked_end : Mark → Lane → (is_outside : Bool) → (octets : ℕ) → (whole : Bool) → List ℕ
-marked_end mark lane is_outside octets whole = end_text mark.signal mark.is_good lane is_outside octets whole
+marked_end mark lane is_outside octets whole =
+    end_text mark.signal mark.is_good lane is_outside octets whole
 
 -- words begin with a text
 abbrev pub StartsWith : (text words : List ℕ) → Type 0

@@ -20,5 +20,6 @@ pub record IsNewLadder (settings : Settings) (ladder : LiveLadder) : Type 0 wher
 
 -- AN EVENT WAS PLAYED: this is told of it, and it is what `Ladders` has told of that event after each trace that led to the ladder. What
 -- comes has this moment, which need not be that of the event before it; a tick, and a call that is placed or not, have their own.
-abbrev pub PlaysLive : ScriptEvent → (moment : ℕ) → (old : LiveLadder) → (told : List Description) → (new : LiveLadder) → Type 0
+abbrev pub PlaysLive : ScriptEvent
+    → (moment : ℕ) → (old : LiveLadder) → (told : List Description) → (new : LiveLadder) → Type 0
 PlaysLive event moment old told new = PlaysEvent event moment old.stage told new.stage

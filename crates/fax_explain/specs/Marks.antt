@@ -27,7 +27,8 @@ abbrev pub passed_answering : answer_states.State → (waits : Bool) → Passed
 passed_answering answering.Idle waits = passed.Outside
 passed_answering state waits = passed_while waits
 
-abbrev pub passed_by_answer : answer_decisions.Decision → answer_states.State → (waits : Bool) → Passed
+abbrev pub passed_by_answer : answer_decisions.Decision
+    → answer_states.State → (waits : Bool) → Passed
 passed_by_answer answered.PassOver state waits = passed_answering state waits
 passed_by_answer decision state waits = passed.Heard
 
@@ -77,12 +78,20 @@ trains_again note = trains_in note.state note.decision
 -- ---- the mark of what was told
 
 abbrev pub mark_of_answer : AnswerNote → Mark
-mark_of_answer note =
-    record { signal = signal_of_answer note.state; passed = passed_of_answer note; is_good = is_good note.decision; trains_again = false }
+mark_of_answer note = record {
+  signal = signal_of_answer note.state;
+  passed = passed_of_answer note;
+  is_good = is_good note.decision;
+  trains_again = false;
+}
 
 abbrev pub mark_of_call : CallNote → Mark
-mark_of_call note =
-    record { signal = signal_of_call note.state; passed = passed_of_call note; is_good = false; trains_again = trains_again note }
+mark_of_call note = record {
+  signal = signal_of_call note.state;
+  passed = passed_of_call note;
+  is_good = false;
+  trains_again = trains_again note;
+}
 
 -- what a signal is that the gateway gives on the called leg: a training check while CFR is awaited, a page while MCF is
 abbrev pub given_signal : call_states.State → Signal

@@ -22,11 +22,16 @@ next_if (Some kept) n = next_number n
 
 -- a page that is sent: in the call that it came in, after those that were sent before and those that were delivered
 abbrev pub sent_place : CalledLeg → Place
-sent_place leg = record { leg = legs.Called; call = unwrap_or leg.call 0; page = next_number (min (leg.before + leg.delivered) (2 ^ 32 - 1)) }
+sent_place leg = record {
+  leg = legs.Called;
+  call = unwrap_or leg.call 0;
+  page = next_number (min (leg.before + leg.delivered) (2 ^ 32 - 1));
+}
 
 -- a page that is confirmed: in its call, after those that were confirmed
 abbrev pub confirmed_place : Kept → CallingLeg → Place
-confirmed_place kept leg = record { leg = legs.Calling; call = kept.call; page = next_number leg.pages }
+confirmed_place kept leg =
+    record { leg = legs.Calling; call = kept.call; page = next_number leg.pages }
 
 -- a page, where there is one, at its place
 abbrev pub found_at : Place → Option PageValue → Option FoundPage
@@ -53,10 +58,11 @@ Grows old new = (more : List FoundPage) × (new ≡ old ++ more)
 
 -- a picture of this page comes after those that were, in the place of one that was confirmed
 abbrev pub HasPicture : PageValue → (old new : List FoundPage) → Type 0
-HasPicture page old new =
-    (place : Place) × (more : List FoundPage) × (place.leg ≡ legs.Calling) × (new ≡ old ++ record { place = place; page = page } ∷ more)
+HasPicture page old new = (place : Place) × (more : List FoundPage)
+    × (place.leg ≡ legs.Calling) × (new ≡ old ++ record { place = place; page = page } ∷ more)
 
 -- what is told of it after its MCF
 abbrev pub confirmed_text : Kept → (page : ℕ) → List ℕ
 confirmed_text kept page =
-    codes " page " ++ (decimal page ++ (codes " of call " ++ (decimal kept.call ++ (codes ": " ++ (format_text kept.format ++ (codes ", rows: " ++ decimal kept.rows))))))
+    codes " page " ++ (decimal page ++ (codes " of call " ++ (decimal kept.call
+    ++ (codes ": " ++ (format_text kept.format ++ (codes ", rows: " ++ decimal kept.rows))))))

@@ -36,21 +36,25 @@ use Rattle.fax_descriptions.specs.Tellings.{Description}
 -- the listener to the caller has heard what arrived in the call that is on
 abbrev pub HearsCall : Option CallingLeg → Listener → Type 0
 HearsCall None listener = Unit {0}
-HearsCall (Some leg) listener = is_idle (core_of leg).state ≡ false → IsEar (in_call FromCaller) listener × IsHearing leg.arrived listener
+HearsCall (Some leg) listener = is_idle (core_of leg).state ≡ false
+    → IsEar (in_call FromCaller) listener × IsHearing leg.arrived listener
 
 -- and the one to the called machine, while its job is sent and its call is not over
 abbrev pub HearsJob : Writing → Option CalledLeg → Listener → Type 0
 HearsJob writes None listener = Unit {0}
-HearsJob writes (Some leg) listener =
-    leg.entered ≡ false → is_over (called_legs.core_of writes leg).state ≡ false → IsEar (in_call FromCalled) listener × IsHearing leg.arrived listener
+HearsJob writes (Some leg) listener = leg.entered ≡ false
+    → is_over (called_legs.core_of writes leg).state ≡ false
+    → IsEar (in_call FromCalled) listener × IsHearing leg.arrived listener
 
 -- and each of them has heard what came since the last call began, and may go on to hear while no call is on
 abbrev pub HearsOutside : Lane → (came : List DatagramValue) → Listener → Type 0
-HearsOutside lane came listener = IsEar (outside_call lane) (outside listener) × IsHearing came listener
+HearsOutside lane came listener =
+    IsEar (outside_call lane) (outside listener) × IsHearing came listener
 
 -- the listeners to the gateway itself have heard what it gave on each leg, in the last call of that
 abbrev pub GivesCall : Setup → Option CallingLeg → Listener → Type 0
-GivesCall setup leg ours = IsEar (in_call ToCaller) ours × IsHearing (given_datagrams setup (given_on leg)) ours
+GivesCall setup leg ours =
+    IsEar (in_call ToCaller) ours × IsHearing (given_datagrams setup (given_on leg)) ours
 
 abbrev pub GivesJob : Setup → Option CalledLeg → Listener → Type 0
 GivesJob setup leg ours = IsToCalled ours × IsHearing (given_datagrams setup (given_to leg)) ours
@@ -80,15 +84,20 @@ GivesIf false sending old new = GivesWith sending old new
 
 -- lines of what a tick gives to the caller are told, after that the datagrams that were given before, with the page that it confirms,
 -- of this number, or why it refuses one
-abbrev pub TellsGiving : Ear → List DatagramValue → Option (List ℕ) → Option Kept → (page : ℕ) → Option RefusedPage → (old new : List Description) → Type 0
-TellsGiving ear arrived given kept page refused old new = (own : List Description) × TellsGiven ear arrived given [] own × (new ≡ old ++ with_why refused (with_page kept page own))
+abbrev pub TellsGiving : Ear → List DatagramValue → Option (List ℕ)
+    → Option Kept → (page : ℕ) → Option RefusedPage → (old new : List Description) → Type 0
+TellsGiving ear arrived given kept page refused old new =
+    (own : List Description) × TellsGiven ear arrived given [] own
+    × (new ≡ old ++ with_why refused (with_page kept page own))
 
 -- and lines of what it gives to the called machine, in the state of its call in which the tick leaves it
-abbrev pub TellsTo : GatewayValue → Listener → Option (List ℕ) → (old new : List Description) → Type 0
-TellsTo gateway ours given old new =
-    (setup : Setup) (writes : Writing) (trace : List Event) → IsReachedBy setup writes trace gateway
-    → (arrived : List DatagramValue) → IsHearing arrived ours → IsToCalled ours
-    → (own : List Description) × TellsGiven (to_called (given_signal (called_state writes (both_legs setup writes trace).leg))) arrived given [] own × (new ≡ old ++ own)
+abbrev pub TellsTo : GatewayValue
+    → Listener → Option (List ℕ) → (old new : List Description) → Type 0
+TellsTo gateway ours given old new = (setup : Setup) (writes : Writing) (trace : List Event)
+    → IsReachedBy setup writes trace gateway → (arrived : List DatagramValue)
+    → IsHearing arrived ours → IsToCalled ours → (own : List Description)
+    × TellsGiven (to_called (given_signal (called_state writes (both_legs setup writes trace).leg)))
+    arrived given [] own × (new ≡ old ++ own)
 
 -- the call of the job that is sent is told as it begins, where none was sent before
 abbrev pub begun_if : (was_sending : Bool) → Option JobValue → List Description
@@ -96,18 +105,21 @@ begun_if true sending = []
 begun_if false sending = begun_tellings sending
 
 -- the trace led to a stage, where this function gives the texts of pages: to its gateway, and to what was heard
-pub record IsStagedBy (setup : Setup) (writes : Writing) (trace : List Event) (stage : Stage) : Type 0 where
+pub record IsStagedBy (setup : Setup) (writes : Writing) (trace : List Event) (stage : Stage) :
+    Type 0 where
   pub reached : IsReachedBy setup writes trace stage.gateway
   pub hears : HearsCall (calling_leg setup trace) stage.calling.theirs
   pub hears_job : HearsJob writes (both_legs setup writes trace).leg stage.called.theirs
   pub caller_outside : HearsOutside FromCaller (came_from_caller trace) stage.calling.theirs
-  pub called_outside : HearsOutside FromCalled (came_from_called setup writes trace) stage.called.theirs
+  pub called_outside :
+      HearsOutside FromCalled (came_from_called setup writes trace) stage.called.theirs
   pub gives : GivesCall setup (calling_leg setup trace) stage.calling.ours
   pub gives_job : GivesJob setup (both_legs setup writes trace).leg stage.called.ours
   pub pages : stage.calling.pages ≡ pages_so_far setup trace
 
 -- A gateway accepted one event more, and this is told of its answer.
-pub record HasAccepted (setup : Setup) (writes : Writing) (old : PlayedScript) (event : ScriptEvent) (told : List Description) (stage : Stage) : Type 0 where
+pub record HasAccepted (setup : Setup) (writes : Writing) (old : PlayedScript)
+    (event : ScriptEvent) (told : List Description) (stage : Stage) : Type 0 where
   pub accepted : Event
   pub event_is : scripted accepted ≡ event
   pub at : moment_of accepted ≡ moment_at event old.moment
@@ -115,37 +127,44 @@ pub record HasAccepted (setup : Setup) (writes : Writing) (old : PlayedScript) (
   pub reached : IsStagedBy setup writes (accepted ∷ old.trace) stage
 
 -- or it refused it, and this is told of why
-pub record HasRefused (setup : Setup) (writes : Writing) (old : PlayedScript) (event : ScriptEvent) (told : List Description) (stage : Stage) : Type 0 where
+pub record HasRefused (setup : Setup) (writes : Writing) (old : PlayedScript)
+    (event : ScriptEvent) (told : List Description) (stage : Stage) : Type 0 where
   pub line : List ℕ
   pub cause : IsRefusal setup writes old.trace event line
   pub why : List ℕ
   pub told_is : told ≡ inside (line ++ why) ∷ []
   pub reached : IsStagedBy setup writes old.trace stage
 
-abbrev pub HasAnswered : Setup → Writing → PlayedScript → ScriptEvent → List Description → Stage → Type 0
-HasAnswered setup writes old event told stage = HasAccepted setup writes old event told stage ⊎ HasRefused setup writes old event told stage
+abbrev pub HasAnswered : Setup
+    → Writing → PlayedScript → ScriptEvent → List Description → Stage → Type 0
+HasAnswered setup writes old event told stage =
+    HasAccepted setup writes old event told stage ⊎ HasRefused setup writes old event told stage
 
 -- one event more was played on a gateway, and this is told of it
-pub record PlaysOn (setup : Setup) (writes : Writing) (old : PlayedScript) (event : ScriptEvent) (told : List Description) (stage : Stage) : Type 0 where
+pub record PlaysOn (setup : Setup) (writes : Writing) (old : PlayedScript)
+    (event : ScriptEvent) (told : List Description) (stage : Stage) : Type 0 where
   pub new : PlayedScript
   pub tells : TellsPlay setup writes old event new told
   pub reached : IsStagedBy setup writes new.trace stage
 
 -- nothing was played
 abbrev pub IsNew : Stage → Type 0
-IsNew stage = (setup : Setup) (writes : Writing) → AreSet setup stage.gateway.settings → IsStagedBy setup writes [] stage
+IsNew stage = (setup : Setup) (writes : Writing)
+    → AreSet setup stage.gateway.settings → IsStagedBy setup writes [] stage
 
 -- the timers that act in a tick at this moment are told
 abbrev pub TimersAct : GatewayValue → (moment : ℕ) → (old new : List Description) → Type 0
-TimersAct gateway moment old new =
-    (setup : Setup) (writes : Writing) (trace : List Event) → IsReachedBy setup writes trace gateway
-    → new ≡ old ++ (timers_told (calling_leg setup trace) (max moment (clock trace)) ++ called_timers_told writes (both_legs setup writes trace).leg (max moment (clock trace)))
+TimersAct gateway moment old new = (setup : Setup) (writes : Writing) (trace : List Event)
+    → IsReachedBy setup writes trace gateway
+    → new ≡ old ++ (timers_told (calling_leg setup trace) (max moment (clock trace))
+    ++ called_timers_told writes (both_legs setup writes trace).leg (max moment (clock trace)))
 
 -- after a tick at this moment: where the trace confirms a page in it, that page has its picture
 abbrev pub Pictures : GatewayValue → (moment : ℕ) → (old new : List FoundPage) → Type 0
-Pictures gateway moment old new =
-    (setup : Setup) (writes : Writing) (trace : List Event) → IsWriting writes → IsReachedBy setup writes trace gateway → (confirmed : ConfirmedPage)
-    → confirmed_at (calling_leg setup trace) (max moment (clock trace)) ≡ Some confirmed → HasPicture confirmed.page old new
+Pictures gateway moment old new = (setup : Setup) (writes : Writing) (trace : List Event)
+    → IsWriting writes → IsReachedBy setup writes trace gateway → (confirmed : ConfirmedPage)
+    → confirmed_at (calling_leg setup trace) (max moment (clock trace)) ≡ Some confirmed
+    → HasPicture confirmed.page old new
 
 -- ---- over whatever was played
 
@@ -195,18 +214,19 @@ AnswersTick moment old told new =
 -- the same of any event, at its moment
 abbrev pub AnswersAny : ScriptEvent → (moment : ℕ) → (old : Stage)
     → (told : List Description) → (new : Stage) → Type 0
-AnswersAny event moment old told new =
-    EachScriptBefore event moment old (λ setup writes played. HasAnswered setup writes played event told new)
+AnswersAny event moment old told new = EachScriptBefore event moment old
+    (λ setup writes played. HasAnswered setup writes played event told new)
 
 -- AN EVENT WAS PLAYED at its moment: this is told of it, and of the call that is asked for from
 -- then on
 abbrev pub PlaysEvent : ScriptEvent → (moment : ℕ) → (old : Stage)
     → (told : List Description) → (new : Stage) → Type 0
-PlaysEvent event moment old told new =
-    EachScriptBefore event moment old (λ setup writes played. PlaysOn setup writes played event told new)
+PlaysEvent event moment old told new = EachScriptBefore event moment old
+    (λ setup writes played. PlaysOn setup writes played event told new)
 
 -- one event more is played on a gateway, and a text tells it, all at this moment
-pub record TellsOn (event : ScriptEvent) (moment : ℕ) (text : List ℕ) (before after : Stage) : Type 0 where
+pub record TellsOn (event : ScriptEvent) (moment : ℕ) (text : List ℕ) (before after : Stage) :
+    Type 0 where
   pub told : List Description
   pub text_is : text ≡ paragraph_text moment told
   pub plays : PlaysEvent event moment before told after

@@ -31,7 +31,8 @@ impl Drop for Explanation {
 /// Explains a script.
 pub(crate) fn explain(alloc: Global, script: &[u8], settings: Settings) -> Explanation
     requires { AreAllowed settings }
-    ensures { Explains settings script.now (status_of_answer result.answer) (text_of_answer result.answer) }
+    ensures { Explains settings script.now (status_of_answer result.answer)
+        (text_of_answer result.answer) }
 {
     let mut text = Vec::new(alloc);
     let mut pages = Vec::new(alloc);

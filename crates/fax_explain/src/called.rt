@@ -102,7 +102,8 @@ impl CalledLeg {
 
     /// A job has ended that had so many pages.
     pub(crate) fn end(&mut self, pages: u32)
-        ensures { self.new ≡ record self.old { before = min (self.old.before + pages) (2 ^ 32 - 1) } }
+        ensures { self.new
+            ≡ record self.old { before = min (self.old.before + pages) (2 ^ 32 - 1) } }
     {
         self.before = self.before.saturating_add(pages);
     }
@@ -142,7 +143,8 @@ impl CalledLeg {
 
     /// The octets of a datagram come from the called machine while no call is on.
     pub(crate) fn hear_outside(&mut self, octets: &[u8], tale: &mut Tale) -> Result<(), NoMemory>
-        ensures told { OnOk result (TellsComing (outside self.old.theirs) [] (datagram_of octets.now) tale.old tale.new) }
+        ensures told { OnOk result
+            (TellsComing (outside self.old.theirs) [] (datagram_of octets.now) tale.old tale.new) }
         ensures hearing { OnOk result
             (HearsOn self.old.theirs (datagram_of octets.now) self.new.theirs) }
         ensures ear { OnOk result (KeepsEar (outside self.old.theirs) self.new.theirs) }
@@ -159,8 +161,8 @@ impl CalledLeg {
         state: State,
         tale: &mut Tale,
     ) -> Result<(), NoMemory>
-        ensures told { OnOk result (EachGiven (giving (given_signal state) self.old.ours) (λ ear arrived.
-            TellsGiven ear arrived given.now.called tale.old tale.new)) }
+        ensures told { OnOk result (EachGiven (giving (given_signal state) self.old.ours)
+            (λ ear arrived. TellsGiven ear arrived given.now.called tale.old tale.new)) }
         ensures hearing { OnOk result (EachHearing self.old.ours (λ arrived.
             IsHearing (arrived_after arrived given.now.called) self.new.ours)) }
         ensures ear { OnOk result (KeepsToCalled self.old.ours self.new.ours) }

@@ -75,7 +75,8 @@ impl CallingLeg {
 
     /// The octets of a datagram come from the caller while no call is on.
     pub(crate) fn hear_outside(&mut self, octets: &[u8], tale: &mut Tale) -> Result<(), NoMemory>
-        ensures told { OnOk result (TellsComing (outside self.old.theirs) [] (datagram_of octets.now) tale.old tale.new) }
+        ensures told { OnOk result
+            (TellsComing (outside self.old.theirs) [] (datagram_of octets.now) tale.old tale.new) }
         ensures hearing { OnOk result
             (HearsOn self.old.theirs (datagram_of octets.now) self.new.theirs) }
         ensures ear { OnOk result (KeepsEar (outside self.old.theirs) self.new.theirs) }

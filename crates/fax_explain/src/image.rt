@@ -85,7 +85,8 @@ impl Image {
 
     /// The datagrams of these numbers are missing in it.
     pub(crate) fn miss(&mut self, numbers: &str) -> Result<(), NoMemory>
-        ensures missing { OnOk result (string_bytes self.new.missing ≡ string_bytes self.old.missing ++ 32 ∷ numbers.now) }
+        ensures missing { OnOk result (string_bytes self.new.missing
+            ≡ string_bytes self.old.missing ++ 32 ∷ numbers.now) }
         ensures left { self.new ≡ record self.old { missing = self.new.missing } }
     {
         self.missing.push_str(" ")?;
@@ -109,7 +110,8 @@ impl Image {
 
     /// Whether it is whole, and which datagrams are missing if it is not.
     pub(crate) fn wholeness(&self, whole: bool) -> Result<String, NoMemory>
-        ensures { IfOk result (λ words. string_bytes words ≡ wholeness_text whole (string_bytes self.now.missing)) }
+        ensures { IfOk result
+            (λ words. string_bytes words ≡ wholeness_text whole (string_bytes self.now.missing)) }
     {
         words_of_wholeness(self.alloc, whole, self.missing.as_str())
     }

@@ -90,8 +90,8 @@ impl Listener {
 
     /// The octets of a datagram come: what it brings is told, a line for each thing, by what the pieces of it were taken as.
     pub(crate) fn hear(&mut self, octets: &[u8], tale: &mut Tale) -> Result<(), NoMemory>
-        ensures told { OnOk result
-            (TellsComing self.old (marks_left self.old) (datagram_of octets.now) tale.old tale.new) }
+        ensures told { OnOk result (TellsComing self.old (marks_left self.old)
+            (datagram_of octets.now) tale.old tale.new) }
         ensures hearing { OnOk result (HearsOn self.old (datagram_of octets.now) self.new) }
         ensures ear { OnOk result (KeepsEar self.old self.new) }
     {
@@ -217,7 +217,8 @@ impl Listener {
 
     /// Something happened on this direction, where that holds.
     fn tell_if(&self, holds: bool, words: &str, tale: &mut Tale) -> Result<(), NoMemory>
-        ensures { OnOk result (HearsThese (line_if holds (begins words.now)) self.now self.now tale.old tale.new) }
+        ensures { OnOk result
+            (HearsThese (line_if holds (begins words.now)) self.now self.now tale.old tale.new) }
     {
         if holds {
             self.tell(words, tale)?;
@@ -227,7 +228,8 @@ impl Listener {
 
     /// A datagram decides nothing: one that came again says nothing new, and a late one is told.
     fn hear_late(&self, number: u16, expected: u16, tale: &mut Tale) -> Result<(), NoMemory>
-        ensures { OnOk result (HearsThese (late_openings number expected) self.now self.now tale.old tale.new) }
+        ensures { OnOk result
+            (HearsThese (late_openings number expected) self.now self.now tale.old tale.new) }
     {
         if number.wrapping_add(1) == expected {
             return Ok(());
@@ -238,7 +240,8 @@ impl Listener {
 
     /// So many datagrams from a number on are lost.
     fn lose(&mut self, from: u16, count: u16, tale: &mut Tale) -> Result<(), NoMemory>
-        ensures told { OnOk result (HearsThese (lost_openings from count) self.old self.new tale.old tale.new) }
+        ensures told { OnOk result
+            (HearsThese (lost_openings from count) self.old self.new tale.old tale.new) }
         ensures heard { OnOk result (HearsSlots self.old (lost_slots count) self.new) }
         ensures marks { OnOk result (marks_left self.new ≡ marks_left self.old) }
     {
@@ -254,7 +257,8 @@ impl Listener {
 
     /// The datagrams from a number on, up to that of the one that came, are told as brought back, where there are any.
     fn bring_back(&self, from: u16, number: u16, tale: &mut Tale) -> Result<(), NoMemory>
-        ensures { OnOk result (HearsThese (back_openings from number) self.now self.now tale.old tale.new) }
+        ensures { OnOk result
+            (HearsThese (back_openings from number) self.now self.now tale.old tale.new) }
     {
         if from == number {
             return Ok(());
@@ -296,7 +300,8 @@ impl Listener {
         packet: &[u8],
         tale: &mut Tale,
     ) -> Result<FrameEnds, NoMemory>
-        ensures told { OnOk result (HearsThese (head_openings number (packet_of packet.now)) self.old self.new tale.old tale.new) }
+        ensures told { OnOk result (HearsThese (head_openings number (packet_of packet.now))
+            self.old self.new tale.old tale.new) }
         ensures stays { OnOk result (Stays self.old self.new) }
         ensures marks { OnOk result (marks_left self.new ≡ marks_left self.old) }
         ensures ends { IfOk result (λ ends. AreEnds (packet_of packet.now) ends) }
@@ -321,7 +326,8 @@ impl Listener {
         fault: IfpFault,
         tale: &mut Tale,
     ) -> Result<(), NoMemory>
-        ensures told { OnOk result (HearsThese (begins (codes "packet " ++ (decimal number ++ codes " cannot be read: ")) ∷ []) self.old self.new tale.old tale.new) }
+        ensures told { OnOk result (HearsThese (begins (codes "packet " ++ (decimal number
+            ++ codes " cannot be read: ")) ∷ []) self.old self.new tale.old tale.new) }
         ensures stays { OnOk result (Stays self.old self.new) }
         ensures marks { OnOk result (marks_left self.new ≡ marks_left self.old) }
     {
@@ -338,8 +344,10 @@ impl Listener {
 
     /// So many frames have ended in which something is missing, and so many with a wrong check sequence.
     fn tell_lacking(&self, lacking: usize, bad: usize, tale: &mut Tale) -> Result<(), NoMemory>
-        ensures { OnOk result (HearsThese (line_if (nat_lt 0 lacking) (begins (codes "a frame in which something is missing, passed over"))
-            ++ line_if (nat_lt 0 bad) (begins (codes "a frame with a wrong check sequence, passed over"))) self.now self.now tale.old tale.new) }
+        ensures { OnOk result (HearsThese (line_if (nat_lt 0 lacking)
+            (begins (codes "a frame in which something is missing, passed over")) ++ line_if
+            (nat_lt 0 bad) (begins (codes "a frame with a wrong check sequence, passed over")))
+            self.now self.now tale.old tale.new) }
     {
         self.tell_if(
             lacking > 0,
@@ -355,7 +363,8 @@ impl Listener {
 
     /// CNG and CED are told.
     fn hear_tone(&mut self, indicator: Option<Indicator>, tale: &mut Tale) -> Result<(), NoMemory>
-        ensures told { OnOk result (HearsThese (tone_openings indicator) self.old self.new tale.old tale.new) }
+        ensures told { OnOk result
+            (HearsThese (tone_openings indicator) self.old self.new tale.old tale.new) }
         ensures stays { Stays self.old self.new }
         ensures marks { marks_left self.new ≡ marks_left self.old }
     {
@@ -374,7 +383,8 @@ impl Listener {
             self.old self.new tale.old tale.new))) }
         ensures counted { OnOk result (EachCounted self.old (λ before.
             self.new.image.octets ≡ octets_counted (reverse (pieces_shown pieces.now) ++ before))) }
-        ensures marks { OnOk result (marks_left self.new ≡ later_marks (pieces_shown pieces.now) (marks_left self.old)) }
+        ensures marks { OnOk result (marks_left self.new
+            ≡ later_marks (pieces_shown pieces.now) (marks_left self.old)) }
         ensures signals { OnOk result (self.new.signals ≡ self.old.signals) }
     {
         for piece in pieces {
@@ -385,12 +395,13 @@ impl Listener {
 
     /// A piece comes.
     fn hear_piece(&mut self, piece: &Piece<'_>, tale: &mut Tale) -> Result<(), NoMemory>
-        ensures told { OnOk result (EachEar self.old (λ ear. EachCounted self.old (λ before.
-            Hears ear (piece_openings ear (first_mark ear.usual (marks_left self.old)) before (piece_of piece.now))
-            self.old self.new tale.old tale.new))) }
+        ensures told { OnOk result (EachEar self.old (λ ear. EachCounted self.old
+            (λ before. Hears ear (piece_openings ear (first_mark ear.usual (marks_left self.old))
+            before (piece_of piece.now)) self.old self.new tale.old tale.new))) }
         ensures counted { OnOk result (EachCounted self.old (λ before.
             self.new.image.octets ≡ octets_counted (piece_of piece.now ∷ before))) }
-        ensures marks { OnOk result (marks_left self.new ≡ marks_after (piece_of piece.now) (marks_left self.old)) }
+        ensures marks { OnOk result (marks_left self.new
+            ≡ marks_after (piece_of piece.now) (marks_left self.old)) }
         ensures signals { OnOk result (self.new.signals ≡ self.old.signals) }
     {
         match piece {
@@ -419,8 +430,9 @@ impl Listener {
 
     /// A frame comes, and what it was taken as is told.
     fn hear_frame(&mut self, octets: &[u8], tale: &mut Tale) -> Result<(), NoMemory>
-        ensures told { OnOk result (EachEar self.old (λ ear.
-            Hears ear (frame_opening (first_mark ear.usual (marks_left self.old)) ear.lane octets.now ∷ []) self.old self.new tale.old tale.new)) }
+        ensures told { OnOk result (EachEar self.old
+            (λ ear. Hears ear (frame_opening (first_mark ear.usual (marks_left self.old))
+            ear.lane octets.now ∷ []) self.old self.new tale.old tale.new)) }
         ensures marks { OnOk result (marks_left self.new ≡ drop 1 (marks_left self.old)) }
         ensures stays { OnOk result (Stays self.old self.new) }
     {
@@ -434,8 +446,10 @@ impl Listener {
 
     /// What a frame says. A DIS like the one before is not told again.
     fn words_of(&mut self, octets: &[u8]) -> Result<String, NoMemory>
-        ensures words { IfOk result (λ words. string_bytes words ≡ words_after self.old.dis octets.now (frame_of octets.now)) }
-        ensures dis { self.new ≡ record self.old { dis = dis_after self.old.dis (frame_of octets.now) } }
+        ensures words { IfOk result (λ words.
+            string_bytes words ≡ words_after self.old.dis octets.now (frame_of octets.now)) }
+        ensures dis { self.new
+            ≡ record self.old { dis = dis_after self.old.dis (frame_of octets.now) } }
     {
         let Some(Frame::Dis(dis)) = Frame::read(octets) else {
             return words_of_frame(self.alloc, octets);
@@ -461,8 +475,9 @@ impl Listener {
 
     /// An image begins, by this type of data.
     fn begin_image(&mut self, kind: u8, tale: &mut Tale) -> Result<(), NoMemory>
-        ensures told { OnOk result (EachEar self.old (λ ear.
-            Hears ear (start_opening (first_mark ear.usual (marks_left self.old)) kind ∷ []) self.old self.new tale.old tale.new)) }
+        ensures told { OnOk result (EachEar self.old
+            (λ ear. Hears ear (start_opening (first_mark ear.usual (marks_left self.old)) kind
+            ∷ []) self.old self.new tale.old tale.new)) }
         ensures marks { OnOk result (marks_left self.new ≡ drop 1 (marks_left self.old)) }
         ensures octets { self.new.image.octets ≡ 0 }
         ensures signals { self.new.signals ≡ self.old.signals }
@@ -477,8 +492,9 @@ impl Listener {
 
     /// The image under way ends.
     fn end_image(&mut self, whole: bool, tale: &mut Tale) -> Result<(), NoMemory>
-        ensures told { OnOk result (EachEar self.old (λ ear.
-            Hears ear (end_opening (first_mark ear.usual (marks_left self.old)) ear.lane ear.is_outside self.old.image.octets whole ∷ []) self.old self.new tale.old tale.new)) }
+        ensures told { OnOk result (EachEar self.old (λ ear. Hears ear (end_opening (first_mark
+            ear.usual (marks_left self.old)) ear.lane ear.is_outside self.old.image.octets whole
+            ∷ []) self.old self.new tale.old tale.new)) }
         ensures marks { OnOk result (marks_left self.new ≡ drop 1 (marks_left self.old)) }
         ensures stays { OnOk result (Stays self.old self.new) }
     {
@@ -488,7 +504,9 @@ impl Listener {
 
     /// What the image under way was.
     fn words_of_end(&mut self, whole: bool) -> Result<String, NoMemory>
-        ensures words { IfOk result (λ words. StartsWith (marked_end (first_mark self.old.usual (marks_left self.old)) self.old.lane self.old.is_outside self.old.image.octets whole) (string_bytes words)) }
+        ensures words { IfOk result
+            (λ words. StartsWith (marked_end (first_mark self.old.usual (marks_left self.old))
+            self.old.lane self.old.is_outside self.old.image.octets whole) (string_bytes words)) }
         ensures marks { marks_left self.new ≡ drop 1 (marks_left self.old) }
         ensures lane { self.new.lane ≡ self.old.lane }
         ensures outside { self.new.is_outside ≡ self.old.is_outside }
@@ -514,7 +532,8 @@ impl Listener {
 
     /// An image, and what it means.
     fn words_of_image(&self, whole: bool, meaning: &str) -> Result<String, NoMemory>
-        ensures { IfOk result (λ words. StartsWith (image_text self.now.image.octets whole) (string_bytes words)) }
+        ensures { IfOk result
+            (λ words. StartsWith (image_text self.now.image.octets whole) (string_bytes words)) }
     {
         let octets = self.image.octets();
         let wholeness = self.image.wholeness(whole)?;
@@ -524,7 +543,8 @@ impl Listener {
     /// What a training check was. One of the caller's is answered by CFR or FTT: a quarter of a second of zeros at least is
     /// wanted, and that it is whole, and nothing missing since the DCS.
     fn words_of_check(&self, whole: bool, dcs: Dcs, is_good: bool) -> Result<String, NoMemory>
-        ensures { IfOk result (λ words. StartsWith (check_text (is_judged self.now.lane) is_good) (string_bytes words)) }
+        ensures { IfOk result (λ words.
+            StartsWith (check_text (is_judged self.now.lane) is_good) (string_bytes words)) }
     {
         let longest = self.image.longest();
         if !is_judged(self.lane) {

@@ -57,7 +57,12 @@ pub(crate) struct Mark {
 impl Mark {
     /// That of a piece which the gateway gives, as this signal.
     pub(crate) fn given(signal: Signal) -> Self
-        ensures { result ≡ record { signal = signal; passed = Passed.Heard; is_good = Rattle.std.specs.Prelude.false; trains_again = Rattle.std.specs.Prelude.false } }
+        ensures { result ≡ record {
+          signal = signal;
+          passed = Passed.Heard;
+          is_good = Rattle.std.specs.Prelude.false;
+          trains_again = Rattle.std.specs.Prelude.false;
+        } }
     {
         Mark {
             signal,

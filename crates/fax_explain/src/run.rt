@@ -31,15 +31,25 @@ pub fn run_explain<I: Source, O: Sink, K: PageStore>(
 
     // Where the input is known, what is written explains it, unless a read, a write or a page failed or the input went past
     // its bound.
-    ensures answers { result ≢ 4 → IfSome (I.remaining source.old) (λ input. (text : List ℕ)
-        × Explains settings input result text × Appends (O.contents sink.old) (O.contents sink.new) text) }
-    ensures run { RunsOver record { remaining = I.remaining; reads = I.reads; given = I.given; failed = I.failed }
-        record { contents = O.contents; failed = O.failed; held_back = O.held_back } source.old source.new sink.old sink.new result }
+    ensures answers { result ≢ 4 → IfSome (I.remaining source.old)
+        (λ input. (text : List ℕ) × Explains settings input result text
+        × Appends (O.contents sink.old) (O.contents sink.new) text) }
+    ensures run { RunsOver record {
+      remaining = I.remaining;
+      reads = I.reads;
+      given = I.given;
+      failed = I.failed;
+    } record {
+      contents = O.contents;
+      failed = O.failed;
+      held_back = O.held_back;
+    } source.old source.new sink.old sink.new result }
 
     // Nothing but a stream or a page that is not stored gives status 4. A source that was not read is fresh: its counts are 0, and
     // it has not failed.
-    ensures stream { I.reads source.old ≡ 0 → I.given source.old ≡ 0 → result ≡ 4 → (I.failed source.new ≡ true)
-        ⊎ (O.failed sink.new ≡ true) ⊎ (K.failed store.new ≡ true) ⊎ (MOST_OCTETS < I.given source.new) ⊎ (I.reads source.new ≡ MOST_READS) }
+    ensures stream { I.reads source.old ≡ 0 → I.given source.old ≡ 0 → result ≡ 4
+        → (I.failed source.new ≡ true) ⊎ (O.failed sink.new ≡ true) ⊎ (K.failed store.new ≡ true)
+        ⊎ (MOST_OCTETS < I.given source.new) ⊎ (I.reads source.new ≡ MOST_READS) }
     ensures failed_page { K.failed store.old ≡ false → K.failed store.new ≡ true → result ≡ 4 }
 {
     let script = match read_input(alloc, source) {
@@ -66,7 +76,8 @@ fn hand_out<K: PageStore>(store: &mut K, pages: &[FoundPage]) -> Result<(), Stor
 
 /// Writes an answer, and says the exit status.
 fn written<O: Sink>(answer: &Answer, sink: &mut O) -> u8
-    ensures text { result ≢ 4 → Appends (O.contents sink.old) (O.contents sink.new) (text_of_answer answer.now) }
+    ensures text { result ≢ 4
+        → Appends (O.contents sink.old) (O.contents sink.new) (text_of_answer answer.now) }
     ensures status { result ≢ 4 → result ≡ status_of_answer answer.now }
     ensures handed_on { result ≢ 4 → O.held_back sink.new ≡ false }
     ensures failed { result ≡ 4 → O.failed sink.new ≡ true }

@@ -269,13 +269,16 @@ impl Stage {
         ensures gateway { self.new.gateway ≡ self.old.gateway }
         ensures theirs { self.new.calling.theirs ≡ self.old.calling.theirs }
         ensures called { self.new.called ≡ self.old.called }
-        ensures told { OnOk result (EachGiven self.old.calling.ours (λ ear arrived.
-            TellsGiving ear arrived given.now.calling given.now.kept self.new.calling.pages given.now.refused scene.old.tale scene.new.tale)) }
-        ensures pages { OnOk result (self.new.calling.pages ≡ next_if given.now.kept self.old.calling.pages) }
+        ensures told { OnOk result (EachGiven self.old.calling.ours
+            (λ ear arrived. TellsGiving ear arrived given.now.calling given.now.kept
+            self.new.calling.pages given.now.refused scene.old.tale scene.new.tale)) }
+        ensures pages { OnOk result (self.new.calling.pages
+            ≡ next_if given.now.kept self.old.calling.pages) }
         ensures hearing { OnOk result (EachHearing self.old.calling.ours (λ arrived.
             IsHearing (arrived_after arrived given.now.calling) self.new.calling.ours)) }
         ensures ear { OnOk result (KeepsEar self.old.calling.ours self.new.calling.ours) }
-        ensures page { OnOk result (Keeps (page_of given.now.kept (page_if given.now.kept self.old.gateway.book) self.old.calling) scene.old.pages.items scene.new.pages.items) }
+        ensures page { OnOk result (Keeps (page_of given.now.kept (page_if given.now.kept
+            self.old.gateway.book) self.old.calling) scene.old.pages.items scene.new.pages.items) }
     {
         let mut after = Tale::new(self.alloc);
         let page = self.confirmed_page(given)?;
@@ -304,7 +307,8 @@ impl Stage {
         ensures gateway { self.new.gateway ≡ self.old.gateway }
         ensures calling { self.new.calling ≡ self.old.calling }
         ensures theirs { self.new.called.theirs ≡ self.old.called.theirs }
-        ensures told { OnOk result (TellsTo self.old.gateway self.old.called.ours given.now.called scene.old.tale scene.new.tale) }
+        ensures told { OnOk result (TellsTo self.old.gateway
+            self.old.called.ours given.now.called scene.old.tale scene.new.tale) }
         ensures hearing { OnOk result (EachHearing self.old.called.ours (λ arrived.
             IsHearing (arrived_after arrived given.now.called) self.new.called.ours)) }
         ensures ear { OnOk result (KeepsToCalled self.old.called.ours self.new.called.ours) }
@@ -336,9 +340,12 @@ impl Stage {
     fn begin_job(&mut self, was_sending: bool, tale: &mut Tale) -> Result<(), NoMemory>
         ensures gateway { self.new.gateway ≡ self.old.gateway }
         ensures calling { self.new.calling ≡ self.old.calling }
-        ensures called { BeginsIf was_sending self.old.gateway.book.sending self.old.called.theirs self.new.called.theirs }
-        ensures giving { GivesIf was_sending self.old.gateway.book.sending self.old.called.ours self.new.called.ours }
-        ensures told { OnOk result (tale.new ≡ tale.old ++ begun_if was_sending self.old.gateway.book.sending) }
+        ensures called { BeginsIf was_sending
+            self.old.gateway.book.sending self.old.called.theirs self.new.called.theirs }
+        ensures giving { GivesIf was_sending
+            self.old.gateway.book.sending self.old.called.ours self.new.called.ours }
+        ensures told { OnOk result (tale.new
+            ≡ tale.old ++ begun_if was_sending self.old.gateway.book.sending) }
     {
         if was_sending {
             return Ok(());
@@ -350,9 +357,12 @@ impl Stage {
     fn begin_call(&mut self, tale: &mut Tale) -> Result<(), NoMemory>
         ensures gateway { self.new.gateway ≡ self.old.gateway }
         ensures calling { self.new.calling ≡ self.old.calling }
-        ensures called { BeginsWith self.old.gateway.book.sending self.old.called.theirs self.new.called.theirs }
-        ensures giving { GivesWith self.old.gateway.book.sending self.old.called.ours self.new.called.ours }
-        ensures told { OnOk result (tale.new ≡ tale.old ++ begun_tellings self.old.gateway.book.sending) }
+        ensures called { BeginsWith self.old.gateway.book.sending
+            self.old.called.theirs self.new.called.theirs }
+        ensures giving { GivesWith self.old.gateway.book.sending
+            self.old.called.ours self.new.called.ours }
+        ensures told { OnOk result (tale.new
+            ≡ tale.old ++ begun_tellings self.old.gateway.book.sending) }
     {
         let Some(job) = self.gateway.sending() else {
             return Ok(());
@@ -371,8 +381,10 @@ impl Stage {
     fn fail_call(&mut self)
         ensures gateway { self.new.gateway ≡ self.old.gateway }
         ensures calling { self.new.calling ≡ self.old.calling }
-        ensures called { FailsWith self.old.gateway.book.sending self.old.called.theirs self.new.called.theirs }
-        ensures giving { GivesWith self.old.gateway.book.sending self.old.called.ours self.new.called.ours }
+        ensures called { FailsWith self.old.gateway.book.sending
+            self.old.called.theirs self.new.called.theirs }
+        ensures giving { GivesWith self.old.gateway.book.sending
+            self.old.called.ours self.new.called.ours }
     {
         if let Some(job) = self.gateway.sending() {
             self.called.fail(job.call());

@@ -41,7 +41,8 @@ dis_widths = (0b00, 1728) ∷ (0b10, 2048) ∷ (0b01, 2432) ∷ (0b11, 2432) ∷
 
 -- a DIS has the widths up to its widest
 abbrev pub has_width : Width → ℕ → Bool
-has_width width caps = nat_le (elements_of width) (unwrap_or (look_up dis_widths (code_at 17 18 caps)) 1728)
+has_width width caps =
+    nat_le (elements_of width) (unwrap_or (look_up dis_widths (code_at 17 18 caps)) 1728)
 
 -- bits 19 and 20 of a DIS: the greatest length of a page. 11 is read as 00 (own)
 abbrev pub dis_lengths : List (ℕ × Length)
@@ -76,7 +77,8 @@ rate_code V17At7200 = 0b1101
 
 -- the rates of a DCS
 abbrev pub all_rates : List Rate
-all_rates = V27At2400 ∷ V27At4800 ∷ V29At9600 ∷ V29At7200 ∷ V17At14400 ∷ V17At12000 ∷ V17At9600 ∷ V17At7200 ∷ []
+all_rates = V27At2400
+    ∷ V27At4800 ∷ V29At9600 ∷ V29At7200 ∷ V17At14400 ∷ V17At12000 ∷ V17At9600 ∷ V17At7200 ∷ []
 
 -- the rate that has this code
 abbrev pub rate_of : ℕ → Option Rate

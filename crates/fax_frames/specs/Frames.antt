@@ -10,7 +10,8 @@ use Rattle.fax_frames.specs.Capabilities.{rate_of, width_of, time_of}
 
 -- the DIS that an information field says: with fewer than three octets it says none (own)
 abbrev pub dis_in : List ℕ → Frame
-dis_in (first ∷ second ∷ third ∷ more) = frames.Dis (record { caps = record { 0 = bits_of_octets first second third } })
+dis_in (first ∷ second ∷ third ∷ more) =
+    frames.Dis (record { caps = record { 0 = bits_of_octets first second third } })
 dis_in short = frames.Other
 
 -- the DCS of bits 1 to 24 (Table 2), of the rate and the width that its codes name: none where one of
@@ -35,8 +36,8 @@ dcs_of bits = dcs_by bits (rate_of (code_at 11 14 bits)) (width_of (code_at 17 1
 -- and bit 27, error correction, are set (own)
 abbrev pub dcs_in : List ℕ → Frame
 dcs_in (first ∷ second ∷ third ∷ more) =
-    if bit_of 24 (first ∷ second ∷ third ∷ more) && bit_of 27 (first ∷ second ∷ third ∷ more) then frames.Other
-    else dcs_of (bits_of_octets first second third)
+    if bit_of 24 (first ∷ second ∷ third ∷ more) && bit_of 27 (first ∷ second ∷ third ∷ more)
+    then frames.Other else dcs_of (bits_of_octets first second third)
 dcs_in short = frames.Other
 
 -- the facsimile control fields (5.3.6.1) that are read as they stand
@@ -54,11 +55,13 @@ fields info =
 
 -- the frame of a control field and an information field: one that stands in neither table is Other (own)
 abbrev pub frame_by : ℕ → List ℕ → Frame
-frame_by field info = unwrap_or (look_up (exact_fields info) field) (unwrap_or (look_up (fields info) (field % 128)) frames.Other)
+frame_by field info = unwrap_or (look_up (exact_fields info) field)
+    (unwrap_or (look_up (fields info) (field % 128)) frames.Other)
 
 -- the frame that octets are: the address FF (5.3.4), the control C0 or C8 (5.3.5), the facsimile
 -- control field, and the information field after it
 abbrev pub frame_of : List ℕ → Option Frame
 frame_of (address ∷ control ∷ field ∷ info) =
-    if (address == 0xFF) && ((control == 0xC0) || (control == 0xC8)) then Some (frame_by field info) else None
+    if (address == 0xFF) && ((control == 0xC0) || (control == 0xC8))
+    then Some (frame_by field info) else None
 frame_of short = None

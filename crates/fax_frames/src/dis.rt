@@ -53,14 +53,23 @@ impl Flags for Caps {
 
     ghost exact = { ⊤ };
 
-    ghost table = { (codes "RECEIVER", 0x40_00)
-        ∷ (codes "RATE_BIT_11", 0x20_00) ∷ (codes "RATE_BIT_12", 0x10_00)
-        ∷ (codes "RATE_BIT_13", 0x08_00) ∷ (codes "RATE_BIT_14", 0x04_00)
-        ∷ (codes "FINE", 0x02_00) ∷ (codes "TWO_DIMENSIONAL", 0x01_00)
-        ∷ (codes "WIDTH_2048", 0x80) ∷ (codes "WIDTH_2432", 0x40)
-        ∷ (codes "LENGTH_B4", 0x20) ∷ (codes "LENGTH_UNLIMITED", 0x10)
-        ∷ (codes "SCAN_TIME_BIT_21", 0x08) ∷ (codes "SCAN_TIME_BIT_22", 0x04) ∷ (codes "SCAN_TIME_BIT_23", 0x02)
-        ∷ (codes "EXTEND", 0x01) ∷ [] };
+    ghost table = { (
+      codes "RECEIVER",
+      0x40_00,
+    ) ∷ (codes "RATE_BIT_11", 0x20_00) ∷ (
+      codes "RATE_BIT_12",
+      0x10_00,
+    ) ∷ (codes "RATE_BIT_13", 0x08_00) ∷ (codes "RATE_BIT_14", 0x04_00)
+        ∷ (codes "FINE", 0x02_00) ∷ (codes "TWO_DIMENSIONAL", 0x01_00) ∷ (
+          codes "WIDTH_2048",
+          0x80,
+        ) ∷ (codes "WIDTH_2432", 0x40) ∷ (codes "LENGTH_B4", 0x20) ∷ (
+          codes "LENGTH_UNLIMITED",
+          0x10,
+        ) ∷ (codes "SCAN_TIME_BIT_21", 0x08) ∷ (
+          codes "SCAN_TIME_BIT_22",
+          0x04,
+        ) ∷ (codes "SCAN_TIME_BIT_23", 0x02) ∷ (codes "EXTEND", 0x01) ∷ [] };
 
     ghost set_of = { λ caps. caps.0 };
 

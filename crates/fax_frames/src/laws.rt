@@ -12,8 +12,8 @@ pub fn caps_are_bits()
         ∷ Caps.RATE_BIT_13.0 ∷ Caps.RATE_BIT_14.0 ∷ []
         ≡ masks_of (10 ∷ 11 ∷ 12 ∷ 13 ∷ 14 ∷ []) }
     ensures coding { Caps.FINE.0 ∷ Caps.TWO_DIMENSIONAL.0 ∷ [] ≡ masks_of (15 ∷ 16 ∷ []) }
-    ensures sizes { Caps.WIDTH_2048.0 ∷ Caps.WIDTH_2432.0 ∷ Caps.LENGTH_B4.0 ∷ Caps.LENGTH_UNLIMITED.0 ∷ []
-        ≡ masks_of (17 ∷ 18 ∷ 19 ∷ 20 ∷ []) }
+    ensures sizes { Caps.WIDTH_2048.0 ∷ Caps.WIDTH_2432.0
+        ∷ Caps.LENGTH_B4.0 ∷ Caps.LENGTH_UNLIMITED.0 ∷ [] ≡ masks_of (17 ∷ 18 ∷ 19 ∷ 20 ∷ []) }
     ensures times { Caps.SCAN_TIME_BIT_21.0 ∷ Caps.SCAN_TIME_BIT_22.0 ∷ Caps.SCAN_TIME_BIT_23.0 ∷ []
         ≡ masks_of (21 ∷ 22 ∷ 23 ∷ []) }
     ensures extend { Caps.EXTEND.0 ∷ [] ≡ masks_of (24 ∷ []) }

@@ -32,7 +32,8 @@ pub data CallingAnswer : Type 0 where
 abbrev pub calling_answers : List Event → List CallingAnswer
 calling_answers [] = []
 calling_answers (Ring at number ∷ earlier) = Numbers number ∷ calling_answers earlier
-calling_answers (FromCalling octets at decided read ∷ earlier) = Decides decided ∷ calling_answers earlier
+calling_answers (FromCalling octets at decided read ∷ earlier) =
+    Decides decided ∷ calling_answers earlier
 calling_answers (FromCalled octets at decided ∷ earlier) = calling_answers earlier
 calling_answers (Tick at given ∷ earlier) = Gives given.on_calling ∷ calling_answers earlier
 calling_answers (Placed at connected ∷ earlier) = calling_answers earlier
@@ -40,6 +41,6 @@ calling_answers (Placed at connected ∷ earlier) = calling_answers earlier
 -- Traces with one calling part have one calling leg and the same answers on it, whatever the called leg brought, and
 -- however pages are written: what an image was read as is no choice either.
 abbrev pub IsServedAlone : Type 0
-IsServedAlone =
-    (setup : Setup) (writes others : Writing) (s t : List Event) → IsTrace setup writes s → IsTrace setup others t → calling_part s ≡ calling_part t
+IsServedAlone = (setup : Setup) (writes others : Writing) (s t : List Event)
+    → IsTrace setup writes s → IsTrace setup others t → calling_part s ≡ calling_part t
     → (calling_leg setup s ≡ calling_leg setup t) × (calling_answers s ≡ calling_answers t)

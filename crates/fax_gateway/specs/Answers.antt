@@ -31,9 +31,10 @@ pub record GivesAgain (leg : CallingLeg) (old new : List Step) : Type 0 where
   pub no_page : AddsNoPage old new
 
 abbrev pub EachMcfAnswers : Type 0
-EachMcfAnswers =
-    (setup : Setup) (writes : Writing) (earlier : List Event) (at : ℕ) (given : Given) → IsTrace setup writes (Tick at given ∷ earlier) →
-    let old : List Step = (both_legs setup writes earlier).steps in
-    let new : List Step = (both_legs setup writes (Tick at given ∷ earlier)).steps in
-    (gives_mcf given.on_calling ≡ true → (leg : CallingLeg) × (calling_leg setup earlier ≡ Some leg) × (ConfirmsNow leg old new ⊎ GivesAgain leg old new))
+EachMcfAnswers = (setup : Setup) (writes : Writing) (earlier : List Event) (at : ℕ) (given : Given)
+    → IsTrace setup writes (Tick at given ∷ earlier)
+    → let old : List Step = (both_legs setup writes earlier).steps
+    in let new : List Step = (both_legs setup writes (Tick at given ∷ earlier)).steps
+    in (gives_mcf given.on_calling ≡ true → (leg : CallingLeg)
+    × (calling_leg setup earlier ≡ Some leg) × (ConfirmsNow leg old new ⊎ GivesAgain leg old new))
     × (gives_mcf given.on_calling ≡ false → AddsNoPage old new)

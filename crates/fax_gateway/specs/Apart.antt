@@ -22,21 +22,26 @@ last_given leg [] = None
 last_given leg (Ring at number ∷ earlier) = last_given leg earlier
 last_given leg (FromCalling octets at decided read ∷ earlier) = last_given leg earlier
 last_given leg (FromCalled octets at decided ∷ earlier) = last_given leg earlier
-last_given leg (Tick at given ∷ earlier) = if_given (leg given) (clock (Tick at given ∷ earlier)) (last_given leg earlier)
+last_given leg (Tick at given ∷ earlier) =
+    if_given (leg given) (clock (Tick at given ∷ earlier)) (last_given leg earlier)
 last_given leg (Placed at connected ∷ earlier) = last_given leg earlier
 
 -- a datagram whose own packet, the primary, is the preamble before a frame
 abbrev pub HasPreamble : List ℕ → Type 0
-HasPreamble octets = (datagram : DatagramValue) × (datagram_of octets ≡ Ok datagram) × (datagram.primary ≡ preamble)
+HasPreamble octets =
+    (datagram : DatagramValue) × (datagram_of octets ≡ Ok datagram) × (datagram.primary ≡ preamble)
 
 -- after a datagram 40 ms at least, and after a preamble the pause that is set
 abbrev pub IsApart : Setup → Option LastGiven → ℕ → Type 0
 IsApart setup None now = Unit {0}
-IsApart setup (Some last) now = (last.at + spans.pace ≤ now) × (HasPreamble last.octets → last.at + setup.pause ≤ now)
+IsApart setup (Some last) now =
+    (last.at + spans.pace ≤ now) × (HasPreamble last.octets → last.at + setup.pause ≤ now)
 
 -- each datagram that a tick gives, from the one given last on its leg
 abbrev pub DatagramsAreApart : Type 0
-DatagramsAreApart =
-    (setup : Setup) (writes : Writing) (earlier : List Event) (at : ℕ) (given : Given) (datagram : List ℕ) → IsTrace setup writes (Tick at given ∷ earlier)
-    → (given.on_calling ≡ Some datagram → IsApart setup (last_given (λ g. g.on_calling) earlier) (max at (clock earlier)))
-    × (given.on_called ≡ Some datagram → IsApart setup (last_given (λ g. g.on_called) earlier) (max at (clock earlier)))
+DatagramsAreApart = (setup : Setup)
+    (writes : Writing) (earlier : List Event) (at : ℕ) (given : Given) (datagram : List ℕ)
+    → IsTrace setup writes (Tick at given ∷ earlier) → (given.on_calling ≡ Some datagram
+    → IsApart setup (last_given (λ g. g.on_calling) earlier) (max at (clock earlier)))
+    × (given.on_called ≡ Some datagram
+    → IsApart setup (last_given (λ g. g.on_called) earlier) (max at (clock earlier)))

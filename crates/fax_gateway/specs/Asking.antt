@@ -25,7 +25,8 @@ PlacesNone (Tick at given ∷ earlier) = PlacesNone earlier
 PlacesNone (Placed at connected ∷ earlier) = ⊥
 
 -- The call of this leg was placed, or not, at the last such event: there its job was asked for, and there it began.
-pub record WasPlaced (setup : Setup) (writes : Writing) (trace : List Event) (l : CalledLeg) : Type 0 where
+pub record WasPlaced (setup : Setup) (writes : Writing) (trace : List Event) (l : CalledLeg) :
+    Type 0 where
   pub later : List Event
   pub at : ℕ
   pub earlier : List Event
@@ -36,8 +37,8 @@ pub record WasPlaced (setup : Setup) (writes : Writing) (trace : List Event) (l 
 
 -- EACH CALL BEGINS AT ITS OWN PLACING.
 abbrev pub CallsBeginWherePlaced : Type 0
-CallsBeginWherePlaced =
-    (setup : Setup) (writes : Writing) (trace : List Event) (l : CalledLeg) → setup.asks ≡ true → IsTrace setup writes trace
+CallsBeginWherePlaced = (setup : Setup) (writes : Writing) (trace : List Event) (l : CalledLeg)
+    → setup.asks ≡ true → IsTrace setup writes trace
     → (both_legs setup writes trace).leg ≡ Some l → WasPlaced setup writes trace l
 
 -- NO DATAGRAM LEAVES on the called leg but in a call that was placed and has not ended: none between the end of a job and the
@@ -49,19 +50,22 @@ pub record GivesInCall (setup : Setup) (writes : Writing) (earlier : List Event)
   pub not_ended : l.entered ≡ false
 
 abbrev pub GivesInPlacedCalls : Type 0
-GivesInPlacedCalls =
-    (setup : Setup) (writes : Writing) (earlier : List Event) (at : ℕ) (given : Given) (datagram : List ℕ) → setup.asks ≡ true
-    → IsTrace setup writes (Tick at given ∷ earlier) → given.on_called ≡ Some datagram → GivesInCall setup writes earlier
+GivesInPlacedCalls = (setup : Setup)
+    (writes : Writing) (earlier : List Event) (at : ℕ) (given : Given) (datagram : List ℕ)
+    → setup.asks ≡ true → IsTrace setup writes (Tick at given ∷ earlier)
+    → given.on_called ≡ Some datagram → GivesInCall setup writes earlier
 
 -- A JOB THAT IS ASKED FOR STAYS THE NEXT ONE until it is placed or not, whatever else comes.
 abbrev pub AskedJobsStay : Type 0
 AskedJobsStay =
-    (setup : Setup) (writes : Writing) (event : Event) (earlier : List Event) (job : JobValue) → PlacesNone (event ∷ [])
-    → IsTrace setup writes (event ∷ earlier) → asked_after setup writes earlier ≡ Some job → asked_after setup writes (event ∷ earlier) ≡ Some job
+    (setup : Setup) (writes : Writing) (event : Event) (earlier : List Event) (job : JobValue)
+    → PlacesNone (event ∷ [])
+    → IsTrace setup writes (event ∷ earlier) → asked_after setup writes earlier ≡ Some job
+    → asked_after setup writes (event ∷ earlier) ≡ Some job
 
 -- A JOB THAT COULD NOT BE PLACED IS TOLD AS SUCH, with no page delivered, by the next tick.
 abbrev pub UnplacedJobsAreTold : Type 0
-UnplacedJobsAreTold =
-    (setup : Setup) (writes : Writing) (earlier : List Event) (at : ℕ) (given : Given) (l : CalledLeg) → IsTrace setup writes (Tick at given ∷ earlier)
+UnplacedJobsAreTold = (setup : Setup) (writes : Writing) (earlier : List Event)
+    (at : ℕ) (given : Given) (l : CalledLeg) → IsTrace setup writes (Tick at given ∷ earlier)
     → (both_legs setup writes earlier).leg ≡ Some l → l.placed ≡ false → l.entered ≡ false
     → (given.report ≡ Some (report_of l.job NotPlaced 0)) × (given.on_called ≡ None)

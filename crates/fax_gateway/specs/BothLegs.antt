@@ -42,14 +42,18 @@ heard_in_tick (Some l) now steps =
     ends_if (answers l now).ended (confirms_if l.number (confirmed_by (answers l now).given) steps)
 
 -- where no job is being sent, the one that was closed first is, in a call that was placed or not
-abbrev pub leg_of : (connected : Bool) → Option JobValue → CallerCore → ℕ → Option CalledLeg → Option CalledLeg
+abbrev pub leg_of : (connected : Bool)
+    → Option JobValue → CallerCore → ℕ → Option CalledLeg → Option CalledLeg
 leg_of connected None before now leg = leg
 leg_of connected (Some job) before now leg = Some (placed_leg connected job before now)
 
 abbrev pub sends : (connected : Bool) → Setup → Writing → ℕ → BothLegs → BothLegs
 sends connected setup writes now s =
-    let steps : List Step = Sends ∷ s.steps in
-    record { steps = steps; leg = leg_of connected (after_steps new_past steps).book.sending (core_left setup writes s.leg) now s.leg }
+    let steps : List Step = Sends ∷ s.steps in record {
+      steps = steps;
+      leg = leg_of
+          connected (after_steps new_past steps).book.sending (core_left setup writes s.leg) now s.leg;
+    }
 
 -- a tick begins the next call: none is on, and none is asked for
 abbrev pub begins_next : Setup → Option CalledLeg → Bool
@@ -77,23 +81,28 @@ serves writes now s =
 
 -- a tick as far as the called leg is served
 abbrev pub before_serving : Setup → Writing → Option CallingLeg → ℕ → BothLegs → BothLegs
-before_serving setup writes leg now s = sends_if setup writes now (record s { steps = heard_in_tick leg now s.steps })
+before_serving setup writes leg now s =
+    sends_if setup writes now (record s { steps = heard_in_tick leg now s.steps })
 
 -- what an event does, where the calling leg is `old` before it and `new` after it
-abbrev pub legs_after : Setup → Writing → Option CallingLeg → Option CallingLeg → ℕ → Event → BothLegs → BothLegs
+abbrev pub legs_after : Setup
+    → Writing → Option CallingLeg → Option CallingLeg → ℕ → Event → BothLegs → BothLegs
 legs_after setup writes old new now (Ring at number) s = s
 legs_after setup writes old new now (FromCalling octets at decided read) s =
     record s { steps = ends_if (not (idle_after old) && idle_after new) s.steps }
-legs_after setup writes old new now (FromCalled octets at decided) s = record s { leg = option_map (hears writes octets now) s.leg }
-legs_after setup writes old new now (Tick at given) s = serves writes now (before_serving setup writes old now s)
+legs_after setup writes old new now (FromCalled octets at decided) s =
+    record s { leg = option_map (hears writes octets now) s.leg }
+legs_after setup writes old new now (Tick at given) s =
+    serves writes now (before_serving setup writes old now s)
 legs_after setup writes old new now (Placed at connected) s = sends connected setup writes now s
 
 -- It begins with the restored calls, each of which has ended: a new gateway begins with none.
 abbrev pub both_legs : Setup → Writing → List Event → BothLegs
 both_legs setup writes [] = record { steps = restores setup.restored []; leg = None }
-both_legs setup writes (e ∷ earlier) =
-    legs_after setup writes (calling_leg setup earlier) (calling_leg setup (e ∷ earlier)) (clock (e ∷ earlier)) e (both_legs setup writes earlier)
+both_legs setup writes (e ∷ earlier) = legs_after setup writes (calling_leg setup earlier)
+    (calling_leg setup (e ∷ earlier)) (clock (e ∷ earlier)) e (both_legs setup writes earlier)
 
 -- a tick after a trace, as far as the called leg is served
 abbrev pub in_tick : Setup → Writing → List Event → ℕ → BothLegs
-in_tick setup writes earlier at = before_serving setup writes (calling_leg setup earlier) (max at (clock earlier)) (both_legs setup writes earlier)
+in_tick setup writes earlier at = before_serving setup writes (calling_leg setup earlier)
+    (max at (clock earlier)) (both_legs setup writes earlier)

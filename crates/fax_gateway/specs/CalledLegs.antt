@@ -46,8 +46,16 @@ core_left setup writes (Some l) = core_of writes l
 
 -- the call of a job begins; one that could not be placed is over as it begins
 abbrev pub placed_leg : (connected : Bool) → JobValue → CallerCore → ℕ → CalledLeg
-placed_leg connected job before now =
-    record { job = job; before = before; begun = now; placed = connected; events = []; arrived = []; given = []; entered = false }
+placed_leg connected job before now = record {
+  job = job;
+  before = before;
+  begun = now;
+  placed = connected;
+  events = [];
+  arrived = [];
+  given = [];
+  entered = false;
+}
 
 abbrev pub begun_leg : JobValue → CallerCore → ℕ → CalledLeg
 begun_leg job before now = placed_leg true job before now
@@ -65,8 +73,11 @@ packets_given None given = given
 packets_given (Some packet) given = written packet ∷ given
 
 abbrev pub with_tick : TickResult → ℕ → CalledLeg → CalledLeg
-with_tick t now l =
-    record l { events = Ticks now ∷ l.events; given = packets_given t.given l.given; entered = is_some (outcome_of t.core) }
+with_tick t now l = record l {
+  events = Ticks now ∷ l.events;
+  given = packets_given t.given l.given;
+  entered = is_some (outcome_of t.core);
+}
 
 abbrev pub leg_ticked : Writing → ℕ → CalledLeg → CalledLeg
 leg_ticked writes now l = if l.entered then l else with_tick (calls writes l now) now l
@@ -77,16 +88,19 @@ comes_to [] now events = events
 comes_to (piece ∷ more) now events = comes_to more now (Comes piece now ∷ events)
 
 abbrev pub leg_with : Result DatagramValue UdptlFault → ℕ → CalledLeg → CalledLeg
-leg_with (Ok d) now l = record l { events = comes_to (new_pieces l.arrived d) now l.events; arrived = d ∷ l.arrived }
+leg_with (Ok d) now l =
+    record l { events = comes_to (new_pieces l.arrived d) now l.events; arrived = d ∷ l.arrived }
 leg_with (Err fault) now l = l
 
 abbrev pub hears : Writing → List ℕ → ℕ → CalledLeg → CalledLeg
-hears writes octets now l = if is_over (core_of writes l).state then l else leg_with (datagram_of octets) now l
+hears writes octets now l =
+    if is_over (core_of writes l).state then l else leg_with (datagram_of octets) now l
 
 -- THE ANSWERS. Whether a datagram decides a slot
 abbrev pub decided_called : Writing → Option CalledLeg → List ℕ → Bool
 decided_called writes None octets = false
-decided_called writes (Some l) octets = decided_by (is_over (core_of writes l).state) l.arrived (datagram_of octets)
+decided_called writes (Some l) octets =
+    decided_by (is_over (core_of writes l).state) l.arrived (datagram_of octets)
 
 -- the datagram that a tick gives
 abbrev pub told_by : Setup → List (List ℕ) → Option Packet → Option (List ℕ)
@@ -95,7 +109,8 @@ told_by setup given (Some packet) = Some (sent setup given (written packet))
 
 abbrev pub told_called : Setup → Writing → Option CalledLeg → ℕ → Option (List ℕ)
 told_called setup writes None now = None
-told_called setup writes (Some l) now = if l.entered then None else told_by setup l.given (calls writes l now).given
+told_called setup writes (Some l) now =
+    if l.entered then None else told_by setup l.given (calls writes l now).given
 
 -- the outcome of the call that a tick enters, and the report of its job
 abbrev pub outcome_told : Writing → Option CalledLeg → ℕ → Option Outcome
@@ -112,4 +127,5 @@ report_by l delivered (Some outcome) = Some (report_of l.job outcome delivered)
 
 abbrev pub told_report : Writing → Option CalledLeg → ℕ → Option Report
 told_report writes None now = None
-told_report writes (Some l) now = report_by l (delivered_told writes (Some l) now) (outcome_told writes (Some l) now)
+told_report writes (Some l) now =
+    report_by l (delivered_told writes (Some l) now) (outcome_told writes (Some l) now)

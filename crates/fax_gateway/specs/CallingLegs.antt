@@ -39,10 +39,14 @@ abbrev pub answers : CallingLeg → ℕ → TickResult
 answers l now = ticked (core_of l) now
 
 abbrev pub rung_leg : AnswererCore → ℕ → ℕ → CallingLeg
-rung_leg before now number = record { number = number; before = before; begun = now; events = []; arrived = []; given = [] }
+rung_leg before now number =
+    record { number = number; before = before; begun = now; events = []; arrived = []; given = [] }
 
 abbrev pub leg_with : CallingLeg → ℕ → Reading → Result DatagramValue UdptlFault → CallingLeg
-leg_with l now read (Ok d) = record l { events = comes_all (new_pieces l.arrived d) now read l.events; arrived = d ∷ l.arrived }
+leg_with l now read (Ok d) = record l {
+  events = comes_all (new_pieces l.arrived d) now read l.events;
+  arrived = d ∷ l.arrived;
+}
 leg_with l now read (Err fault) = l
 
 abbrev pub packets_with : Option WaitingPacket → List (List ℕ) → List (List ℕ)
@@ -50,11 +54,13 @@ packets_with None given = given
 packets_with (Some w) given = w.packet ∷ given
 
 abbrev pub leg_ticked : CallingLeg → ℕ → CallingLeg
-leg_ticked l now = record l { events = Ticks now ∷ l.events; given = packets_with (answers l now).given l.given }
+leg_ticked l now =
+    record l { events = Ticks now ∷ l.events; given = packets_with (answers l now).given l.given }
 
 -- A ring begins a call. A datagram that cannot be read, or that comes while no call is on, brings nothing.
 abbrev pub calling_after : Setup → Option CallingLeg → ℕ → Event → Option CallingLeg
-calling_after setup None now (Ring at number) = Some (rung_leg (new_answering setup.pause) now number)
+calling_after setup None now (Ring at number) =
+    Some (rung_leg (new_answering setup.pause) now number)
 calling_after setup (Some l) now (Ring at number) = Some (rung_leg (core_of l) now number)
 calling_after setup (Some l) now (FromCalling octets at decided read) =
     if is_idle (core_of l).state then Some l else Some (leg_with l now read (datagram_of octets))
@@ -64,12 +70,14 @@ calling_after setup leg now e = leg
 -- the leg after a trace, none before the first ring
 abbrev pub calling_leg : Setup → List Event → Option CallingLeg
 calling_leg setup [] = None
-calling_leg setup (e ∷ earlier) = calling_after setup (calling_leg setup earlier) (clock (e ∷ earlier)) e
+calling_leg setup (e ∷ earlier) =
+    calling_after setup (calling_leg setup earlier) (clock (e ∷ earlier)) e
 
 -- THE ANSWERS. Whether a datagram decides a slot
 abbrev pub decided_calling : Option CallingLeg → List ℕ → Bool
 decided_calling None octets = false
-decided_calling (Some l) octets = decided_by (is_idle (core_of l).state) l.arrived (datagram_of octets)
+decided_calling (Some l) octets =
+    decided_by (is_idle (core_of l).state) l.arrived (datagram_of octets)
 
 -- what it asks
 abbrev pub asked_by : CallingLeg → ℕ → Result DatagramValue UdptlFault → Option Question
@@ -78,7 +86,8 @@ asked_by l now (Err fault) = None
 
 abbrev pub question : Option CallingLeg → ℕ → List ℕ → Option Question
 question None now octets = None
-question (Some l) now octets = if is_idle (core_of l).state then None else asked_by l now (datagram_of octets)
+question (Some l) now octets =
+    if is_idle (core_of l).state then None else asked_by l now (datagram_of octets)
 
 -- the datagram that a tick gives, and the page that it confirms
 abbrev pub told_by : Setup → List (List ℕ) → Option WaitingPacket → Option (List ℕ)

@@ -24,7 +24,8 @@ use Rattle.fax_gateway.specs.Traces.{IsTrace}
 -- A call of the first's called leg (the one that is on, or the last) joined to one of the second's calling leg: the datagrams
 -- that came to the second in that call are those of the packets that the first gave there, by an honest schedule. What else
 -- came to either gateway is free, they may be set up differently, and no common order of their events is asked for.
-pub record IsJoined (setup other : Setup) (writes others : Writing) (first second : List Event) (leg : CalledLeg) (l : CallingLeg) : Type 0 where
+pub record IsJoined (setup other : Setup) (writes others : Writing)
+    (first second : List Event) (leg : CalledLeg) (l : CallingLeg) : Type 0 where
   pub is_first : IsTrace setup writes first
   pub is_second : IsTrace other others second
   pub is_leg : (both_legs setup writes first).leg ≡ Some leg
@@ -46,9 +47,9 @@ pub record IsOfTheFirst (leg : CalledLeg) (l : CallingLeg) : Type 0 where
       → Contains (pieces.pieces (slots_of (reverse leg.given))) (pieces.Frame octets)
 
 abbrev pub ChainsHear : Type 0
-ChainsHear =
-    (setup other : Setup) (writes others : Writing) (first second : List Event) (leg : CalledLeg) (l : CallingLeg) → IsWriting writes
-    → IsJoined setup other writes others first second leg l → IsOfTheFirst leg l
+ChainsHear = (setup other : Setup)
+    (writes others : Writing) (first second : List Event) (leg : CalledLeg) (l : CallingLeg)
+    → IsWriting writes → IsJoined setup other writes others first second leg l → IsOfTheFirst leg l
 
 -- no frame EOM is among packets
 abbrev pub HasNoEom : List (List ℕ) → Type 0
@@ -61,7 +62,8 @@ is_begin mark = false
 
 -- The page stands at a place of the job of the first's call, it was confirmed there, and at some point of that call it was the
 -- page of the image emitted last.
-pub record IsRelayed (setup : Setup) (writes : Writing) (first : List Event) (leg : CalledLeg) (page : PageValue) (place : ℕ) : Type 0 where
+pub record IsRelayed (setup : Setup) (writes : Writing)
+    (first : List Event) (leg : CalledLeg) (page : PageValue) (place : ℕ) : Type 0 where
   pub is_page : slice_get leg.job.pages place ≡ Some page
   pub confirmed : WasConfirmed setup first leg.job.call page
   pub later : List Mark
@@ -71,18 +73,21 @@ pub record IsRelayed (setup : Setup) (writes : Writing) (first : List Event) (le
   pub emitted : Emits leg.job before (Some place)
 
 -- Each page for which the second gives MCF was relayed, from a place up to `bound`, and those before it from no later place.
-abbrev pub RelaysBy : Setup → Writing → List Event → CalledLeg → Option PageValue → (bound : ℕ) → (ℕ → Type 0) → Type 0
+abbrev pub RelaysBy : Setup
+    → Writing → List Event → CalledLeg → Option PageValue → (bound : ℕ) → (ℕ → Type 0) → Type 0
 RelaysBy setup writes first leg None bound earlier = earlier bound
-RelaysBy setup writes first leg (Some page) bound earlier = (place : ℕ) × (place ≤ bound) × IsRelayed setup writes first leg page place × earlier place
+RelaysBy setup writes first leg (Some page) bound earlier =
+    (place : ℕ) × (place ≤ bound) × IsRelayed setup writes first leg page place × earlier place
 
 abbrev pub Relays : Setup → Writing → List Event → CalledLeg → List Entry → (bound : ℕ) → Type 0
 Relays setup writes first leg [] bound = Unit {0}
-Relays setup writes first leg (e ∷ before) bound = RelaysBy setup writes first leg (page_accepted e.decision) bound (Relays setup writes first leg before)
+Relays setup writes first leg (e ∷ before) bound = RelaysBy setup
+    writes first leg (page_accepted e.decision) bound (Relays setup writes first leg before)
 
 -- So it is where the first sent no EOM in that call. (After EOM a page of another format follows, and a second that lost the DCS
 -- of it would read it under the one before.)
 abbrev pub ChainsRelay : Type 0
-ChainsRelay =
-    (setup other : Setup) (writes others : Writing) (first second : List Event) (leg : CalledLeg) (l : CallingLeg) → IsWriting writes
+ChainsRelay = (setup other : Setup) (writes others : Writing)
+    (first second : List Event) (leg : CalledLeg) (l : CallingLeg) → IsWriting writes
     → IsJoined setup other writes others first second leg l → HasNoEom (reverse leg.given)
     → Relays setup writes first leg (history_of l) (length leg.job.pages)

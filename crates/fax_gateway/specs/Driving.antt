@@ -154,9 +154,9 @@ most_datagrams = 16
 
 -- A leg's receives in a turn: 16 datagrams come; or fewer, and then a receive brings none.
 abbrev pub AreReceives : Leg → ℕ → List Entry → Type 0
-AreReceives at now log =
-    (All (Comes at now) log × (length log ≡ most_datagrams))
-    ⊎ ((came : List Entry) × (last : Entry) × (log ≡ last ∷ came) × All (Comes at now) came × (length came < most_datagrams) × GivesNoDatagram at last)
+AreReceives at now log = (All (Comes at now) log × (length log ≡ most_datagrams))
+    ⊎ ((came : List Entry) × (last : Entry) × (log ≡ last ∷ came)
+    × All (Comes at now) came × (length came < most_datagrams) × GivesNoDatagram at last)
 
 -- What is given on a leg is handed over, once.
 abbrev pub IsSent : Leg → Option (List ℕ) → List Entry → Type 0
@@ -165,10 +165,9 @@ IsSent at (Some octets) log = (fails : Bool) × (log ≡ Sends at octets fails �
 
 -- Time goes on: the tick is accepted, and what it gives is sent, the calling leg first; or it is refused.
 abbrev pub IsTick : ℕ → List Entry → Type 0
-IsTick now log =
-    ((given : Given) × (calling : List Entry) × (called : List Entry) × IsSent legs.Calling given.on_calling calling × IsSent legs.Called given.on_called called
-    × (log ≡ called ++ (calling ++ Accepts (Tick now given) ∷ [])))
-    ⊎ (log ≡ RefusesTick now ∷ [])
+IsTick now log = ((given : Given) × (calling : List Entry) × (called : List Entry)
+    × IsSent legs.Calling given.on_calling calling × IsSent legs.Called given.on_called called
+    × (log ≡ called ++ (calling ++ Accepts (Tick now given) ∷ []))) ⊎ (log ≡ RefusesTick now ∷ [])
 
 -- A turn: the receives of the calling leg, those of the called leg, and the tick.
 pub record IsTurn (now : ℕ) (log : List Entry) : Type 0 where
@@ -187,7 +186,8 @@ pub record IsTurn (now : ℕ) (log : List Entry) : Type 0 where
 pub record Carries (log : List Entry) (before after : KnownWire) : Type 0 where
   pub received : Grows (receipts log) before.received after.received
   pub sent : Grows (sent log) before.sent after.sent
-  pub failures : after.failures < greatest_count → after.failures ≡ before.failures + (count_by is_failed_receive log + count_by is_failed_send log)
+  pub failures : after.failures < greatest_count → after.failures
+      ≡ before.failures + (count_by is_failed_receive log + count_by is_failed_send log)
 
 -- what an entry made of the wire, by what its calls make of it: a receive on a leg, a send, or neither
 abbrev pub GoesByEvent : {W : Type 0} → (Leg → W → W → Type 0) → Event → W → W → Type 0
@@ -197,7 +197,8 @@ GoesByEvent receives (FromCalled octets now decided) old new = receives legs.Cal
 GoesByEvent receives (Tick now given) old new = new ≡ old
 GoesByEvent receives (Placed now connected) old new = new ≡ old
 
-abbrev pub GoesBy : {W : Type 0} → (Leg → W → W → Type 0) → (Leg → List ℕ → Bool → W → W → Type 0) → Entry → W → W → Type 0
+abbrev pub GoesBy : {W : Type 0}
+    → (Leg → W → W → Type 0) → (Leg → List ℕ → Bool → W → W → Type 0) → Entry → W → W → Type 0
 GoesBy receives sends (Accepts event) old new = GoesByEvent receives event old new
 GoesBy receives sends (RefusesRing fault) old new = new ≡ old
 GoesBy receives sends (RefusesDatagram at octets) old new = receives at old new
@@ -208,37 +209,46 @@ GoesBy receives sends (Sends at octets fails) old new = sends at octets (not fai
 
 -- THE WIRE WENT from the one to the other by just the receives and sends of the log, one after the other: nothing else was done with
 -- it.
-abbrev pub WireGoes : {W : Type 0} → (Leg → W → W → Type 0) → (Leg → List ℕ → Bool → W → W → Type 0) → List Entry → W → W → Type 0
+abbrev pub WireGoes : {W : Type 0}
+    → (Leg → W → W → Type 0) → (Leg → List ℕ → Bool → W → W → Type 0) → List Entry → W → W → Type 0
 WireGoes receives sends [] old new = new ≡ old
-WireGoes {W} receives sends (entry ∷ earlier) old new = (between : W) × WireGoes receives sends earlier old between × GoesBy receives sends entry between new
+WireGoes {W} receives sends (entry ∷ earlier) old new = (between : W)
+    × WireGoes receives sends earlier old between × GoesBy receives sends entry between new
 
 -- What is refused, after this trace, for want of memory, wants some: of the datagrams those alone that decide a slot, and a
 -- tick only where something is due. A ring is refused as busy exactly where a call is on, and where none is, for want of a
 -- number exactly where none is left: so that any other refusal is for want of memory.
 abbrev pub decides_on : Setup → Writing → List Event → Leg → List ℕ → Bool
-decides_on setup writes earlier legs.Calling octets = decided_calling (calling_leg setup earlier) octets
-decides_on setup writes earlier legs.Called octets = decided_called writes (both_legs setup writes earlier).leg octets
+decides_on setup writes earlier legs.Calling octets =
+    decided_calling (calling_leg setup earlier) octets
+decides_on setup writes earlier legs.Called octets =
+    decided_called writes (both_legs setup writes earlier).leg octets
 
 abbrev pub IsRingRefused : Setup → List Event → RingFault → Type 0
 IsRingRefused setup earlier fault =
     (fault ≡ ring_faults.Busy ↔ idle_after (calling_leg setup earlier) ≡ false)
-    × (idle_after (calling_leg setup earlier) ≡ true → fault ≡ ring_faults.NoNumber ↔ 4294967296 ≤ rings earlier)
+    × (idle_after (calling_leg setup earlier) ≡ true
+    → fault ≡ ring_faults.NoNumber ↔ 4294967296 ≤ rings earlier)
 
 abbrev pub IsWanting : Setup → Writing → List Event → Entry → Type 0
 IsWanting setup writes earlier (Accepts event) = Unit {0}
 IsWanting setup writes earlier (RefusesRing fault) = IsRingRefused setup earlier fault
-IsWanting setup writes earlier (RefusesDatagram at octets) = decides_on setup writes earlier at octets ≡ true
-IsWanting setup writes earlier (RefusesTick now) = is_due (due_at setup writes earlier) (max now (clock earlier)) ≡ true
+IsWanting setup writes earlier (RefusesDatagram at octets) =
+    decides_on setup writes earlier at octets ≡ true
+IsWanting setup writes earlier (RefusesTick now) =
+    is_due (due_at setup writes earlier) (max now (clock earlier)) ≡ true
 IsWanting setup writes earlier (ReceivesNothing at) = Unit {0}
 IsWanting setup writes earlier (FailsToReceive at) = Unit {0}
 IsWanting setup writes earlier (Sends at octets fails) = Unit {0}
 
 abbrev pub AreWanting : Setup → Writing → List Event → List Entry → Type 0
 AreWanting setup writes trace [] = Unit {0}
-AreWanting setup writes trace (entry ∷ earlier) = IsWanting setup writes (events earlier ++ trace) entry × AreWanting setup writes trace earlier
+AreWanting setup writes trace (entry ∷ earlier) =
+    IsWanting setup writes (events earlier ++ trace) entry × AreWanting setup writes trace earlier
 
 -- The events of the log followed on the trace, what was refused wanted memory, and the wire carried the rest.
-pub record Happens (setup : Setup) (writes : Writing) (log : List Entry) (trace : List Event) (gateway : GatewayValue) (before after : KnownWire) : Type 0 where
+pub record Happens (setup : Setup) (writes : Writing) (log : List Entry)
+    (trace : List Event) (gateway : GatewayValue) (before after : KnownWire) : Type 0 where
   pub reached : IsReachedBy setup writes (events log ++ trace) gateway
   pub wanting : AreWanting setup writes trace log
   pub carried : Carries log before after
@@ -257,7 +267,8 @@ pub record DriverValue : Type 0 where
 -- Both counts rose by as many, each where it did not stop: what a gateway refused for want of memory, and what is told as refused.
 abbrev pub RiseAlike : (refusals refusals' told told' : ℕ) → Type 0
 RiseAlike refusals refusals' told told' =
-    (n : ℕ) × (refusals' < greatest_count → refusals' ≡ refusals + n) × (told' < greatest_count → told' ≡ told + n)
+    (n : ℕ) × (refusals' < greatest_count → refusals' ≡ refusals + n)
+    × (told' < greatest_count → told' ≡ told + n)
 
 -- A driver did all this.
 pub record HasMade (log : List Entry) (driver : DriverValue) : Type 0 where
@@ -268,10 +279,11 @@ pub record HasMade (log : List Entry) (driver : DriverValue) : Type 0 where
 
 -- So the log has as many datagrams and ticks that are refused as the gateway refused: none is told so that was not asked for.
 abbrev pub RefusalsAreAsked : Type 0
-RefusalsAreAsked =
-    (log earlier : List Entry) (old new : DriverValue) (refusals refusals' : ℕ) → HasMade earlier old → HasMade (log ++ earlier) new
-    → RiseAlike refusals refusals' old.events_refused new.events_refused → refusals' < greatest_count → new.events_refused < greatest_count
-    → refusals' ≡ refusals + count_by is_refused_event log
+RefusalsAreAsked = (log earlier : List Entry) (old new : DriverValue) (refusals refusals' : ℕ)
+    → HasMade earlier old → HasMade (log ++ earlier) new
+    → RiseAlike refusals refusals' old.events_refused new.events_refused
+    → refusals' < greatest_count
+    → new.events_refused < greatest_count → refusals' ≡ refusals + count_by is_refused_event log
 
 -- ---- a run
 
@@ -284,7 +296,8 @@ moment_of start turn = min (start + 40 * turn) greatest_moment
 
 -- It rings: the ring is accepted, or refused.
 abbrev pub IsRing : ℕ → List Entry → Type 0
-IsRing now log = ((number : ℕ) × (log ≡ Accepts (Ring now number) ∷ [])) ⊎ ((fault : RingFault) × (log ≡ RefusesRing fault ∷ []))
+IsRing now log = ((number : ℕ) × (log ≡ Accepts (Ring now number) ∷ []))
+    ⊎ ((fault : RingFault) × (log ≡ RefusesRing fault ∷ []))
 
 abbrev pub IsRingIf : Bool → ℕ → List Entry → Type 0
 IsRingIf false now log = log ≡ []
@@ -292,7 +305,8 @@ IsRingIf true now log = IsRing now log
 
 -- A round of a run: it rings where it is to, and then a turn.
 abbrev pub IsRound : ℕ → Bool → List Entry → Type 0
-IsRound now rings log = (ring : List Entry) × (turn : List Entry) × (log ≡ turn ++ ring) × IsRingIf rings now ring × IsTurn now turn
+IsRound now rings log = (ring : List Entry)
+    × (turn : List Entry) × (log ≡ turn ++ ring) × IsRingIf rings now ring × IsTurn now turn
 
 -- The rounds of a run, one after the other, until the last 100 receives failed.
 abbrev pub log_of : List (List Entry) → List Entry
@@ -300,8 +314,8 @@ log_of rounds = flat_map (λ round. round) rounds
 
 abbrev pub AreRounds : (start : ℕ) → (rings : List ℕ) → List (List Entry) → Type 0
 AreRounds start rings [] = Unit {0}
-AreRounds start rings (round ∷ earlier) =
-    IsRound (moment_of start (length earlier)) (list_any (λ turn. nat_eq turn (length earlier)) rings) round
+AreRounds start rings (round ∷ earlier) = IsRound (moment_of start (length earlier)) (list_any
+    (λ turn. nat_eq turn (length earlier)) rings) round
     × (failed_in_a_row (receipts (log_of earlier)) < most_failed) × AreRounds start rings earlier
 
 -- What a run tells: of the turns that were to be, all are made, but where the last 100 receives failed.
@@ -331,6 +345,8 @@ pub record IsHanded (accepted : Bool) (at : Leg) (octets : List ℕ) (entry : En
   pub sends_none : is_failed_send entry ≡ false
 
 -- it happened, and a driver that did all that is in `earlier` did it
-pub record Steps (setup : Setup) (writes : Writing) (log : List Entry) (trace : List Event) (earlier : List Entry) (gateway : GatewayValue) (before after : KnownWire) (driver : DriverValue) : Type 0 where
+pub record Steps (setup : Setup)
+    (writes : Writing) (log : List Entry) (trace : List Event) (earlier : List Entry)
+    (gateway : GatewayValue) (before after : KnownWire) (driver : DriverValue) : Type 0 where
   pub happens : Happens setup writes log trace gateway before after
   pub made : HasMade (log ++ earlier) driver

@@ -31,14 +31,22 @@ job_due asks (job ∷ jobs) = if asks then None else Some 0
 -- the called leg, with the jobs that wait
 abbrev pub called_due : (asks : Bool) → Writing → Option CalledLeg → List JobValue → Option ℕ
 called_due asks writes None waiting = job_due asks waiting
-called_due asks writes (Some l) waiting = if l.entered then job_due asks waiting else call_due (core_of writes l)
+called_due asks writes (Some l) waiting =
+    if l.entered then job_due asks waiting else call_due (core_of writes l)
 
 -- both
 abbrev pub due_at : Setup → Writing → List Event → Option ℕ
-due_at setup writes trace =
-    let s : BothLegs = both_legs setup writes trace in
-    earlier (calling_due setup (calling_leg setup trace)) (called_due setup.asks writes s.leg (book_of s).waiting)
+due_at setup writes trace = let s : BothLegs = both_legs setup writes trace
+    in earlier (calling_due setup (calling_leg setup trace))
+    (called_due setup.asks writes s.leg (book_of s).waiting)
 
 -- a tick that gives and tells nothing
 abbrev pub nothing_given : shown.Given
-nothing_given = record { calling = None; called = None; report = None; kept = None; refused = None; gave_up = None }
+nothing_given = record {
+  calling = None;
+  called = None;
+  report = None;
+  kept = None;
+  refused = None;
+  gave_up = None;
+}

@@ -18,7 +18,8 @@ use Rattle.fax_gateway.specs.Told.{elements_told, gives_mcf, leg_marks, marks_be
 -- In the trace there is a tick that gave the frame MCF, in the call of this number, and it confirms this page: its command
 -- stands after exactly one image since the last CFR or MCF, which is whole and means the page under the DCS that the last
 -- CFR answered.
-pub record WasConfirmedIn (setup : Setup) (trace : List Event) (call : ℕ) (page : PageValue) : Type 0 where
+pub record WasConfirmedIn (setup : Setup) (trace : List Event) (call : ℕ) (page : PageValue) :
+    Type 0 where
   pub later : List Event
   pub at : ℕ
   pub given : Given
@@ -36,14 +37,17 @@ pub record WasConfirmedIn (setup : Setup) (trace : List Event) (call : ℕ) (pag
 -- Or the page is one of those that were restored, of the call of this number. Where none was restored, it is the former alone.
 abbrev pub OrRestored : List CallPage → ℕ → PageValue → (this : Type 0) → Type 0
 OrRestored [] call page this = this
-OrRestored (r ∷ restored) call page this = (r ≡ record { call = call; page = page }) ⊎ OrRestored restored call page this
+OrRestored (r ∷ restored) call page this =
+    (r ≡ record { call = call; page = page }) ⊎ OrRestored restored call page this
 
 abbrev pub WasConfirmed : Setup → List Event → ℕ → PageValue → Type 0
-WasConfirmed setup trace call page = OrRestored (pages_restored setup.restored) call page (WasConfirmedIn setup trace call page)
+WasConfirmed setup trace call page =
+    OrRestored (pages_restored setup.restored) call page (WasConfirmedIn setup trace call page)
 
 -- An image that a tick ends: `book` is the book when the called leg is served, and `marks` what that leg heard and gave before
 -- the image's end; `Confirmed` tells of a page that it was confirmed, in the call of a number.
-pub record IsForwardedBy (Confirmed : ℕ → PageValue → Type 0) (book : Book) (marks : List Mark) (emission : Emission) : Type 0 where
+pub record IsForwardedBy (Confirmed : ℕ → PageValue → Type 0)
+    (book : Book) (marks : List Mark) (emission : Emission) : Type 0 where
   -- a job is being sent
   pub job : JobValue
   pub is_sending : book.sending ≡ Some job
@@ -65,6 +69,8 @@ IsForwarded setup earlier = IsForwardedBy (WasConfirmed setup earlier)
 -- That is each image that the datagram given on the called leg ends.
 abbrev pub ForwardsWhatItConfirmed : Type 0
 ForwardsWhatItConfirmed =
-    (setup : Setup) (writes : Writing) (earlier : List Event) (at : ℕ) (given : Given) → IsWriting writes → IsTrace setup writes (Tick at given ∷ earlier)
+    (setup : Setup) (writes : Writing) (earlier : List Event) (at : ℕ) (given : Given)
+    → IsWriting writes → IsTrace setup writes (Tick at given ∷ earlier)
     → EachEmission (IsForwarded setup earlier (book_of (in_tick setup writes earlier at)))
-    (marks_before setup writes earlier at (leg_marks setup writes earlier)) (elements_told given.on_called)
+    (marks_before setup writes earlier at (leg_marks setup writes earlier))
+    (elements_told given.on_called)

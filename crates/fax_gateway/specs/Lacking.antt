@@ -13,7 +13,8 @@ use Rattle.fax_gateway.specs.Told.{elements_told, leg_marks, marks_before, EachE
 
 -- In the call that is on, the image means a page of the job, and the DIS that Await DIS took last has its width and its
 -- resolution.
-pub record IsAllowed (writes : Writing) (leg : Option CalledLeg) (marks : List Mark) (emission : Emission) : Type 0 where
+pub record IsAllowed (writes : Writing)
+    (leg : Option CalledLeg) (marks : List Mark) (emission : Emission) : Type 0 where
   pub l : CalledLeg
   pub is_leg : leg ≡ Some l
   pub n : ℕ
@@ -23,7 +24,7 @@ pub record IsAllowed (writes : Writing) (leg : Option CalledLeg) (marks : List M
   pub allows : Allows dis is_page.page.format
 
 abbrev pub NoneIsLacking : Type 0
-NoneIsLacking =
-    (setup : Setup) (writes : Writing) (earlier : List Event) (at : ℕ) (given : Given) → IsWriting writes → IsTrace setup writes (Tick at given ∷ earlier)
-    → EachEmission (IsAllowed writes (in_tick setup writes earlier at).leg)
-    (marks_before setup writes earlier at (leg_marks setup writes earlier)) (elements_told given.on_called)
+NoneIsLacking = (setup : Setup) (writes : Writing) (earlier : List Event) (at : ℕ) (given : Given)
+    → IsWriting writes → IsTrace setup writes (Tick at given ∷ earlier)
+    → EachEmission (IsAllowed writes (in_tick setup writes earlier at).leg) (marks_before
+    setup writes earlier at (leg_marks setup writes earlier)) (elements_told given.on_called)

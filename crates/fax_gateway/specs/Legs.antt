@@ -9,7 +9,8 @@ use Rattle.fax_gateway.specs.Setups.{Setup}
 
 -- the pieces that a datagram brings, after those that arrived: those of all slots after those of the slots before
 unfoldable pub new_pieces : List DatagramValue → DatagramValue → List Piece
-new_pieces arrived d = drop (length (pieces (newest_slots arrived))) (pieces (newest_slots (d ∷ arrived)))
+new_pieces arrived d =
+    drop (length (pieces (newest_slots arrived))) (pieces (newest_slots (d ∷ arrived)))
 
 -- whether it decides a slot
 unfoldable pub decides : List DatagramValue → DatagramValue → Bool

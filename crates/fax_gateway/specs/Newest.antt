@@ -12,6 +12,8 @@ use Rattle.fax_gateway.specs.Traces.{IsTrace}
 use Rattle.fax_gateway.specs.Cuts.{confirmed_at}
 
 abbrev pub ConfirmsTheNewest : Type 0
-ConfirmsTheNewest = (setup : Setup) (writes : Writing) (at : ℕ) (given : Given) (earlier : List Event) (confirmed : ConfirmedPage)
-    → IsTrace setup writes (Tick at given ∷ earlier) → confirmed_at (calling_leg setup earlier) (max at (clock earlier)) ≡ Some confirmed
+ConfirmsTheNewest = (setup : Setup)
+    (writes : Writing) (at : ℕ) (given : Given) (earlier : List Event) (confirmed : ConfirmedPage)
+    → IsTrace setup writes (Tick at given ∷ earlier)
+    → confirmed_at (calling_leg setup earlier) (max at (clock earlier)) ≡ Some confirmed
     → newest_page (book_of (both_legs setup writes (Tick at given ∷ earlier))) ≡ Some confirmed.page

@@ -12,7 +12,8 @@ use Rattle.fax_gateway.specs.Forwards.{WasConfirmed}
 
 abbrev pub AreConfirmed : Setup → List Event → ℕ → List PageValue → Type 0
 AreConfirmed setup trace call [] = Unit {0}
-AreConfirmed setup trace call (page ∷ pages) = WasConfirmed setup trace call page × AreConfirmed setup trace call pages
+AreConfirmed setup trace call (page ∷ pages) =
+    WasConfirmed setup trace call page × AreConfirmed setup trace call pages
 
 -- 1 to 999 pages, the first of the job's format, each confirmed in the call that the job names
 pub record IsOfItsCall (setup : Setup) (trace : List Event) (job : JobValue) : Type 0 where
@@ -21,10 +22,12 @@ pub record IsOfItsCall (setup : Setup) (trace : List Event) (job : JobValue) : T
 
 abbrev pub AreOfTheirCalls : Setup → List Event → List JobValue → Type 0
 AreOfTheirCalls setup trace [] = Unit {0}
-AreOfTheirCalls setup trace (job ∷ jobs) = IsOfItsCall setup trace job × AreOfTheirCalls setup trace jobs
+AreOfTheirCalls setup trace (job ∷ jobs) =
+    IsOfItsCall setup trace job × AreOfTheirCalls setup trace jobs
 
 -- So is each job that was closed, and the open one.
 abbrev pub JobsAreOfTheirCalls : Type 0
-JobsAreOfTheirCalls =
-    (setup : Setup) (writes : Writing) (trace : List Event) → IsTrace setup writes trace
-    → AreOfTheirCalls setup trace (jobs_of (past_of (both_legs setup writes trace))) × AreOfTheirCalls setup trace (as_list (book_of (both_legs setup writes trace)).open_job)
+JobsAreOfTheirCalls = (setup : Setup) (writes : Writing) (trace : List Event)
+    → IsTrace setup writes trace
+    → AreOfTheirCalls setup trace (jobs_of (past_of (both_legs setup writes trace)))
+    × AreOfTheirCalls setup trace (as_list (book_of (both_legs setup writes trace)).open_job)

@@ -25,19 +25,23 @@ one_if_some (Some c) = 1
 abbrev pub confirmations_in : Setup → List Event → ℕ
 confirmations_in setup [] = 0
 confirmations_in setup (Ring at number ∷ earlier) = confirmations_in setup earlier
-confirmations_in setup (FromCalling octets at decided read ∷ earlier) = confirmations_in setup earlier
+confirmations_in setup (FromCalling octets at decided read ∷ earlier) =
+    confirmations_in setup earlier
 confirmations_in setup (FromCalled octets at decided ∷ earlier) = confirmations_in setup earlier
-confirmations_in setup (Tick at given ∷ earlier) = confirmations_in setup earlier + one_if_some (confirmed_at (calling_leg setup earlier) (clock (Tick at given ∷ earlier)))
+confirmations_in setup (Tick at given ∷ earlier) = confirmations_in setup earlier
+    + one_if_some (confirmed_at (calling_leg setup earlier) (clock (Tick at given ∷ earlier)))
 confirmations_in setup (Placed at connected ∷ earlier) = confirmations_in setup earlier
 
 -- the MCF of a tick confirmed the page, in the call of this number, and before that tick just so many pages were confirmed
-pub record IsNumber (setup : Setup) (trace : List Event) (call : ℕ) (page : PageValue) (k : ℕ) : Type 0 where
+pub record IsNumber (setup : Setup) (trace : List Event) (call : ℕ) (page : PageValue) (k : ℕ) :
+    Type 0 where
   pub confirmed : WasConfirmedIn setup trace call page
   pub before_it : confirmations_in setup confirmed.earlier ≡ k
 
 -- Confirmation k of all is that of the page: the pages that were restored have the first, in their order, and `Own` tells of those
 -- of the trace, by how many of the trace are before it.
-abbrev pub HasNumber : List CallPage → (k : ℕ) → (call : ℕ) → (page : PageValue) → (Own : ℕ → Type 0) → Type 0
+abbrev pub HasNumber : List CallPage
+    → (k : ℕ) → (call : ℕ) → (page : PageValue) → (Own : ℕ → Type 0) → Type 0
 HasNumber [] k call page Own = Own k
 HasNumber (r ∷ restored) zero call page Own = r ≡ record { call = call; page = page }
 HasNumber (r ∷ restored) (suc k) call page Own = HasNumber restored k call page Own
@@ -46,16 +50,19 @@ HasNumber (r ∷ restored) (suc k) call page Own = HasNumber restored k call pag
 -- the call that the job names, or one that was restored, and before that just so many pages were restored and confirmed as the
 -- jobs that ended have, and n. So page n of the job has confirmation n after theirs, no other page has it, and later pages have
 -- later ones.
-pub record HasItsOwn (setup : Setup) (writes : Writing) (earlier : List Event) (marks : List Mark) (emission : Emission) : Type 0 where
+pub record HasItsOwn (setup : Setup) (writes : Writing)
+    (earlier : List Event) (marks : List Mark) (emission : Emission) : Type 0 where
   pub job : JobValue
   pub is_sending : (past_of (both_legs setup writes earlier)).book.sending ≡ Some job
   pub n : ℕ
   pub is_page : IsPageOf job n emission
-  pub confirmed :
-      HasNumber (pages_restored setup.restored) (length (pages_of (past_of (both_legs setup writes earlier)).ended) + n) job.call is_page.page
-      (IsNumber setup earlier job.call is_page.page)
+  pub confirmed : HasNumber (pages_restored setup.restored)
+      (length (pages_of (past_of (both_legs setup writes earlier)).ended)
+      + n) job.call is_page.page (IsNumber setup earlier job.call is_page.page)
 
 abbrev pub EachPageHasItsOwnConfirmation : Type 0
 EachPageHasItsOwnConfirmation =
-    (setup : Setup) (writes : Writing) (earlier : List Event) (at : ℕ) (given : Given) → IsWriting writes → IsTrace setup writes (Tick at given ∷ earlier)
-    → EachEmission (HasItsOwn setup writes earlier) (marks_before setup writes earlier at (leg_marks setup writes earlier)) (elements_told given.on_called)
+    (setup : Setup) (writes : Writing) (earlier : List Event) (at : ℕ) (given : Given)
+    → IsWriting writes → IsTrace setup writes (Tick at given ∷ earlier)
+    → EachEmission (HasItsOwn setup writes earlier) (marks_before
+    setup writes earlier at (leg_marks setup writes earlier)) (elements_told given.on_called)

@@ -41,10 +41,12 @@ use Rattle.fax_gateway.specs.Wires.{greatest_count}
 
 -- what a tick gives
 abbrev pub given_shown : shown.Given → Given
-given_shown given = record { on_calling = given.calling; on_called = given.called; report = given.report }
+given_shown given =
+    record { on_calling = given.calling; on_called = given.called; report = given.report }
 
 -- A LEG in a call: these datagrams came, and these packets were given, the newest first
-pub record IsLeg (setup : Setup) (arrived : List DatagramValue) (given : List (List ℕ)) (leg : Endpoint) : Type 0 where
+pub record IsLeg (setup : Setup)
+    (arrived : List DatagramValue) (given : List (List ℕ)) (leg : Endpoint) : Type 0 where
   pub receiver : IsAfter arrived leg.receiver
   pub sender : HasSent setup.redundancy given leg.sender
 
@@ -81,7 +83,8 @@ HasNumber None number = Unit {0}
 HasNumber (Some l) number = l.number ≡ number
 
 -- the last call led to it
-pub record IsCalling (setup : Setup) (leg : Option CallingLeg) (endpoint : CallingValue) : Type 0 where
+pub record IsCalling (setup : Setup) (leg : Option CallingLeg) (endpoint : CallingValue) :
+    Type 0 where
   pub number : HasNumber leg endpoint.number
   pub core : answer.IsReached (newest_slots (arrived_on leg)) (answering_of setup leg) endpoint.kept
   pub on_leg : IsLeg setup (arrived_on leg) (given_on leg) endpoint.leg
@@ -90,7 +93,8 @@ pub record IsCalling (setup : Setup) (leg : Option CallingLeg) (endpoint : Calli
 abbrev pub heard_on : Setup → Option CallingLeg → ℕ → List ℕ → Reading → Option CallingLeg
 heard_on setup leg now octets read = calling_after setup leg now (FromCalling octets now true read)
 
-pub record HearsCalling (setup : Setup) (leg : Option CallingLeg) (now : ℕ) (octets : List ℕ) (endpoint : CallingValue) : Type 0 where
+pub record HearsCalling (setup : Setup)
+    (leg : Option CallingLeg) (now : ℕ) (octets : List ℕ) (endpoint : CallingValue) : Type 0 where
   pub read : Reading
   pub right : IsRead (question leg now octets) read
   pub calling : IsCalling setup (heard_on setup leg now octets read) endpoint
@@ -114,7 +118,8 @@ TellsWhyOn None now why = why ≡ None
 TellsWhyOn (Some l) now why = TellsWhy (calling_legs.answers l now) why
 
 -- what is told of it
-pub record TellsTick {S : Type 0} (setup : Setup) (leg : Option CallingLeg) (now : ℕ) (step : Step S) : Type 0 where
+pub record TellsTick {S : Type 0} (setup : Setup)
+    (leg : Option CallingLeg) (now : ℕ) (step : Step S) : Type 0 where
   pub packet : step.packet ≡ told_calling setup leg now
   pub confirmed : confirmed_shown step.confirmed ≡ confirmed_on leg now
   pub refused : TellsWhyOn leg now step.refused
@@ -122,15 +127,18 @@ pub record TellsTick {S : Type 0} (setup : Setup) (leg : Option CallingLeg) (now
 
 -- THE CALLED LEG, in the call of a job; before the first one no call was on
 abbrev pub IsCaller : Setup → Writing → Option CalledLeg → call.Rep → Type 0
-IsCaller setup writes None kept = (job : JobValue) → call.IsReached writes job [] (new_calling setup.pause kept.procedure.format) kept
-IsCaller setup writes (Some l) kept = call.IsReached writes l.job (newest_slots l.arrived) (called_legs.core_of writes l) kept
+IsCaller setup writes None kept = (job : JobValue)
+    → call.IsReached writes job [] (new_calling setup.pause kept.procedure.format) kept
+IsCaller setup writes (Some l) kept =
+    call.IsReached writes l.job (newest_slots l.arrived) (called_legs.core_of writes l) kept
 
 abbrev pub IsCalledLeg : Setup → Option CalledLeg → Endpoint → Type 0
 IsCalledLeg setup None leg = Unit {0}
 IsCalledLeg setup (Some l) leg = IsLeg setup l.arrived l.given leg
 
 -- the call of the last job led to it
-pub record IsCalled (setup : Setup) (writes : Writing) (leg : Option CalledLeg) (endpoint : CalledEndpoint) : Type 0 where
+pub record IsCalled (setup : Setup)
+    (writes : Writing) (leg : Option CalledLeg) (endpoint : CalledEndpoint) : Type 0 where
   pub core : IsCaller setup writes leg endpoint.caller
   pub on_leg : IsCalledLeg setup leg endpoint.leg
 
@@ -140,14 +148,18 @@ IsServed None procedure = procedure.state ≡ Idle
 IsServed (Some job) procedure = IsJobOfCall procedure job
 
 -- a tick in the call of a job: what it leaves and gives
-pub record TicksOn (setup : Setup) (writes : Writing) (l : CalledLeg) (now : ℕ) (given : Option (List ℕ)) (endpoint : CalledEndpoint) : Type 0 where
-  pub called : IsCalled setup writes (Some (called_legs.with_tick (called_legs.calls writes l now) now l)) endpoint
+pub record TicksOn (setup : Setup) (writes : Writing)
+    (l : CalledLeg) (now : ℕ) (given : Option (List ℕ)) (endpoint : CalledEndpoint) : Type 0 where
+  pub called : IsCalled setup
+      writes (Some (called_legs.with_tick (called_legs.calls writes l now) now l)) endpoint
   pub told : given ≡ called_legs.told_by setup l.given (called_legs.calls writes l now).given
 
 -- where there is a job its call begins, and the tick goes on in it
-abbrev pub Begins : Setup → Writing → Option CalledLeg → Option JobValue → (now : ℕ) → (given : Option (List ℕ)) → (old new : CalledEndpoint) → Type 0
+abbrev pub Begins : Setup → Writing → Option CalledLeg
+    → Option JobValue → (now : ℕ) → (given : Option (List ℕ)) → (old new : CalledEndpoint) → Type 0
 Begins setup writes leg None now given old new = (given ≡ None) × (new ≡ old)
-Begins setup writes leg (Some job) now given old new = TicksOn setup writes (called_legs.begun_leg job (called_legs.core_left setup writes leg) now) now given new
+Begins setup writes leg (Some job) now given old new = TicksOn setup
+    writes (called_legs.begun_leg job (called_legs.core_left setup writes leg) now) now given new
 
 -- the outcome of a call that is over, and the report of its job
 abbrev pub outcome_of_rep : Procedure → Option Outcome
@@ -188,7 +200,8 @@ pub record GatewayValue : Type 0 where
   pub refusals : ℕ
 
 -- the trace led to it, where this function gives the texts of pages
-pub record IsReachedBy (setup : Setup) (writes : Writing) (trace : List Event) (gateway : GatewayValue) : Type 0 where
+pub record IsReachedBy (setup : Setup)
+    (writes : Writing) (trace : List Event) (gateway : GatewayValue) : Type 0 where
   pub is_trace : IsTrace setup writes trace
   pub set : HasSettings setup gateway.settings
   pub at : gateway.clock ≡ clock trace
@@ -206,7 +219,8 @@ abbrev pub refusing : GatewayValue → GatewayValue
 refusing g = record g { refusals = refusals_if true g.refusals }
 
 -- one more datagram of the calling leg led to it, by one reading that is right
-pub record HearsFrom (setup : Setup) (writes : Writing) (trace : List Event) (octets : List ℕ) (now : ℕ) (decided : Bool) (gateway : GatewayValue) : Type 0 where
+pub record HearsFrom (setup : Setup) (writes : Writing) (trace : List Event)
+    (octets : List ℕ) (now : ℕ) (decided : Bool) (gateway : GatewayValue) : Type 0 where
   pub read : Reading
   pub reached : IsReachedBy setup writes (FromCalling octets now decided read ∷ trace) gateway
 
@@ -237,11 +251,26 @@ abbrev pub leg_alone : Endpoint → Endpoint
 leg_alone leg = record { receiver = leg.receiver; sender = record leg.sender { spare = 0 } }
 
 abbrev pub calling_alone : CallingValue → CallingValue
-calling_alone endpoint = record { number = endpoint.number; kept = record endpoint.kept { spare = 0 }; leg = leg_alone endpoint.leg }
+calling_alone endpoint = record {
+  number = endpoint.number;
+  kept = record endpoint.kept {
+    spare = 0;
+  };
+  leg = leg_alone endpoint.leg;
+}
 
 abbrev pub called_alone : CalledEndpoint → CalledEndpoint
-called_alone endpoint = record { caller = record endpoint.caller { spare = 0 }; leg = leg_alone endpoint.leg }
+called_alone endpoint =
+    record { caller = record endpoint.caller { spare = 0 }; leg = leg_alone endpoint.leg }
 
 abbrev pub alone : GatewayValue → GatewayValue
-alone g =
-    record { settings = g.settings; clock = g.clock; rings = g.rings; calling = calling_alone g.calling; called = called_alone g.called; book = g.book; spare = 0; refusals = g.refusals }
+alone g = record {
+  settings = g.settings;
+  clock = g.clock;
+  rings = g.rings;
+  calling = calling_alone g.calling;
+  called = called_alone g.called;
+  book = g.book;
+  spare = 0;
+  refusals = g.refusals;
+}

@@ -30,12 +30,15 @@ pub record LeavesNoChoice (writes : Writing) (leg : CalledLeg) (refusal : Refusa
   pub dis : Dis
   pub frame : frame_of octets ≡ Some (frames.Dis dis)
   pub page : PageValue
-  pub due : slice_get leg.job.pages (after_events writes leg.job (begun_core leg) events).counts.page ≡ Some page
+  pub due :
+      slice_get leg.job.pages (after_events writes leg.job (begun_core leg) events).counts.page
+      ≡ Some page
   pub none : choice dis page.format 0 ≡ Err refusal
 
 -- The report that a tick gives after that has its outcome.
 abbrev pub ReportsTheRefusal : Type 0
-ReportsTheRefusal =
-    (setup : Setup) (writes : Writing) (earlier : List Event) (at : ℕ) (given : Given) (leg : CalledLeg) (refusal : Refusal) (report : Report)
-    → IsTrace setup writes (Tick at given ∷ earlier) → (in_tick setup writes earlier at).leg ≡ Some leg → LeavesNoChoice writes leg refusal
+ReportsTheRefusal = (setup : Setup) (writes : Writing) (earlier : List Event)
+    (at : ℕ) (given : Given) (leg : CalledLeg) (refusal : Refusal) (report : Report)
+    → IsTrace setup writes (Tick at given ∷ earlier)
+    → (in_tick setup writes earlier at).leg ≡ Some leg → LeavesNoChoice writes leg refusal
     → given.report ≡ Some report → report.outcome ≡ outcome_of refusal

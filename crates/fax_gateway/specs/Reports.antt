@@ -34,9 +34,14 @@ job_sent (Some l) = if l.entered then None else Some l.job
 pub record HaveStates (setup : Setup) (writes : Writing) (trace : List Event) : Type 0 where
   pub ended : List JobValue
   pub are_reported : AreReported ended (reports_given trace)
-  pub sending : (book_of (both_legs setup writes trace)).sending ≡ job_sent (both_legs setup writes trace).leg
-  pub jobs_are : jobs_of (past_of (both_legs setup writes trace)) ≡ ended ++ (as_list (job_sent (both_legs setup writes trace).leg) ++ (book_of (both_legs setup writes trace)).waiting)
-  pub last_reports : (book_of (both_legs setup writes trace)).reports ≡ last_of kept_reports (reports_given trace)
+  pub sending :
+      (book_of (both_legs setup writes trace)).sending ≡ job_sent (both_legs setup writes trace).leg
+  pub jobs_are : jobs_of (past_of (both_legs setup writes trace))
+      ≡ ended ++ (as_list (job_sent (both_legs setup writes trace).leg)
+      ++ (book_of (both_legs setup writes trace)).waiting)
+  pub last_reports :
+      (book_of (both_legs setup writes trace)).reports ≡ last_of kept_reports (reports_given trace)
 
 abbrev pub JobsHaveStates : Type 0
-JobsHaveStates = (setup : Setup) (writes : Writing) (trace : List Event) → IsTrace setup writes trace → HaveStates setup writes trace
+JobsHaveStates = (setup : Setup) (writes : Writing) (trace : List Event)
+    → IsTrace setup writes trace → HaveStates setup writes trace

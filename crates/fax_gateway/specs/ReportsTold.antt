@@ -22,7 +22,8 @@ AreHeard (Begins ∷ marks) = ⊥
 
 -- A report that a tick gave: `book` is the book when the called leg is served, and the leg and the marks are those after the
 -- tick.
-pub record IsReported (book : Book) (leg : Option CalledLeg) (marks : List Mark) (report : Report) : Type 0 where
+pub record IsReported (book : Book) (leg : Option CalledLeg) (marks : List Mark) (report : Report) :
+    Type 0 where
   -- it is of the job that was being sent
   pub l : CalledLeg
   pub is_leg : leg ≡ Some l
@@ -40,8 +41,8 @@ pub record IsReported (book : Book) (leg : Option CalledLeg) (marks : List Mark)
   pub told : IsTold l.job report.outcome report.delivered l.events until
 
 abbrev pub ReportsTheJob : Type 0
-ReportsTheJob =
-    (setup : Setup) (writes : Writing) (earlier : List Event) (at : ℕ) (given : Given) (report : Report) → IsWriting writes
-    → IsTrace setup writes (Tick at given ∷ earlier) → given.report ≡ Some report →
-    let trace : List Event = Tick at given ∷ earlier in
-    IsReported (book_of (in_tick setup writes earlier at)) (both_legs setup writes trace).leg (leg_marks setup writes trace) report
+ReportsTheJob = (setup : Setup) (writes : Writing) (earlier : List Event) (at : ℕ) (given : Given)
+    (report : Report) → IsWriting writes → IsTrace setup writes (Tick at given ∷ earlier)
+    → given.report ≡ Some report → let trace : List Event = Tick at given ∷ earlier
+    in IsReported (book_of (in_tick setup writes earlier at))
+    (both_legs setup writes trace).leg (leg_marks setup writes trace) report

@@ -40,11 +40,13 @@ ArePages (p ∷ pages) = IsPage p.page × ArePages pages
 -- The book hears of them after the steps so far (the newest first): the pages of each call are confirmed, and the call ends.
 abbrev pub confirms_all : ℕ → List Confirmation → List Step → List Step
 confirms_all number [] steps = steps
-confirms_all number (c ∷ cs) steps = confirms_all number cs (Confirms number c.page c.closes ∷ steps)
+confirms_all number (c ∷ cs) steps =
+    confirms_all number cs (Confirms number c.page c.closes ∷ steps)
 
 abbrev pub restores : List RestoredCall → List Step → List Step
 restores [] steps = steps
-restores (call ∷ calls) steps = restores calls (CallEnds ∷ confirms_all call.number call.confirmed steps)
+restores (call ∷ calls) steps =
+    restores calls (CallEnds ∷ confirms_all call.number call.confirmed steps)
 
 -- what that makes of a book
 abbrev pub confirmed_all : Book → ℕ → List Confirmation → Book
@@ -53,4 +55,5 @@ confirmed_all book number (c ∷ cs) = confirmed_all (confirmed book number c.pa
 
 abbrev pub restored_to : Book → List RestoredCall → Book
 restored_to book [] = book
-restored_to book (call ∷ calls) = restored_to (closed (confirmed_all book call.number call.confirmed)) calls
+restored_to book (call ∷ calls) =
+    restored_to (closed (confirmed_all book call.number call.confirmed)) calls

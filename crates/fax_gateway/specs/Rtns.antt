@@ -25,15 +25,18 @@ pub record RefusesNow (leg : CallingLeg) (old new : List Step) : Type 0 where
 
 -- Each tick that gives the calling leg the frame RTN, by the octets of its datagram, does so.
 abbrev pub EachRtnAnswers : Type 0
-EachRtnAnswers =
-    (setup : Setup) (writes : Writing) (earlier : List Event) (at : ℕ) (given : Given) → IsTrace setup writes (Tick at given ∷ earlier) → gives_rtn given.on_calling ≡ true
-    → (leg : CallingLeg) × (calling_leg setup earlier ≡ Some leg) × RefusesNow leg (both_legs setup writes earlier).steps (both_legs setup writes (Tick at given ∷ earlier)).steps
+EachRtnAnswers = (setup : Setup) (writes : Writing) (earlier : List Event) (at : ℕ) (given : Given)
+    → IsTrace setup writes (Tick at given ∷ earlier) → gives_rtn given.on_calling ≡ true
+    → (leg : CallingLeg) × (calling_leg setup earlier ≡ Some leg)
+    × RefusesNow leg (both_legs setup writes earlier).steps (both_legs setup writes (Tick at given
+    ∷ earlier)).steps
 
 -- In every trace each frame of a command that came on the calling leg and was not passed over is judged: where one whole image
 -- came in Page with nothing after it, the answer is RTN exactly where it means no page, and else MCF for the page that it means.
 abbrev pub CommandsAreJudged : Type 0
-CommandsAreJudged =
-    (setup : Setup) (writes : Writing) (trace : List Event) (leg : CallingLeg) (later before : List Entry) (octets : List ℕ) (d : Decision) (command : Command)
+CommandsAreJudged = (setup : Setup) (writes : Writing) (trace : List Event) (leg : CallingLeg)
+    (later before : List Entry) (octets : List ℕ) (d : Decision) (command : Command)
     → IsTrace setup writes trace → calling_leg setup trace ≡ Some leg
     → (core_of leg).history ≡ later ++ record { piece = pieces.Frame octets; decision = d } ∷ before
-    → order_of octets ≡ Judge command → (d ≡ PassesOver → ⊥) → IsJudged (core_of leg).history before command d
+    → order_of octets ≡ Judge command
+    → (d ≡ PassesOver → ⊥) → IsJudged (core_of leg).history before command d

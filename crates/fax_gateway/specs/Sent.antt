@@ -14,16 +14,17 @@ use Rattle.fax_gateway.specs.Traces.{IsTrace}
 -- Each page for which the call gives MCF is what one image signal of the list means under the DCS that the last CFR answered,
 -- and the signals of later pages stand at later places.
 abbrev pub ConfirmsSignals : Type 0
-ConfirmsSignals =
-    (setup : Setup) (writes : Writing) (trace : List Event) (l : CallingLeg) (packets : List (List ℕ)) (arrivals : List Arrival)
-    → IsTrace setup writes trace → calling_leg setup trace ≡ Some l → IsHonest packets arrivals → l.arrived ≡ datagrams arrivals
-    → Rises packets (core_of l).history (length packets)
+ConfirmsSignals = (setup : Setup) (writes : Writing)
+    (trace : List Event) (l : CallingLeg) (packets : List (List ℕ)) (arrivals : List Arrival)
+    → IsTrace setup writes trace → calling_leg setup trace ≡ Some l → IsHonest packets arrivals
+    → l.arrived ≡ datagrams arrivals → Rises packets (core_of l).history (length packets)
 
 -- Each frame that the call hears is a frame of the list, where the first datagram reaches back to the first packet, or each
 -- packet can be read and ends, as V.21 data, at a boundary.
 abbrev pub HearsSentFrames : Type 0
-HearsSentFrames =
-    (setup : Setup) (writes : Writing) (trace : List Event) (l : CallingLeg) (packets : List (List ℕ)) (arrivals : List Arrival)
-    → IsTrace setup writes trace → calling_leg setup trace ≡ Some l → IsHonest packets arrivals → l.arrived ≡ datagrams arrivals
-    → BeginsAtFirst arrivals ⊎ AreClosed packets
-    → (octets : List ℕ) → Contains (pieces_heard (core_of l).history) (Frame octets) → Contains (pieces (slots_of packets)) (Frame octets)
+HearsSentFrames = (setup : Setup) (writes : Writing)
+    (trace : List Event) (l : CallingLeg) (packets : List (List ℕ)) (arrivals : List Arrival)
+    → IsTrace setup writes trace → calling_leg setup trace ≡ Some l → IsHonest packets arrivals
+    → l.arrived ≡ datagrams arrivals → BeginsAtFirst arrivals ⊎ AreClosed packets
+    → (octets : List ℕ) → Contains (pieces_heard (core_of l).history) (Frame octets)
+    → Contains (pieces (slots_of packets)) (Frame octets)

@@ -24,7 +24,8 @@ pub record HasSettings (setup : Setup) (settings : Settings) : Type 0 where
   pub asks : settings.asks ≡ setup.asks
 
 -- and it is restored with these calls
-pub record AreSetWith (setup : Setup) (settings : Settings) (calls : List RestoredCall) : Type 0 where
+pub record AreSetWith (setup : Setup) (settings : Settings) (calls : List RestoredCall) :
+    Type 0 where
   pub set : HasSettings setup settings
   pub restored : setup.restored ≡ calls
 

@@ -71,22 +71,30 @@ begun_if begins sending marks = marks
 
 -- what stands before that which a tick gives
 abbrev pub marks_before : Setup → Writing → List Event → ℕ → List Mark → List Mark
-marks_before setup writes earlier at marks = begun_if (begins_next setup (both_legs setup writes earlier).leg) (book_of (in_tick setup writes earlier at)).sending marks
+marks_before setup writes earlier at marks =
+    begun_if (begins_next setup (both_legs setup writes earlier).leg)
+    (book_of (in_tick setup writes earlier at)).sending marks
 
 abbrev pub leg_marks : Setup → Writing → List Event → List Mark
 leg_marks setup writes [] = []
 leg_marks setup writes (Ring at number ∷ earlier) = leg_marks setup writes earlier
-leg_marks setup writes (FromCalling octets at decided read ∷ earlier) = leg_marks setup writes earlier
-leg_marks setup writes (FromCalled octets at decided ∷ earlier) = heard_by writes (both_legs setup writes earlier).leg octets (leg_marks setup writes earlier)
-leg_marks setup writes (Tick at given ∷ earlier) =
-    gave_all (elements_told given.on_called) (marks_before setup writes earlier at (leg_marks setup writes earlier))
-leg_marks setup writes (Placed at connected ∷ earlier) = begun_if true (book_of (both_legs setup writes (Placed at connected ∷ earlier))).sending (leg_marks setup writes earlier)
+leg_marks setup writes (FromCalling octets at decided read ∷ earlier) =
+    leg_marks setup writes earlier
+leg_marks setup writes (FromCalled octets at decided ∷ earlier) =
+    heard_by writes (both_legs setup writes earlier).leg octets (leg_marks setup writes earlier)
+leg_marks setup writes (Tick at given ∷ earlier) = gave_all (elements_told given.on_called)
+    (marks_before setup writes earlier at (leg_marks setup writes earlier))
+leg_marks setup writes (Placed at connected ∷ earlier) =
+    begun_if true (book_of (both_legs setup writes (Placed at connected
+    ∷ earlier))).sending (leg_marks setup writes earlier)
 
 -- what holds of each image that these elements end, by what stood before its end
 abbrev pub IfEmits : (List Mark → Emission → Type 0) → List Mark → Option Emission → Type 0
 IfEmits P marks None = Unit {0}
 IfEmits P marks (Some emission) = P marks emission
 
-abbrev pub EachEmission : (List Mark → Emission → Type 0) → List Mark → List elements.Element → Type 0
+abbrev pub EachEmission : (List Mark → Emission → Type 0)
+    → List Mark → List elements.Element → Type 0
 EachEmission P marks [] = Unit {0}
-EachEmission P marks (e ∷ es) = IfEmits P marks (emitted_at (elements_given marks) e) × EachEmission P (Gave e ∷ marks) es
+EachEmission P marks (e ∷ es) =
+    IfEmits P marks (emitted_at (elements_given marks) e) × EachEmission P (Gave e ∷ marks) es

@@ -17,7 +17,12 @@ use Rattle.fax_gateway.specs.Reached.{CallingValue, TellsWhyOn}
 -- the page that it confirms, in the call of this number
 abbrev pub kept_if : ℕ → Option ConfirmedPage → Option Kept
 kept_if number None = None
-kept_if number (Some c) = Some (record { call = number; format = c.page.format; rows = length c.page.rows; closes = c.closes })
+kept_if number (Some c) = Some (record {
+  call = number;
+  format = c.page.format;
+  rows = length c.page.rows;
+  closes = c.closes;
+})
 
 abbrev pub kept_at : Option CallingLeg → ℕ → Option Kept
 kept_at None now = None
@@ -29,7 +34,8 @@ refused_if number None = None
 refused_if number (Some why) = Some (record { call = number; why = why })
 
 abbrev pub Refuses : Option CallingLeg → ℕ → (number : ℕ) → Option RefusedPage → Type 0
-Refuses leg now number told = (why : Option Refusal) × TellsWhyOn leg now why × (told ≡ refused_if number why)
+Refuses leg now number told =
+    (why : Option Refusal) × TellsWhyOn leg now why × (told ≡ refused_if number why)
 
 abbrev pub IsRefusedAt : Option CallingLeg → ℕ → Option RefusedPage → Type 0
 IsRefusedAt None now told = told ≡ None
@@ -54,7 +60,8 @@ pages_confirmed setup [] = []
 pages_confirmed setup (Ring at number ∷ earlier) = pages_confirmed setup earlier
 pages_confirmed setup (FromCalling octets at decided read ∷ earlier) = pages_confirmed setup earlier
 pages_confirmed setup (FromCalled octets at decided ∷ earlier) = pages_confirmed setup earlier
-pages_confirmed setup (Tick at given ∷ earlier) = pages_confirmed setup earlier ++ kept_list (kept_at (calling_leg setup earlier) (max at (clock earlier)))
+pages_confirmed setup (Tick at given ∷ earlier) = pages_confirmed setup earlier
+    ++ kept_list (kept_at (calling_leg setup earlier) (max at (clock earlier)))
 pages_confirmed setup (Placed at connected ∷ earlier) = pages_confirmed setup earlier
 
 abbrev pub refused_list : Option RefusedPage → List RefusedPage
@@ -68,7 +75,8 @@ AreRefused setup (FromCalling octets at decided read ∷ earlier) told = AreRefu
 AreRefused setup (FromCalled octets at decided ∷ earlier) told = AreRefused setup earlier told
 AreRefused setup (Tick at given ∷ earlier) told =
     (before : List RefusedPage) × (refused : Option RefusedPage) × AreRefused setup earlier before
-    × IsRefusedAt (calling_leg setup earlier) (max at (clock earlier)) refused × (told ≡ before ++ refused_list refused)
+    × IsRefusedAt (calling_leg setup earlier) (max at (clock earlier)) refused
+    × (told ≡ before ++ refused_list refused)
 AreRefused setup (Placed at connected ∷ earlier) told = AreRefused setup earlier told
 
 abbrev pub call_list : Option ℕ → List ℕ
@@ -80,15 +88,18 @@ calls_given_up setup [] = []
 calls_given_up setup (Ring at number ∷ earlier) = calls_given_up setup earlier
 calls_given_up setup (FromCalling octets at decided read ∷ earlier) = calls_given_up setup earlier
 calls_given_up setup (FromCalled octets at decided ∷ earlier) = calls_given_up setup earlier
-calls_given_up setup (Tick at given ∷ earlier) = calls_given_up setup earlier ++ call_list (given_up_at (calling_leg setup earlier) (max at (clock earlier)))
+calls_given_up setup (Tick at given ∷ earlier) = calls_given_up setup earlier
+    ++ call_list (given_up_at (calling_leg setup earlier) (max at (clock earlier)))
 calls_given_up setup (Placed at connected ∷ earlier) = calls_given_up setup earlier
 
 -- What the ticks told by which a trace became longer: at most one report, one page that was confirmed, one that was refused, and
 -- one call.
-pub record TellTicks (setup : Setup) (older newer : List Event) (report : Option Report) (kept : Option Kept) (refused : Option RefusedPage) (gave_up : Option ℕ) : Type 0 where
+pub record TellTicks (setup : Setup) (older newer : List Event) (report : Option Report)
+    (kept : Option Kept) (refused : Option RefusedPage) (gave_up : Option ℕ) : Type 0 where
   pub reports : reports_given newer ≡ reports_given older ++ report_list report
   pub pages : pages_confirmed setup newer ≡ pages_confirmed setup older ++ kept_list kept
-  pub refusals : (told : List RefusedPage) → AreRefused setup older told → AreRefused setup newer (told ++ refused_list refused)
+  pub refusals : (told : List RefusedPage)
+      → AreRefused setup older told → AreRefused setup newer (told ++ refused_list refused)
   pub calls : calls_given_up setup newer ≡ calls_given_up setup older ++ call_list gave_up
 
 -- ---- what is on

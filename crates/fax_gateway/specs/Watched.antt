@@ -25,22 +25,29 @@ use Rattle.fax_gateway.specs.Reached.{CallingValue, GatewayValue, HearsCalling, 
 
 -- THE CALLING LEG: of each piece of a datagram, by its reading. Nothing is told of one that comes while no call is on, and of
 -- octets that are no datagram.
-abbrev pub calling_tellings_of : CallingLeg → ℕ → Reading → Result DatagramValue UdptlFault → List answer.Telling
-calling_tellings_of l now read (Ok d) = answer.tellings read (calling_legs.core_of l) (new_pieces l.arrived d) now
+abbrev pub calling_tellings_of : CallingLeg
+    → ℕ → Reading → Result DatagramValue UdptlFault → List answer.Telling
+calling_tellings_of l now read (Ok d) =
+    answer.tellings read (calling_legs.core_of l) (new_pieces l.arrived d) now
 calling_tellings_of l now read (Err fault) = []
 
 abbrev pub calling_tellings : Option CallingLeg → ℕ → List ℕ → Reading → List answer.Telling
 calling_tellings None now octets read = []
-calling_tellings (Some l) now octets read = if is_idle (calling_legs.core_of l).state then [] else calling_tellings_of l now read (datagram_of octets)
+calling_tellings (Some l) now octets read = if is_idle (calling_legs.core_of l).state
+    then [] else calling_tellings_of l now read (datagram_of octets)
 
 -- a datagram came, by one reading that is right, and this holds of what was told of it
-pub record HearsCallingTold (Tells : List answer.Telling → Type 0) (setup : Setup) (leg : Option CallingLeg) (now : ℕ) (octets : List ℕ) (endpoint : CallingValue) : Type 0 where
+pub record HearsCallingTold (Tells : List answer.Telling → Type 0) (setup : Setup)
+    (leg : Option CallingLeg) (now : ℕ) (octets : List ℕ) (endpoint : CallingValue) : Type 0 where
   pub hears : HearsCalling setup leg now octets endpoint
   pub told : Tells (calling_tellings leg now octets hears.read)
 
-pub record HearsFromTold (Tells : List answer.Telling → Type 0) (setup : Setup) (writes : Writing) (trace : List Event) (octets : List ℕ) (now : ℕ) (decided : Bool) (gateway : GatewayValue) : Type 0 where
+pub record HearsFromTold (Tells : List answer.Telling → Type 0) (setup : Setup) (writes : Writing)
+    (trace : List Event) (octets : List ℕ) (now : ℕ) (decided : Bool) (gateway : GatewayValue) :
+    Type 0 where
   pub hears : HearsFrom setup writes trace octets now decided gateway
-  pub told : Tells (calling_tellings (calling_leg setup trace) (max now (clock trace)) octets hears.read)
+  pub told :
+      Tells (calling_tellings (calling_leg setup trace) (max now (clock trace)) octets hears.read)
 
 -- the state before, and the timer that acts in a tick
 abbrev pub calling_state : Option CallingLeg → answer_states.State
@@ -52,13 +59,16 @@ calling_acting None now = None
 calling_acting (Some l) now = answer.acting (calling_legs.core_of l) now
 
 -- THE CALLED LEG: the same
-abbrev pub called_tellings_of : Writing → CalledLeg → ℕ → Result DatagramValue UdptlFault → List call.Telling
-called_tellings_of writes l now (Ok d) = call.tellings (called_legs.core_of writes l) (new_pieces l.arrived d) now
+abbrev pub called_tellings_of : Writing
+    → CalledLeg → ℕ → Result DatagramValue UdptlFault → List call.Telling
+called_tellings_of writes l now (Ok d) =
+    call.tellings (called_legs.core_of writes l) (new_pieces l.arrived d) now
 called_tellings_of writes l now (Err fault) = []
 
 abbrev pub called_tellings : Writing → Option CalledLeg → ℕ → List ℕ → List call.Telling
 called_tellings writes None now octets = []
-called_tellings writes (Some l) now octets = if is_over (called_legs.core_of writes l).state then [] else called_tellings_of writes l now (datagram_of octets)
+called_tellings writes (Some l) now octets = if is_over (called_legs.core_of writes l).state
+    then [] else called_tellings_of writes l now (datagram_of octets)
 
 abbrev pub called_state : Writing → Option CalledLeg → call_states.State
 called_state writes None = call_state.Idle

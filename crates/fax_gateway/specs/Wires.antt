@@ -40,4 +40,5 @@ buffer_octets = 2 ^ 16
 -- Where a list is told, it was told before, and has these before it.
 abbrev pub Grows : {A : Type 0} → List A → Option (List A) → Option (List A) → Type 0
 Grows newer before None = Unit {0}
-Grows {A} newer before (Some told) = (older : List A) × (before ≡ Some older) × (told ≡ newer ++ older)
+Grows {A} newer before (Some told) =
+    (older : List A) × (before ≡ Some older) × (told ≡ newer ++ older)

@@ -51,8 +51,10 @@ impl Buffer {
     ) -> Result<Option<usize>, WireFault>
         ensures room { length self.new ≡ buffer_octets }
         ensures fits { IfOk result (λ came. IfSome came (λ count. count ≤ length self.new)) }
-        ensures failures { (W.known wire.new).failures ≡ failures_after (W.known wire.old).failures result }
-        ensures received { Grows (receipt_of leg self.new result ∷ []) (W.known wire.old).received (W.known wire.new).received }
+        ensures failures { (W.known wire.new).failures
+            ≡ failures_after (W.known wire.old).failures result }
+        ensures received { Grows (receipt_of leg self.new result
+            ∷ []) (W.known wire.old).received (W.known wire.new).received }
         ensures sent { Grows [] (W.known wire.old).sent (W.known wire.new).sent }
         ensures makes { W.receives leg wire.old wire.new }
     {

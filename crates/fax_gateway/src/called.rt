@@ -39,7 +39,8 @@ impl CalledEndpoint {
     /// An endpoint on whose leg no call was. It takes memory for the leg.
     pub fn new(alloc: Global, settings: Settings) -> Result<Self, NoMemory>
         requires { AreAllowed settings }
-        ensures reached { IfOk result (λ endpoint. (setup : Setup) (writes : Writing) → HasSettings setup settings → IsCalled setup writes None endpoint) }
+        ensures reached { IfOk result (λ endpoint. (setup : Setup) (writes : Writing)
+            → HasSettings setup settings → IsCalled setup writes None endpoint) }
         ensures idle { IfOk result (λ endpoint. endpoint.caller.procedure.state ≡ State.Idle) }
     {
         let leg = Endpoint::new(alloc, settings.redundancy)?;
@@ -58,7 +59,8 @@ impl CalledEndpoint {
 
     /// The timer that acts in a tick at this moment.
     pub fn acting(&self, now: u64) -> Option<ActingTimer>
-        ensures { EachCalledLeg self.now (λ setup writes leg. result ≡ called_acting writes leg now) }
+        ensures { EachCalledLeg self.now
+            (λ setup writes leg. result ≡ called_acting writes leg now) }
     {
         self.caller.acting(now)
     }
@@ -71,12 +73,17 @@ impl CalledEndpoint {
         now: u64,
         watcher: &mut W,
     ) -> Result<bool, NoMemory>
-        ensures heard { OnOk result (EachCalledLeg self.old (λ setup writes leg. IsCalled setup writes (option_map (hears writes octets.now now) leg) self.new)) }
-        ensures told { OnOk result (EachCalledLeg self.old (λ setup writes leg. Watches W.tells watcher.old watcher.new (called_tellings writes leg now octets.now))) }
-        ensures decided { IfOk result (λ decided. EachCalledLeg self.old (λ setup writes leg. decided ≡ decided_called writes leg octets.now)) }
-        ensures memory { OnErr result (EachCalledLeg self.old (λ setup writes leg. decided_called writes leg octets.now ≡ true)) }
+        ensures heard { OnOk result (EachCalledLeg self.old (λ setup writes leg.
+            IsCalled setup writes (option_map (hears writes octets.now now) leg) self.new)) }
+        ensures told { OnOk result (EachCalledLeg self.old (λ setup writes leg.
+            Watches W.tells watcher.old watcher.new (called_tellings writes leg now octets.now))) }
+        ensures decided { IfOk result (λ decided. EachCalledLeg self.old
+            (λ setup writes leg. decided ≡ decided_called writes leg octets.now)) }
+        ensures memory { OnErr result (EachCalledLeg self.old
+            (λ setup writes leg. decided_called writes leg octets.now ≡ true)) }
         ensures idle { self.old.caller.procedure.state ≡ State.Idle → self.new ≡ self.old }
-        ensures job { (job : JobValue) → IsJobOfCall self.old.caller.procedure job → IsJobOfCall self.new.caller.procedure job }
+        ensures job { (job : JobValue) → IsJobOfCall self.old.caller.procedure job
+            → IsJobOfCall self.new.caller.procedure job }
         ensures err { OnErr result (self.new ≡ self.old) }
     {
         if self.caller.state() == State::Idle {
@@ -104,7 +111,8 @@ impl CalledEndpoint {
 
     /// The first moment at which a tick in the call may give something or change it, or its end is entered: 0 where it is over.
     pub fn next_due(&self) -> Option<u64>
-        ensures { (setup : Setup) (writes : Writing) (l : CalledLeg) → IsCalled setup writes (Some l) self.now → result ≡ call_due (core_of writes l) }
+        ensures { (setup : Setup) (writes : Writing) (l : CalledLeg)
+            → IsCalled setup writes (Some l) self.now → result ≡ call_due (core_of writes l) }
     {
         match self.outcome() {
             Some(_) => Some(0),
@@ -122,7 +130,8 @@ impl CalledEndpoint {
     /// Takes the memory of the next datagram, and of the first packet of a call.
     pub fn reserve(&mut self) -> Result<(), NoMemory>
         ensures room { OnOk result (CalledHasRoom self.new) }
-        ensures reached { EachCalledLeg self.old (λ setup writes leg. IsCalled setup writes leg self.new) }
+        ensures reached { EachCalledLeg self.old
+            (λ setup writes leg. IsCalled setup writes leg self.new) }
         ensures same { called_alone self.new ≡ called_alone self.old }
         ensures procedure { self.new.caller.procedure ≡ self.old.caller.procedure }
     {
@@ -133,8 +142,9 @@ impl CalledEndpoint {
     /// The call of a job begins, where no call is on, with a leg of its own. It takes no memory.
     pub fn start<S: RowStore>(&mut self, job: &Job<S>, leg: Endpoint, now: u64)
         requires idle { self.old.caller.procedure.state ≡ State.Idle }
-        ensures started { (setup : Setup) (writes : Writing) (old : Option CalledLeg) → IsLeg setup [] [] leg → IsCalled setup writes old self.old
-            → IsCalled setup writes (Some (begun_leg job.now (core_left setup writes old) now)) self.new }
+        ensures started { (setup : Setup) (writes : Writing) (old : Option CalledLeg)
+            → IsLeg setup [] [] leg → IsCalled setup writes old self.old → IsCalled setup
+            writes (Some (begun_leg job.now (core_left setup writes old) now)) self.new }
         ensures job { IsJobOfCall self.new.caller.procedure job.now }
         ensures tone { self.new.caller.procedure.pending ≡ Pending.Tone }
         ensures spare { self.new.caller.spare ≡ self.old.caller.spare }
@@ -150,8 +160,9 @@ impl CalledEndpoint {
     /// reached, is over as it begins. It takes no memory.
     pub fn place<S: RowStore>(&mut self, job: &Job<S>, connected: bool, leg: Endpoint, now: u64)
         requires idle { self.old.caller.procedure.state ≡ State.Idle }
-        ensures placed { (setup : Setup) (writes : Writing) (old : Option CalledLeg) → IsLeg setup [] [] leg → IsCalled setup writes old self.old
-            → IsCalled setup writes (Some (placed_leg connected job.now (core_left setup writes old) now)) self.new }
+        ensures placed { (setup : Setup) (writes : Writing) (old : Option CalledLeg)
+            → IsLeg setup [] [] leg → IsCalled setup writes old self.old → IsCalled setup writes
+            (Some (placed_leg connected job.now (core_left setup writes old) now)) self.new }
         ensures job { IsJobOfCall self.new.caller.procedure job.now }
     {
         if connected {
@@ -164,8 +175,9 @@ impl CalledEndpoint {
     /// The call of a job could not be placed: it is over as it begins.
     fn fail_to_place<S: RowStore>(&mut self, job: &Job<S>, leg: Endpoint, now: u64)
         requires idle { self.old.caller.procedure.state ≡ State.Idle }
-        ensures failed { (setup : Setup) (writes : Writing) (old : Option CalledLeg) → IsLeg setup [] [] leg → IsCalled setup writes old self.old
-            → IsCalled setup writes (Some (placed_leg false job.now (core_left setup writes old) now)) self.new }
+        ensures failed { (setup : Setup) (writes : Writing) (old : Option CalledLeg)
+            → IsLeg setup [] [] leg → IsCalled setup writes old self.old → IsCalled setup
+            writes (Some (placed_leg false job.now (core_left setup writes old) now)) self.new }
         ensures job { IsJobOfCall self.new.caller.procedure job.now }
     {
         // what it ensures of the job is that it has a page
@@ -180,10 +192,12 @@ impl CalledEndpoint {
     pub fn tick<S: RowStore>(&mut self, job: &Job<S>, now: u64) -> Result<Option<Octets>, NoMemory>
         requires job { IsJobOfCall self.old.caller.procedure job.now }
         requires room { most_octets < self.old.leg.sender.spare }
-        ensures ticked { IfOk result (λ given. (setup : Setup) (writes : Writing) (l : CalledLeg) → IsWriting writes → l.job ≡ job.now → IsCalled setup writes (Some l) self.old
+        ensures ticked { IfOk result (λ given. (setup : Setup) (writes : Writing) (l : CalledLeg)
+            → IsWriting writes → l.job ≡ job.now → IsCalled setup writes (Some l) self.old
             → TicksOn setup writes l now given self.new) }
         ensures job { OnOk result (IsJobOfCall self.new.caller.procedure job.now) }
-        ensures first { self.old.caller.procedure.pending ≡ Pending.Tone → OnErr result (self.old.caller.spare ≡ 0) }
+        ensures first { self.old.caller.procedure.pending ≡ Pending.Tone
+            → OnErr result (self.old.caller.spare ≡ 0) }
         ensures err { OnErr result (self.new ≡ self.old) }
     {
         let packet = self.caller.tick(job, now)?;
@@ -196,7 +210,8 @@ impl CalledEndpoint {
         requires idle { self.old.caller.procedure.state ≡ State.Idle }
         requires packet { 1 ≤ self.old.caller.spare }
         requires datagram { most_octets < leg.sender.spare }
-        ensures begun { (setup : Setup) (writes : Writing) (old : Option CalledLeg) → IsWriting writes → IsLeg setup [] [] leg → IsCalled setup writes old self.old
+        ensures begun { (setup : Setup) (writes : Writing) (old : Option CalledLeg)
+            → IsWriting writes → IsLeg setup [] [] leg → IsCalled setup writes old self.old
             → Begins setup writes old jobs.now.book.sending now result self.old self.new }
         ensures served { IsServed jobs.now.book.sending self.new.caller.procedure }
     {

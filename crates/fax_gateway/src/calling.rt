@@ -53,7 +53,8 @@ impl<S: RowStore> CallingEndpoint<S> {
     /// An endpoint on whose leg no call was. It takes memory for the leg.
     pub fn new(alloc: Global, settings: Settings) -> Result<Self, NoMemory>
         requires { AreAllowed settings }
-        ensures { IfOk result (λ endpoint. (setup : Setup) → HasSettings setup settings → IsCalling setup None endpoint) }
+        ensures { IfOk result (λ endpoint. (setup : Setup)
+            → HasSettings setup settings → IsCalling setup None endpoint) }
     {
         let leg = Endpoint::new(alloc, settings.redundancy)?;
         Ok(CallingEndpoint {
@@ -89,7 +90,8 @@ impl<S: RowStore> CallingEndpoint<S> {
     pub fn ring(&mut self, number: u32, redundancy: u8, now: u64) -> Result<(), NoMemory>
         requires idle { self.old.kept.procedure.state ≡ State.Idle }
         requires few { redundancy ≤ most_redundancy }
-        ensures rung { OnOk result ((setup : Setup) (leg : Option CallingLeg) → redundancy ≡ setup.redundancy → IsCalling setup leg self.old
+        ensures rung { OnOk result ((setup : Setup) (leg : Option CallingLeg)
+            → redundancy ≡ setup.redundancy → IsCalling setup leg self.old
             → IsCalling setup (Some (rung_leg (answering_of setup leg) now number)) self.new) }
         ensures err { OnErr result (self.new ≡ self.old) }
     {
@@ -123,11 +125,15 @@ impl<S: RowStore> CallingEndpoint<S> {
         most: u128,
         watcher: &mut W,
     ) -> Result<bool, NoMemory>
-        ensures heard { OnOk result (EachCallingLeg self.old (λ setup leg. HearsCallingTold (Watches W.tells watcher.old watcher.new) setup leg now octets.now self.new)) }
-        ensures decided { IfOk result (λ decided. EachCallingLeg self.old (λ setup leg. decided ≡ decided_calling leg octets.now)) }
-        ensures memory { OnErr result (EachCallingLeg self.old (λ setup leg. decided_calling leg octets.now ≡ true)) }
+        ensures heard { OnOk result (EachCallingLeg self.old (λ setup leg. HearsCallingTold
+            (Watches W.tells watcher.old watcher.new) setup leg now octets.now self.new)) }
+        ensures decided { IfOk result (λ decided.
+            EachCallingLeg self.old (λ setup leg. decided ≡ decided_calling leg octets.now)) }
+        ensures memory { OnErr result (EachCallingLeg self.old
+            (λ setup leg. decided_calling leg octets.now ≡ true)) }
         ensures err { OnErr result (self.new ≡ self.old) }
-        ensures within { OnOk result (most ≤ octets_of_answerer self.old.kept → octets_of_answerer self.new.kept ≤ octets_of_answerer self.old.kept) }
+        ensures within { OnOk result (most ≤ octets_of_answerer self.old.kept
+            → octets_of_answerer self.new.kept ≤ octets_of_answerer self.old.kept) }
     {
         if self.is_idle() {
             return Ok(false);
@@ -170,7 +176,8 @@ impl<S: RowStore> CallingEndpoint<S> {
     /// The memory is reserved.
     pub fn tick(&mut self, now: u64) -> Step<S>
         requires { CallingHasRoom self.old }
-        ensures ticked { EachCallingLeg self.old (λ setup leg. IsCalling setup (ticked_on leg now) self.new) }
+        ensures ticked { EachCallingLeg self.old
+            (λ setup leg. IsCalling setup (ticked_on leg now) self.new) }
         ensures told { EachCallingLeg self.old (λ setup leg. TellsTick setup leg now result) }
         ensures number { self.new.number ≡ self.old.number }
     {

@@ -60,15 +60,24 @@ impl Driver {
         wire: &mut W,
         now: u64,
     ) -> TurnReport
-        ensures turned { (setup : Setup) (writes : Writing) (trace : List Event) (earlier : List Entry) → IsWriting writes → IsReachedBy setup writes trace gateway.old → HasMade earlier self.old
-            → (turn : List Entry) × IsTurn now turn × Happens setup writes turn trace gateway.new (W.known wire.old) (W.known wire.new) × HasMade (turn ++ earlier) self.new
-            × TellTicks setup trace (events turn ++ trace) result.report result.kept result.refused result.gave_up
+        ensures turned { (setup : Setup) (writes : Writing) (trace : List Event)
+            (earlier : List Entry) → IsWriting writes → IsReachedBy setup writes trace gateway.old
+            → HasMade earlier self.old → (turn : List Entry) × IsTurn now turn
+            × Happens setup writes turn trace gateway.new (W.known wire.old) (W.known wire.new)
+            × HasMade (turn ++ earlier) self.new × TellTicks setup trace (events turn
+            ++ trace) result.report result.kept result.refused result.gave_up
             × WireGoes W.receives W.sends turn wire.old wire.new }
-        ensures goes_on { (made : List Entry) → HasMade made self.new → IsTrue result.goes_on ↔ (failed_in_a_row (receipts made) < most_failed) }
-        ensures ended { result.ended ≡ call_ended (call_of_rep gateway.old.calling) (call_of_rep gateway.new.calling) }
-        ensures dialled { result.dialled ≡ call_dialled (is_some gateway.old.book.sending) gateway.new.book.sending }
-        ensures asked { result.asked ≡ call_if_new (call_asked (job_asked gateway.old.settings.asks gateway.old.book)) (call_asked (job_asked gateway.new.settings.asks gateway.new.book)) }
-        ensures refusals { RiseAlike gateway.old.refusals gateway.new.refusals self.old.events_refused self.new.events_refused }
+        ensures goes_on { (made : List Entry) → HasMade made self.new
+            → IsTrue result.goes_on ↔ (failed_in_a_row (receipts made) < most_failed) }
+        ensures ended { result.ended
+            ≡ call_ended (call_of_rep gateway.old.calling) (call_of_rep gateway.new.calling) }
+        ensures dialled { result.dialled
+            ≡ call_dialled (is_some gateway.old.book.sending) gateway.new.book.sending }
+        ensures asked { result.asked
+            ≡ call_if_new (call_asked (job_asked gateway.old.settings.asks gateway.old.book))
+            (call_asked (job_asked gateway.new.settings.asks gateway.new.book)) }
+        ensures refusals { RiseAlike gateway.old.refusals
+            gateway.new.refusals self.old.events_refused self.new.events_refused }
     {
         self.engine.turn(&mut self.buffer, gateway, wire, now)
     }

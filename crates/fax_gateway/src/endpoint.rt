@@ -33,7 +33,8 @@ impl Endpoint {
     /// memory for these.
     pub fn new(alloc: Global, redundancy: u8) -> Result<Self, NoMemory>
         requires { redundancy ≤ most_redundancy }
-        ensures { IfOk result (λ leg. (setup : Setup) → redundancy ≡ setup.redundancy → IsLeg setup [] [] leg) }
+        ensures { IfOk result
+            (λ leg. (setup : Setup) → redundancy ≡ setup.redundancy → IsLeg setup [] [] leg) }
     {
         let sender = Sender::new(alloc, redundancy)?;
         Ok(Endpoint {
@@ -45,7 +46,8 @@ impl Endpoint {
     /// The same with the memory of its first datagram.
     pub fn with_room(alloc: Global, redundancy: u8) -> Result<Self, NoMemory>
         requires { redundancy ≤ most_redundancy }
-        ensures fresh { IfOk result (λ leg. (setup : Setup) → redundancy ≡ setup.redundancy → IsLeg setup [] [] leg) }
+        ensures fresh { IfOk result
+            (λ leg. (setup : Setup) → redundancy ≡ setup.redundancy → IsLeg setup [] [] leg) }
         ensures room { IfOk result (λ leg. most_octets < leg.sender.spare) }
     {
         let mut leg = Endpoint::new(alloc, redundancy)?;
@@ -57,7 +59,8 @@ impl Endpoint {
     pub fn reserve(&mut self, octets: usize) -> Result<(), NoMemory>
         requires { octets ≤ most_octets }
         ensures room { OnOk result (octets < self.new.sender.spare) }
-        ensures reached { (setup : Setup) (arrived : List DatagramValue) (given : List (List ℕ)) → IsLeg setup arrived given self.old → IsLeg setup arrived given self.new }
+        ensures reached { (setup : Setup) (arrived : List DatagramValue) (given : List (List ℕ))
+            → IsLeg setup arrived given self.old → IsLeg setup arrived given self.new }
         ensures same { leg_alone self.new ≡ leg_alone self.old }
         ensures err { OnErr result (self.new ≡ self.old) }
     {
@@ -68,8 +71,9 @@ impl Endpoint {
     pub fn send(&mut self, packet: &[u8]) -> Octets
         requires short { length packet.now ≤ most_octets }
         requires room { length packet.now < self.old.sender.spare }
-        ensures { (setup : Setup) (arrived : List DatagramValue) (given : List (List ℕ)) → IsLeg setup arrived given self.old
-            → (result ≡ sent setup given packet.now) × IsLeg setup arrived (packet.now ∷ given) self.new }
+        ensures { (setup : Setup) (arrived : List DatagramValue) (given : List (List ℕ))
+            → IsLeg setup arrived given self.old → (result ≡ sent setup given packet.now)
+            × IsLeg setup arrived (packet.now ∷ given) self.new }
     {
         match self.sender.send(packet) {
             Ok(octets) => octets,
@@ -81,8 +85,9 @@ impl Endpoint {
     pub fn send_if(&mut self, packet: Option<Octets>) -> Option<Octets>
         requires short { IfSome packet (λ packet. length packet ≤ most_octets) }
         requires room { IfSome packet (λ packet. length packet < self.old.sender.spare) }
-        ensures { (setup : Setup) (arrived : List DatagramValue) (given : List (List ℕ)) → IsLeg setup arrived given self.old
-            → (result ≡ sent_if setup given packet) × IsLeg setup arrived (given_with packet given) self.new }
+        ensures { (setup : Setup) (arrived : List DatagramValue) (given : List (List ℕ))
+            → IsLeg setup arrived given self.old → (result ≡ sent_if setup given packet)
+            × IsLeg setup arrived (given_with packet given) self.new }
     {
         match packet {
             None => None,

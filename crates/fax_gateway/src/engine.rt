@@ -52,7 +52,13 @@ impl Model for Engine {
 
     ghost Value = { DriverValue };
 
-    ghost view = { λ e. record { failed_in_a_row = e.failed_in_a_row; events_refused = e.events_refused; receives_failed = e.receives_failed; sends_failed = e.sends_failed } };
+    ghost view = { λ e.
+        record {
+          failed_in_a_row = e.failed_in_a_row;
+          events_refused = e.events_refused;
+          receives_failed = e.receives_failed;
+          sends_failed = e.sends_failed;
+        } };
 }
 
 impl Engine {
@@ -79,15 +85,24 @@ impl Engine {
         wire: &mut W,
         now: u64,
     ) -> TurnReport
-        ensures turned { (setup : Setup) (writes : Writing) (trace : List Event) (earlier : List Entry) → IsWriting writes → IsReachedBy setup writes trace gateway.old → HasMade earlier self.old
-            → (turn : List Entry) × IsTurn now turn × Happens setup writes turn trace gateway.new (W.known wire.old) (W.known wire.new) × HasMade (turn ++ earlier) self.new
-            × TellTicks setup trace (events turn ++ trace) result.report result.kept result.refused result.gave_up
+        ensures turned { (setup : Setup) (writes : Writing) (trace : List Event)
+            (earlier : List Entry) → IsWriting writes → IsReachedBy setup writes trace gateway.old
+            → HasMade earlier self.old → (turn : List Entry) × IsTurn now turn
+            × Happens setup writes turn trace gateway.new (W.known wire.old) (W.known wire.new)
+            × HasMade (turn ++ earlier) self.new × TellTicks setup trace (events turn
+            ++ trace) result.report result.kept result.refused result.gave_up
             × WireGoes W.receives W.sends turn wire.old wire.new }
-        ensures goes_on { (made : List Entry) → HasMade made self.new → IsTrue result.goes_on ↔ (failed_in_a_row (receipts made) < most_failed) }
-        ensures ended { result.ended ≡ call_ended (call_of_rep gateway.old.calling) (call_of_rep gateway.new.calling) }
-        ensures dialled { result.dialled ≡ call_dialled (is_some gateway.old.book.sending) gateway.new.book.sending }
-        ensures asked { result.asked ≡ call_if_new (call_asked (job_asked gateway.old.settings.asks gateway.old.book)) (call_asked (job_asked gateway.new.settings.asks gateway.new.book)) }
-        ensures refusals { RiseAlike gateway.old.refusals gateway.new.refusals self.old.events_refused self.new.events_refused }
+        ensures goes_on { (made : List Entry) → HasMade made self.new
+            → IsTrue result.goes_on ↔ (failed_in_a_row (receipts made) < most_failed) }
+        ensures ended { result.ended
+            ≡ call_ended (call_of_rep gateway.old.calling) (call_of_rep gateway.new.calling) }
+        ensures dialled { result.dialled
+            ≡ call_dialled (is_some gateway.old.book.sending) gateway.new.book.sending }
+        ensures asked { result.asked
+            ≡ call_if_new (call_asked (job_asked gateway.old.settings.asks gateway.old.book))
+            (call_asked (job_asked gateway.new.settings.asks gateway.new.book)) }
+        ensures refusals { RiseAlike gateway.old.refusals
+            gateway.new.refusals self.old.events_refused self.new.events_refused }
     {
         let call = gateway.call();
         let was_sending = gateway.sending().is_some();
@@ -109,7 +124,14 @@ impl Engine {
 
     /// What a run of so many turns came to, where this engine made it.
     pub(crate) fn told(&self, turns: u32, rings_refused: u64, stopped: bool) -> Driven
-        ensures { result ≡ record { turns = turns; rings_refused = rings_refused; events_refused = self.now.events_refused; sends_failed = self.now.sends_failed; receives_failed = self.now.receives_failed; stopped = stopped } }
+        ensures { result ≡ record {
+          turns = turns;
+          rings_refused = rings_refused;
+          events_refused = self.now.events_refused;
+          sends_failed = self.now.sends_failed;
+          receives_failed = self.now.receives_failed;
+          stopped = stopped;
+        } }
     {
         Driven {
             turns,
@@ -130,10 +152,13 @@ impl Engine {
         wire: &mut W,
         now: u64,
     )
-        ensures served { (setup : Setup) (writes : Writing) (trace : List Event) (earlier : List Entry) → IsReachedBy setup writes trace gateway.old → HasMade earlier self.old
-            → (log : List Entry) × AreReceives leg now log × Steps setup writes log trace earlier gateway.new (W.known wire.old) (W.known wire.new) self.new
-            × WireGoes W.receives W.sends log wire.old wire.new }
-        ensures refusals { RiseAlike gateway.old.refusals gateway.new.refusals self.old.events_refused self.new.events_refused }
+        ensures served { (setup : Setup) (writes : Writing)
+            (trace : List Event) (earlier : List Entry) → IsReachedBy setup writes trace gateway.old
+            → HasMade earlier self.old → (log : List Entry) × AreReceives leg now log
+            × Steps setup writes log trace earlier gateway.new (W.known wire.old)
+            (W.known wire.new) self.new × WireGoes W.receives W.sends log wire.old wire.new }
+        ensures refusals { RiseAlike gateway.old.refusals
+            gateway.new.refusals self.old.events_refused self.new.events_refused }
     {
         for _ in 0..MOST_DATAGRAMS {
             if !self.receive(leg, buffer, gateway, wire, now) {
@@ -151,10 +176,14 @@ impl Engine {
         wire: &mut W,
         now: u64,
     ) -> bool
-        ensures received { (setup : Setup) (writes : Writing) (trace : List Event) (earlier : List Entry) → IsReachedBy setup writes trace gateway.old → HasMade earlier self.old
-            → (entry : Entry) × IsReceive result leg now entry × Steps setup writes (entry ∷ []) trace earlier gateway.new (W.known wire.old) (W.known wire.new) self.new
+        ensures received { (setup : Setup)
+            (writes : Writing) (trace : List Event) (earlier : List Entry)
+            → IsReachedBy setup writes trace gateway.old → HasMade earlier self.old
+            → (entry : Entry) × IsReceive result leg now entry × Steps setup writes (entry
+            ∷ []) trace earlier gateway.new (W.known wire.old) (W.known wire.new) self.new
             × WireGoes W.receives W.sends (entry ∷ []) wire.old wire.new }
-        ensures refusals { RiseAlike gateway.old.refusals gateway.new.refusals self.old.events_refused self.new.events_refused }
+        ensures refusals { RiseAlike gateway.old.refusals
+            gateway.new.refusals self.old.events_refused self.new.events_refused }
     {
         match buffer.receive(leg, wire) {
             Ok(Some(count)) => {
@@ -175,8 +204,11 @@ impl Engine {
 
     /// A datagram came, and was accepted or refused.
     fn note_datagram(&mut self, is_accepted: bool)
-        ensures noted { (log : List Entry) (at : LegShown) (octets : List ℕ) (entry : Entry) → IsHanded is_accepted at octets entry → HasMade log self.old → HasMade (entry ∷ log) self.new }
-        ensures refused { self.new.events_refused ≡ refusals_if (not is_accepted) self.old.events_refused }
+        ensures noted { (log : List Entry) (at : LegShown) (octets : List ℕ) (entry : Entry)
+            → IsHanded is_accepted at octets entry
+            → HasMade log self.old → HasMade (entry ∷ log) self.new }
+        ensures refused { self.new.events_refused
+            ≡ refusals_if (not is_accepted) self.old.events_refused }
     {
         self.failed_in_a_row = 0;
         if !is_accepted {
@@ -186,7 +218,8 @@ impl Engine {
 
     /// A receive failed.
     fn note_failure(&mut self)
-        ensures noted { (log : List Entry) (at : LegShown) → HasMade log self.old → HasMade (FailsToReceive at ∷ log) self.new }
+        ensures noted { (log : List Entry) (at : LegShown)
+            → HasMade log self.old → HasMade (FailsToReceive at ∷ log) self.new }
         ensures refused { self.new.events_refused ≡ self.old.events_refused }
     {
         self.receives_failed = self.receives_failed.saturating_add(1);
@@ -202,11 +235,15 @@ impl Engine {
         wire: &mut W,
         now: u64,
     ) -> TickReport
-        ensures ticked { (setup : Setup) (writes : Writing) (trace : List Event) (earlier : List Entry) → IsWriting writes → IsReachedBy setup writes trace gateway.old → HasMade earlier self.old
-            → (log : List Entry) × IsTick now log × Steps setup writes log trace earlier gateway.new (W.known wire.old) (W.known wire.new) self.new
-            × TellTicks setup trace (events log ++ trace) result.report result.kept result.refused result.gave_up
+        ensures ticked { (setup : Setup) (writes : Writing) (trace : List Event)
+            (earlier : List Entry) → IsWriting writes → IsReachedBy setup writes trace gateway.old
+            → HasMade earlier self.old → (log : List Entry)
+            × IsTick now log × Steps setup writes log trace earlier gateway.new (W.known wire.old)
+            (W.known wire.new) self.new × TellTicks setup trace (events log
+            ++ trace) result.report result.kept result.refused result.gave_up
             × WireGoes W.receives W.sends log wire.old wire.new }
-        ensures refusals { RiseAlike gateway.old.refusals gateway.new.refusals self.old.events_refused self.new.events_refused }
+        ensures refusals { RiseAlike gateway.old.refusals
+            gateway.new.refusals self.old.events_refused self.new.events_refused }
     {
         match gateway.tick(now) {
             Ok(given) => {
@@ -223,8 +260,9 @@ impl Engine {
 
     /// Sends what is given on a leg.
     fn send<W: Wire>(&mut self, leg: Leg, given: &Option<Octets>, wire: &mut W)
-        ensures sent { (earlier : List Entry) → HasMade earlier self.old
-            → (log : List Entry) × IsSent leg given.now log × Carries log (W.known wire.old) (W.known wire.new) × HasMade (log ++ earlier) self.new
+        ensures sent { (earlier : List Entry)
+            → HasMade earlier self.old → (log : List Entry) × IsSent leg given.now log
+            × Carries log (W.known wire.old) (W.known wire.new) × HasMade (log ++ earlier) self.new
             × WireGoes W.receives W.sends log wire.old wire.new }
         ensures refused { self.new.events_refused ≡ self.old.events_refused }
     {
@@ -264,8 +302,10 @@ fn call_if_new(was_asked: Option<u32>, is_asked: Option<u32>) -> Option<u32>
 
 /// Hands a datagram of a leg on to the gateway. It answers whether it was accepted.
 fn hand_on<S: RowStore>(leg: Leg, octets: &[u8], gateway: &mut Gateway<S>, now: u64) -> bool
-    ensures handed { (setup : Setup) (writes : Writing) (trace : List Event) → IsReachedBy setup writes trace gateway.old
-        → (entry : Entry) × Comes leg now entry × IsHanded result leg octets.now entry × IsWanting setup writes trace entry × IsReachedBy setup writes (events (entry ∷ []) ++ trace) gateway.new }
+    ensures handed { (setup : Setup) (writes : Writing) (trace : List Event)
+        → IsReachedBy setup writes trace gateway.old → (entry : Entry) × Comes leg now entry
+        × IsHanded result leg octets.now entry × IsWanting setup writes trace entry
+        × IsReachedBy setup writes (events (entry ∷ []) ++ trace) gateway.new }
     ensures refusals { gateway.new.refusals ≡ refusals_if (not result) gateway.old.refusals }
 {
     match leg {

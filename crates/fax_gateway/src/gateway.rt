@@ -75,9 +75,20 @@ impl<S: RowStore> Model for Gateway<S> {
 
     ghost Value = { GatewayValue };
 
-    ghost view = { λ g. record { settings = g.settings; clock = g.clock; rings = g.rings; calling = g.calling; called = g.called; book = g.jobs.book; spare = g.jobs.spare; refusals = g.refusals } };
+    ghost view = { λ g.
+        record {
+          settings = g.settings;
+          clock = g.clock;
+          rings = g.rings;
+          calling = g.calling;
+          called = g.called;
+          book = g.jobs.book;
+          spare = g.jobs.spare;
+          refusals = g.refusals;
+        } };
 
-    ghost invariant = { λ g. IsServed g.jobs.book.sending g.called.caller.procedure × AreAllowed g.settings };
+    ghost invariant = { λ g. IsServed g.jobs.book.sending g.called.caller.procedure
+        × AreAllowed g.settings };
 }
 
 impl<S: RowStore> Gateway<S> {
@@ -85,7 +96,13 @@ impl<S: RowStore> Gateway<S> {
     /// legs and for the reports of jobs.
     pub fn new(alloc: Global, redundancy: u8) -> Result<Self, NoMemory>
         requires { redundancy ≤ most_redundancy }
-        ensures { IfOk result (λ gateway. (setup : Setup) (writes : Writing) → AreSet setup (record { redundancy = redundancy; preamble_ms = 40; asks = false; memory = 18446744073709551615 }) → IsReachedBy setup writes [] gateway) }
+        ensures { IfOk result (λ gateway. (setup : Setup) (writes : Writing)
+            → AreSet setup (record {
+              redundancy = redundancy;
+              preamble_ms = 40;
+              asks = false;
+              memory = 18446744073709551615;
+            }) → IsReachedBy setup writes [] gateway) }
     {
         Gateway::with_settings(
             alloc,
@@ -102,7 +119,8 @@ impl<S: RowStore> Gateway<S> {
     pub fn with_settings(alloc: Global, settings: Settings) -> Result<Self, NoMemory>
         requires { AreAllowed settings }
         ensures settings { IfOk result (λ gateway. gateway.settings ≡ settings) }
-        ensures reached { IfOk result (λ gateway. (setup : Setup) (writes : Writing) → AreSet setup settings → IsReachedBy setup writes [] gateway) }
+        ensures reached { IfOk result (λ gateway. (setup : Setup) (writes : Writing)
+            → AreSet setup settings → IsReachedBy setup writes [] gateway) }
     {
         Gateway::restore(alloc, settings, Vec::new(alloc))
     }
@@ -118,7 +136,9 @@ impl<S: RowStore> Gateway<S> {
     ) -> Result<Self, NoMemory>
         requires { AreAllowed settings }
         ensures settings { IfOk result (λ gateway. gateway.settings ≡ settings) }
-        ensures reached { IfOk result (λ gateway. (setup : Setup) (writes : Writing) → AreSetWith setup settings (map call_shown calls.items) → IsReachedBy setup writes [] gateway) }
+        ensures reached { IfOk result (λ gateway. (setup : Setup) (writes : Writing)
+            → AreSetWith setup settings (map call_shown calls.items)
+            → IsReachedBy setup writes [] gateway) }
         ensures pages { OnOk result (ArePages (pages_restored (map call_shown calls.items))) }
     {
         let calling = CallingEndpoint::new(alloc, settings)?;
@@ -140,8 +160,11 @@ impl<S: RowStore> Gateway<S> {
     /// for the leg. An `Err` changes nothing.
     pub fn ring(&mut self, now: u64) -> Result<u32, RingFault>
         ensures rung { IfOk result (λ number. Advances self.old (Ring now number) self.new) }
-        ensures busy { EachTrace self.old (λ setup writes trace. result ≡ Err RingFault.Busy ↔ (idle_after (calling_leg setup trace) ≡ false)) }
-        ensures no_number { EachTrace self.old (λ setup writes trace. idle_after (calling_leg setup trace) ≡ true → result ≡ Err RingFault.NoNumber ↔ (4294967296 ≤ rings trace)) }
+        ensures busy { EachTrace self.old (λ setup writes trace. result ≡ Err RingFault.Busy
+            ↔ (idle_after (calling_leg setup trace) ≡ false)) }
+        ensures no_number { EachTrace self.old
+            (λ setup writes trace. idle_after (calling_leg setup trace) ≡ true
+            → result ≡ Err RingFault.NoNumber ↔ (4294967296 ≤ rings trace)) }
         ensures err { OnErr result (self.new ≡ self.old) }
         ensures refusals { self.new.refusals ≡ self.old.refusals }
     {
@@ -161,11 +184,14 @@ impl<S: RowStore> Gateway<S> {
     /// no call is on, where it cannot be read and where it is late. It takes memory only where it did, and where as much is held as
     /// may be, none for pages. An `Err` changes nothing, and is counted.
     pub fn from_calling(&mut self, octets: &[u8], now: u64) -> Result<bool, NoMemory>
-        ensures heard { IfOk result (λ decided. AdvancesByHearing self.old octets.now now decided self.new) }
-        ensures memory { EachTrace self.old (λ setup writes trace. decided_calling (calling_leg setup trace) octets.now ≡ false → result ≡ Ok false) }
+        ensures heard { IfOk result
+            (λ decided. AdvancesByHearing self.old octets.now now decided self.new) }
+        ensures memory { EachTrace self.old (λ setup writes trace.
+            decided_calling (calling_leg setup trace) octets.now ≡ false → result ≡ Ok false) }
         ensures err { OnErr result (self.new ≡ refusing self.old) }
         ensures refusals { self.new.refusals ≡ refusals_if (is_err result) self.old.refusals }
-        ensures within { OnOk result (self.old.settings.memory ≤ octets_of_gateway self.old → octets_of_gateway self.new ≤ octets_of_gateway self.old) }
+        ensures within { OnOk result (self.old.settings.memory ≤ octets_of_gateway self.old
+            → octets_of_gateway self.new ≤ octets_of_gateway self.old) }
     {
         self.from_calling_watched(octets, now, &mut fax_answer::Unwatched)
     }
@@ -178,11 +204,14 @@ impl<S: RowStore> Gateway<S> {
         now: u64,
         watcher: &mut W,
     ) -> Result<bool, NoMemory>
-        ensures heard { IfOk result (λ decided. AdvancesByHearingTold (answer_watching.Watches W.tells watcher.old watcher.new) self.old octets.now now decided self.new) }
-        ensures memory { EachTrace self.old (λ setup writes trace. decided_calling (calling_leg setup trace) octets.now ≡ false → result ≡ Ok false) }
+        ensures heard { IfOk result (λ decided. AdvancesByHearingTold (answer_watching.Watches
+            W.tells watcher.old watcher.new) self.old octets.now now decided self.new) }
+        ensures memory { EachTrace self.old (λ setup writes trace.
+            decided_calling (calling_leg setup trace) octets.now ≡ false → result ≡ Ok false) }
         ensures err { OnErr result (self.new ≡ refusing self.old) }
         ensures refusals { self.new.refusals ≡ refusals_if (is_err result) self.old.refusals }
-        ensures within { OnOk result (self.old.settings.memory ≤ octets_of_gateway self.old → octets_of_gateway self.new ≤ octets_of_gateway self.old) }
+        ensures within { OnOk result (self.old.settings.memory ≤ octets_of_gateway self.old
+            → octets_of_gateway self.new ≤ octets_of_gateway self.old) }
     {
         let mut clock = self.clock;
         let now = clock.read(now);
@@ -200,8 +229,11 @@ impl<S: RowStore> Gateway<S> {
 
     /// The same of a datagram that came on the called leg.
     pub fn from_called(&mut self, octets: &[u8], now: u64) -> Result<bool, NoMemory>
-        ensures heard { IfOk result (λ decided. Advances self.old (FromCalled octets.now now decided) self.new) }
-        ensures memory { EachTrace self.old (λ setup writes trace. decided_called writes (both_legs setup writes trace).leg octets.now ≡ false → result ≡ Ok false) }
+        ensures heard { IfOk result
+            (λ decided. Advances self.old (FromCalled octets.now now decided) self.new) }
+        ensures memory { EachTrace self.old (λ setup writes trace.
+            decided_called writes (both_legs setup writes trace).leg octets.now ≡ false
+            → result ≡ Ok false) }
         ensures err { OnErr result (self.new ≡ refusing self.old) }
         ensures refusals { self.new.refusals ≡ refusals_if (is_err result) self.old.refusals }
     {
@@ -216,9 +248,14 @@ impl<S: RowStore> Gateway<S> {
         now: u64,
         watcher: &mut W,
     ) -> Result<bool, NoMemory>
-        ensures heard { IfOk result (λ decided. Advances self.old (FromCalled octets.now now decided) self.new) }
-        ensures told { OnOk result (OfCalledLeg self.old now (λ writes leg moment. call_watching.Watches W.tells watcher.old watcher.new (called_tellings writes leg moment octets.now))) }
-        ensures memory { EachTrace self.old (λ setup writes trace. decided_called writes (both_legs setup writes trace).leg octets.now ≡ false → result ≡ Ok false) }
+        ensures heard { IfOk result
+            (λ decided. Advances self.old (FromCalled octets.now now decided) self.new) }
+        ensures told { OnOk result (OfCalledLeg self.old now
+            (λ writes leg moment. call_watching.Watches
+            W.tells watcher.old watcher.new (called_tellings writes leg moment octets.now))) }
+        ensures memory { EachTrace self.old (λ setup writes trace.
+            decided_called writes (both_legs setup writes trace).leg octets.now ≡ false
+            → result ≡ Ok false) }
         ensures err { OnErr result (self.new ≡ refusing self.old) }
         ensures refusals { self.new.refusals ≡ refusals_if (is_err result) self.old.refusals }
     {
@@ -232,7 +269,8 @@ impl<S: RowStore> Gateway<S> {
 
     /// Where the call of the calling leg stands, or the last one stood.
     pub fn calling_state(&self) -> fax_answer::State
-        ensures { EachTrace self.now (λ setup writes trace. result ≡ calling_state (calling_leg setup trace)) }
+        ensures { EachTrace self.now
+            (λ setup writes trace. result ≡ calling_state (calling_leg setup trace)) }
     {
         self.calling.state()
     }
@@ -248,14 +286,16 @@ impl<S: RowStore> Gateway<S> {
 
     /// Where the call of the called leg stands, or the last one stood.
     pub fn called_state(&self) -> fax_call::State
-        ensures { EachTrace self.now (λ setup writes trace. result ≡ called_state writes (both_legs setup writes trace).leg) }
+        ensures { EachTrace self.now (λ setup writes trace.
+            result ≡ called_state writes (both_legs setup writes trace).leg) }
     {
         self.called.state()
     }
 
     /// The timer of the called leg that acts in a tick at this moment, before it gives a packet.
     pub fn called_acting(&self, now: u64) -> Option<fax_call::ActingTimer>
-        ensures { OfCalledLeg self.now now (λ writes leg moment. result ≡ called_acting writes leg moment) }
+        ensures { OfCalledLeg self.now now
+            (λ writes leg moment. result ≡ called_acting writes leg moment) }
     {
         let mut clock = self.clock;
         self.called.acting(clock.read(now))
@@ -265,7 +305,8 @@ impl<S: RowStore> Gateway<S> {
     /// timers. The next tick gives the tone of a calling terminal. It takes memory for the leg. An `Err` changes nothing.
     pub fn connect(&mut self, now: u64) -> Result<(), PlaceFault>
         ensures placed { OnOk result (Advances self.old (Placed now true) self.new) }
-        ensures not_asked { OfJobAsked self.old (λ job. result ≡ Err PlaceFault.NotAsked ↔ (job ≡ None)) }
+        ensures not_asked { OfJobAsked self.old
+            (λ job. result ≡ Err PlaceFault.NotAsked ↔ (job ≡ None)) }
         ensures err { OnErr result (self.new ≡ self.old) }
         ensures refusals { self.new.refusals ≡ self.old.refusals }
     {
@@ -276,7 +317,8 @@ impl<S: RowStore> Gateway<S> {
     /// reports the job as `NotPlaced`. It takes memory for the leg. An `Err` changes nothing.
     pub fn not_connected(&mut self, now: u64) -> Result<(), PlaceFault>
         ensures placed { OnOk result (Advances self.old (Placed now false) self.new) }
-        ensures not_asked { OfJobAsked self.old (λ job. result ≡ Err PlaceFault.NotAsked ↔ (job ≡ None)) }
+        ensures not_asked { OfJobAsked self.old
+            (λ job. result ≡ Err PlaceFault.NotAsked ↔ (job ≡ None)) }
         ensures err { OnErr result (self.new ≡ self.old) }
         ensures refusals { self.new.refusals ≡ self.old.refusals }
     {
@@ -286,7 +328,8 @@ impl<S: RowStore> Gateway<S> {
     /// The call of the job that is asked for is placed, or could not be.
     fn place(&mut self, connected: bool, now: u64) -> Result<(), PlaceFault>
         ensures placed { OnOk result (Advances self.old (Placed now connected) self.new) }
-        ensures not_asked { OfJobAsked self.old (λ job. result ≡ Err PlaceFault.NotAsked ↔ (job ≡ None)) }
+        ensures not_asked { OfJobAsked self.old
+            (λ job. result ≡ Err PlaceFault.NotAsked ↔ (job ≡ None)) }
         ensures err { OnErr result (self.new ≡ self.old) }
         ensures refusals { self.new.refusals ≡ self.old.refusals }
     {
@@ -301,7 +344,8 @@ impl<S: RowStore> Gateway<S> {
     /// The same with this leg, where a job's call is asked for. It takes no memory.
     fn begin_asked(&mut self, connected: bool, leg: Endpoint, now: u64)
         requires asked { IsSome (job_asked self.old.settings.asks self.old.book) }
-        ensures placed { (setup : Setup) (writes : Writing) (trace : List Event) → IsLeg setup [] [] leg → IsReachedBy setup writes trace self.old
+        ensures placed { (setup : Setup) (writes : Writing) (trace : List Event)
+            → IsLeg setup [] [] leg → IsReachedBy setup writes trace self.old
             → IsReachedBy setup writes (Placed now connected ∷ trace) self.new }
         ensures refusals { self.new.refusals ≡ self.old.refusals }
     {
@@ -340,11 +384,18 @@ impl<S: RowStore> Gateway<S> {
     /// gives up. Before the moment of `next_due` the clock is read, and nothing else is done. It takes memory for the datagrams,
     /// and for a page. An `Err` changes nothing but the memory that is reserved, and is counted.
     pub fn tick(&mut self, now: u64) -> Result<Given, NoMemory>
-        ensures ticked { IfOk result (λ given. AdvancesByTick self.old now (given_shown given) self.new) }
-        ensures confirmed { IfOk result (λ given. OfCallingLeg self.old now (λ leg moment. given.kept ≡ kept_at leg moment)) }
-        ensures refused { IfOk result (λ given. OfCallingLeg self.old now (λ leg moment. IsRefusedAt leg moment given.refused)) }
-        ensures given_up { IfOk result (λ given. OfCallingLeg self.old now (λ leg moment. given.gave_up ≡ given_up_at leg moment)) }
-        ensures rests { EachTrace self.old (λ setup writes trace. is_due (due_at setup writes trace) (max now (clock trace)) ≡ false → (result ≡ Ok nothing_given) × (self.new ≡ record self.old { clock = max now self.old.clock })) }
+        ensures ticked { IfOk result
+            (λ given. AdvancesByTick self.old now (given_shown given) self.new) }
+        ensures confirmed { IfOk result
+            (λ given. OfCallingLeg self.old now (λ leg moment. given.kept ≡ kept_at leg moment)) }
+        ensures refused { IfOk result (λ given.
+            OfCallingLeg self.old now (λ leg moment. IsRefusedAt leg moment given.refused)) }
+        ensures given_up { IfOk result (λ given.
+            OfCallingLeg self.old now (λ leg moment. given.gave_up ≡ given_up_at leg moment)) }
+        ensures rests { EachTrace self.old (λ setup writes trace.
+            is_due (due_at setup writes trace) (max now (clock trace)) ≡ false
+            → (result ≡ Ok nothing_given)
+            × (self.new ≡ record self.old { clock = max now self.old.clock })) }
         ensures err { OnErr result (alone self.new ≡ alone (refusing self.old)) }
         ensures kept { OnErr result (Remains self.old self.new) }
         ensures refusals { self.new.refusals ≡ refusals_if (is_err result) self.old.refusals }
@@ -357,11 +408,18 @@ impl<S: RowStore> Gateway<S> {
 
     /// The same, but that an `Err` is not counted.
     fn tick_if_due(&mut self, now: u64) -> Result<Given, NoMemory>
-        ensures ticked { IfOk result (λ given. AdvancesByTick self.old now (given_shown given) self.new) }
-        ensures confirmed { IfOk result (λ given. OfCallingLeg self.old now (λ leg moment. given.kept ≡ kept_at leg moment)) }
-        ensures refused { IfOk result (λ given. OfCallingLeg self.old now (λ leg moment. IsRefusedAt leg moment given.refused)) }
-        ensures given_up { IfOk result (λ given. OfCallingLeg self.old now (λ leg moment. given.gave_up ≡ given_up_at leg moment)) }
-        ensures rests { EachTrace self.old (λ setup writes trace. is_due (due_at setup writes trace) (max now (clock trace)) ≡ false → (result ≡ Ok nothing_given) × (self.new ≡ record self.old { clock = max now self.old.clock })) }
+        ensures ticked { IfOk result
+            (λ given. AdvancesByTick self.old now (given_shown given) self.new) }
+        ensures confirmed { IfOk result
+            (λ given. OfCallingLeg self.old now (λ leg moment. given.kept ≡ kept_at leg moment)) }
+        ensures refused { IfOk result (λ given.
+            OfCallingLeg self.old now (λ leg moment. IsRefusedAt leg moment given.refused)) }
+        ensures given_up { IfOk result (λ given.
+            OfCallingLeg self.old now (λ leg moment. given.gave_up ≡ given_up_at leg moment)) }
+        ensures rests { EachTrace self.old (λ setup writes trace.
+            is_due (due_at setup writes trace) (max now (clock trace)) ≡ false
+            → (result ≡ Ok nothing_given)
+            × (self.new ≡ record self.old { clock = max now self.old.clock })) }
         ensures err { OnErr result (alone self.new ≡ alone self.old) }
         ensures kept { OnErr result (Remains self.old self.new) }
         ensures refusals { self.new.refusals ≡ self.old.refusals }
@@ -394,7 +452,8 @@ impl<S: RowStore> Gateway<S> {
 
     /// The same of the called leg, and of the jobs that wait.
     fn called_due(&self) -> Option<u64>
-        ensures { EachTrace self.now (λ setup writes trace. result ≡ called_due setup.asks writes (both_legs setup writes trace).leg (book_of (both_legs setup writes trace)).waiting) }
+        ensures { EachTrace self.now (λ setup writes trace. result ≡ called_due setup.asks writes
+            (both_legs setup writes trace).leg (book_of (both_legs setup writes trace)).waiting) }
     {
         match self.jobs.sending() {
             Some(_) => self.called.next_due(),
@@ -420,10 +479,14 @@ impl<S: RowStore> Gateway<S> {
     fn tick_in_call(&mut self, now: u64) -> Result<Given, NoMemory>
         requires room { HasRoom self.old }
         requires sends { IsSome self.old.book.sending }
-        ensures ticked { IfOk result (λ given. AdvancesByTick self.old now (given_shown given) self.new) }
-        ensures confirmed { IfOk result (λ given. OfCallingLeg self.old now (λ leg moment. given.kept ≡ kept_at leg moment)) }
-        ensures refused { IfOk result (λ given. OfCallingLeg self.old now (λ leg moment. IsRefusedAt leg moment given.refused)) }
-        ensures given_up { IfOk result (λ given. OfCallingLeg self.old now (λ leg moment. given.gave_up ≡ given_up_at leg moment)) }
+        ensures ticked { IfOk result
+            (λ given. AdvancesByTick self.old now (given_shown given) self.new) }
+        ensures confirmed { IfOk result
+            (λ given. OfCallingLeg self.old now (λ leg moment. given.kept ≡ kept_at leg moment)) }
+        ensures refused { IfOk result (λ given.
+            OfCallingLeg self.old now (λ leg moment. IsRefusedAt leg moment given.refused)) }
+        ensures given_up { IfOk result (λ given.
+            OfCallingLeg self.old now (λ leg moment. given.gave_up ≡ given_up_at leg moment)) }
         ensures err { OnErr result (self.new ≡ self.old) }
         ensures refusals { self.new.refusals ≡ self.old.refusals }
     {
@@ -452,9 +515,12 @@ impl<S: RowStore> Gateway<S> {
         requires none { self.old.book.sending ≡ None }
         requires asks { self.old.settings.asks ≡ true }
         ensures ticked { Advances self.old (Tick now (given_shown result)) self.new }
-        ensures confirmed { OfCallingLeg self.old now (λ leg moment. result.kept ≡ kept_at leg moment) }
-        ensures refused { OfCallingLeg self.old now (λ leg moment. IsRefusedAt leg moment result.refused) }
-        ensures given_up { OfCallingLeg self.old now (λ leg moment. result.gave_up ≡ given_up_at leg moment) }
+        ensures confirmed { OfCallingLeg self.old now
+            (λ leg moment. result.kept ≡ kept_at leg moment) }
+        ensures refused { OfCallingLeg self.old now
+            (λ leg moment. IsRefusedAt leg moment result.refused) }
+        ensures given_up { OfCallingLeg self.old now
+            (λ leg moment. result.gave_up ≡ given_up_at leg moment) }
         ensures refusals { self.new.refusals ≡ self.old.refusals }
     {
         let moment = self.clock.read(now);
@@ -475,11 +541,15 @@ impl<S: RowStore> Gateway<S> {
         requires none { self.old.book.sending ≡ None }
         requires asks { self.old.settings.asks ≡ false }
         requires datagram { most_octets < leg.sender.spare }
-        ensures ticked { (setup : Setup) (writes : Writing) (trace : List Event) → IsWriting writes → IsLeg setup [] [] leg → IsReachedBy setup writes trace self.old
+        ensures ticked { (setup : Setup) (writes : Writing) (trace : List Event)
+            → IsWriting writes → IsLeg setup [] [] leg → IsReachedBy setup writes trace self.old
             → IsReachedBy setup writes (Tick now (given_shown result) ∷ trace) self.new }
-        ensures confirmed { OfCallingLeg self.old now (λ leg moment. result.kept ≡ kept_at leg moment) }
-        ensures refused { OfCallingLeg self.old now (λ leg moment. IsRefusedAt leg moment result.refused) }
-        ensures given_up { OfCallingLeg self.old now (λ leg moment. result.gave_up ≡ given_up_at leg moment) }
+        ensures confirmed { OfCallingLeg self.old now
+            (λ leg moment. result.kept ≡ kept_at leg moment) }
+        ensures refused { OfCallingLeg self.old now
+            (λ leg moment. IsRefusedAt leg moment result.refused) }
+        ensures given_up { OfCallingLeg self.old now
+            (λ leg moment. result.gave_up ≡ given_up_at leg moment) }
         ensures refusals { self.new.refusals ≡ self.old.refusals }
     {
         let moment = self.clock.read(now);
@@ -515,7 +585,8 @@ impl<S: RowStore> Gateway<S> {
     /// The number of the call that is on on the calling leg.
     pub fn call(&self) -> Option<u32>
         ensures call { result ≡ call_of_rep self.now.calling }
-        ensures told { EachTrace self.now (λ setup writes trace. result ≡ call_on (calling_leg setup trace)) }
+        ensures told { EachTrace self.now
+            (λ setup writes trace. result ≡ call_on (calling_leg setup trace)) }
     {
         self.calling.call()
     }
@@ -587,7 +658,8 @@ fn restored_jobs<S: RowStore>(
     alloc: Global,
     calls: Vec<RestoredCall<S>>,
 ) -> Result<Jobs<S>, NoMemory>
-    ensures book { IfOk result (λ jobs. jobs.book ≡ restored_to new_book (map call_shown calls.items)) }
+    ensures book { IfOk result
+        (λ jobs. jobs.book ≡ restored_to new_book (map call_shown calls.items)) }
     ensures pages { OnOk result (ArePages (pages_restored (map call_shown calls.items))) }
 {
     let mut book = Jobs::new(alloc)?;
@@ -599,8 +671,10 @@ fn restored_jobs<S: RowStore>(
 
 /// The book hears of the pages of a call that is restored, and of its end.
 fn restore_call<S: RowStore>(book: &mut Jobs<S>, call: RestoredCall<S>) -> Result<(), NoMemory>
-    ensures book { OnOk result (book.new.book ≡ closed (confirmed_all book.old.book call.number (map confirmation_shown call.confirmed.items))) }
-    ensures pages { OnOk result (ArePages (pages_with call.number (map confirmation_shown call.confirmed.items))) }
+    ensures book { OnOk result (book.new.book ≡ closed
+        (confirmed_all book.old.book call.number (map confirmation_shown call.confirmed.items))) }
+    ensures pages { OnOk result
+        (ArePages (pages_with call.number (map confirmation_shown call.confirmed.items))) }
 {
     let RestoredCall { number, confirmed } = call;
     for found in confirmed {
@@ -630,13 +704,19 @@ fn serve_calling<S: RowStore>(
 ) -> Served
     requires room { CallingHasRoom calling.old }
     requires page { 1 ≤ jobs.old.spare }
-    ensures ticked { (setup : Setup) (leg : Option CallingLeg) → IsCalling setup leg calling.old → IsCalling setup (ticked_on leg now) calling.new }
-    ensures told { (setup : Setup) (leg : Option CallingLeg) → IsCalling setup leg calling.old → result.packet ≡ told_calling setup leg now }
-    ensures kept { (setup : Setup) (leg : Option CallingLeg) → IsCalling setup leg calling.old → result.kept ≡ kept_if calling.old.number (confirmed_on leg now) }
-    ensures refused { (setup : Setup) (leg : Option CallingLeg) → IsCalling setup leg calling.old → Refuses leg now calling.old.number result.refused }
-    ensures gave_up { (setup : Setup) (leg : Option CallingLeg) → IsCalling setup leg calling.old → result.gave_up ≡ call_if (ended_on leg now) calling.old.number }
-    ensures heard { (setup : Setup) (leg : Option CallingLeg) → IsCalling setup leg calling.old
-        → jobs.new.book ≡ closed_if (ended_on leg now) (confirmed_if calling.old.number (confirmed_on leg now) jobs.old.book) }
+    ensures ticked { (setup : Setup) (leg : Option CallingLeg)
+        → IsCalling setup leg calling.old → IsCalling setup (ticked_on leg now) calling.new }
+    ensures told { (setup : Setup) (leg : Option CallingLeg)
+        → IsCalling setup leg calling.old → result.packet ≡ told_calling setup leg now }
+    ensures kept { (setup : Setup) (leg : Option CallingLeg) → IsCalling setup leg calling.old
+        → result.kept ≡ kept_if calling.old.number (confirmed_on leg now) }
+    ensures refused { (setup : Setup) (leg : Option CallingLeg)
+        → IsCalling setup leg calling.old → Refuses leg now calling.old.number result.refused }
+    ensures gave_up { (setup : Setup) (leg : Option CallingLeg) → IsCalling setup leg calling.old
+        → result.gave_up ≡ call_if (ended_on leg now) calling.old.number }
+    ensures heard { (setup : Setup) (leg : Option CallingLeg)
+        → IsCalling setup leg calling.old → jobs.new.book ≡ closed_if (ended_on leg now)
+        (confirmed_if calling.old.number (confirmed_on leg now) jobs.old.book) }
     ensures sending { jobs.new.book.sending ≡ jobs.old.book.sending }
 {
     let number = calling.number();
@@ -686,7 +766,8 @@ fn call_in(call: u32, has_ended: bool) -> Option<u32>
 /// The book hears of a page that was confirmed in the call of this number, and of the call's end. The memory is reserved.
 fn hear<S: RowStore>(jobs: &mut Jobs<S>, number: u32, confirmed: Option<Confirmed<S>>, ended: bool)
     requires { 1 ≤ jobs.old.spare }
-    ensures heard { jobs.new.book ≡ closed_if ended (confirmed_if number (confirmed_shown confirmed) jobs.old.book) }
+    ensures heard { jobs.new.book
+        ≡ closed_if ended (confirmed_if number (confirmed_shown confirmed) jobs.old.book) }
     ensures sending { jobs.new.book.sending ≡ jobs.old.book.sending }
 {
     if let Some(confirmed) = confirmed {
@@ -711,9 +792,12 @@ fn confirm<S: RowStore>(jobs: &mut Jobs<S>, number: u32, found: Confirmed<S>)
 
 /// Where a job is being sent and its call is over, it ends and is reported.
 fn end_job<S: RowStore>(jobs: &mut Jobs<S>, called: &CalledEndpoint) -> Option<Report>
-    ensures report { result ≡ report_if jobs.old.book.sending (outcome_of_rep called.now.caller.procedure) called.now.caller.procedure.counts.delivered }
-    ensures ended { jobs.new.book ≡ ended_if jobs.old.book.sending (outcome_of_rep called.now.caller.procedure) called.now.caller.procedure.counts.delivered jobs.old.book }
-    ensures served { IsServed jobs.old.book.sending called.now.caller.procedure → IsServed jobs.new.book.sending called.now.caller.procedure }
+    ensures report { result ≡ report_if jobs.old.book.sending
+        (outcome_of_rep called.now.caller.procedure) called.now.caller.procedure.counts.delivered }
+    ensures ended { jobs.new.book ≡ ended_if jobs.old.book.sending (outcome_of_rep
+        called.now.caller.procedure) called.now.caller.procedure.counts.delivered jobs.old.book }
+    ensures served { IsServed jobs.old.book.sending called.now.caller.procedure
+        → IsServed jobs.new.book.sending called.now.caller.procedure }
 {
     let job = jobs.sending()?;
     let outcome = called.outcome()?;

@@ -101,7 +101,12 @@ impl Given {
 
     /// What is told.
     pub(crate) fn told(&self) -> TickReport
-        ensures { result ≡ record { report = self.now.report; kept = self.now.kept; refused = self.now.refused; gave_up = self.now.gave_up } }
+        ensures { result ≡ record {
+          report = self.now.report;
+          kept = self.now.kept;
+          refused = self.now.refused;
+          gave_up = self.now.gave_up;
+        } }
     {
         TickReport {
             report: self.report,

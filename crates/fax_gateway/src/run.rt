@@ -31,11 +31,18 @@ pub fn drive<S: RowStore, W: Wire>(
     rings: &[u32],
     turns: u32,
 ) -> Result<Driven, NoMemory>
-    ensures driven { IfOk result (λ driven. (setup : Setup) (writes : Writing) (trace : List Event) → IsWriting writes → IsReachedBy setup writes trace gateway.old
-        → (rounds : List (List Entry)) × AreRounds start rings.now rounds × Happens setup writes (log_of rounds) trace gateway.new (W.known wire.old) (W.known wire.new) × Tells turns rounds driven) }
-    ensures failures { IfOk result (λ driven. (setup : Setup) (writes : Writing) (trace : List Event) → IsWriting writes → IsReachedBy setup writes trace gateway.old
-        → (W.known wire.new).failures < greatest_count → (W.known wire.new).failures ≡ (W.known wire.old).failures + (driven.sends_failed + driven.receives_failed)) }
-    ensures refusals { IfOk result (λ driven. RiseAlike gateway.old.refusals gateway.new.refusals 0 driven.events_refused) }
+    ensures driven { IfOk result (λ driven. (setup : Setup) (writes : Writing) (trace : List Event)
+        → IsWriting writes → IsReachedBy setup writes trace gateway.old
+        → (rounds : List (List Entry)) × AreRounds start rings.now rounds
+        × Happens setup writes (log_of rounds) trace gateway.new (W.known wire.old)
+        (W.known wire.new) × Tells turns rounds driven) }
+    ensures failures { IfOk result
+        (λ driven. (setup : Setup) (writes : Writing) (trace : List Event)
+        → IsWriting writes → IsReachedBy setup writes trace gateway.old
+        → (W.known wire.new).failures < greatest_count → (W.known wire.new).failures
+        ≡ (W.known wire.old).failures + (driven.sends_failed + driven.receives_failed)) }
+    ensures refusals { IfOk result
+        (λ driven. RiseAlike gateway.old.refusals gateway.new.refusals 0 driven.events_refused) }
     ensures err { OnErr result ((gateway.new ≡ gateway.old) × (wire.new ≡ wire.old)) }
 {
     let mut buffer = Buffer::new(alloc)?;
@@ -55,8 +62,11 @@ pub fn drive<S: RowStore, W: Wire>(
 
 /// Rings where it is to. It answers whether the ring was refused.
 fn ring_if<S: RowStore>(is_due: bool, gateway: &mut Gateway<S>, now: u64) -> bool
-    ensures rung { (setup : Setup) (writes : Writing) (trace : List Event) → IsReachedBy setup writes trace gateway.old
-        → (log : List Entry) × IsRingIf is_due now log × (count_by is_refused_ring log ≡ cond result 1 0) × IsReachedBy setup writes (events log ++ trace) gateway.new × AreWanting setup writes trace log }
+    ensures rung { (setup : Setup) (writes : Writing) (trace : List Event)
+        → IsReachedBy setup writes trace gateway.old → (log : List Entry)
+        × IsRingIf is_due now log × (count_by is_refused_ring log ≡ cond result 1 0)
+        × IsReachedBy setup writes (events log ++ trace) gateway.new
+        × AreWanting setup writes trace log }
     ensures refusals { gateway.new.refusals ≡ gateway.old.refusals }
 {
     if !is_due {

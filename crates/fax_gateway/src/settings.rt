@@ -22,7 +22,12 @@ pub struct Settings {
 impl Default for Settings {
     ghost use Rattle.std.specs.Prelude.{◌≡◌, false};
 
-    ghost is_default = { λ settings. settings ≡ record { redundancy = 3; preamble_ms = 40; asks = false; memory = 18446744073709551615 } };
+    ghost is_default = { λ settings. settings ≡ record {
+      redundancy = 3;
+      preamble_ms = 40;
+      asks = false;
+      memory = 18446744073709551615;
+    } };
 
     fn default() -> Self {
         Settings {

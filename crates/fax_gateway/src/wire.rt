@@ -28,15 +28,19 @@ pub trait Wire {
     /// What lies after the datagram may be anything.
     fn receive(&mut self, leg: Leg, buffer: &mut [u8]) -> Result<Option<usize>, WireFault>
         ensures fits { IfOk result (λ came. IfSome came (λ count. count ≤ length buffer.new)) }
-        ensures failures { (known self.new).failures ≡ failures_after (known self.old).failures result }
-        ensures received { Grows (receipt_of leg buffer.new result ∷ []) (known self.old).received (known self.new).received }
+        ensures failures { (known self.new).failures
+            ≡ failures_after (known self.old).failures result }
+        ensures received { Grows (receipt_of leg buffer.new result
+            ∷ []) (known self.old).received (known self.new).received }
         ensures sent { Grows [] (known self.old).sent (known self.new).sent }
         ensures makes { receives leg self.old self.new };
 
     /// Sends a datagram on a leg. It was handed over also where the send failed.
     fn send(&mut self, leg: Leg, octets: &[u8]) -> Result<(), WireFault>
-        ensures failures { (known self.new).failures ≡ failures_after (known self.old).failures result }
+        ensures failures { (known self.new).failures
+            ≡ failures_after (known self.old).failures result }
         ensures received { Grows [] (known self.old).received (known self.new).received }
-        ensures sent { Grows (record { leg = leg; octets = octets.now } ∷ []) (known self.old).sent (known self.new).sent }
+        ensures sent { Grows (record { leg = leg; octets = octets.now }
+            ∷ []) (known self.old).sent (known self.new).sent }
         ensures makes { sends leg octets.now (is_ok result) self.old self.new };
 }

@@ -19,7 +19,8 @@ status_text statuses.NotWell = codes "503 Service Unavailable"
 abbrev pub content_type : Content → List ℕ
 content_type contents.Html = codes "text/html; charset=utf-8"
 content_type contents.Text = codes "text/plain; charset=utf-8"
-content_type contents.OpenMetrics = codes "application/openmetrics-text; version=1.0.0; charset=utf-8"
+content_type contents.OpenMetrics =
+    codes "application/openmetrics-text; version=1.0.0; charset=utf-8"
 content_type contents.Png = codes "image/png"
 
 -- whether it may be kept, for how many seconds, and by whom (RFC 9111, 5.2.2): a picture never changes
@@ -48,11 +49,9 @@ status_line status = codes "HTTP/1.1 " ++ (status_text status ++ codes "\r\n")
 -- what each answer says: the connection ends after it, its type is not guessed, and its page takes nothing from elsewhere
 -- and runs nothing; and the empty line
 abbrev pub lasting : List ℕ
-lasting =
-    field (codes "Connection") (codes "close")
-    ++ (field (codes "X-Content-Type-Options") (codes "nosniff")
-    ++ (field (codes "Content-Security-Policy") (codes "default-src 'none'; style-src 'unsafe-inline'; img-src 'self' data:")
-    ++ codes "\r\n"))
+lasting = field (codes "Connection") (codes "close") ++ (field (codes "X-Content-Type-Options")
+    (codes "nosniff") ++ (field (codes "Content-Security-Policy")
+    (codes "default-src 'none'; style-src 'unsafe-inline'; img-src 'self' data:") ++ codes "\r\n"))
 
 -- THE HEAD OF AN ANSWER: its status line, its fields, an empty line.
 abbrev pub head_octets : Status → Content → ℕ → List ℕ
@@ -65,8 +64,8 @@ head_octets status content count =
 
 -- THE OCTETS OF AN ANSWER: that to HEAD has the same head, and no body.
 abbrev pub answer_octets : Answer → Bool → List ℕ
-answer_octets answer has_body =
-    if has_body then head_octets answer.status answer.content (length answer.body.now) ++ answer.body.now
+answer_octets answer has_body = if has_body
+    then head_octets answer.status answer.content (length answer.body.now) ++ answer.body.now
     else head_octets answer.status answer.content (length answer.body.now)
 
 -- ---- refusals

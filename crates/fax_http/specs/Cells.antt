@@ -21,7 +21,8 @@ tag_shown (Some tag) = codes ", " ++ text_shown tag
 
 -- a call: its number, and its tag where it has one
 abbrev pub call_shown : CallView → List ℕ
-call_shown view = codes "call " ++ (decimal view.call ++ tag_shown (option_map (λ tag. tag.now) view.tag))
+call_shown view =
+    codes "call " ++ (decimal view.call ++ tag_shown (option_map (λ tag. tag.now) view.tag))
 
 -- what is done with a call
 abbrev pub shown_cell : List ℕ → CallView → List ℕ

@@ -25,15 +25,18 @@ pub record Waits (octets : List ℕ) : Type 0 where
 
 -- Octets come before anything was asked for: of all octets so many count as a head may have, and what they ask for is what the
 -- connection is to be answered.
-pub record HearsMore (octets : List ℕ) (asked : Option Question) (old new : ConnectionValue) : Type 0 where
+pub record HearsMore (octets : List ℕ) (asked : Option Question) (old new : ConnectionValue) :
+    Type 0 where
   pub all : List ℕ
   pub are : all ≡ take MOST_HEAD (old.heard ++ octets)
   pub asks : MatchOption asked (Waits all) (λ question. Asks all question)
-  pub same : new ≡ record { heard = all; question = asked; is_answered = old.is_answered; left = old.left }
+  pub same :
+      new ≡ record { heard = all; question = asked; is_answered = old.is_answered; left = old.left }
 
 -- After that, nothing is asked for.
 abbrev pub Hears : List ℕ → Option Question → ConnectionValue → ConnectionValue → Type 0
-Hears octets asked old new = MatchOption old.question (HearsMore octets asked old new) (λ question. (asked ≡ None) × (new ≡ old))
+Hears octets asked old new = MatchOption old.question (HearsMore octets asked old new)
+    (λ question. (asked ≡ None) × (new ≡ old))
 
 -- what was asked for, where it was not answered
 abbrev pub unanswered : ConnectionValue → Option Question
@@ -41,7 +44,12 @@ unanswered connection = if connection.is_answered then None else connection.ques
 
 -- the octets of an answer are due, with a body or without, as the question says
 abbrev pub answers : Answer → Question → ConnectionValue → ConnectionValue
-answers answer question old = record { heard = old.heard; question = old.question; is_answered = true; left = answer_octets answer question.has_body }
+answers answer question old = record {
+  heard = old.heard;
+  question = old.question;
+  is_answered = true;
+  left = answer_octets answer question.has_body;
+}
 
 -- It is answered once, and not before something was asked for.
 abbrev pub answered_if : Bool → Option Question → Answer → ConnectionValue → ConnectionValue
@@ -54,7 +62,12 @@ answered_by answer old = answered_if old.is_answered old.question answer old
 
 -- so many octets were written
 abbrev pub written : ℕ → ConnectionValue → ConnectionValue
-written count old = record { heard = old.heard; question = old.question; is_answered = old.is_answered; left = drop count old.left }
+written count old = record {
+  heard = old.heard;
+  question = old.question;
+  is_answered = old.is_answered;
+  left = drop count old.left;
+}
 
 abbrev pub is_over : ConnectionValue → Bool
 is_over connection = connection.is_answered && nat_eq (length connection.left) 0

@@ -14,8 +14,10 @@ pub data IsReference : List ℕ → ℕ → Type 0 where
 -- itself, and a reference is the octet that it names.
 pub data IsReadAs : List ℕ → List ℕ → Type 0 where
   nothing : IsReadAs [] []
-  plain : (octet : ℕ) (octets text : List ℕ) → octet ≢ 38 → octet ≢ 60 → IsReadAs octets text → IsReadAs (octet ∷ octets) (octet ∷ text)
-  named : (octet : ℕ) (name octets text : List ℕ) → IsReference name octet → IsReadAs octets text → IsReadAs (name ++ octets) (octet ∷ text)
+  plain : (octet : ℕ) (octets text : List ℕ)
+      → octet ≢ 38 → octet ≢ 60 → IsReadAs octets text → IsReadAs (octet ∷ octets) (octet ∷ text)
+  named : (octet : ℕ) (name octets text : List ℕ)
+      → IsReference name octet → IsReadAs octets text → IsReadAs (name ++ octets) (octet ∷ text)
 
 -- no octet that begins or ends a tag, or a value in one
 pub record IsNoMarkup (octet : ℕ) : Type 0 where

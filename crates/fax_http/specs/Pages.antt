@@ -25,7 +25,8 @@ state_part health = if is_well health then WELL.now else ill_part health
 
 -- the row of a line: its name, what is on on each leg, how many jobs wait
 unfoldable pub line_row : LineView → List ℕ
-line_row line = codes "<tr>" ++ (name_cell line.name.now ++ (calling_cell line.calling ++ (called_cell line.called ++ (number_cell line.waiting ++ codes "</tr>\n"))))
+line_row line = codes "<tr>" ++ (name_cell line.name.now ++ (calling_cell line.calling
+    ++ (called_cell line.called ++ (number_cell line.waiting ++ codes "</tr>\n"))))
 
 unfoldable pub shown_lines : List LineView → List ℕ
 shown_lines lines = LINES.now ++ (flat_map line_row lines ++ ROWS_END.now)
@@ -35,15 +36,18 @@ abbrev pub lines_table : List LineView → List ℕ
 lines_table lines = if nat_eq (length lines) 0 then NO_LINES.now else shown_lines lines
 
 unfoldable pub lines_part : List LineView → ℕ → List ℕ
-lines_part lines others = lines_table lines ++ (codes "<p>Other lines: " ++ (decimal others ++ codes ".</p>\n</section>\n"))
+lines_part lines others = lines_table lines
+    ++ (codes "<p>Other lines: " ++ (decimal others ++ codes ".</p>\n</section>\n"))
 
 -- how many of a job's pages were delivered
 abbrev pub delivered_cell : ℕ → ℕ → List ℕ
-delivered_cell delivered pages = codes "<td>" ++ (decimal delivered ++ (codes " of " ++ (decimal pages ++ codes "</td>")))
+delivered_cell delivered pages =
+    codes "<td>" ++ (decimal delivered ++ (codes " of " ++ (decimal pages ++ codes "</td>")))
 
 -- the row of a job: its line, its call, what was delivered, how it ended
 unfoldable pub job_row : JobView → List ℕ
-job_row job = codes "<tr>" ++ (name_cell job.line.now ++ (shown_cell [] job.call ++ (delivered_cell job.delivered job.pages ++ (text_cell job.outcome.now ++ codes "</tr>\n"))))
+job_row job = codes "<tr>" ++ (name_cell job.line.now ++ (shown_cell [] job.call
+    ++ (delivered_cell job.delivered job.pages ++ (text_cell job.outcome.now ++ codes "</tr>\n"))))
 
 unfoldable pub shown_jobs : List JobView → List ℕ
 shown_jobs jobs = JOBS.now ++ (flat_map job_row jobs ++ ROWS_END.now)
@@ -56,7 +60,8 @@ jobs_part jobs = jobs_table jobs ++ SECTION_END.now
 
 -- the row of a count
 unfoldable pub count_row : CountView → List ℕ
-count_row count = codes "<tr>" ++ (name_cell count.name.now ++ (number_cell count.value ++ codes "</tr>\n"))
+count_row count =
+    codes "<tr>" ++ (name_cell count.name.now ++ (number_cell count.value ++ codes "</tr>\n"))
 
 unfoldable pub counts_part : List CountView → List ℕ
 counts_part counts = COUNTS.now ++ (flat_map count_row counts ++ (ROWS_END.now ++ BOTTOM.now))
@@ -64,4 +69,6 @@ counts_part counts = COUNTS.now ++ (flat_map count_row counts ++ (ROWS_END.now +
 -- THE PAGE: how the server is, the lines on which something is under way, the jobs that ended last, the calls of which pages could not be
 -- delivered, and the counts.
 unfoldable pub page_octets : PageView → List ℕ
-page_octets view = TOP.now ++ (state_part view.health ++ (lines_part view.lines.now view.others ++ (jobs_part view.jobs.now ++ (undelivered_part view.undelivered.now ++ counts_part view.counts.now))))
+page_octets view = TOP.now
+    ++ (state_part view.health ++ (lines_part view.lines.now view.others ++ (jobs_part view.jobs.now
+    ++ (undelivered_part view.undelivered.now ++ counts_part view.counts.now))))

@@ -8,8 +8,8 @@ use Rattle.fax_http.specs.Questions.{path_of}
 -- THE PATH: /undelivered/LINE/LIFE/CALL.png. Of the line's name, letters, digits, `-`, `.`, `_` and `~` stand as they are, and each other octet as
 -- `%` and two hexadecimal digits.
 unfoldable pub picture_path : (line : List ℕ) → (life call : ℕ) → List ℕ
-picture_path line life call =
-    codes "/undelivered/" ++ percent_encode ESCAPED line ++ (codes "/" ++ decimal life ++ codes "/" ++ decimal call ++ codes ".png")
+picture_path line life call = codes "/undelivered/" ++ percent_encode ESCAPED line
+    ++ (codes "/" ++ decimal life ++ codes "/" ++ decimal call ++ codes ".png")
 
 -- the head that stands at the front of octets asks for this path
 pub record AsksForPath (octets path : List ℕ) : Type 0 where

@@ -45,7 +45,11 @@ wanted_by is_allowed (Some resource) = if is_allowed then Tell resource else Ref
 
 -- What a method asks for at a target: what is there, by GET and HEAD alone. The answer to HEAD has no body.
 abbrev pub asked_by : List ℕ → List ℕ → Question
-asked_by method target = record { wanted = wanted_by (is_get method || is_head method) (resource_at (path_of target)); has_body = not (is_head method) }
+asked_by method target =
+    record {
+      wanted = wanted_by (is_get method || is_head method) (resource_at (path_of target));
+      has_body = not (is_head method);
+    }
 
 -- THE QUESTION OF A HEAD.
 abbrev pub question_of : RequestHead → Question
@@ -74,4 +78,5 @@ pub record IsTooLong (octets : List ℕ) (question : Question) : Type 0 where
 
 -- THE QUESTION THAT OCTETS ASK.
 abbrev pub Asks : List ℕ → Question → Type 0
-Asks octets question = IsOfHead octets question ⊎ IsUnreadable octets question ⊎ IsTooLong octets question
+Asks octets question =
+    IsOfHead octets question ⊎ IsUnreadable octets question ⊎ IsTooLong octets question

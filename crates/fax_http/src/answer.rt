@@ -150,7 +150,8 @@ fn put_head(
     content: Content,
     length: usize,
 ) -> Result<(), AllocError>
-    ensures { OnOk result (octets.new.items ≡ octets.old.items ++ head_octets status content length) }
+    ensures { OnOk result (octets.new.items
+        ≡ octets.old.items ++ head_octets status content length) }
 {
     put_status(octets, status)?;
     put_field(octets, b"Content-Type", content.name())?;

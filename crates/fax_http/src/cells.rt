@@ -44,7 +44,8 @@ pub(crate) fn put_call(octets: &mut Vec<u8>, call: &CallView<'_>) -> Result<(), 
 
 /// Adds a tag, where there is one.
 fn put_tag(octets: &mut Vec<u8>, tag: Option<&str>) -> Result<(), AllocError>
-    ensures { OnOk result (octets.new.items ≡ octets.old.items ++ tag_shown (option_map (λ tag. tag.now) tag.entry)) }
+    ensures { OnOk result (octets.new.items
+        ≡ octets.old.items ++ tag_shown (option_map (λ tag. tag.now) tag.entry)) }
 {
     match tag {
         Some(tag) => {

@@ -41,7 +41,12 @@ impl Model for Connection {
 
     ghost Value = { ConnectionValue };
 
-    ghost view = { λ c. record { heard = c.heard.items; question = c.question; is_answered = c.is_answered; left = drop c.written c.answer.items } };
+    ghost view = { λ c. record {
+      heard = c.heard.items;
+      question = c.question;
+      is_answered = c.is_answered;
+      left = drop c.written c.answer.items;
+    } };
 
     ghost invariant = { λ c. (c.written ≤ length c.answer.items) × (length c.heard.items ≤ 8192) };
 }

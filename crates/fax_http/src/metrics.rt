@@ -37,7 +37,8 @@ fn put_next(
     left_out: usize,
 ) -> Result<usize, AllocError>
     requires { ends ≡ starts_with nat_eq (octet ∷ after.now) TOTAL.now }
-    ensures { IfOk result (λ more. octets.new.items ++ families more after.now ≡ octets.old.items ++ families left_out (octet ∷ after.now)) }
+    ensures { IfOk result (λ more. octets.new.items ++ families more after.now
+        ≡ octets.old.items ++ families left_out (octet ∷ after.now)) }
 {
     if left_out > 0 {
         Ok(left_out - 1)

@@ -18,7 +18,8 @@ const MOST_FIELDS: usize = 64;
 /// while it may become whole. What comes after the head counts for nothing.
 pub fn read_question(octets: &[u8]) -> Option<Question>
     ensures asks { IfSome result (λ question. Asks octets.now question) }
-    ensures found { (head : RequestHead) (rest : List ℕ) → ReadsRequest octets.now head rest → length head.fields ≤ MOST_FIELDS → result ≡ Some (question_of head) }
+    ensures found { (head : RequestHead) (rest : List ℕ) → ReadsRequest octets.now head rest
+        → length head.fields ≤ MOST_FIELDS → result ≡ Some (question_of head) }
     ensures none { IfNone result (HasNoRequest octets.now) }
     ensures waits { IfNone result (MayBecomeRequest octets.now) }
     ensures room { IfNone result (length octets.now < MOST_HEAD) }
@@ -35,7 +36,8 @@ pub fn read_question(octets: &[u8]) -> Option<Question>
 /// The path that a head asks for which stands at the front of these octets. `None`: no head that [`read_question`] answers stands there.
 pub fn read_path(octets: &[u8]) -> Option<&[u8]>
     ensures asks { IfSome result (λ path. AsksForPath octets.now path.now) }
-    ensures found { (head : RequestHead) (rest : List ℕ) → ReadsRequest octets.now head rest → length head.fields ≤ MOST_FIELDS → IsSome result }
+    ensures found { (head : RequestHead) (rest : List ℕ)
+        → ReadsRequest octets.now head rest → length head.fields ≤ MOST_FIELDS → IsSome result }
 {
     let mut fields = [EMPTY_HEADER_SPAN; MOST_FIELDS];
     match parse_request(octets, &mut fields) {

@@ -13,13 +13,15 @@ use Rattle.fax_ifp.specs.declared.codes.FieldType.TheVariants.{HdlcData, HdlcSig
 
 -- the indicators
 abbrev pub indicators : List (ℕ × Indicator)
-indicators =
-    (0, NoSignal) ∷ (1, Cng) ∷ (2, Ced) ∷ (3, V21Preamble) ∷
-    (4, V27At2400Training) ∷ (5, V27At4800Training) ∷ (6, V29At7200Training) ∷ (7, V29At9600Training) ∷
-    (8, V17At7200ShortTraining) ∷ (9, V17At7200LongTraining) ∷
-    (10, V17At9600ShortTraining) ∷ (11, V17At9600LongTraining) ∷
-    (12, V17At12000ShortTraining) ∷ (13, V17At12000LongTraining) ∷
-    (14, V17At14400ShortTraining) ∷ (15, V17At14400LongTraining) ∷ []
+indicators = (0, NoSignal) ∷ (1, Cng) ∷ (2, Ced)
+    ∷ (3, V21Preamble) ∷ (4, V27At2400Training) ∷ (5, V27At4800Training) ∷ (6, V29At7200Training)
+    ∷ (7, V29At9600Training) ∷ (8, V17At7200ShortTraining) ∷ (9, V17At7200LongTraining) ∷ (
+      10,
+      V17At9600ShortTraining,
+    ) ∷ (11, V17At9600LongTraining) ∷ (12, V17At12000ShortTraining) ∷ (
+      13,
+      V17At12000LongTraining,
+    ) ∷ (14, V17At14400ShortTraining) ∷ (15, V17At14400LongTraining) ∷ []
 
 -- the types of data: a modulation, and its rate in bits a second
 abbrev pub data_types : List (ℕ × DataType)
@@ -29,9 +31,8 @@ data_types =
 
 -- the types of a field
 abbrev pub field_types : List (ℕ × FieldType)
-field_types =
-    (0, HdlcData) ∷ (1, HdlcSigEnd) ∷ (2, HdlcFcsOk) ∷ (3, HdlcFcsBad) ∷ (4, HdlcFcsOkSigEnd) ∷ (5, HdlcFcsBadSigEnd) ∷
-    (6, T4NonEcmData) ∷ (7, T4NonEcmSigEnd) ∷ []
+field_types = (0, HdlcData) ∷ (1, HdlcSigEnd) ∷ (2, HdlcFcsOk) ∷ (3, HdlcFcsBad)
+    ∷ (4, HdlcFcsOkSigEnd) ∷ (5, HdlcFcsBadSigEnd) ∷ (6, T4NonEcmData) ∷ (7, T4NonEcmSigEnd) ∷ []
 
 -- what has a code, where something has
 abbrev pub indicator_at : ℕ → Option Indicator
@@ -102,7 +103,11 @@ training_indicator rates.V27At2400 long = V27At2400Training
 training_indicator rates.V27At4800 long = V27At4800Training
 training_indicator rates.V29At7200 long = V29At7200Training
 training_indicator rates.V29At9600 long = V29At9600Training
-training_indicator rates.V17At7200 long = if long then V17At7200LongTraining else V17At7200ShortTraining
-training_indicator rates.V17At9600 long = if long then V17At9600LongTraining else V17At9600ShortTraining
-training_indicator rates.V17At12000 long = if long then V17At12000LongTraining else V17At12000ShortTraining
-training_indicator rates.V17At14400 long = if long then V17At14400LongTraining else V17At14400ShortTraining
+training_indicator rates.V17At7200 long =
+    if long then V17At7200LongTraining else V17At7200ShortTraining
+training_indicator rates.V17At9600 long =
+    if long then V17At9600LongTraining else V17At9600ShortTraining
+training_indicator rates.V17At12000 long =
+    if long then V17At12000LongTraining else V17At12000ShortTraining
+training_indicator rates.V17At14400 long =
+    if long then V17At14400LongTraining else V17At14400ShortTraining

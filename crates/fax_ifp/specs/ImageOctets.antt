@@ -7,7 +7,8 @@ use Rattle.fax_ifp.specs.Pieces.{Piece, Start, Octets, Image, is_training, is_im
 -- those of a field's octets that are the open image's
 abbrev pub octets_in_image : Option Image → ℕ → ℕ → List ℕ → List ℕ
 octets_in_image None kind what octets = []
-octets_in_image (Some image) kind what octets = if is_image_field image.kind kind what then octets else []
+octets_in_image (Some image) kind what octets =
+    if is_image_field image.kind kind what then octets else []
 
 -- the octets of the last high-speed signal: of the fields of types 6 and 7 in data of its training
 -- indicator's type, since that indicator, while its image is open: up to and with its sig-end, or until
@@ -16,7 +17,8 @@ abbrev pub image_octets : List Element → List ℕ
 image_octets [] = []
 image_octets (Missing ∷ before) = image_octets before
 image_octets (Signal code ∷ before) = if is_training code then [] else image_octets before
-image_octets (Field kind what octets ∷ before) = image_octets before ++ octets_in_image (open_image before) kind what octets
+image_octets (Field kind what octets ∷ before) =
+    image_octets before ++ octets_in_image (open_image before) kind what octets
 
 -- the octets of the pieces since the last start, joined
 abbrev pub octets_since : List Piece → List ℕ

@@ -40,9 +40,13 @@ pub record ReadField : Type 0 where
 
 -- a field of four bits: the first says that its octets follow, from the next octet on, and the others are its type
 abbrev pub field_of : ℕ → Option ℕ → List ℕ → Result ReadField IfpFault
-field_of bits half octets =
-    if nat_lt bits 8 then Ok (record { text = record { what = bits; octets = None }; half = half; octets = octets })
-    else (octets_at octets >>= λ own. Ok (record { text = record { what = bits - 8; octets = Some own.0 }; half = None; octets = own.1 }))
+field_of bits half octets = if nat_lt bits 8
+    then Ok (record { text = record { what = bits; octets = None }; half = half; octets = octets })
+    else (octets_at octets >>= λ own. Ok (record {
+      text = record { what = bits - 8; octets = Some own.0 };
+      half = None;
+      octets = own.1;
+    }))
 
 -- the next field stands in the half octet that is left, or begins the next octet
 unfoldable pub field_at : Option ℕ → List ℕ → Result ReadField IfpFault
@@ -61,7 +65,8 @@ fields_at (suc n) half octets = do
 -- fields after the octet that counts them, from 0 (own) to 127 (own)
 abbrev pub counted_fields : List ℕ → Result (List FieldText) IfpFault
 counted_fields [] = Err Short
-counted_fields (count ∷ octets) = if nat_lt 127 count then Err BadCount else fields_at count None octets
+counted_fields (count ∷ octets) =
+    if nat_lt 127 count then Err BadCount else fields_at count None octets
 
 -- the fields after a first octet, whose bit 7 says whether there are some
 unfoldable pub fields_after : ℕ → List ℕ → Result (List FieldText) IfpFault
@@ -69,10 +74,8 @@ fields_after first octets = if bit first 7 then counted_fields octets else Ok []
 
 -- a first octet that is no extension: bit 6 says that it is data, bits 4 to 1 are the indicator or the type of the data
 abbrev pub packet_from : ℕ → List ℕ → Result Packet IfpFault
-packet_from first octets =
-    let value = first / 2 % 16 in
-    if bit first 6
-    then (if nat_lt 8 value then Err BadValue else (fields_after first octets >>= λ fields. Ok (Message value fields)))
+packet_from first octets = let value = first / 2 % 16 in if bit first 6 then (if nat_lt 8 value
+    then Err BadValue else (fields_after first octets >>= λ fields. Ok (Message value fields)))
     else (fields_after first octets >>= λ fields. Ok (Indicator value))
 
 -- the packet that octets are, or what is wrong with them; bit 5 of the first octet marks an extension. Fields of an
@@ -83,4 +86,5 @@ packet_of (first ∷ octets) = if bit first 5 then Err Extension else packet_fro
 
 -- these octets are data with more than eight fields
 abbrev pub HasNinthField : List ℕ → Type 0
-HasNinthField octets = (kind : ℕ) × (fields : List FieldText) × (packet_of octets ≡ Ok (Message kind fields)) × (8 < length fields)
+HasNinthField octets = (kind : ℕ) × (fields : List FieldText)
+    × (packet_of octets ≡ Ok (Message kind fields)) × (8 < length fields)

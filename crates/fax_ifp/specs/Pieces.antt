@@ -40,7 +40,8 @@ hdlc_since (Field kind what octets ∷ before) =
 -- a frame has 1 to 256 octets
 abbrev pub frame_if : Option (List ℕ) → List Piece
 frame_if None = []
-frame_if (Some octets) = if nat_le 1 (length octets) && nat_le (length octets) 256 then Frame octets ∷ [] else []
+frame_if (Some octets) =
+    if nat_le 1 (length octets) && nat_le (length octets) 256 then Frame octets ∷ [] else []
 
 -- IMAGES. The last indicator, and the elements since
 pub record Since : Type 0 where
@@ -48,13 +49,15 @@ pub record Since : Type 0 where
   pub later : List Element
 
 abbrev pub with_later : Element → Option Since → Option Since
-with_later element = option_map (λ since. record { code = since.code; later = element ∷ since.later })
+with_later element =
+    option_map (λ since. record { code = since.code; later = element ∷ since.later })
 
 abbrev pub since_indicator : List Element → Option Since
 since_indicator [] = None
 since_indicator (Signal code ∷ before) = Some (record { code = code; later = [] })
 since_indicator (Missing ∷ before) = with_later Missing (since_indicator before)
-since_indicator (Field kind what octets ∷ before) = with_later (Field kind what octets) (since_indicator before)
+since_indicator (Field kind what octets ∷ before) =
+    with_later (Field kind what octets) (since_indicator before)
 
 -- the indicators from 4 on are training indicators
 abbrev pub is_training : ℕ → Bool
@@ -94,10 +97,13 @@ pub record Image : Type 0 where
 -- a training indicator begins an image; it is open until its sig-end; it is whole where nothing is
 -- missing in it and no other field stands in it
 abbrev pub image_of : Since → Option Image
-image_of since =
-    let kind = kind_of_training since.code in
-    if not (is_training since.code) || list_any (is_image_end kind) since.later then None
-    else Some (record { kind = kind; started = list_any (is_image_octets kind) since.later; whole = list_all (is_image_part kind) since.later })
+image_of since = let kind = kind_of_training since.code
+    in if not (is_training since.code) || list_any (is_image_end kind) since.later then None
+    else Some (record {
+      kind = kind;
+      started = list_any (is_image_octets kind) since.later;
+      whole = list_all (is_image_part kind) since.later;
+    })
 
 abbrev pub image_since : Option Since → Option Image
 image_since None = None
@@ -125,9 +131,8 @@ octets_if octets = if has_octet octets then Octets octets ∷ [] else []
 abbrev pub image_pieces : Option Image → ℕ → ℕ → List ℕ → List Piece
 image_pieces None kind what octets = []
 image_pieces (Some image) kind what octets =
-    if is_image_field image.kind kind what
-    then octets_if octets ++ (if nat_eq what 7 then end_if (image.started || has_octet octets) image.whole else [])
-    else []
+    if is_image_field image.kind kind what then octets_if octets ++ (if nat_eq what 7
+    then end_if (image.started || has_octet octets) image.whole else []) else []
 
 abbrev pub frame_pieces : List Element → ℕ → ℕ → List Piece
 frame_pieces before kind what = if is_frame_end kind what then frame_if (hdlc_since before) else []
@@ -136,7 +141,8 @@ frame_pieces before kind what = if is_frame_end kind what then frame_if (hdlc_si
 abbrev pub pieces_at : List Element → Element → List Piece
 pieces_at before Missing = Gap ∷ []
 pieces_at before (Signal code) = end_before (open_image before) ++ start_if code
-pieces_at before (Field kind what octets) = frame_pieces before kind what ++ image_pieces (open_image before) kind what octets
+pieces_at before (Field kind what octets) =
+    frame_pieces before kind what ++ image_pieces (open_image before) kind what octets
 
 -- the pieces of elements, in the order of time
 abbrev pub pieces_of : List Element → List Piece

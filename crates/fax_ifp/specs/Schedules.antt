@@ -34,7 +34,8 @@ first_signal later = None
 -- The octets of the image signal at a place of the list, if one stands there: the packets from that place on, heard as a call
 -- of their own, begin with one whole image.
 abbrev pub signal_at : List (List ℕ) → ℕ → Option (List ℕ)
-signal_at packets place = if begins_signal (slice_get packets place) then first_signal (pieces (slots_of (drop place packets))) else None
+signal_at packets place = if begins_signal (slice_get packets place)
+    then first_signal (pieces (slots_of (drop place packets))) else None
 
 -- the octets since an image's start, where nothing else stands between
 abbrev pub octets_alone : List Piece → Option (List ℕ)
@@ -54,12 +55,13 @@ pub record IsSignalAt (packets : List (List ℕ)) (before : List Piece) (place :
 -- Each whole image is the signal at a place before `bound`, and those before it stand at earlier places.
 abbrev pub AreSignals : List (List ℕ) → List Piece → (bound : ℕ) → Type 0
 AreSignals packets [] bound = Unit {0}
-AreSignals packets (End true ∷ before) bound = (place : ℕ) × (place < bound) × IsSignalAt packets before place × AreSignals packets before place
+AreSignals packets (End true ∷ before) bound = (place : ℕ)
+    × (place < bound) × IsSignalAt packets before place × AreSignals packets before place
 AreSignals packets (piece ∷ before) bound = AreSignals packets before bound
 
 abbrev pub ImagesAreSignals : Type 0
-ImagesAreSignals =
-    (packets : List (List ℕ)) (next : ℕ) (slots : List Slot) → AreSlotsBefore packets next slots → AreSignals packets (reverse (pieces slots)) next
+ImagesAreSignals = (packets : List (List ℕ)) (next : ℕ) (slots : List Slot)
+    → AreSlotsBefore packets next slots → AreSignals packets (reverse (pieces slots)) next
 
 -- FRAMES. A packet that can be read, which ends at a boundary where it is V.21 data with fields
 abbrev pub ends_at_boundary : List FieldText → Bool
@@ -80,6 +82,7 @@ AreClosed (packet ∷ packets) = (is_closed (packet_of packet) ≡ true) × AreC
 -- Where the slots begin at the first packet of the list, or each packet of it is closed, each frame that is heard is one of the
 -- list. (Else a frame of which the first packets lie before the first slot would be heard without them.)
 abbrev pub FramesAreSent : Type 0
-FramesAreSent =
-    (packets : List (List ℕ)) (next : ℕ) (slots : List Slot) → AreSlotsBefore packets next slots → (next ≡ length slots) ⊎ AreClosed packets
-    → (octets : List ℕ) → Contains (pieces slots) (Frame octets) → Contains (pieces (slots_of packets)) (Frame octets)
+FramesAreSent = (packets : List (List ℕ)) (next : ℕ) (slots : List Slot)
+    → AreSlotsBefore packets next slots
+    → (next ≡ length slots) ⊎ AreClosed packets → (octets : List ℕ)
+    → Contains (pieces slots) (Frame octets) → Contains (pieces (slots_of packets)) (Frame octets)

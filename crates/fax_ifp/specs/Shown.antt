@@ -29,4 +29,5 @@ frames_shown None = []
 frames_shown (Some octets) = Frame octets.items ∷ []
 
 abbrev pub image_shown : Option OpenImage → Option Image
-image_shown = option_map (λ image. record { kind = image.kind; started = image.started; whole = image.whole })
+image_shown =
+    option_map (λ image. record { kind = image.kind; started = image.started; whole = image.whole })

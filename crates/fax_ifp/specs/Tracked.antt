@@ -31,11 +31,14 @@ Tracks slot old new = (before : List Slot) → IsTracked before old → IsTracke
 
 -- whatever slots left this, the slot after them adds these pieces to theirs
 abbrev pub Gives : Slot → TrackState → List Piece → Type 0
-Gives slot old given = (before : List Slot) → IsTracked before old → pieces (slot ∷ before) ≡ pieces before ++ given
+Gives slot old given = (before : List Slot)
+    → IsTracked before old → pieces (slot ∷ before) ≡ pieces before ++ given
 
 -- the open image, if one is, has an octet
 abbrev pub with_octets : TrackState → TrackState
-with_octets tracked = record tracked { image = option_map (λ (image : Image). record image { started = true }) tracked.image }
+with_octets tracked = record tracked {
+  image = option_map (λ (image : Image). record image { started = true }) tracked.image;
+}
 
 -- so many lost slots in a row
 abbrev pub lost_slots : ℕ → List Slot
@@ -43,11 +46,13 @@ lost_slots count = replicate count None
 
 -- whatever slots left the old, with these after them they leave the new
 abbrev pub TracksRun : List Slot → TrackState → TrackState → Type 0
-TracksRun later old new = (before : List Slot) → IsTracked before old → IsTracked (later ++ before) new
+TracksRun later old new = (before : List Slot)
+    → IsTracked before old → IsTracked (later ++ before) new
 
 -- whatever slots left this, these after them add these pieces to theirs
 abbrev pub GivesRun : List Slot → TrackState → List Piece → Type 0
-GivesRun later old given = (before : List Slot) → IsTracked before old → pieces (later ++ before) ≡ pieces before ++ given
+GivesRun later old given = (before : List Slot)
+    → IsTracked before old → pieces (later ++ before) ≡ pieces before ++ given
 
 -- it is no message of more than four fields
 abbrev pub HasFewFields : Result Packet IfpFault → Type 0

@@ -19,7 +19,8 @@ counted (Some octets) = (length octets - 1) / 256 ∷ (length octets - 1) % 256 
 unfoldable pub written_after : Option ℕ → List FieldText → List ℕ
 written_after None [] = []
 written_after (Some bits) [] = 16 * bits ∷ []
-written_after (Some bits) (field ∷ fields) = (16 * bits + four_bits field) ∷ counted field.octets ++ written_after None fields
+written_after (Some bits) (field ∷ fields) =
+    (16 * bits + four_bits field) ∷ counted field.octets ++ written_after None fields
 written_after None (field ∷ fields) =
     if is_some field.octets
     then (16 * four_bits field ∷ counted field.octets ++ written_after None fields)
@@ -31,7 +32,8 @@ written_fields fields = written_after None fields
 -- data; no fields are written without a count octet
 abbrev pub written_message : ℕ → List FieldText → List ℕ
 written_message kind [] = (0x40 + 2 * kind) ∷ []
-written_message kind (field ∷ fields) = (0xC0 + 2 * kind) ∷ length (field ∷ fields) ∷ written_fields (field ∷ fields)
+written_message kind (field ∷ fields) =
+    (0xC0 + 2 * kind) ∷ length (field ∷ fields) ∷ written_fields (field ∷ fields)
 
 -- a field that can be written
 pub record IsWritableField (field : FieldText) : Type 0 where
@@ -46,7 +48,8 @@ pub record IsWritable (kind : ℕ) (fields : List FieldText) : Type 0 where
 
 -- a frame: V.21 data, hdlc-data with its octets and hdlc-fcs-OK-sig-end without
 abbrev pub frame_fields : List ℕ → List FieldText
-frame_fields frame = record { what = 0; octets = Some frame } ∷ record { what = 4; octets = None } ∷ []
+frame_fields frame =
+    record { what = 0; octets = Some frame } ∷ record { what = 4; octets = None } ∷ []
 
 -- octets of an image: t4-non-ecm-data, and in the last packet t4-non-ecm-sig-end
 abbrev pub image_fields : Bool → List ℕ → List FieldText

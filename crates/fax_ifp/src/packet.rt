@@ -89,7 +89,8 @@ impl<'a> Ifp<'a> {
     /// them is kept.
     pub fn read(alloc: Global, octets: &'a [u8]) -> Result<Ifp<'a>, IfpFault>
         ensures read { IfOk result (λ packet. packet_of octets.now ≡ Ok packet) }
-        ensures refused { IfErr result (λ fault. fault ≢ IfpFault.NoMemory → packet_of octets.now ≡ Err fault) }
+        ensures refused { IfErr result
+            (λ fault. fault ≢ IfpFault.NoMemory → packet_of octets.now ≡ Err fault) }
         ensures memory { result ≡ Err IfpFault.NoMemory → HasNinthField octets.now }
     {
         let [first, rest @ ..] = octets else {
@@ -159,7 +160,8 @@ fn has_bit(octet: u8, k: u32) -> bool
 
 /// How many fields stand after a first octet, and the octets from the first of them on.
 fn count_of_fields(first: u8, octets: &[u8]) -> Result<(u8, &[u8]), IfpFault>
-    ensures count { IfOk result (λ read. fields_after first octets.now ≡ fields_at read.0 None read.1.now) }
+    ensures count { IfOk result
+        (λ read. fields_after first octets.now ≡ fields_at read.0 None read.1.now) }
     ensures fault { IfErr result (λ fault. fields_after first octets.now ≡ Err fault) }
     ensures memory { result ≢ Err IfpFault.NoMemory }
 {
@@ -229,7 +231,8 @@ fn field_of<'a>(
 
 /// Reads so many fields and keeps none.
 fn check_fields(count: u8, octets: &[u8]) -> Result<(), IfpFault>
-    ensures good { OnOk result ((fields : List FieldText) × (fields_at count None octets.now ≡ Ok fields)) }
+    ensures good { OnOk result ((fields : List FieldText)
+        × (fields_at count None octets.now ≡ Ok fields)) }
     ensures fault { IfErr result (λ fault. fields_at count None octets.now ≡ Err fault) }
 {
     let mut place = Place { half: None, octets };
@@ -246,9 +249,12 @@ fn read_fields<'a>(
     count: u8,
     octets: &'a [u8],
 ) -> Result<SmallVec<Field<'a>, 8>, IfpFault>
-    ensures read { IfOk result (λ fields. fields_at count None octets.now ≡ Ok (texts_of fields.items)) }
-    ensures refused { IfErr result (λ fault. fault ≢ IfpFault.NoMemory → fields_at count None octets.now ≡ Err fault) }
-    ensures memory { result ≡ Err IfpFault.NoMemory → (8 < count) × (fields : List FieldText) × (fields_at count None octets.now ≡ Ok fields) }
+    ensures read { IfOk result
+        (λ fields. fields_at count None octets.now ≡ Ok (texts_of fields.items)) }
+    ensures refused { IfErr result
+        (λ fault. fault ≢ IfpFault.NoMemory → fields_at count None octets.now ≡ Err fault) }
+    ensures memory { result ≡ Err IfpFault.NoMemory
+        → (8 < count) × (fields : List FieldText) × (fields_at count None octets.now ≡ Ok fields) }
 {
     let Ok(mut fields) = SmallVec::with_capacity(alloc, usize::from(count)) else {
         check_fields(count, octets)?;
@@ -265,9 +271,11 @@ fn read_fields<'a>(
 
 /// The octets of an image that a packet is and nothing else: data of this type with one field, of t4-non-ecm-data with octets.
 pub(crate) fn image_octets<'a>(kind: u8, octets: &'a [u8]) -> Option<&'a [u8]>
-    ensures octets { IfSome result (λ own. packet_of octets.now ≡ Ok (Message kind (image_fields false own.now))) }
+    ensures octets { IfSome result
+        (λ own. packet_of octets.now ≡ Ok (Message kind (image_fields false own.now))) }
     ensures some { IfSome result (λ own. has_octet own.now ≡ true) }
-    ensures none { (own : List ℕ) → packet_of octets.now ≡ Ok (Message kind (image_fields false own)) → IsSome result }
+    ensures none { (own : List ℕ)
+        → packet_of octets.now ≡ Ok (Message kind (image_fields false own)) → IsSome result }
 {
     let field = only_field(kind, octets)?;
     if field.what == FieldType::T4NonEcmData.code() {
@@ -279,9 +287,12 @@ pub(crate) fn image_octets<'a>(kind: u8, octets: &'a [u8]) -> Option<&'a [u8]>
 
 /// The field of a packet that is data of this type with one field.
 fn only_field<'a>(kind: u8, octets: &'a [u8]) -> Option<Field<'a>>
-    ensures field { IfSome result (λ field. packet_of octets.now ≡ Ok (Message kind (text_of field ∷ []))) }
-    ensures some { IfSome result (λ field. (own : List ℕ) → octets_in field.octets ≡ Some own → has_octet own ≡ true) }
-    ensures none { (text : FieldText) → packet_of octets.now ≡ Ok (Message kind (text ∷ [])) → IsSome result }
+    ensures field { IfSome result
+        (λ field. packet_of octets.now ≡ Ok (Message kind (text_of field ∷ []))) }
+    ensures some { IfSome result
+        (λ field. (own : List ℕ) → octets_in field.octets ≡ Some own → has_octet own ≡ true) }
+    ensures none { (text : FieldText)
+        → packet_of octets.now ≡ Ok (Message kind (text ∷ [])) → IsSome result }
 {
     let [first, rest @ ..] = octets else {
         return None;

@@ -116,10 +116,13 @@ impl Signals {
     /// of t4-non-ecm-data with octets. They are lent, and nothing changes: [`Signals::take_octets`] takes that slot, of which
     /// [`Signals::slot`] says the same, with a list. It takes no memory.
     pub fn octets_in<'a>(&self, packet: &'a [u8]) -> Option<&'a [u8]>
-        ensures tracked { OnSome result (Tracks (Some packet.entry.now) self.now (with_octets self.now)) }
-        ensures pieces { IfSome result (λ octets. Gives (Some packet.entry.now) self.now (Octets octets.now ∷ [])) }
+        ensures tracked { OnSome result
+            (Tracks (Some packet.entry.now) self.now (with_octets self.now)) }
+        ensures pieces { IfSome result
+            (λ octets. Gives (Some packet.entry.now) self.now (Octets octets.now ∷ [])) }
         ensures none { (image : Image) (octets : List ℕ) → self.now.image ≡ Some image
-            → packet_of packet.entry.now ≡ Ok (Message image.kind (image_fields false octets)) → IsSome result }
+            → packet_of packet.entry.now ≡ Ok (Message image.kind (image_fields false octets))
+            → IsSome result }
     {
         let image = self.image?;
         image_octets(image.kind, packet)
@@ -342,7 +345,8 @@ impl Signals {
         ensures pieces { pieces_shown pieces.new.items
             ≡ pieces_shown pieces.old.items ++ end_before self.old.image }
         ensures capacity { pieces.new.capacity ≡ pieces.old.capacity }
-        ensures len { small_vec_len pieces.new ≤ small_vec_len pieces.old + images_in self.old.image }
+        ensures len { small_vec_len pieces.new
+            ≤ small_vec_len pieces.old + images_in self.old.image }
     {
         if let Some(image) = self.image.take() {
             if image.started {

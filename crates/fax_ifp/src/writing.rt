@@ -52,8 +52,10 @@ pub fn write_data(alloc: Global, kind: u8, fields: &[Field<'_>]) -> Result<Octet
 /// [`data_length`] tells. It takes no memory.
 pub fn put_data(octets: &mut Vec<u8>, kind: u8, fields: &[Field<'_>])
     requires writable { IsWritable kind (texts_of fields.now) }
-    requires room { vec_len octets.old + length (written_message kind (texts_of fields.now)) ≤ vec_capacity octets.old }
-    ensures items { octets.new.items ≡ octets.old.items ++ written_message kind (texts_of fields.now) }
+    requires room { vec_len octets.old + length (written_message kind (texts_of fields.now))
+        ≤ vec_capacity octets.old }
+    ensures items { octets.new.items
+        ≡ octets.old.items ++ written_message kind (texts_of fields.now) }
     ensures capacity { vec_capacity octets.new ≡ vec_capacity octets.old }
 {
     if fields.is_empty() {
@@ -94,7 +96,8 @@ pub fn put_frame(octets: &mut Vec<u8>, frame: &[u8])
     requires some { 1 ≤ length frame.now }
     requires few { length frame.now ≤ 256 }
     requires room { vec_len octets.old + 6 + length frame.now ≤ vec_capacity octets.old }
-    ensures items { octets.new.items ≡ octets.old.items ++ written_message 0 (frame_fields frame.now) }
+    ensures items { octets.new.items
+        ≡ octets.old.items ++ written_message 0 (frame_fields frame.now) }
     ensures capacity { vec_capacity octets.new ≡ vec_capacity octets.old }
 {
     let data = Field {
@@ -114,7 +117,8 @@ pub fn write_image(alloc: Global, kind: u8, last: bool, octets: &[u8]) -> Result
     requires kind { kind ≤ 8 }
     requires some { 1 ≤ length octets.now }
     requires few { length octets.now ≤ 65535 }
-    ensures { IfOk result (λ written. written ≡ written_message kind (image_fields last octets.now)) }
+    ensures { IfOk result
+        (λ written. written ≡ written_message kind (image_fields last octets.now)) }
 {
     let mut written = Vec::with_capacity(alloc, 5 + octets.len())?;
     put_image(&mut written, kind, last, octets);
@@ -128,7 +132,8 @@ pub fn put_image(octets: &mut Vec<u8>, kind: u8, last: bool, own: &[u8])
     requires some { 1 ≤ length own.now }
     requires few { length own.now ≤ 65535 }
     requires room { vec_len octets.old + 5 + length own.now ≤ vec_capacity octets.old }
-    ensures items { octets.new.items ≡ octets.old.items ++ written_message kind (image_fields last own.now) }
+    ensures items { octets.new.items
+        ≡ octets.old.items ++ written_message kind (image_fields last own.now) }
     ensures capacity { vec_capacity octets.new ≡ vec_capacity octets.old }
 {
     let what = if last {
@@ -165,7 +170,8 @@ fn length_of_fields(fields: &[Field<'_>]) -> usize
 /// Adds fields, for which there is room.
 fn push_fields(octets: &mut Vec<u8>, fields: &[Field<'_>])
     requires each { All IsWritableField (texts_of fields.now) }
-    requires room { vec_len octets.old + length (written_fields (texts_of fields.now)) ≤ vec_capacity octets.old }
+    requires room { vec_len octets.old + length (written_fields (texts_of fields.now))
+        ≤ vec_capacity octets.old }
     ensures items { octets.new.items ≡ octets.old.items ++ written_fields (texts_of fields.now) }
     ensures capacity { vec_capacity octets.new ≡ vec_capacity octets.old }
 {
@@ -206,7 +212,8 @@ fn length_after(half: Option<u8>, field: &Field<'_>) -> usize
 fn push_field(octets: &mut Vec<u8>, half: Option<u8>, field: &Field<'_>)
     requires field { IsWritableField (text_of field.now) }
     requires half { ForSome half (λ half. half ≤ 7) }
-    requires room { vec_len octets.old + length (added half (text_of field.now)) ≤ vec_capacity octets.old }
+    requires room { vec_len octets.old + length (added half (text_of field.now))
+        ≤ vec_capacity octets.old }
     ensures items { octets.new.items ≡ octets.old.items ++ added half (text_of field.now) }
     ensures capacity { vec_capacity octets.new ≡ vec_capacity octets.old }
 {

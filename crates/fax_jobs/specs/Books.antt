@@ -71,16 +71,23 @@ abbrev pub last_of : ℕ → List Report → List Report
 last_of n reports = drop (length reports - n) reports
 
 abbrev pub report_of : JobValue → Outcome → ℕ → Report
-report_of job outcome delivered =
-    record { call = job.call; format = job.format; pages = length job.pages; delivered = delivered; outcome = outcome }
+report_of job outcome delivered = record {
+  call = job.call;
+  format = job.format;
+  pages = length job.pages;
+  delivered = delivered;
+  outcome = outcome;
+}
 
 abbrev pub reported : List Report → Option JobValue → Outcome → ℕ → List Report
 reported reports None outcome delivered = reports
 reported reports (Some job) outcome delivered = reports ++ report_of job outcome delivered ∷ []
 
 abbrev pub ended : Book → Outcome → ℕ → Book
-ended book outcome delivered =
-    record book { sending = None; reports = last_of kept_reports (reported book.reports book.sending outcome delivered) }
+ended book outcome delivered = record book {
+  sending = None;
+  reports = last_of kept_reports (reported book.reports book.sending outcome delivered);
+}
 
 -- A CONFIRMED PAGE, of any format, joins the open job where that is of its call and has fewer than 999 pages. Else the open
 -- job is closed and another one opened. After EOP the job is closed.
@@ -92,10 +99,12 @@ joins None call = false
 joins (Some job) call = takes_page job call
 
 abbrev pub with_page : Book → ℕ → PageValue → Book
-with_page book call page = if joins book.open_job call then added book page else opened (closed book) call page
+with_page book call page =
+    if joins book.open_job call then added book page else opened (closed book) call page
 
 abbrev pub confirmed : Book → ℕ → PageValue → (closes : Bool) → Book
-confirmed book call page closes = if closes then closed (with_page book call page) else with_page book call page
+confirmed book call page closes =
+    if closes then closed (with_page book call page) else with_page book call page
 
 -- ROOM for a page, whichever job it comes into: a list for the first page of a new job, a list that takes the pages of the
 -- open job and one more, and a place among those that wait for each of these jobs.
@@ -107,7 +116,8 @@ abbrev pub open_count : Option JobValue → ℕ
 open_count None = 0
 open_count (Some job) = 1
 
-pub record HasRoom (open_job : Option JobValue) (waiting places first_room larger_room : ℕ) : Type 0 where
+pub record HasRoom (open_job : Option JobValue) (waiting places first_room larger_room : ℕ) :
+    Type 0 where
   pub first : 0 < first_room
   pub larger : page_count open_job < larger_room
   pub places_left : waiting + open_count open_job < places

@@ -40,8 +40,8 @@ pub record IsJobOf (call : ℕ) (own others : List Confirmation) (job : JobValue
 -- the jobs of a call that has ended
 abbrev pub IsCutOf : ℕ → List Confirmation → List JobValue → Type 0
 IsCutOf call cs [] = cs ≡ []
-IsCutOf call cs (job ∷ jobs) =
-    (own : List Confirmation) × (others : List Confirmation) × (cs ≡ own ++ others) × IsJobOf call own others job × IsCutOf call others jobs
+IsCutOf call cs (job ∷ jobs) = (own : List Confirmation) × (others : List Confirmation)
+    × (cs ≡ own ++ others) × IsJobOf call own others job × IsCutOf call others jobs
 
 -- A call that is on: a cut is known once the job ends by EOP or a further confirmation came; till then the job is open.
 abbrev pub IsKnown : List Confirmation → List Confirmation → Type 0
@@ -54,12 +54,14 @@ IsRest call (Some job) cs = IsJobOf call cs [] job × (EndsByEop cs → ⊥)
 abbrev pub IsCutSoFar : ℕ → List Confirmation → List JobValue → Option JobValue → Type 0
 IsCutSoFar call cs [] open_job = IsRest call open_job cs
 IsCutSoFar call cs (job ∷ jobs) open_job =
-    (own : List Confirmation) × (others : List Confirmation) × (cs ≡ own ++ others) × IsJobOf call own others job × IsKnown own others × IsCutSoFar call others jobs open_job
+    (own : List Confirmation) × (others : List Confirmation) × (cs ≡ own ++ others)
+    × IsJobOf call own others job × IsKnown own others × IsCutSoFar call others jobs open_job
 
 -- the confirmations among steps, which are the newest first
 abbrev pub confirmations : List Step → List Confirmation
 confirmations [] = []
-confirmations (Confirms call page closes ∷ before) = confirmations before ++ record { page = page; closes = closes } ∷ []
+confirmations (Confirms call page closes ∷ before) =
+    confirmations before ++ record { page = page; closes = closes } ∷ []
 confirmations (CallEnds ∷ before) = confirmations before
 confirmations (Sends ∷ before) = confirmations before
 confirmations (Ends outcome delivered ∷ before) = confirmations before
@@ -103,14 +105,14 @@ AreBetweenCalls (Sends ∷ before) = AreBetweenCalls before
 AreBetweenCalls (Ends outcome delivered ∷ before) = AreBetweenCalls before
 
 abbrev pub KeepsJobs : Type 0
-KeepsJobs =
-    (old : Past) (steps : List Step) → old.book.open_job ≡ None → AreBetweenCalls steps
-    → (jobs_of (after_steps old steps) ≡ jobs_of old) × ((after_steps old steps).book.open_job ≡ None)
+KeepsJobs = (old : Past) (steps : List Step) → old.book.open_job ≡ None
+    → AreBetweenCalls steps → (jobs_of (after_steps old steps) ≡ jobs_of old)
+    × ((after_steps old steps).book.open_job ≡ None)
 
 -- Confirmations are cut in one way only.
 abbrev pub CutsAreOne : Type 0
-CutsAreOne =
-    (call : ℕ) (cs : List Confirmation) (jobs others : List JobValue) → IsCutOf call cs jobs → IsCutOf call cs others → jobs ≡ others
+CutsAreOne = (call : ℕ) (cs : List Confirmation) (jobs others : List JobValue)
+    → IsCutOf call cs jobs → IsCutOf call cs others → jobs ≡ others
 
 -- The pages of the jobs of a call are the confirmed pages, in their order, each once.
 abbrev pub pages_of : List JobValue → List PageValue
@@ -118,5 +120,5 @@ pages_of [] = []
 pages_of (job ∷ jobs) = job.pages ++ pages_of jobs
 
 abbrev pub HoldsEachPageOnce : Type 0
-HoldsEachPageOnce =
-    (call : ℕ) (cs : List Confirmation) (jobs : List JobValue) → IsCutOf call cs jobs → pages_of jobs ≡ pages_by cs
+HoldsEachPageOnce = (call : ℕ) (cs : List Confirmation) (jobs : List JobValue)
+    → IsCutOf call cs jobs → pages_of jobs ≡ pages_by cs

@@ -24,7 +24,8 @@ octets_of_jobs jobs = sum_by octets_of_job jobs
 
 -- a book: its open job, those that wait, and the one that is being sent
 abbrev pub octets_of_book : Book → ℕ
-octets_of_book book = octets_of_one book.open_job + octets_of_jobs book.waiting + octets_of_one book.sending
+octets_of_book book =
+    octets_of_one book.open_job + octets_of_jobs book.waiting + octets_of_one book.sending
 
 -- WHAT A BOOK COUNTS: so many octets for all of its jobs, of which none takes 2^39
 abbrev pub most_of_job : ℕ
@@ -33,7 +34,8 @@ most_of_job = 2 ^ 39
 abbrev pub IsFew : JobValue → Type 0
 IsFew job = octets_of_job job < most_of_job
 
-pub record IsCounted (open_job : Option JobValue) (waiting : List JobValue) (sending : Option JobValue) (held : ℕ) : Type 0 where
+pub record IsCounted (open_job : Option JobValue)
+    (waiting : List JobValue) (sending : Option JobValue) (held : ℕ) : Type 0 where
   pub sum : held ≡ octets_of_one open_job + octets_of_jobs waiting + octets_of_one sending
   pub open_few : octets_of_one open_job < most_of_job
   pub waiting_few : All IsFew waiting

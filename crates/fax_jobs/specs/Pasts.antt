@@ -41,7 +41,8 @@ ended_if (Some job) past outcome delivered =
     }
 
 abbrev pub after_step : Past → Step → Past
-after_step past (Confirms call page closes) = record past { book = confirmed past.book call page closes }
+after_step past (Confirms call page closes) =
+    record past { book = confirmed past.book call page closes }
 after_step past CallEnds = record past { book = closed past.book }
 after_step past Sends = record past { book = sent_if past.book.sending past.book }
 after_step past (Ends outcome delivered) = ended_if past.book.sending past outcome delivered
@@ -58,8 +59,8 @@ jobs_of past = past.ended ++ (as_list past.book.sending ++ past.book.waiting)
 -- each job that ended has one report, with its call, its format and the number of its pages
 abbrev pub AreReported : List JobValue → List Report → Type 0
 AreReported [] [] = Unit {0}
-AreReported (job ∷ jobs) (report ∷ reports) =
-    (report.call ≡ job.call) × (report.format ≡ job.format) × (report.pages ≡ length job.pages) × AreReported jobs reports
+AreReported (job ∷ jobs) (report ∷ reports) = (report.call ≡ job.call)
+    × (report.format ≡ job.format) × (report.pages ≡ length job.pages) × AreReported jobs reports
 AreReported jobs reports = ⊥
 
 -- Over all steps from a new book: each job that ended was reported once, in order, and the book has the last 64 reports.

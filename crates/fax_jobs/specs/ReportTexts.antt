@@ -11,6 +11,6 @@ resolution_name false = codes "standard"
 
 -- the word `job`, the call, the width in elements and the resolution, how many pages, how many were delivered, and how it ended
 abbrev pub report_text : Report → List ℕ
-report_text report =
-    join_with_byte 32 (codes "job" ∷ decimal report.call ∷ decimal (elements_of report.format.width) ∷ resolution_name report.format.fine
+report_text report = join_with_byte 32 (codes "job" ∷ decimal report.call
+    ∷ decimal (elements_of report.format.width) ∷ resolution_name report.format.fine
     ∷ decimal report.pages ∷ decimal report.delivered ∷ outcome_name report.outcome ∷ [])

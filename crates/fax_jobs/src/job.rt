@@ -39,7 +39,9 @@ impl<S: RowStore> Model for Job<S> {
 
     ghost view = { λ job. record { call = job.call; format = job.format; pages = job.pages } };
 
-    ghost invariant = { λ job. IsJob (record { call = job.call; format = job.format; pages = job.pages }) × (job.held ≡ octets_of_pages job.pages) };
+    ghost invariant = { λ job.
+        IsJob (record { call = job.call; format = job.format; pages = job.pages })
+        × (job.held ≡ octets_of_pages job.pages) };
 }
 
 impl<S: RowStore> Job<S> {

@@ -64,14 +64,22 @@ impl<S: RowStore> Model for Jobs<S> {
 
     ghost Value = { JobsValue };
 
-    ghost view = { λ jobs. record {
-      book = record { open_job = jobs.open_job; waiting = jobs.waiting.items; sending = jobs.sending; reports = jobs.reports.items };
-      spare = jobs.spare;
-    } };
+    ghost view = { λ jobs.
+        record {
+          book = record {
+            open_job = jobs.open_job;
+            waiting = jobs.waiting.items;
+            sending = jobs.sending;
+            reports = jobs.reports.items;
+          };
+          spare = jobs.spare;
+        } };
 
-    ghost invariant = { λ jobs. (jobs.reports.capacity ≡ kept_reports) × (IsSome jobs.open_job → deque_len jobs.waiting < deque_capacity jobs.waiting)
+    ghost invariant = { λ jobs. (jobs.reports.capacity ≡ kept_reports)
+        × (IsSome jobs.open_job → deque_len jobs.waiting < deque_capacity jobs.waiting)
         × (vec_len jobs.first ≡ 0) × (vec_len jobs.larger ≡ 0)
-        × (0 < jobs.spare → HasRoom jobs.open_job (deque_len jobs.waiting) (deque_capacity jobs.waiting) (vec_capacity jobs.first) (vec_capacity jobs.larger))
+        × (0 < jobs.spare → HasRoom jobs.open_job (deque_len jobs.waiting)
+        (deque_capacity jobs.waiting) (vec_capacity jobs.first) (vec_capacity jobs.larger))
         × IsCounted jobs.open_job jobs.waiting.items jobs.sending jobs.held };
 }
 

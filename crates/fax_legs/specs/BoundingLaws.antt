@@ -20,17 +20,21 @@ pub record IsCut (limits : Limits) (d : DatagramValue) (sent : List ℕ) : Type 
   pub read_as : datagram_of sent ≡ Ok (fewer kept d)
   pub few : kept ≤ limits.redundancy
   pub within : IfSome limits.octets (λ most. (length sent ≤ most) ⊎ (kept ≡ 0))
-  pub greatest : (more : ℕ) → kept < more → more ≤ limits.redundancy → more ≤ length d.secondaries → IsSomeAnd limits.octets (λ most. most < length (written_datagram (fewer more d)))
+  pub greatest : (more : ℕ) → kept < more → more ≤ limits.redundancy → more ≤ length d.secondaries
+      → IsSomeAnd limits.octets (λ most. most < length (written_datagram (fewer more d)))
 
 abbrev pub DatagramsAreCut : Type 0
-DatagramsAreCut = (limits : Limits) (d : DatagramValue) → IsSendable d → IsCut limits d (sent_as limits (written_datagram d))
+DatagramsAreCut = (limits : Limits) (d : DatagramValue)
+    → IsSendable d → IsCut limits d (sent_as limits (written_datagram d))
 
 -- what no sender sends goes as it is
 abbrev pub OthersGoAsTheyAre : Type 0
-OthersGoAsTheyAre = (limits : Limits) (octets : List ℕ) → ((d : DatagramValue) → is_sendable d ≡ true → octets ≡ written_datagram d → ⊥) → sent_as limits octets ≡ octets
+OthersGoAsTheyAre = (limits : Limits) (octets : List ℕ)
+    → ((d : DatagramValue) → is_sendable d ≡ true → octets ≡ written_datagram d → ⊥)
+    → sent_as limits octets ≡ octets
 
 -- NO DATAGRAM IS LONGER THAN ITS BOUND, but one that has its own packet alone.
 abbrev pub NoneIsTooLong : Type 0
-NoneIsTooLong =
-    (limits : Limits) (most : ℕ) (d : DatagramValue) → limits.octets ≡ Some most → IsSendable d
-    → (length (sent_as limits (written_datagram d)) ≤ most) ⊎ (sent_as limits (written_datagram d) ≡ written_datagram (fewer 0 d))
+NoneIsTooLong = (limits : Limits) (most : ℕ) (d : DatagramValue) → limits.octets ≡ Some most
+    → IsSendable d → (length (sent_as limits (written_datagram d)) ≤ most)
+    ⊎ (sent_as limits (written_datagram d) ≡ written_datagram (fewer 0 d))

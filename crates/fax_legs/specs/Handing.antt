@@ -21,16 +21,19 @@ steps from to = (65536 + to - from) % 65536
 -- NUMBER, its own and those before it.
 abbrev pub since_of : Option ℕ → ℕ → ℕ → ℕ
 since_of None since number = since
-since_of (Some newest) since number = if is_late newest number then since - steps number newest else min (since + steps newest number) all_packets
+since_of (Some newest) since number = if is_late newest number
+    then since - steps number newest else min (since + steps newest number) all_packets
 
 -- and so many once it was handed over, of the newest and those before it
 abbrev pub since_after : Option ℕ → ℕ → ℕ → ℕ
 since_after None since number = since
-since_after (Some newest) since number = if is_late newest number then since else min (since + steps newest number) all_packets
+since_after (Some newest) since number =
+    if is_late newest number then since else min (since + steps newest number) all_packets
 
 -- a datagram of this number is handed over, while there is a peer or not
 abbrev pub noted : Bool → ℕ → Handed → Handed
-noted true number old = record { newest = newer_of old.newest number; since = since_after old.newest old.since number }
+noted true number old =
+    record { newest = newer_of old.newest number; since = since_after old.newest old.since number }
 noted false number old = record { newest = newer_of old.newest number; since = 0 }
 
 -- the same of octets, whose first two are a number; fewer are no datagram
@@ -47,7 +50,8 @@ before_own (suc before) = Some before
 abbrev pub may_have : Handed → List ℕ → Option ℕ
 may_have handed [] = Some all_packets
 may_have handed (high ∷ []) = Some all_packets
-may_have handed (high ∷ low ∷ octets) = before_own (since_of handed.newest handed.since (256 * high + low))
+may_have handed (high ∷ low ∷ octets) =
+    before_own (since_of handed.newest handed.since (256 * high + low))
 
 -- with no more packets before its own than so many
 abbrev pub with_at_most : ℕ → Limits → Limits

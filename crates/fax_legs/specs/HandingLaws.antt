@@ -24,7 +24,8 @@ datagrams (h ∷ earlier) = h.datagram ∷ datagrams earlier
 -- what a leg makes of them
 abbrev pub handed_after : List HandedDatagram → Handed
 handed_after [] = nothing_handed
-handed_after (h ∷ earlier) = handed_over h.has_peer (written_datagram h.datagram) (handed_after earlier)
+handed_after (h ∷ earlier) =
+    handed_over h.has_peer (written_datagram h.datagram) (handed_after earlier)
 
 -- THE PEER MISSED ALL UP TO THIS ONE: the greatest that was handed over until, for the last time, there was no peer.
 abbrev pub missed : List HandedDatagram → ℕ
@@ -33,25 +34,31 @@ missed (h ∷ earlier) = if h.has_peer then missed earlier else greatest (datagr
 
 -- ONE datagram is put onto the socket, to go to the peer: with the first of the secondaries that it has, and each of its packets, its own
 -- and those, comes AFTER what the peer missed.
-pub record IsNew (peer : SocketAddr) (d : DatagramValue) (missed integer : ℕ) (old : SocketValue) (new : Option SocketValue) : Type 0 where
+pub record IsNew (peer : SocketAddr) (d : DatagramValue)
+    (missed integer : ℕ) (old : SocketValue) (new : Option SocketValue) : Type 0 where
   pub count : ℕ
   pub put : new ≡ Some (handed_to (Some peer) (written_datagram (fewer count d)) old)
   pub read_as : datagram_of (written_datagram (fewer count d)) ≡ Ok (fewer count d)
   pub after : missed + count < integer
 
 -- or NONE: there is no peer, or its own packet does not come after that
-abbrev pub IsNewWhere : Option SocketAddr → DatagramValue → ℕ → ℕ → SocketValue → Option SocketValue → Type 0
+abbrev pub IsNewWhere : Option SocketAddr
+    → DatagramValue → ℕ → ℕ → SocketValue → Option SocketValue → Type 0
 IsNewWhere None d missed integer old new = new ≡ Some old
-IsNewWhere (Some peer) d missed integer old new = ((integer ≤ missed) × (new ≡ Some old)) ⊎ IsNew peer d missed integer old new
+IsNewWhere (Some peer) d missed integer old new =
+    ((integer ≤ missed) × (new ≡ Some old)) ⊎ IsNew peer d missed integer old new
 
-pub record SendsNew (earlier : List HandedDatagram) (peer : Option SocketAddr) (d : DatagramValue) (socket : SocketValue) (new : LegValue) : Type 0 where
-  pub handed : new.handed ≡ handed_after (record { has_peer = is_some peer; datagram = d } ∷ earlier)
-  pub sent : IsNewWhere peer d (missed earlier) (integer_after (datagrams earlier) d) socket new.socket
+pub record SendsNew (earlier : List HandedDatagram) (peer : Option SocketAddr)
+    (d : DatagramValue) (socket : SocketValue) (new : LegValue) : Type 0 where
+  pub handed :
+      new.handed ≡ handed_after (record { has_peer = is_some peer; datagram = d } ∷ earlier)
+  pub sent :
+      IsNewWhere peer d (missed earlier) (integer_after (datagrams earlier) d) socket new.socket
 
 -- NO DATAGRAM THAT GOES TO A PEER HAS A PACKET THAT WAS HANDED OVER WHILE THERE WAS NONE, or before that, whatever was handed over in the
 -- call, and whoever its peers were.
 abbrev pub NothingOldIsSent : Type 0
-NothingOldIsSent =
-    (earlier : List HandedDatagram) (d : DatagramValue) (is_sent : Bool) (leg : LegValue) (socket : SocketValue) → HaveNumbers (datagrams earlier)
-    → IsSendable d → leg.handed ≡ handed_after earlier → leg.socket ≡ Some socket
-    → SendsNew earlier leg.peer.address d socket (sent_by (written_datagram d) is_sent leg.peer.address leg)
+NothingOldIsSent = (earlier : List HandedDatagram) (d : DatagramValue)
+    (is_sent : Bool) (leg : LegValue) (socket : SocketValue) → HaveNumbers (datagrams earlier)
+    → IsSendable d → leg.handed ≡ handed_after earlier → leg.socket ≡ Some socket → SendsNew earlier
+    leg.peer.address d socket (sent_by (written_datagram d) is_sent leg.peer.address leg)

@@ -17,7 +17,11 @@ goodbye_fields = record { what = 1; octets = None } ∷ frame_fields (written_pl
 
 -- the datagram of this number that says so, and nothing else
 unfoldable pub goodbye : ℕ → List ℕ
-goodbye number = written_datagram (record { number = number; primary = written_message 0 goodbye_fields; secondaries = [] })
+goodbye number = written_datagram (record {
+  number = number;
+  primary = written_message 0 goodbye_fields;
+  secondaries = [];
+})
 
 -- A number is late where it lies at most 32,767 before the newest one, modulo 65,536; the same number is late.
 abbrev pub is_late : ℕ → ℕ → Bool
@@ -68,5 +72,5 @@ HaveNumbers (d ∷ earlier) = (d.number < 65536) × HaveNumbers earlier
 -- It is the greatest that a receiver knows of. So a goodbye has the number that the receiver expects: it is not late, and no
 -- slot is missing before it.
 abbrev pub GoodbyesAreExpected : Type 0
-GoodbyesAreExpected =
-    (arrived : List DatagramValue) (expected : ℕ) → HaveNumbers arrived → IsAfter arrived (Some expected) → number_after (newest_of arrived) ≡ expected
+GoodbyesAreExpected = (arrived : List DatagramValue) (expected : ℕ) → HaveNumbers arrived
+    → IsAfter arrived (Some expected) → number_after (newest_of arrived) ≡ expected

@@ -69,7 +69,14 @@ pub record LegValue : Type 0 where
   pub socket : Option SocketValue
 
 abbrev pub new_leg : ℕ → Option SocketValue → LegValue
-new_leg redundancy socket = record { peer = nobody; call = no_call; handed = nothing_handed; redundancy = redundancy; counts = no_counts; socket = socket }
+new_leg redundancy socket = record {
+  peer = nobody;
+  call = no_call;
+  handed = nothing_handed;
+  redundancy = redundancy;
+  counts = no_counts;
+  socket = socket;
+}
 
 -- what bounds its datagrams: what was said of the call, else of the peer, else what its line has
 abbrev pub limits_of : ℕ → PeerValue → Limits
@@ -85,7 +92,8 @@ sent_to peer octets is_sent None old = record old { counts = one_unsent old.coun
 sent_to peer octets is_sent (Some before) old =
     record old {
       counts = one_handed is_sent old.counts;
-      socket = option_map (handed_to (Some peer) (sent_as (with_at_most before (limits_of old.redundancy old.peer)) octets)) old.socket;
+      socket = option_map (handed_to (Some peer)
+          (sent_as (with_at_most before (limits_of old.redundancy old.peer)) octets)) old.socket;
     }
 
 -- it is noted, while there is a peer or not
@@ -96,11 +104,16 @@ hands has_peer octets old = record old { handed = handed_over has_peer octets ol
 -- there was no peer; or NONE, where there is none, or was none when its own packet was handed over.
 abbrev pub sent_by : List ℕ → Bool → Option SocketAddr → LegValue → LegValue
 sent_by octets is_sent None old = hands false octets (record old { counts = one_unsent old.counts })
-sent_by octets is_sent (Some peer) old = hands true octets (sent_to peer octets is_sent (may_have old.handed octets) old)
+sent_by octets is_sent (Some peer) old =
+    hands true octets (sent_to peer octets is_sent (may_have old.handed octets) old)
 
 -- a datagram came from the peer, or from one that is learned by it
 abbrev pub heard_by : List ℕ → LegValue → LegValue
-heard_by octets old = record old { peer = heard old.peer; call = heard_call octets old.call; counts = one_received old.counts }
+heard_by octets old = record old {
+  peer = heard old.peer;
+  call = heard_call octets old.call;
+  counts = one_received old.counts;
+}
 
 abbrev pub learned_by : SocketAddr → List ℕ → LegValue → LegValue
 learned_by address octets old =
@@ -113,11 +126,13 @@ learned_by address octets old =
 
 abbrev pub HearsFrom : Option SocketAddr → List ℕ → LegValue → LegValue → Type 0
 HearsFrom (Some peer) octets old new = new ≡ heard_by octets old
-HearsFrom None octets old new = (old.peer.learns ≡ true) × (address : SocketAddr) × (new ≡ learned_by address octets old)
+HearsFrom None octets old new =
+    (old.peer.learns ≡ true) × (address : SocketAddr) × (new ≡ learned_by address octets old)
 
 -- what the system has of it: a datagram in the front of the buffer, nothing, or a fault
 abbrev pub HearsSystem : {E : Type 0} → List ℕ → Result (Option ℕ) E → LegValue → LegValue → Type 0
-HearsSystem buffer (Ok (Some count)) old new = HearsFrom old.peer.address (take count buffer) old new
+HearsSystem buffer (Ok (Some count)) old new =
+    HearsFrom old.peer.address (take count buffer) old new
 HearsSystem buffer (Ok None) old new = new ≡ old
 HearsSystem buffer (Err fault) old new = new ≡ record old { counts = one_not_received old.counts }
 

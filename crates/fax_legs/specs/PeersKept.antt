@@ -13,14 +13,19 @@ abbrev pub told_peer : Leg → UdpValue → Option PeerValue
 told_peer at wire = Some (leg_on at wire).peer
 
 abbrev pub told_peers : UdpValue → Peers
-told_peers wire = record { calling = told_peer legs.Calling wire; called = told_peer legs.Called wire }
+told_peers wire =
+    record { calling = told_peer legs.Calling wire; called = told_peer legs.Called wire }
 
-pub keeps_on_receive : (at : Leg) (old new : UdpValue) → ReceivesOn at old new → HearsOn at (told_peers old) (told_peers new)
-keeps_on_receive legs.Calling old new h = record { hears = h.leg.hears; beside = ap (λ (leg : LegValue). Some leg.peer) h.beside }
-keeps_on_receive legs.Called old new h = record { hears = h.leg.hears; beside = ap (λ (leg : LegValue). Some leg.peer) h.beside }
+pub keeps_on_receive : (at : Leg) (old new : UdpValue)
+    → ReceivesOn at old new → HearsOn at (told_peers old) (told_peers new)
+keeps_on_receive legs.Calling old new h =
+    record { hears = h.leg.hears; beside = ap (λ (leg : LegValue). Some leg.peer) h.beside }
+keeps_on_receive legs.Called old new h =
+    record { hears = h.leg.hears; beside = ap (λ (leg : LegValue). Some leg.peer) h.beside }
 
 -- a send leaves the peer of its leg
-sent_peer : (octets : List ℕ) (is_sent : Bool) (address : Option SocketAddr) (leg : LegValue) → (sent_by octets is_sent address leg).peer ≡ leg.peer
+sent_peer : (octets : List ℕ) (is_sent : Bool) (address : Option SocketAddr) (leg : LegValue)
+    → (sent_by octets is_sent address leg).peer ≡ leg.peer
 sent_peer octets is_sent None leg = refl
 sent_peer octets is_sent (Some address) leg = by (may_have leg.handed octets)
   where
@@ -28,14 +33,18 @@ sent_peer octets is_sent (Some address) leg = by (may_have leg.handed octets)
     by None = refl
     by (Some before) = refl
 
-both : (calling called calling_was called_was : PeerValue) → calling ≡ calling_was → called ≡ called_was
-    → record { calling = Some calling; called = Some called } ≡ (let peers : Peers = record { calling = Some calling_was; called = Some called_was } in peers)
+both : (calling called calling_was called_was : PeerValue) → calling ≡ calling_was
+    → called ≡ called_was → record { calling = Some calling; called = Some called }
+    ≡ (let peers : Peers = record { calling = Some calling_was; called = Some called_was } in peers)
 both calling called calling_was called_was e f = cc
 
-pub keeps_on_send : (at : Leg) (octets : List ℕ) (is_sent : Bool) (old new : UdpValue) → SendsOn at octets is_sent old new → told_peers new ≡ told_peers old
+pub keeps_on_send : (at : Leg) (octets : List ℕ) (is_sent : Bool) (old new : UdpValue)
+    → SendsOn at octets is_sent old new → told_peers new ≡ told_peers old
 keeps_on_send legs.Calling octets is_sent old new h =
-    both new.calling.peer new.called.peer old.calling.peer old.called.peer
-    (ap (λ (leg : LegValue). leg.peer) h.leg ∙ sent_peer octets is_sent old.calling.peer.address old.calling) (ap (λ (leg : LegValue). leg.peer) h.beside)
+    both new.calling.peer new.called.peer old.calling.peer old.called.peer (ap (λ (leg : LegValue).
+    leg.peer) h.leg ∙ sent_peer octets is_sent old.calling.peer.address old.calling) (ap
+    (λ (leg : LegValue). leg.peer) h.beside)
 keeps_on_send legs.Called octets is_sent old new h =
-    both new.calling.peer new.called.peer old.calling.peer old.called.peer
-    (ap (λ (leg : LegValue). leg.peer) h.beside) (ap (λ (leg : LegValue). leg.peer) h.leg ∙ sent_peer octets is_sent old.called.peer.address old.called)
+    both new.calling.peer new.called.peer old.calling.peer old.called.peer (ap
+    (λ (leg : LegValue). leg.peer) h.beside) (ap (λ (leg : LegValue).
+    leg.peer) h.leg ∙ sent_peer octets is_sent old.called.peer.address old.called)

@@ -63,9 +63,11 @@ impl Limits {
 /// `None`: it goes as it is.
 pub(crate) fn cut(limits: Limits, octets: &[u8], room: &mut [u8]) -> Option<usize>
     requires { length octets.now ≤ length room.old }
-    ensures cut { IfSome result (λ end. take end room.new ≡ cut_as limits octets.now (datagram_of octets.now)) }
+    ensures cut { IfSome result
+        (λ end. take end room.new ≡ cut_as limits octets.now (datagram_of octets.now)) }
     ensures within { IfSome result (λ end. end ≤ length room.new) }
-    ensures as_it_is { IfNone result (octets.now ≡ cut_as limits octets.now (datagram_of octets.now)) }
+    ensures as_it_is { IfNone result (octets.now
+        ≡ cut_as limits octets.now (datagram_of octets.now)) }
 {
     match read(octets) {
         Ok(datagram) => cut_datagram(limits, octets, &datagram, room),
@@ -82,7 +84,8 @@ fn cut_datagram(
     room: &mut [u8],
 ) -> Option<usize>
     requires { length octets.now ≤ length room.old }
-    ensures cut { IfSome result (λ end. take end room.new ≡ cut_as limits octets.now (Ok datagram.now)) }
+    ensures cut { IfSome result
+        (λ end. take end room.new ≡ cut_as limits octets.now (Ok datagram.now)) }
     ensures within { IfSome result (λ end. end ≤ length room.new) }
     ensures as_it_is { IfNone result (octets.now ≡ cut_as limits octets.now (Ok datagram.now)) }
 {
@@ -134,7 +137,8 @@ fn count_written(datagram: &Datagram<'_>, octets: usize) -> Option<u8>
     ensures sendable { IfSome result (λ count. is_sendable datagram.now ≡ true) }
     ensures count { IfSome result (λ count. count ≡ length datagram.now.secondaries) }
     ensures octets { IfSome result (λ count. length (written_datagram datagram.now) ≡ octets) }
-    ensures none { IfNone result ((is_sendable datagram.now ≡ false) ⊎ (length (written_datagram datagram.now) ≡ octets → ⊥)) }
+    ensures none { IfNone result ((is_sendable datagram.now ≡ false)
+        ⊎ (length (written_datagram datagram.now) ≡ octets → ⊥)) }
 {
     if datagram.primary().len() > MOST_PACKET {
         return None;
@@ -153,9 +157,11 @@ fn count_short(packets: Secondaries<'_>) -> Option<(u8, usize)>
     ensures short { IfSome result (λ counted. are_short packets.entry ≡ true) }
     ensures count { IfSome result (λ counted. counted.0 ≡ length packets.entry) }
     ensures below { IfSome result (λ counted. counted.0 < 128) }
-    ensures octets { IfSome result (λ counted. counted.1 ≡ length (flat_map written_packet packets.entry)) }
+    ensures octets { IfSome result
+        (λ counted. counted.1 ≡ length (flat_map written_packet packets.entry)) }
     ensures bound { IfSome result (λ counted. counted.1 ≤ 16385 * 127) }
-    ensures none { IfNone result ((are_short packets.entry && nat_lt (length packets.entry) 128) ≡ false) }
+    ensures none { IfNone result ((are_short packets.entry
+        && nat_lt (length packets.entry) 128) ≡ false) }
 {
     let mut left = packets;
     let mut count = 0;
@@ -207,7 +213,8 @@ fn put_packets(room: &mut [u8], from: usize, packets: Secondaries<'_>, count: u8
     requires short { are_short packets ≡ true }
     requires room { from + length (flat_map written_packet (take count packets)) ≤ length room.old }
     ensures end { result ≡ from + length (flat_map written_packet (take count packets.entry)) }
-    ensures front { take result room.new ≡ take from room.old ++ flat_map written_packet (take count packets.entry) }
+    ensures front { take result room.new
+        ≡ take from room.old ++ flat_map written_packet (take count packets.entry) }
     ensures same_room { length room.new ≡ length room.old }
 {
     let mut left = packets;

@@ -75,7 +75,8 @@ impl PeerCall {
     /// Where it is gone, and no DCN was handed out in this turn, hands one out: a datagram after the newest, in the front of a
     /// buffer that has room for it. It answers whether it did.
     pub(crate) fn hand_out(&mut self, buffer: &mut [u8]) -> bool
-        ensures due { IsTrue result ↔ ((self.old.standing ≡ Standing.Gone) × (14 ≤ length buffer.old)) }
+        ensures due { IsTrue result
+            ↔ ((self.old.standing ≡ Standing.Gone) × (14 ≤ length buffer.old)) }
         ensures handed { result ≡ true → HandsOut self.old self.new buffer.old buffer.new }
         ensures none { result ≡ false → self.new ≡ self.old }
         ensures left { result ≡ false → buffer.new ≡ buffer.old }

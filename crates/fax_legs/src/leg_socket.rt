@@ -86,7 +86,15 @@ impl<S: DatagramSocket + Drop> Model for LegSocket<S> {
 
     ghost Value = { LegValue };
 
-    ghost view = { λ leg. record { peer = peer_of leg.peer; call = leg.peer.call; handed = leg.handed; redundancy = leg.redundancy; counts = leg.counts; socket = S.known leg.socket } };
+    ghost view = { λ leg.
+        record {
+          peer = peer_of leg.peer;
+          call = leg.peer.call;
+          handed = leg.handed;
+          redundancy = leg.redundancy;
+          counts = leg.counts;
+          socket = S.known leg.socket;
+        } };
 
     ghost invariant = { λ leg. IsConnected leg.peer.address (S.known leg.socket) };
 }
@@ -123,7 +131,10 @@ impl<S: DatagramSocket + Drop> LegSocket<S> {
     /// dropped. One without an address is the sender of the first that comes; until then none is sent. An `Err` is that of
     /// the system, and the peer is as before.
     pub fn set_peer(&mut self, peer: Peer) -> io::Result<()>
-        ensures ok { OnOk result (self.new ≡ record self.old { peer = said peer self.old.peer; socket = option_map (connected peer.address) self.old.socket }) }
+        ensures ok { OnOk result (self.new ≡ record self.old {
+          peer = said peer self.old.peer;
+          socket = option_map (connected peer.address) self.old.socket;
+        }) }
         ensures err { OnErr result (self.new ≡ self.old) }
     {
         turn_to(&mut self.socket, peer.address)?;
@@ -134,7 +145,11 @@ impl<S: DatagramSocket + Drop> LegSocket<S> {
 
     /// The same of the peer that its line has for ever: it is not cut.
     pub fn fix_peer(&mut self, address: SocketAddr) -> io::Result<()>
-        ensures ok { OnOk result (self.new ≡ record self.old { peer = fixed (said (at_address address) self.old.peer); socket = option_map (connected (Some address)) self.old.socket }) }
+        ensures ok { OnOk result (self.new
+            ≡ record self.old {
+              peer = fixed (said (at_address address) self.old.peer);
+              socket = option_map (connected (Some address)) self.old.socket;
+            }) }
         ensures err { OnErr result (self.new ≡ self.old) }
     {
         self.set_peer(Peer {
@@ -155,7 +170,8 @@ impl<S: DatagramSocket + Drop> LegSocket<S> {
 
     /// A call begins, whose datagrams are bounded so. Nothing is known of its peer's call, and it was handed nothing yet.
     pub fn begin(&mut self, bounds: Bounds)
-        ensures { self.new ≡ record self.old { peer = bounded bounds self.old.peer; call = no_call; handed = nothing_handed } }
+        ensures { self.new ≡ record self.old
+            { peer = bounded bounds self.old.peer; call = no_call; handed = nothing_handed } }
     {
         self.peer.begin(bounds);
         self.handed = Handed::new();
@@ -164,7 +180,8 @@ impl<S: DatagramSocket + Drop> LegSocket<S> {
     /// The peer's call is gone: from now on a datagram with a DCN is received once a turn, as if it had come, until the call of
     /// the leg is over.
     pub fn hang_up(&mut self)
-        ensures { self.new ≡ record self.old { peer = gone self.old.peer; call = gone_call self.old.call } }
+        ensures { self.new
+            ≡ record self.old { peer = gone self.old.peer; call = gone_call self.old.call } }
     {
         self.peer.hang_up();
     }
@@ -172,7 +189,8 @@ impl<S: DatagramSocket + Drop> LegSocket<S> {
     /// A turn begins, and the call of the leg is on or not. Where it is, a DCN that was handed out is handed out once
     /// more; else all is forgotten that was known of the peer's call.
     pub fn settle(&mut self, is_on: bool)
-        ensures { self.new ≡ record self.old { peer = settled is_on self.old.peer; call = call_settled is_on self.old.call } }
+        ensures { self.new ≡ record self.old
+            { peer = settled is_on self.old.peer; call = call_settled is_on self.old.call } }
     {
         self.peer.settle(is_on);
         self.received = 0;
@@ -270,7 +288,8 @@ impl<S: DatagramSocket + Drop> LegSocket<S> {
     /// Whether a receive may bring something: one that has come, or a DCN where the peer's call is gone.
     pub fn asks(&self) -> bool
         ensures gone { self.now.peer.is_gone ≡ true → result ≡ true }
-        ensures nobody { self.now.peer.is_gone ≡ false → self.now.peer.address ≡ None → self.now.peer.learns ≡ false → result ≡ false }
+        ensures nobody { self.now.peer.is_gone ≡ false
+            → self.now.peer.address ≡ None → self.now.peer.learns ≡ false → result ≡ false }
     {
         self.is_hung_up() || (self.may_hear() && self.may_have_come.get())
     }
@@ -288,11 +307,16 @@ impl<S: DatagramSocket + Drop> LegSocket<S> {
     pub fn receive(&mut self, buffer: &mut [u8]) -> io::Result<Option<usize>>
         ensures fits { IfOk result (λ came. IfSome came (λ count. count ≤ length buffer.new)) }
         ensures makes { Receives self.old self.new }
-        ensures goodbye { self.old.call.standing ≡ standings.Gone → 14 ≤ length buffer.old → result ≡ Ok (Some 14) }
-        ensures handed { self.old.call.standing ≡ standings.Gone → 14 ≤ length buffer.old → HandsOut self.old.call self.new.call buffer.old buffer.new }
-        ensures kept { self.old.call.standing ≡ standings.Gone → 14 ≤ length buffer.old → self.new ≡ record self.old { call = self.new.call } }
-        ensures heard { (self.old.call.standing ≡ standings.Gone → ⊥) → HearsSystem buffer.new result self.old self.new }
-        ensures deaf { (self.old.call.standing ≡ standings.Gone → ⊥) → self.old.peer.address ≡ None → self.old.peer.learns ≡ false → result ≡ Ok None }
+        ensures goodbye { self.old.call.standing ≡ standings.Gone
+            → 14 ≤ length buffer.old → result ≡ Ok (Some 14) }
+        ensures handed { self.old.call.standing ≡ standings.Gone
+            → 14 ≤ length buffer.old → HandsOut self.old.call self.new.call buffer.old buffer.new }
+        ensures kept { self.old.call.standing ≡ standings.Gone
+            → 14 ≤ length buffer.old → self.new ≡ record self.old { call = self.new.call } }
+        ensures heard { (self.old.call.standing ≡ standings.Gone → ⊥)
+            → HearsSystem buffer.new result self.old self.new }
+        ensures deaf { (self.old.call.standing ≡ standings.Gone → ⊥)
+            → self.old.peer.address ≡ None → self.old.peer.learns ≡ false → result ≡ Ok None }
     {
         if self.peer.call.hand_out(buffer) {
             self.note(buffer, GOODBYE_OCTETS);
@@ -306,7 +330,8 @@ impl<S: DatagramSocket + Drop> LegSocket<S> {
     fn hear(&mut self, buffer: &mut [u8]) -> io::Result<Option<usize>>
         ensures fits { IfOk result (λ came. IfSome came (λ count. count ≤ length buffer.new)) }
         ensures heard { HearsSystem buffer.new result self.old self.new }
-        ensures deaf { self.old.peer.address ≡ None → self.old.peer.learns ≡ false → result ≡ Ok None }
+        ensures deaf { self.old.peer.address ≡ None
+            → self.old.peer.learns ≡ false → result ≡ Ok None }
     {
         if !self.may_have_come.get() || self.received >= MOST_RECEIVED {
             return Ok(None);
@@ -376,7 +401,8 @@ impl<S: DatagramSocket + Drop> LegSocket<S> {
     fn hear_none(&mut self, error: io::Error) -> io::Result<Option<usize>>
         ensures some { IfOk result (λ came. came ≡ None) }
         ensures none { OnOk result (self.new ≡ self.old) }
-        ensures failed { OnErr result (self.new ≡ record self.old { counts = one_not_received self.old.counts }) }
+        ensures failed { OnErr result (self.new
+            ≡ record self.old { counts = one_not_received self.old.counts }) }
     {
         if error.kind() == ErrorKind::WouldBlock {
             self.may_have_come.set(!self.is_watched.get());
@@ -406,7 +432,8 @@ impl<S: DatagramSocket + Drop> LegSocket<S> {
     /// Sends a datagram to the peer, with no more packets before its own than so many; where not its own either, it is dropped.
     fn send_after(&mut self, before: Option<u16>, octets: &[u8]) -> io::Result<()>
         requires { IsSome self.old.peer.address }
-        ensures sent { IfSome self.old.peer.address (λ peer. self.new ≡ sent_to peer octets.now (is_ok result) before self.old) }
+        ensures sent { IfSome self.old.peer.address
+            (λ peer. self.new ≡ sent_to peer octets.now (is_ok result) before self.old) }
         ensures missed { before ≡ None → IsOk result }
     {
         let Some(before) = before else {
@@ -430,7 +457,8 @@ impl<S: DatagramSocket + Drop> LegSocket<S> {
 /// From now on datagrams go to this address and come from it alone, or come from everywhere where there is none; those that came
 /// before and were not received are dropped. An `Err`: it is connected as before.
 fn turn_to<S: DatagramSocket>(socket: &mut S, address: Option<SocketAddr>) -> io::Result<()>
-    ensures ok { OnOk result (S.known socket.new ≡ option_map (connected address) (S.known socket.old)) }
+    ensures ok { OnOk result (S.known socket.new
+        ≡ option_map (connected address) (S.known socket.old)) }
     ensures err { OnErr result (S.known socket.new ≡ S.known socket.old) }
 {
     match address {
@@ -460,7 +488,8 @@ fn receive_first<S: DatagramSocket>(
     buffer: &mut [u8],
 ) -> io::Result<(usize, SocketAddr)>
     ensures fits { IfOk result (λ came. came.0 ≤ length buffer.new) }
-    ensures ok { IfOk result (λ came. S.known socket.new ≡ option_map (connected (Some came.1)) (S.known socket.old)) }
+    ensures ok { IfOk result
+        (λ came. S.known socket.new ≡ option_map (connected (Some came.1)) (S.known socket.old)) }
     ensures err { OnErr result (S.known socket.new ≡ S.known socket.old) }
 {
     let (count, from) = socket.receive_from(buffer)?;

@@ -20,7 +20,8 @@ pub(crate) fn send_bounded<S: DatagramSocket>(
     limits: Limits,
     octets: &[u8],
 ) -> io::Result<usize>
-    ensures { S.known socket.new ≡ option_map (handed (sent_as limits octets.now)) (S.known socket.old) }
+    ensures { S.known socket.new
+        ≡ option_map (handed (sent_as limits octets.now)) (S.known socket.old) }
 {
     if octets.len() <= FEW_OCTETS {
         send_few(socket, limits, octets)
@@ -34,7 +35,8 @@ pub(crate) fn send_bounded<S: DatagramSocket>(
 /// The same of one of few octets.
 fn send_few<S: DatagramSocket>(socket: &mut S, limits: Limits, octets: &[u8]) -> io::Result<usize>
     requires { length octets.now ≤ 1500 }
-    ensures { S.known socket.new ≡ option_map (handed (cut_as limits octets.now (datagram_of octets.now))) (S.known socket.old) }
+    ensures { S.known socket.new ≡ option_map
+        (handed (cut_as limits octets.now (datagram_of octets.now))) (S.known socket.old) }
 {
     let mut room = [0u8; FEW_OCTETS];
     match cut(limits, octets, &mut room) {
@@ -48,7 +50,8 @@ fn send_few<S: DatagramSocket>(socket: &mut S, limits: Limits, octets: &[u8]) ->
 #[inline(never)]
 fn send_many<S: DatagramSocket>(socket: &mut S, limits: Limits, octets: &[u8]) -> io::Result<usize>
     requires { length octets.now ≤ 65536 }
-    ensures { S.known socket.new ≡ option_map (handed (cut_as limits octets.now (datagram_of octets.now))) (S.known socket.old) }
+    ensures { S.known socket.new ≡ option_map
+        (handed (cut_as limits octets.now (datagram_of octets.now))) (S.known socket.old) }
 {
     let mut room = [0u8; MOST_OCTETS];
     match cut(limits, octets, &mut room) {

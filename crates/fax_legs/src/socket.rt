@@ -20,7 +20,8 @@ pub trait DatagramSocket {
 
     /// From now on datagrams go to this address and come from it alone. An `Err`: it is connected as before.
     fn connect_to(&mut self, address: SocketAddr) -> io::Result<()>
-        ensures ok { OnOk result (known self.new ≡ option_map (connected (Some address)) (known self.old)) }
+        ensures ok { OnOk result (known self.new
+            ≡ option_map (connected (Some address)) (known self.old)) }
         ensures err { OnErr result (known self.new ≡ known self.old) };
 
     /// From now on datagrams come from everywhere. An `Err`: it is connected as before.

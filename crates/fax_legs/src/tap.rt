@@ -78,7 +78,8 @@ impl Tap {
     /// It is copied after the others. An `Err` leaves them as they were.
     fn add(&mut self, octets: &[u8]) -> Result<(), NoMemory>
         ensures lacking { self.new.is_lacking ≡ self.old.is_lacking }
-        ensures ok { OnOk result (self.new.datagrams.items ≡ self.old.datagrams.items ++ octets.now ∷ []) }
+        ensures ok { OnOk result (self.new.datagrams.items
+            ≡ self.old.datagrams.items ++ octets.now ∷ []) }
         ensures err { OnErr result (self.new.datagrams.items ≡ self.old.datagrams.items) }
     {
         let copy = octets.to_vec(self.alloc)?;

@@ -36,7 +36,8 @@ impl<S: DatagramSocket + Drop> Model for UdpWire<S> {
 
     ghost Value = { UdpValue };
 
-    ghost view = { λ wire. record { calling = wire.calling; called = wire.called; failures = wire.failures } };
+    ghost view = { λ wire.
+        record { calling = wire.calling; called = wire.called; failures = wire.failures } };
 }
 
 impl<S: DatagramSocket + Drop> UdpWire<S> {
@@ -79,7 +80,10 @@ fn answered<T>(answer: io::Result<T>, failures: &mut u64) -> Result<T, WireFault
 
 /// From now on datagrams of a leg go to this peer and come from it alone. An `Err`: the peer is as before.
 fn set_peer_of<S: DatagramSocket + Drop>(leg: &mut LegSocket<S>, peer: Peer) -> Result<(), NoRoute>
-    ensures ok { OnOk result (leg.new ≡ record leg.old { peer = said peer leg.old.peer; socket = option_map (connected peer.address) leg.old.socket }) }
+    ensures ok { OnOk result (leg.new ≡ record leg.old {
+      peer = said peer leg.old.peer;
+      socket = option_map (connected peer.address) leg.old.socket;
+    }) }
     ensures err { OnErr result (leg.new ≡ leg.old) }
 {
     match leg.set_peer(peer) {

@@ -40,7 +40,16 @@ pub record LineValue : Type 0 where
 
 -- before the first turn
 abbrev pub no_turn : TurnReport
-no_turn = record { goes_on = true; report = None; kept = None; refused = None; ended = None; gave_up = None; dialled = None; asked = None }
+no_turn = record {
+  goes_on = true;
+  report = None;
+  kept = None;
+  refused = None;
+  ended = None;
+  gave_up = None;
+  dialled = None;
+  asked = None;
+}
 
 -- What is done with a line: it is turned, or left at rest where it has its turn; something is asked of it, which it answers; or it
 -- is told that something may have come for it.
@@ -57,9 +66,11 @@ IsRung now (Err fault) log = log ≡ RefusesRing fault ∷ []
 
 -- The log of a placing, after this trace: the call of the job that is asked for begins, connected or not. Refused it is where none is
 -- asked for, or for want of memory; then nothing happens.
-abbrev pub IsPlaced : Setup → Writing → List Event → ℕ → Bool → Result (Unit {0}) PlaceFault → List Entry → Type 0
+abbrev pub IsPlaced : Setup
+    → Writing → List Event → ℕ → Bool → Result (Unit {0}) PlaceFault → List Entry → Type 0
 IsPlaced setup writes trace now connected (Ok done) log = log ≡ Accepts (Placed now connected) ∷ []
-IsPlaced setup writes trace now connected (Err fault) log = (log ≡ []) × (fault ≡ place_faults.NotAsked ↔ asked_after setup writes trace ≡ None)
+IsPlaced setup writes trace now connected (Err fault) log =
+    (log ≡ []) × (fault ≡ place_faults.NotAsked ↔ asked_after setup writes trace ≡ None)
 
 -- what a placing answers
 abbrev pub Placing : Type 0
@@ -73,13 +84,17 @@ IsPlacing connected what = ⊥
 
 -- THE LOG OF WHAT IS ASKED OF A LINE, after this trace: a line that is there answers, and to what it was asked. A peer, and that its
 -- call is gone, are no events of the gateway; and where there is no way to a peer nothing happens.
-abbrev pub IsAsked : Setup → Writing → List Event → ℕ → LineRequest → Option LineAnswer → List Entry → Type 0
-IsAsked setup writes trace now (asked.Ring ringing) (Some (answered.Rung result)) log = IsRung now result log
+abbrev pub IsAsked : Setup
+    → Writing → List Event → ℕ → LineRequest → Option LineAnswer → List Entry → Type 0
+IsAsked setup writes trace now (asked.Ring ringing) (Some (answered.Rung result)) log =
+    IsRung now result log
 IsAsked setup writes trace now (asked.Peer peering) (Some answered.Done) log = log ≡ []
 IsAsked setup writes trace now (asked.Peer peering) (Some answered.NoRoute) log = log ≡ []
-IsAsked setup writes trace now (asked.Connect connecting) (Some (answered.Placed result)) log = IsPlaced setup writes trace now true result log
+IsAsked setup writes trace now (asked.Connect connecting) (Some (answered.Placed result)) log =
+    IsPlaced setup writes trace now true result log
 IsAsked setup writes trace now (asked.Connect connecting) (Some answered.NoRoute) log = log ≡ []
-IsAsked setup writes trace now asked.NotConnected (Some (answered.Placed result)) log = IsPlaced setup writes trace now false result log
+IsAsked setup writes trace now asked.NotConnected (Some (answered.Placed result)) log =
+    IsPlaced setup writes trace now false result log
 IsAsked setup writes trace now (asked.HangUp hanging_up) (Some answered.Done) log = log ≡ []
 IsAsked setup writes trace now what answer log = ⊥
 
@@ -90,50 +105,62 @@ IsRest setup writes trace now log = (log ≡ []) × (is_due (due_at setup writes
 abbrev pub IsStep : Setup → Writing → List Event → Action → List Entry → Type 0
 IsStep setup writes trace (Turns now) log = IsTurn now log
 IsStep setup writes trace (Rests now) log = IsRest setup writes trace now log
-IsStep setup writes trace (Asks now what answer) log = IsAsked setup writes trace now what answer log
+IsStep setup writes trace (Asks now what answer) log =
+    IsAsked setup writes trace now what answer log
 IsStep setup writes trace Wakes log = log ≡ []
 
 -- the log of these actions, one after the other, after this trace
 abbrev pub AreSteps : Setup → Writing → List Event → List Action → List Entry → Type 0
 AreSteps setup writes trace [] log = log ≡ []
-AreSteps setup writes trace (action ∷ earlier) log =
-    (newer : List Entry) × (older : List Entry) × (log ≡ newer ++ older) × IsStep setup writes (events older ++ trace) action newer × AreSteps setup writes trace earlier older
+AreSteps setup writes trace (action ∷ earlier) log = (newer : List Entry) × (older : List Entry)
+    × (log ≡ newer ++ older) × IsStep setup writes (events older ++ trace) action newer
+    × AreSteps setup writes trace earlier older
 
 -- By these actions a line came from the one state to the other: whatever trace led to its gateway goes on with the events of
 -- their log, and its wire carried the rest. What its driver told as refused is what its gateway refused.
 pub record Goes (actions : List Action) (old new : LineValue) : Type 0 where
-  pub goes :
-      (setup : Setup) (writes : Writing) (trace : List Event) (earlier : List Entry) → IsWriting writes → IsReachedBy setup writes trace old.gateway → HasMade earlier old.driver
-      → (log : List Entry) × AreSteps setup writes trace actions log × Happens setup writes log trace new.gateway old.wire new.wire × HasMade (log ++ earlier) new.driver
-  pub refusals : RiseAlike old.gateway.refusals new.gateway.refusals old.driver.events_refused new.driver.events_refused
+  pub goes : (setup : Setup) (writes : Writing) (trace : List Event) (earlier : List Entry)
+      → IsWriting writes → IsReachedBy setup writes trace old.gateway
+      → HasMade earlier old.driver → (log : List Entry) × AreSteps setup writes trace actions log
+      × Happens setup writes log trace new.gateway old.wire new.wire
+      × HasMade (log ++ earlier) new.driver
+  pub refusals : RiseAlike old.gateway.refusals
+      new.gateway.refusals old.driver.events_refused new.driver.events_refused
 
 -- A gateway is driven: of the trace that this made longer, what the ticks told by which it did. What its wire holds back is what was handed
 -- over, the wire was told the moment, and the peers of its legs stay, or are heard.
 pub record Drives (now : ℕ) (old new : LineValue) : Type 0 where
-  pub tells :
-      (setup : Setup) (writes : Writing) (trace : List Event) (earlier : List Entry) → IsWriting writes → IsReachedBy setup writes trace old.gateway → HasMade earlier old.driver
-      → (log : List Entry) × IsTurn now log × Happens setup writes log trace new.gateway old.wire new.wire × HasMade (log ++ earlier) new.driver
-      × TellTicks setup trace (events log ++ trace) new.turned.report new.turned.kept new.turned.refused new.turned.gave_up × HoldsByLog log old.holding new.holding
-  pub hear :
-      (setup : Setup) (writes : Writing) (trace : List Event) (earlier : List Entry) → IsWriting writes → IsReachedBy setup writes trace old.gateway → HasMade earlier old.driver
-      → HearBoth old.peers new.peers
-  pub time :
-      (setup : Setup) (writes : Writing) (trace : List Event) (earlier : List Entry) → IsWriting writes → IsReachedBy setup writes trace old.gateway → HasMade earlier old.driver
-      → IsToldTimeWhere now old.holding new.holding
+  pub tells : (setup : Setup) (writes : Writing) (trace : List Event) (earlier : List Entry)
+      → IsWriting writes
+      → IsReachedBy setup writes trace old.gateway → HasMade earlier old.driver → (log : List Entry)
+      × IsTurn now log × Happens setup writes log trace new.gateway old.wire new.wire
+      × HasMade (log ++ earlier) new.driver × TellTicks setup trace (events log
+      ++ trace) new.turned.report new.turned.kept new.turned.refused new.turned.gave_up
+      × HoldsByLog log old.holding new.holding
+  pub hear : (setup : Setup) (writes : Writing) (trace : List Event) (earlier : List Entry)
+      → IsWriting writes → IsReachedBy setup writes trace old.gateway
+      → HasMade earlier old.driver → HearBoth old.peers new.peers
+  pub time : (setup : Setup) (writes : Writing) (trace : List Event) (earlier : List Entry)
+      → IsWriting writes → IsReachedBy setup writes trace old.gateway
+      → HasMade earlier old.driver → IsToldTimeWhere now old.holding new.holding
 
 -- A turn, and what it told: it was driven, and its wire was told the moment. Of the calls of its peers no more is known where no call was on; the peers of its legs stay, or
 -- are heard; and the called leg is cut where a job was reported.
 pub record TellsTurn (now : ℕ) (old new : LineValue) : Type 0 where
-  pub tells :
-      (setup : Setup) (writes : Writing) (trace : List Event) (earlier : List Entry) → IsWriting writes → IsReachedBy setup writes trace old.gateway → HasMade earlier old.driver
-      → (log : List Entry) × IsTurn now log × Happens setup writes log trace new.gateway old.wire new.wire × HasMade (log ++ earlier) new.driver
-      × TellTicks setup trace (events log ++ trace) new.turned.report new.turned.kept new.turned.refused new.turned.gave_up × HoldsByLog log old.holding new.holding
-  pub peers :
-      (setup : Setup) (writes : Writing) (trace : List Event) (earlier : List Entry) → IsWriting writes → IsReachedBy setup writes trace old.gateway → HasMade earlier old.driver
-      → TurnsPeers (is_some new.turned.report) (is_some (call_of_rep old.gateway.calling)) (is_some old.gateway.book.sending) old.peers new.peers
-  pub time :
-      (setup : Setup) (writes : Writing) (trace : List Event) (earlier : List Entry) → IsWriting writes → IsReachedBy setup writes trace old.gateway → HasMade earlier old.driver
-      → IsToldTimeWhere now old.holding new.holding
+  pub tells : (setup : Setup) (writes : Writing) (trace : List Event) (earlier : List Entry)
+      → IsWriting writes
+      → IsReachedBy setup writes trace old.gateway → HasMade earlier old.driver → (log : List Entry)
+      × IsTurn now log × Happens setup writes log trace new.gateway old.wire new.wire
+      × HasMade (log ++ earlier) new.driver × TellTicks setup trace (events log
+      ++ trace) new.turned.report new.turned.kept new.turned.refused new.turned.gave_up
+      × HoldsByLog log old.holding new.holding
+  pub peers : (setup : Setup) (writes : Writing) (trace : List Event) (earlier : List Entry)
+      → IsWriting writes → IsReachedBy setup writes trace old.gateway → HasMade earlier old.driver
+      → TurnsPeers (is_some new.turned.report) (is_some (call_of_rep old.gateway.calling))
+      (is_some old.gateway.book.sending) old.peers new.peers
+  pub time : (setup : Setup) (writes : Writing) (trace : List Event) (earlier : List Entry)
+      → IsWriting writes → IsReachedBy setup writes trace old.gateway
+      → HasMade earlier old.driver → IsToldTimeWhere now old.holding new.holding
 
 -- Its wire is told of the peers of its legs: what it holds back stays, and nothing else of the line changes.
 pub record TellsWire (old new : LineValue) : Type 0 where
@@ -168,7 +195,8 @@ IsRefused what old new = TellsWire old new
 
 -- no event came to it, whatever is set for it; and it is restored with these calls
 pub record BeginsWith (calls : List RestoredCall) (line : LineValue) : Type 0 where
-  pub gateway : (setup : Setup) (writes : Writing) → AreSetWith setup line.gateway.settings calls → IsReachedBy setup writes [] line.gateway
+  pub gateway : (setup : Setup) (writes : Writing)
+      → AreSetWith setup line.gateway.settings calls → IsReachedBy setup writes [] line.gateway
   pub driver : HasMade [] line.driver
 
 -- and with none
@@ -177,4 +205,5 @@ IsNew line = BeginsWith [] line
 
 -- whether one of the last 100 receives did not fail
 pub record TellsWhether (goes_on : Bool) (driver : DriverValue) : Type 0 where
-  pub tells : (made : List Entry) → HasMade made driver → IsTrue goes_on ↔ (failed_in_a_row (receipts made) < most_failed)
+  pub tells : (made : List Entry)
+      → HasMade made driver → IsTrue goes_on ↔ (failed_in_a_row (receipts made) < most_failed)

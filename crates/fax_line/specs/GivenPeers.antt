@@ -46,21 +46,32 @@ given_after false before = before
 
 -- whether the line of this number, which was turned or left at rest in the turn of a slot, reported a job in it
 abbrev pub has_reported : ℕ → (ℕ → Bool) → ℕ → PlaceValue → Bool
-has_reported slot rests number turned = nat_eq (slot_of number) slot && (not (rests number) && is_some turned.line.turned.report)
+has_reported slot rests number turned =
+    nat_eq (slot_of number) slot && (not (rests number) && is_some turned.line.turned.report)
 
 -- what it is given in a whole run, which begins with this
-abbrev pub given_in : {K : Type 0} (same : K → K → Type 0) (puts : List PageToStore → Bool → K → K → Type 0) (notes : ℕ → ℕ → K → K → Type 0) (ends : ℕ → Report → K → K → Type 0)
-    (number : ℕ) (other : PlaceValue) (start : Option Peer) (first : ℕ) (done : List DoneOrder) (settled : List SlotEnd) (old new : List PlaceValue) (before after : K)
+abbrev pub given_in :
+    {K : Type 0} (same : K → K → Type 0) (puts : List PageToStore → Bool → K → K → Type 0)
+    (notes : ℕ → ℕ → K → K → Type 0) (ends : ℕ → Report → K → K → Type 0)
+    (number : ℕ) (other : PlaceValue) (start : Option Peer) (first : ℕ)
+    (done : List DoneOrder) (settled : List SlotEnd) (old new : List PlaceValue) (before after : K)
     → IsRun same puts notes ends first done settled old new before after → Option Peer
 given_in same puts notes ends number other start first [] [] old new before after ran = start
-given_in same puts notes ends number other start first [] (end ∷ settled) old new before after ran = start
-given_in same puts notes ends number other start first (Turned now rests ∷ done) [] old new before after ran = start
-given_in same puts notes ends number other start first (Turned now rests ∷ done) (end ∷ settled) old new before after ran =
-    given_after (has_reported (next_slot first done) rests number (slice_index_or ran.1 number other)) (given_in same puts notes ends number other start first done settled old ran.0 before ran.2 ran.3)
-given_in same puts notes ends number other start first (AskedOf line now what answer ∷ done) settled old new before after ran =
-    let earlier = given_in same puts notes ends number other start first done settled old ran.0 before after ran.1 in
-    if nat_eq number line then given_by what answer earlier else earlier
-given_in same puts notes ends number other start first (Woken line ∷ done) settled old new before after ran = given_in same puts notes ends number other start first done settled old ran.0 before after ran.1
+given_in same puts notes ends number other start first [] (end ∷ settled) old new before after ran =
+    start
+given_in same puts notes ends number other start first (Turned now rests
+    ∷ done) [] old new before after ran = start
+given_in same puts notes ends number other start first (Turned now rests
+    ∷ done) (end ∷ settled) old new before after ran = given_after
+    (has_reported (next_slot first done) rests number (slice_index_or ran.1 number other)) (given_in
+    same puts notes ends number other start first done settled old ran.0 before ran.2 ran.3)
+given_in same puts notes ends number other start first (AskedOf line now what answer
+    ∷ done) settled old new before after ran =
+    let earlier = given_in same puts notes ends number other start first done settled old
+    ran.0 before after ran.1 in if nat_eq number line then given_by what answer earlier else earlier
+given_in same puts notes ends number other start first (Woken line
+    ∷ done) settled old new before after ran =
+    given_in same puts notes ends number other start first done settled old ran.0 before after ran.1
 
 -- THE PEER IS THE ONE THAT WAS GIVEN: its datagrams go to that address, and come from there alone; where none is given there is none.
 -- Where the address was left open it is still to be learned, or was learned.
@@ -70,37 +81,53 @@ IsAddressOf None has learns = learns ≡ false → is_some has ≡ true
 
 abbrev pub IsGivenAs : Option Peer → Option SocketAddr → Bool → Bounds → Type 0
 IsGivenAs None address learns bounds = (address ≡ None) × (learns ≡ false)
-IsGivenAs (Some peer) address learns bounds = IsAddressOf peer.address address learns × (bounds ≡ peer.bounds)
+IsGivenAs (Some peer) address learns bounds =
+    IsAddressOf peer.address address learns × (bounds ≡ peer.bounds)
 
 -- but where the line has a peer for ever, and where its wire tells none
 abbrev pub IsGiven : Option Peer → Option PeerValue → Type 0
 IsGiven given None = Unit {0}
-IsGiven given (Some peer) = peer.is_fixed ≡ false → IsGivenAs given peer.address peer.learns peer.bounds
+IsGiven given (Some peer) = peer.is_fixed ≡ false
+    → IsGivenAs given peer.address peer.learns peer.bounds
 
 -- something led to a line
 abbrev pub IsSomewhere : Setup → Writing → LineValue → Type 0
-IsSomewhere setup writes line = (trace : List Event) × (earlier : List Entry) × IsReachedBy setup writes trace line.gateway × HasMade earlier line.driver
+IsSomewhere setup writes line = (trace : List Event) × (earlier : List Entry)
+    × IsReachedBy setup writes trace line.gateway × HasMade earlier line.driver
 
 -- OVER A RUN THE PEER OF A CALLED LEG IS THE ONE THAT IT WAS GIVEN last, with no report of a job since; else there is none.
-abbrev pub CalledPeersAreGiven : {K : Type 0} → (K → K → Type 0) → (List PageToStore → Bool → K → K → Type 0) → (ℕ → ℕ → K → K → Type 0) → (ℕ → Report → K → K → Type 0) → Type 0
-CalledPeersAreGiven {K} same puts notes ends =
-    (setup : Setup) (writes : Writing) (number : ℕ) (other : PlaceValue) (start : Option Peer) (first : ℕ) (done : List DoneOrder) (settled : List SlotEnd) (old new : List PlaceValue) (before after : K)
-    → IsWriting writes → number < length old → IsSomewhere setup writes (slice_index_or old number other).line → IsGiven start (slice_index_or old number other).line.peers.called
+abbrev pub CalledPeersAreGiven : {K : Type 0}
+    → (K → K → Type 0) → (List PageToStore → Bool → K → K → Type 0)
+    → (ℕ → ℕ → K → K → Type 0) → (ℕ → Report → K → K → Type 0) → Type 0
+CalledPeersAreGiven {K} same puts notes ends = (setup : Setup) (writes : Writing)
+    (number : ℕ) (other : PlaceValue) (start : Option Peer) (first : ℕ) (done : List DoneOrder)
+    (settled : List SlotEnd) (old new : List PlaceValue) (before after : K) → IsWriting writes
+    → number < length old → IsSomewhere setup writes (slice_index_or old number other).line
+    → IsGiven start (slice_index_or old number other).line.peers.called
     → (ran : IsRun same puts notes ends first done settled old new before after)
-    → IsGiven (given_in same puts notes ends number other start first done settled old new before after ran) (slice_index_or new number other).line.peers.called
+    → IsGiven (given_in same puts notes ends number other start
+    first done settled old new before after ran) (slice_index_or new number other).line.peers.called
 
 -- the same where there is no store
-abbrev pub given_without : (number : ℕ) (other : PlaceValue) (start : Option Peer) (first : ℕ) (done : List DoneOrder) (old new : List PlaceValue) → RanWithout first done old new → Option Peer
+abbrev pub given_without : (number : ℕ) (other : PlaceValue)
+    (start : Option Peer) (first : ℕ) (done : List DoneOrder) (old new : List PlaceValue)
+    → RanWithout first done old new → Option Peer
 given_without number other start first [] old new ran = start
 given_without number other start first (Turned now rests ∷ done) old new ran =
-    given_after (has_reported (next_slot first done) rests number (slice_index_or ran.1 number other)) (given_without number other start first done old ran.0 ran.2)
+    given_after (has_reported (next_slot first done) rests number (slice_index_or
+    ran.1 number other)) (given_without number other start first done old ran.0 ran.2)
 given_without number other start first (AskedOf line now what answer ∷ done) old new ran =
     let earlier = given_without number other start first done old ran.0 ran.1 in
     if nat_eq number line then given_by what answer earlier else earlier
-given_without number other start first (Woken line ∷ done) old new ran = given_without number other start first done old ran.0 ran.1
+given_without number other start first (Woken line ∷ done) old new ran =
+    given_without number other start first done old ran.0 ran.1
 
 abbrev pub CalledPeersAreGivenWithout : Type 0
-CalledPeersAreGivenWithout =
-    (setup : Setup) (writes : Writing) (number : ℕ) (other : PlaceValue) (start : Option Peer) (first : ℕ) (done : List DoneOrder) (old new : List PlaceValue)
-    → IsWriting writes → number < length old → IsSomewhere setup writes (slice_index_or old number other).line → IsGiven start (slice_index_or old number other).line.peers.called
-    → (ran : RanWithout first done old new) → IsGiven (given_without number other start first done old new ran) (slice_index_or new number other).line.peers.called
+CalledPeersAreGivenWithout = (setup : Setup) (writes : Writing) (number : ℕ) (other : PlaceValue)
+    (start : Option Peer) (first : ℕ) (done : List DoneOrder) (old new : List PlaceValue)
+    → IsWriting writes
+    → number < length old → IsSomewhere setup writes (slice_index_or old number other).line
+    → IsGiven start (slice_index_or old number other).line.peers.called
+    → (ran : RanWithout first done old new)
+    → IsGiven (given_without number other start first done old new ran)
+    (slice_index_or new number other).line.peers.called

@@ -31,5 +31,6 @@ RestsMissNothing =
 -- WHAT IS ASKED OF ONE LINE leaves every other one as it was.
 abbrev pub OthersStay : Type 0
 OthersStay =
-    (line : ℕ) (what : LineRequest) (answer : Option LineAnswer) (old new : List PlaceValue) → AskFrees line what answer old new
-    → (number : ℕ) (other : PlaceValue) → number < length old → nat_eq number line ≡ false → slice_index_or new number other ≡ slice_index_or old number other
+    (line : ℕ) (what : LineRequest) (answer : Option LineAnswer) (old new : List PlaceValue)
+    → AskFrees line what answer old new → (number : ℕ) (other : PlaceValue) → number < length old
+    → nat_eq number line ≡ false → slice_index_or new number other ≡ slice_index_or old number other

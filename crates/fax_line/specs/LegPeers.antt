@@ -20,7 +20,8 @@ cut_if at false peers = peers
 
 -- both are settled: a call is on on the calling leg or not, and a job is being sent or not
 abbrev pub settled_both : Bool → Bool → Peers → Peers
-settled_both is_on is_sending peers = change_on legs.Called (settled is_sending) (change_on legs.Calling (settled is_on) peers)
+settled_both is_on is_sending peers =
+    change_on legs.Called (settled is_sending) (change_on legs.Calling (settled is_on) peers)
 
 -- BY A TURN, before which calls are on or not, and in which a job is reported or not, both peers are settled and then stay, or are heard;
 -- and then the called leg is cut where a job was reported.
@@ -32,10 +33,15 @@ pub record TurnsPeers (has_report is_on is_sending : Bool) (old new : Peers) : T
 -- AFTER WHAT WAS ASKED OF A LINE, which it answered so, the peers are what that made of them: where there was no way to a peer, and where
 -- no call began by a ring or for want of a machine, what they were.
 abbrev pub peers_after : LineRequest → Option LineAnswer → Peers → Peers
-peers_after (asked.Ring ringing) (Some (answered.Rung (Ok number))) old = change_on legs.Calling (bounded ringing.bounds) (cut_if legs.Calling ringing.forgets_peer old)
-peers_after (asked.Peer peering) (Some answered.Done) old = change_on peering.leg (said peering.peer) old
-peers_after (asked.Connect connecting) (Some (answered.Placed (Ok done))) old = change_on legs.Called (bounded no_bounds) (change_on legs.Called (said connecting.peer) old)
-peers_after (asked.Connect connecting) (Some (answered.Placed (Err fault))) old = change_on legs.Called cut_off (change_on legs.Called (said connecting.peer) old)
-peers_after asked.NotConnected (Some (answered.Placed (Ok done))) old = change_on legs.Called cut_off old
+peers_after (asked.Ring ringing) (Some (answered.Rung (Ok number))) old =
+    change_on legs.Calling (bounded ringing.bounds) (cut_if legs.Calling ringing.forgets_peer old)
+peers_after (asked.Peer peering) (Some answered.Done) old =
+    change_on peering.leg (said peering.peer) old
+peers_after (asked.Connect connecting) (Some (answered.Placed (Ok done))) old =
+    change_on legs.Called (bounded no_bounds) (change_on legs.Called (said connecting.peer) old)
+peers_after (asked.Connect connecting) (Some (answered.Placed (Err fault))) old =
+    change_on legs.Called cut_off (change_on legs.Called (said connecting.peer) old)
+peers_after asked.NotConnected (Some (answered.Placed (Ok done))) old =
+    change_on legs.Called cut_off old
 peers_after (asked.HangUp hanging_up) (Some answered.Done) old = change_on hanging_up.leg gone old
 peers_after what answer old = old

@@ -46,22 +46,28 @@ pub data Operation : Type 0 where
 -- what of it is done with one line
 abbrev pub actions_of : ℕ → List Operation → List Action
 actions_of line [] = []
-actions_of line (TurnsSlot slot now rests ∷ earlier) = if nat_eq (slot_of line) slot then visit_of now (rests line) ∷ actions_of line earlier else actions_of line earlier
-actions_of line (AsksLine asked now what answer ∷ earlier) = if nat_eq line asked then Asks now what answer ∷ actions_of line earlier else actions_of line earlier
-actions_of line (WakesLine woken ∷ earlier) = if nat_eq line woken then Wakes ∷ actions_of line earlier else actions_of line earlier
+actions_of line (TurnsSlot slot now rests ∷ earlier) = if nat_eq (slot_of line) slot
+    then visit_of now (rests line) ∷ actions_of line earlier else actions_of line earlier
+actions_of line (AsksLine asked now what answer ∷ earlier) = if nat_eq line asked
+    then Asks now what answer ∷ actions_of line earlier else actions_of line earlier
+actions_of line (WakesLine woken ∷ earlier) =
+    if nat_eq line woken then Wakes ∷ actions_of line earlier else actions_of line earlier
 
 -- Each line went through its own actions, by itself.
 pub record EachGoes (actions : ℕ → List Action) (old new : List PlaceValue) : Type 0 where
   pub as_many : length new ≡ length old
-  pub each : (line : ℕ) (other : PlaceValue) → line < length old → GoesInPlace (actions line) (slice_index_or old line other) (slice_index_or new line other)
+  pub each : (line : ℕ) (other : PlaceValue) → line < length old
+      → GoesInPlace (actions line) (slice_index_or old line other) (slice_index_or new line other)
 
 abbrev pub LinesWent : List Operation → List PlaceValue → List PlaceValue → Type 0
 LinesWent operations old new = EachGoes (λ line. actions_of line operations) old new
 
 -- so many lines, and of each this is true of what it was and what it is
-pub record EachComes (comes : ℕ → PlaceValue → PlaceValue → Type 0) (old new : List PlaceValue) : Type 0 where
+pub record EachComes (comes : ℕ → PlaceValue → PlaceValue → Type 0) (old new : List PlaceValue) :
+    Type 0 where
   pub as_many : length new ≡ length old
-  pub each : (number : ℕ) (other : PlaceValue) → number < length old → comes number (slice_index_or old number other) (slice_index_or new number other)
+  pub each : (number : ℕ) (other : PlaceValue) → number < length old
+      → comes number (slice_index_or old number other) (slice_index_or new number other)
 
 -- THE TURN OF A SLOT TELLS of each of its lines what that line's ticks told, but of those that are left at rest. What the wires of these
 -- and of other lines hold back stays.
@@ -70,16 +76,20 @@ TellsInSlot true now rests old new = TellsOrRests now rests old new
 TellsInSlot false now rests old new = StaysHeld old new
 
 abbrev pub SlotTells : ℕ → ℕ → (ℕ → Bool) → List PlaceValue → List PlaceValue → Type 0
-SlotTells slot now rests old new = EachComes (λ number. TellsInSlot (nat_eq (slot_of number) slot) now (rests number)) old new
+SlotTells slot now rests old new =
+    EachComes (λ number. TellsInSlot (nat_eq (slot_of number) slot) now (rests number)) old new
 
 -- WHAT IS ASKED OF A LINE FREES ITS WIRE, where a call begins by it, on the leg of that call; and the peers of its legs are what that
 -- makes of them. Every other line is left as it was.
 abbrev pub IsFreed : Bool → LineRequest → Option LineAnswer → PlaceValue → PlaceValue → Type 0
-IsFreed true what answer old new = Frees (leg_begun answer) old.line.holding new.line.holding × (new.line.peers ≡ peers_after what answer old.line.peers)
+IsFreed true what answer old new = Frees (leg_begun answer) old.line.holding new.line.holding
+    × (new.line.peers ≡ peers_after what answer old.line.peers)
 IsFreed false what answer old new = new ≡ old
 
-abbrev pub AskFrees : ℕ → LineRequest → Option LineAnswer → List PlaceValue → List PlaceValue → Type 0
-AskFrees line what answer old new = EachComes (λ number. IsFreed (nat_eq number line) what answer) old new
+abbrev pub AskFrees : ℕ
+    → LineRequest → Option LineAnswer → List PlaceValue → List PlaceValue → Type 0
+AskFrees line what answer old new =
+    EachComes (λ number. IsFreed (nat_eq number line) what answer) old new
 
 -- what the wires of all lines hold back stays, and so do the peers of their legs
 abbrev pub AllStayHeld : List PlaceValue → List PlaceValue → Type 0
@@ -107,6 +117,8 @@ pub record IsLineAt (i : ℕ) (lines : List PlaceValue) (line : LineValue) : Typ
 -- The moments of operations never go back, up to this one. To be woken has no moment.
 abbrev pub AreRising : List Operation → ℕ → Type 0
 AreRising [] latest = latest ≡ 0
-AreRising (TurnsSlot slot now rests ∷ earlier) latest = (before : ℕ) × (before ≤ latest) × (now ≡ latest) × AreRising earlier before
-AreRising (AsksLine line now what answer ∷ earlier) latest = (before : ℕ) × (before ≤ latest) × (now ≡ latest) × AreRising earlier before
+AreRising (TurnsSlot slot now rests ∷ earlier) latest =
+    (before : ℕ) × (before ≤ latest) × (now ≡ latest) × AreRising earlier before
+AreRising (AsksLine line now what answer ∷ earlier) latest =
+    (before : ℕ) × (before ≤ latest) × (now ≡ latest) × AreRising earlier before
 AreRising (WakesLine line ∷ earlier) latest = AreRising earlier latest

@@ -20,7 +20,9 @@ pub record PlaceValue : Type 0 where
 
 -- What is due on a line is what is due by its gateway, whatever trace led to it, or what its wire has to do: the earlier.
 pub record IsDueOn (due : Option ℕ) (line : LineValue) : Type 0 where
-  pub due_is : (setup : Setup) (writes : Writing) (trace : List Event) → IsReachedBy setup writes trace line.gateway → due ≡ earlier (due_at setup writes trace) line.wire_due
+  pub due_is : (setup : Setup) (writes : Writing) (trace : List Event)
+      → IsReachedBy setup writes trace line.gateway
+      → due ≡ earlier (due_at setup writes trace) line.wire_due
 
 -- It is at rest while nothing is due on it and nothing has woken it.
 abbrev pub is_at_rest : ℕ → PlaceValue → Bool
@@ -51,7 +53,8 @@ is_awake before (Wakes ∷ earlier) = true
 abbrev pub RestsAsleep : Bool → List Action → Type 0
 RestsAsleep before [] = Unit {0}
 RestsAsleep before (Turns now ∷ earlier) = RestsAsleep before earlier
-RestsAsleep before (Rests now ∷ earlier) = (is_awake before earlier ≡ false) × RestsAsleep before earlier
+RestsAsleep before (Rests now ∷ earlier) =
+    (is_awake before earlier ≡ false) × RestsAsleep before earlier
 RestsAsleep before (Asks now what answer ∷ earlier) = RestsAsleep before earlier
 RestsAsleep before (Wakes ∷ earlier) = RestsAsleep before earlier
 

@@ -18,7 +18,8 @@ pub data DoneOrder : Type 0 where
 abbrev pub words_of : List DoneOrder → List Word
 words_of [] = []
 words_of (Turned now rests ∷ earlier) = Asks (Some (order.Turn now)) ∷ words_of earlier
-words_of (AskedOf line now what answer ∷ earlier) = Answers line answer ∷ Asks (Some (order.Ask line now what)) ∷ words_of earlier
+words_of (AskedOf line now what answer ∷ earlier) =
+    Answers line answer ∷ Asks (Some (order.Ask line now what)) ∷ words_of earlier
 words_of (Woken line ∷ earlier) = Asks (Some (order.Wake line)) ∷ words_of earlier
 
 -- A moment before another that came reads as the latest.
@@ -38,8 +39,11 @@ next_slot first (Woken line ∷ earlier) = next_slot first earlier
 -- the operations: one for each order
 abbrev pub operations_of : ℕ → List DoneOrder → List Operation
 operations_of first [] = []
-operations_of first (Turned now rests ∷ earlier) = TurnsSlot (next_slot first earlier) (max (latest earlier) now) rests ∷ operations_of first earlier
-operations_of first (AskedOf line now what answer ∷ earlier) = AsksLine line (max (latest earlier) now) what answer ∷ operations_of first earlier
+operations_of first (Turned now rests ∷ earlier) =
+    TurnsSlot (next_slot first earlier) (max (latest earlier) now) rests
+    ∷ operations_of first earlier
+operations_of first (AskedOf line now what answer ∷ earlier) =
+    AsksLine line (max (latest earlier) now) what answer ∷ operations_of first earlier
 operations_of first (Woken line ∷ earlier) = WakesLine line ∷ operations_of first earlier
 
 -- a run ends where no order is given any more, or after as many orders as there are moments
@@ -47,4 +51,5 @@ abbrev pub most_orders : ℕ
 most_orders = 2 ^ 64 - 1
 
 abbrev pub Ends : List DoneOrder → Option (List Word) → Option (List Word) → Type 0
-Ends done before after = Grows (Asks None ∷ words_of done) before after ⊎ ((length done ≡ most_orders) × Grows (words_of done) before after)
+Ends done before after = Grows (Asks None ∷ words_of done) before after
+    ⊎ ((length done ≡ most_orders) × Grows (words_of done) before after)

@@ -18,7 +18,8 @@ use Rattle.fax_line.specs.declared.settling.PageToStore.{PageToStore}
 use Rattle.fax_line.specs.declared.settling.SlotEnd.{SlotEnd}
 
 -- what the turn told of it, and its text in two-dimensional coding, without fill: it is the newest page of the gateway's book
-pub record IsStoredAs (kept : Kept) (newest : Option PageValue) (to_store : PageToStore) : Type 0 where
+pub record IsStoredAs (kept : Kept) (newest : Option PageValue) (to_store : PageToStore) :
+    Type 0 where
   pub told : to_store.kept ≡ kept
   pub page : PageValue
   pub newest_is : newest ≡ Some page
@@ -44,7 +45,9 @@ pub record EndsTurn (is_stored : Bool) (old new : LineValue) : Type 0 where
   pub was : old.holding ≡ Some before
   pub after : HoldingValue
   pub is : new.holding ≡ Some after
-  pub done : (operations : List LegAction) (given : Option (List ℕ)) → HoldsAfter operations given before → HasDone (Turn given (is_some old.turned.kept) is_stored ∷ operations) after
+  pub done : (operations : List LegAction) (given : Option (List ℕ))
+      → HoldsAfter operations given before
+      → HasDone (Turn given (is_some old.turned.kept) is_stored ∷ operations) after
   pub gateway : new.gateway ≡ old.gateway
   pub driver : new.driver ≡ old.driver
   pub wire : IsToldAs old.wire new.wire
@@ -69,7 +72,8 @@ was_turned slot number place = nat_eq (slot_of number) slot && place.turned
 -- a line of a slot confirmed this page in the slot's last turn
 pub record IsPageOf (slot : ℕ) (lines : List PlaceValue) (page : PageToStore) : Type 0 where
   pub there : page.line < length lines
-  pub turned : (other : PlaceValue) → was_turned slot page.line (slice_index_or lines page.line other) ≡ true
+  pub turned : (other : PlaceValue)
+      → was_turned slot page.line (slice_index_or lines page.line other) ≡ true
   pub is_of_turn : (other : PlaceValue) → IsOfTurn (slice_index_or lines page.line other).line page
 
 -- PAGES OF A SLOT'S TURN, in the order of its lines, one of a line at most
@@ -85,7 +89,8 @@ EndsWhere false is_stored old new = new ≡ old
 -- THE END OF A SLOT'S TURN, where the pages of these lines are stored: the turn of each line that had one ends by itself, and no
 -- other line is touched.
 abbrev pub EndsSlot : ℕ → (ℕ → Bool) → List PlaceValue → List PlaceValue → Type 0
-EndsSlot slot is_stored old new = EachComes (λ number place. EndsWhere (was_turned slot number place) (is_stored number) place) old new
+EndsSlot slot is_stored old new = EachComes
+    (λ number place. EndsWhere (was_turned slot number place) (is_stored number) place) old new
 
 -- Where pages are not stored it ends as where all of them are: what each line gave goes out.
 abbrev pub LetsOutSlot : ℕ → List PlaceValue → List PlaceValue → Type 0
@@ -94,7 +99,8 @@ LetsOutSlot slot old new = EndsSlot slot (λ number. true) old new
 -- ---- before the pages are stored
 
 -- The page that a line's turn confirmed joins those that are to be stored, and the line waits for that;
-pub record Waits (number : ℕ) (old new : PlaceValue) (before after : List PageToStore) : Type 0 where
+pub record Waits (number : ℕ) (old new : PlaceValue) (before after : List PageToStore) :
+    Type 0 where
   pub page : PageToStore
   pub joins : after ≡ before ++ page ∷ []
   pub number_is : page.line ≡ number
@@ -107,8 +113,10 @@ pub record EndsAtOnce (old new : PlaceValue) (before after : List PageToStore) :
   pub ends : EndsWhere true false old new
 
 -- where a line had a turn
-abbrev pub HandsOver : Bool → ℕ → PlaceValue → PlaceValue → List PageToStore → List PageToStore → Type 0
-HandsOver true number old new before after = Waits number old new before after ⊎ EndsAtOnce old new before after
+abbrev pub HandsOver : Bool
+    → ℕ → PlaceValue → PlaceValue → List PageToStore → List PageToStore → Type 0
+HandsOver true number old new before after =
+    Waits number old new before after ⊎ EndsAtOnce old new before after
 HandsOver false number old new before after = (after ≡ before) × (new ≡ old)
 
 -- A line that had a turn waits where its page is to be stored, and its turn has ended where it has none.
@@ -119,4 +127,5 @@ WaitsOrEnds false true old new = ⊥
 WaitsOrEnds false false old new = new ≡ old
 
 abbrev pub HandsOverSlot : ℕ → List PageToStore → List PlaceValue → List PlaceValue → Type 0
-HandsOverSlot slot pages old new = EachComes (λ number place. WaitsOrEnds (was_turned slot number place) (has_page pages number) place) old new
+HandsOverSlot slot pages old new = EachComes (λ number place.
+    WaitsOrEnds (was_turned slot number place) (has_page pages number) place) old new

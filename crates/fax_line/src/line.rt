@@ -64,7 +64,15 @@ impl<W: LineWire + Drop> Model for Line<W> {
 
     ghost Value = { LineValue };
 
-    ghost view = { λ l. record { gateway = l.gateway; driver = l.engine; wire = W.known l.wire; wire_due = due_of W.due l.wire; holding = W.holding l.wire; peers = peers_of W.peer_at l.wire; turned = l.turned } };
+    ghost view = { λ l. record {
+      gateway = l.gateway;
+      driver = l.engine;
+      wire = W.known l.wire;
+      wire_due = due_of W.due l.wire;
+      holding = W.holding l.wire;
+      peers = peers_of W.peer_at l.wire;
+      turned = l.turned;
+    } };
 
     ghost invariant = { λ l. TellsWhether l.turned.goes_on l.engine };
 }
@@ -124,9 +132,13 @@ impl<W: LineWire + Drop> Line<W> {
     pub fn turn(&mut self, buffer: &mut Buffer, now: u64)
         ensures goes { Goes (Turns now ∷ []) self.old self.new }
         ensures tells { TellsTurn now self.old self.new }
-        ensures ended { self.new.turned.ended ≡ call_ended (call_of_rep self.old.gateway.calling) (call_of_rep self.new.gateway.calling) }
-        ensures dialled { self.new.turned.dialled ≡ call_dialled (is_some self.old.gateway.book.sending) self.new.gateway.book.sending }
-        ensures asked { self.new.turned.asked ≡ call_if_new (call_asked (job_asked self.old.gateway.settings.asks self.old.gateway.book)) (call_asked (job_asked self.new.gateway.settings.asks self.new.gateway.book)) }
+        ensures ended { self.new.turned.ended ≡ call_ended (call_of_rep self.old.gateway.calling)
+            (call_of_rep self.new.gateway.calling) }
+        ensures dialled { self.new.turned.dialled
+            ≡ call_dialled (is_some self.old.gateway.book.sending) self.new.gateway.book.sending }
+        ensures asked { self.new.turned.asked ≡ call_if_new
+            (call_asked (job_asked self.old.gateway.settings.asks self.old.gateway.book))
+            (call_asked (job_asked self.new.gateway.settings.asks self.new.gateway.book)) }
     {
         self.settle_peers();
         self.drive(buffer, now);
@@ -138,9 +150,13 @@ impl<W: LineWire + Drop> Line<W> {
     fn drive(&mut self, buffer: &mut Buffer, now: u64)
         ensures goes { Goes (Turns now ∷ []) self.old self.new }
         ensures drives { Drives now self.old self.new }
-        ensures ended { self.new.turned.ended ≡ call_ended (call_of_rep self.old.gateway.calling) (call_of_rep self.new.gateway.calling) }
-        ensures dialled { self.new.turned.dialled ≡ call_dialled (is_some self.old.gateway.book.sending) self.new.gateway.book.sending }
-        ensures asked { self.new.turned.asked ≡ call_if_new (call_asked (job_asked self.old.gateway.settings.asks self.old.gateway.book)) (call_asked (job_asked self.new.gateway.settings.asks self.new.gateway.book)) }
+        ensures ended { self.new.turned.ended ≡ call_ended (call_of_rep self.old.gateway.calling)
+            (call_of_rep self.new.gateway.calling) }
+        ensures dialled { self.new.turned.dialled
+            ≡ call_dialled (is_some self.old.gateway.book.sending) self.new.gateway.book.sending }
+        ensures asked { self.new.turned.asked ≡ call_if_new
+            (call_asked (job_asked self.old.gateway.settings.asks self.old.gateway.book))
+            (call_asked (job_asked self.new.gateway.settings.asks self.new.gateway.book)) }
     {
         self.wire.go_on(now);
         self.turned = self
@@ -151,7 +167,9 @@ impl<W: LineWire + Drop> Line<W> {
     /// Of the calls of its peers no more is known where no call is on.
     fn settle_peers(&mut self)
         ensures tells { TellsWire self.old self.new }
-        ensures peers { self.new.peers ≡ settled_both (is_some (call_of_rep self.old.gateway.calling)) (is_some self.old.gateway.book.sending) self.old.peers }
+        ensures peers { self.new.peers
+            ≡ settled_both (is_some (call_of_rep self.old.gateway.calling))
+            (is_some self.old.gateway.book.sending) self.old.peers }
     {
         let is_on = self.is_on();
         let is_sending = self.is_sending();
@@ -264,7 +282,8 @@ impl<W: LineWire + Drop> Line<W> {
     fn take_peer(&mut self, peering: PeerRequest, now: u64) -> LineAnswer
         ensures goes { Goes (Asks now (asked.Peer peering) (Some result) ∷ []) self.old self.new }
         ensures begun { leg_begun (Some result) ≡ None }
-        ensures peers { self.new.peers ≡ peers_after (asked.Peer peering) (Some result) self.old.peers }
+        ensures peers { self.new.peers
+            ≡ peers_after (asked.Peer peering) (Some result) self.old.peers }
         ensures tells { TellsWire self.old self.new }
     {
         match self.set_peer(peering.leg, peering.peer) {
@@ -275,9 +294,11 @@ impl<W: LineWire + Drop> Line<W> {
 
     /// The call of the peer of a leg is gone.
     fn hear_gone(&mut self, hanging_up: HangingUp, now: u64) -> LineAnswer
-        ensures goes { Goes (Asks now (asked.HangUp hanging_up) (Some result) ∷ []) self.old self.new }
+        ensures goes { Goes (Asks now (asked.HangUp hanging_up) (Some result)
+            ∷ []) self.old self.new }
         ensures begun { leg_begun (Some result) ≡ None }
-        ensures peers { self.new.peers ≡ peers_after (asked.HangUp hanging_up) (Some result) self.old.peers }
+        ensures peers { self.new.peers
+            ≡ peers_after (asked.HangUp hanging_up) (Some result) self.old.peers }
         ensures tells { TellsWire self.old self.new }
     {
         self.hang_up(hanging_up.leg);
@@ -286,11 +307,17 @@ impl<W: LineWire + Drop> Line<W> {
 
     /// A ring. It answers the number of the call that begins; what was handed over on the calling leg before is sent no more.
     pub fn ring(&mut self, ringing: RingRequest, now: u64) -> Result<u32, RingFault>
-        ensures goes { Goes (Asks now (asked.Ring ringing) (Some (answered.Rung result)) ∷ []) self.old self.new }
-        ensures busy { EachTrace self.old.gateway (λ setup writes trace. result ≡ Err RingFault.Busy ↔ (idle_after (calling_leg setup trace) ≡ false)) }
-        ensures no_number { EachTrace self.old.gateway (λ setup writes trace. idle_after (calling_leg setup trace) ≡ true → result ≡ Err RingFault.NoNumber ↔ (4294967296 ≤ rings trace)) }
-        ensures freed { OnOk result (CeasesWhere leg_shown.Calling self.old.holding self.new.holding) }
-        ensures peers { self.new.peers ≡ peers_after (asked.Ring ringing) (Some (answered.Rung result)) self.old.peers }
+        ensures goes { Goes (Asks now (asked.Ring ringing) (Some (answered.Rung result))
+            ∷ []) self.old self.new }
+        ensures busy { EachTrace self.old.gateway (λ setup writes trace. result ≡ Err RingFault.Busy
+            ↔ (idle_after (calling_leg setup trace) ≡ false)) }
+        ensures no_number { EachTrace self.old.gateway
+            (λ setup writes trace. idle_after (calling_leg setup trace) ≡ true
+            → result ≡ Err RingFault.NoNumber ↔ (4294967296 ≤ rings trace)) }
+        ensures freed { OnOk result
+            (CeasesWhere leg_shown.Calling self.old.holding self.new.holding) }
+        ensures peers { self.new.peers
+            ≡ peers_after (asked.Ring ringing) (Some (answered.Rung result)) self.old.peers }
         ensures err { OnErr result (self.new ≡ self.old) }
         ensures turned { self.new.turned ≡ self.old.turned }
     {
@@ -306,10 +333,16 @@ impl<W: LineWire + Drop> Line<W> {
 
     /// The gateway rings, and the wire is told that a call begins.
     fn accept_ring(&mut self, now: u64) -> Result<u32, RingFault>
-        ensures goes { (ringing : RingingShown) → Goes (Asks now (asked.Ring ringing) (Some (answered.Rung result)) ∷ []) self.old self.new }
-        ensures busy { EachTrace self.old.gateway (λ setup writes trace. result ≡ Err RingFault.Busy ↔ (idle_after (calling_leg setup trace) ≡ false)) }
-        ensures no_number { EachTrace self.old.gateway (λ setup writes trace. idle_after (calling_leg setup trace) ≡ true → result ≡ Err RingFault.NoNumber ↔ (4294967296 ≤ rings trace)) }
-        ensures freed { OnOk result (CeasesWhere leg_shown.Calling self.old.holding self.new.holding) }
+        ensures goes { (ringing : RingingShown)
+            → Goes (Asks now (asked.Ring ringing) (Some (answered.Rung result))
+            ∷ []) self.old self.new }
+        ensures busy { EachTrace self.old.gateway (λ setup writes trace. result ≡ Err RingFault.Busy
+            ↔ (idle_after (calling_leg setup trace) ≡ false)) }
+        ensures no_number { EachTrace self.old.gateway
+            (λ setup writes trace. idle_after (calling_leg setup trace) ≡ true
+            → result ≡ Err RingFault.NoNumber ↔ (4294967296 ≤ rings trace)) }
+        ensures freed { OnOk result
+            (CeasesWhere leg_shown.Calling self.old.holding self.new.holding) }
         ensures peers { self.new.peers ≡ self.old.peers }
         ensures err { OnErr result (self.new ≡ self.old) }
         ensures turned { self.new.turned ≡ self.old.turned }
@@ -327,10 +360,14 @@ impl<W: LineWire + Drop> Line<W> {
     /// over on the called leg before is sent no more. Where there is no way to the peer nothing is done; where no call begins the leg
     /// has no peer after it.
     pub fn connect(&mut self, connecting: ConnectRequest, now: u64) -> LineAnswer
-        ensures goes { Goes (Asks now (asked.Connect connecting) (Some result) ∷ []) self.old self.new }
-        ensures not_asked { (placed : Placing) → result ≡ answered.Placed placed → OfJobAsked self.old.gateway (λ job. placed ≡ Err PlaceFault.NotAsked ↔ (job ≡ None)) }
+        ensures goes { Goes (Asks now (asked.Connect connecting) (Some result)
+            ∷ []) self.old self.new }
+        ensures not_asked { (placed : Placing)
+            → result ≡ answered.Placed placed → OfJobAsked self.old.gateway
+            (λ job. placed ≡ Err PlaceFault.NotAsked ↔ (job ≡ None)) }
         ensures frees { Frees (leg_begun (Some result)) self.old.holding self.new.holding }
-        ensures peers { self.new.peers ≡ peers_after (asked.Connect connecting) (Some result) self.old.peers }
+        ensures peers { self.new.peers
+            ≡ peers_after (asked.Connect connecting) (Some result) self.old.peers }
         ensures refused { leg_begun (Some result) ≡ None → TellsWire self.old self.new }
         ensures turned { self.new.turned ≡ self.old.turned }
     {
@@ -342,11 +379,17 @@ impl<W: LineWire + Drop> Line<W> {
 
     /// The call of the job that is asked for begins, to the peer that the called leg has. Where none does the leg is cut.
     fn place_to_peer(&mut self, now: u64) -> Result<(), PlaceFault>
-        ensures goes { (connecting : ConnectingShown) → Goes (Asks now (asked.Connect connecting) (Some (answered.Placed result)) ∷ []) self.old self.new }
-        ensures not_asked { OfJobAsked self.old.gateway (λ job. result ≡ Err PlaceFault.NotAsked ↔ (job ≡ None)) }
-        ensures freed { OnOk result (CeasesWhere leg_shown.Called self.old.holding self.new.holding) }
-        ensures ok { OnOk result (self.new.peers ≡ change_on leg_shown.Called (bounded no_bounds) self.old.peers) }
-        ensures cut { OnErr result (self.new.peers ≡ change_on leg_shown.Called cut_off self.old.peers) }
+        ensures goes { (connecting : ConnectingShown)
+            → Goes (Asks now (asked.Connect connecting) (Some (answered.Placed result))
+            ∷ []) self.old self.new }
+        ensures not_asked { OfJobAsked self.old.gateway
+            (λ job. result ≡ Err PlaceFault.NotAsked ↔ (job ≡ None)) }
+        ensures freed { OnOk result
+            (CeasesWhere leg_shown.Called self.old.holding self.new.holding) }
+        ensures ok { OnOk result (self.new.peers
+            ≡ change_on leg_shown.Called (bounded no_bounds) self.old.peers) }
+        ensures cut { OnErr result (self.new.peers
+            ≡ change_on leg_shown.Called cut_off self.old.peers) }
         ensures err { OnErr result (TellsWire self.old self.new) }
         ensures turned { self.new.turned ≡ self.old.turned }
     {
@@ -369,10 +412,14 @@ impl<W: LineWire + Drop> Line<W> {
     /// The called machine of the job whose call is asked for could not be reached: the call is over as it begins, and the next turn
     /// reports the job as `NotPlaced`. What was handed over on the called leg before is sent no more, and the leg has no peer.
     pub fn not_connected(&mut self, now: u64) -> Result<(), PlaceFault>
-        ensures goes { Goes (Asks now asked.NotConnected (Some (answered.Placed result)) ∷ []) self.old self.new }
-        ensures not_asked { OfJobAsked self.old.gateway (λ job. result ≡ Err PlaceFault.NotAsked ↔ (job ≡ None)) }
-        ensures freed { OnOk result (CeasesWhere leg_shown.Called self.old.holding self.new.holding) }
-        ensures peers { self.new.peers ≡ peers_after asked.NotConnected (Some (answered.Placed result)) self.old.peers }
+        ensures goes { Goes (Asks now asked.NotConnected (Some (answered.Placed result))
+            ∷ []) self.old self.new }
+        ensures not_asked { OfJobAsked self.old.gateway
+            (λ job. result ≡ Err PlaceFault.NotAsked ↔ (job ≡ None)) }
+        ensures freed { OnOk result
+            (CeasesWhere leg_shown.Called self.old.holding self.new.holding) }
+        ensures peers { self.new.peers
+            ≡ peers_after asked.NotConnected (Some (answered.Placed result)) self.old.peers }
         ensures err { OnErr result (self.new ≡ self.old) }
         ensures turned { self.new.turned ≡ self.old.turned }
     {
@@ -387,9 +434,12 @@ impl<W: LineWire + Drop> Line<W> {
 
     /// The call of the job that is asked for is placed, or could not be.
     fn place(&mut self, connected: bool, now: u64) -> Result<(), PlaceFault>
-        ensures goes { (what : AskedShown) → IsPlacing connected what → Goes (Asks now what (Some (answered.Placed result)) ∷ []) self.old self.new }
-        ensures not_asked { OfJobAsked self.old.gateway (λ job. result ≡ Err PlaceFault.NotAsked ↔ (job ≡ None)) }
-        ensures freed { OnOk result (CeasesWhere leg_shown.Called self.old.holding self.new.holding) }
+        ensures goes { (what : AskedShown) → IsPlacing connected what
+            → Goes (Asks now what (Some (answered.Placed result)) ∷ []) self.old self.new }
+        ensures not_asked { OfJobAsked self.old.gateway
+            (λ job. result ≡ Err PlaceFault.NotAsked ↔ (job ≡ None)) }
+        ensures freed { OnOk result
+            (CeasesWhere leg_shown.Called self.old.holding self.new.holding) }
         ensures peers { self.new.peers ≡ self.old.peers }
         ensures err { OnErr result (self.new ≡ self.old) }
         ensures turned { self.new.turned ≡ self.old.turned }
@@ -406,7 +456,8 @@ impl<W: LineWire + Drop> Line<W> {
     /// From which moment on something is due: a tick before it gives nothing, and the wire has nothing to do. `None`: nothing is
     /// due until something comes.
     pub fn next_due(&self) -> Option<u64>
-        ensures { EachTrace self.now.gateway (λ setup writes trace. result ≡ earlier (due_at setup writes trace) self.now.wire_due) }
+        ensures { EachTrace self.now.gateway (λ setup writes trace.
+            result ≡ earlier (due_at setup writes trace) self.now.wire_due) }
     {
         earlier(self.gateway.next_due(), self.wire.next_due())
     }
@@ -414,7 +465,8 @@ impl<W: LineWire + Drop> Line<W> {
     /// Whether one of the last 100 receives did not fail.
     pub fn goes_on(&self) -> bool
         ensures same { result ≡ self.now.turned.goes_on }
-        ensures goes_on { (made : List Entry) → HasMade made self.now.driver → IsTrue result ↔ (failed_in_a_row (receipts made) < most_failed) }
+        ensures goes_on { (made : List Entry) → HasMade made self.now.driver
+            → IsTrue result ↔ (failed_in_a_row (receipts made) < most_failed) }
     {
         self.turned.goes_on
     }
@@ -442,7 +494,8 @@ impl<W: LineWire + Drop> Line<W> {
 
     /// The number of the call whose job is asked for: it waits for its own call to be placed.
     pub fn asked(&self) -> Option<u32>
-        ensures asked { result ≡ call_asked (job_asked self.now.gateway.settings.asks self.now.gateway.book) }
+        ensures asked { result
+            ≡ call_asked (job_asked self.now.gateway.settings.asks self.now.gateway.book) }
         ensures told { OfJobAsked self.now.gateway (λ job. result ≡ call_asked job) }
     {
         self.gateway.asked()
@@ -450,7 +503,8 @@ impl<W: LineWire + Drop> Line<W> {
 
     /// That job.
     pub fn job_asked(&self) -> Option<&Job<PackedRows>>
-        ensures { option_copied result ≡ job_asked self.now.gateway.settings.asks self.now.gateway.book }
+        ensures { option_copied result
+            ≡ job_asked self.now.gateway.settings.asks self.now.gateway.book }
     {
         self.gateway.job_asked()
     }
@@ -537,7 +591,8 @@ impl<W: TimedWire + Drop> Line<HoldingWire<W>> {
 /// The call of the job that a gateway asks for is placed, or could not be.
 fn place(gateway: &mut Gateway<PackedRows>, connected: bool, now: u64) -> Result<(), PlaceFault>
     ensures placed { OnOk result (Advances gateway.old (Placed now connected) gateway.new) }
-    ensures not_asked { OfJobAsked gateway.old (λ job. result ≡ Err PlaceFault.NotAsked ↔ (job ≡ None)) }
+    ensures not_asked { OfJobAsked gateway.old
+        (λ job. result ≡ Err PlaceFault.NotAsked ↔ (job ≡ None)) }
     ensures err { OnErr result (gateway.new ≡ gateway.old) }
     ensures refusals { gateway.new.refusals ≡ gateway.old.refusals }
 {

@@ -78,7 +78,8 @@ impl<W: LineWire + Drop> Lines<W> {
         ensures err { OnErr result (self.new.lines ≡ self.old.lines) }
         ensures slot { self.new.slot ≡ self.old.slot }
         ensures new { AreNew self.old.lines → IsNew line → AreNew self.new.lines }
-        ensures begun { (calls : List RestoredCall) → AreBegun self.old.lines → BeginsWith calls line → AreBegun self.new.lines }
+        ensures begun { (calls : List RestoredCall)
+            → AreBegun self.old.lines → BeginsWith calls line → AreBegun self.new.lines }
     {
         let place = Place::new(self.alloc, line)?;
         self.places.push(place)?;
@@ -94,7 +95,8 @@ impl<W: LineWire + Drop> Lines<W> {
 
     /// Line i, counted from 0.
     pub fn line(&self, i: usize) -> Option<&Line<W>>
-        ensures { MatchOption result (length self.now.lines ≤ i) (λ line. IsLineAt i self.now.lines line.now) }
+        ensures { MatchOption result (length self.now.lines ≤ i)
+            (λ line. IsLineAt i self.now.lines line.now) }
     {
         match self.places.get(i) {
             Some(place) => Some(place.line()),
@@ -134,8 +136,10 @@ impl<W: LineWire + Drop> Lines<W> {
     /// The turn of the slot that is next: its lines are turned, or left at rest. The wires of the slot half a round away are told
     /// the time, where something is due.
     pub fn turn(&mut self, now: u64)
-        ensures went { LinesWent (TurnsSlot self.old.slot now (rests_at now self.old.lines) ∷ []) self.old.lines self.new.lines }
-        ensures tells { SlotTells self.old.slot now (rests_at now self.old.lines) self.old.lines self.new.lines }
+        ensures went { LinesWent (TurnsSlot self.old.slot now (rests_at now self.old.lines)
+            ∷ []) self.old.lines self.new.lines }
+        ensures tells { SlotTells self.old.slot
+            now (rests_at now self.old.lines) self.old.lines self.new.lines }
         ensures slot { self.new.slot ≡ slot_after self.old.slot }
     {
         serve_slot(self.places.as_mut_slice(), &mut self.buffer, self.slot, now);
@@ -164,7 +168,8 @@ impl<W: LineWire + Drop> Lines<W> {
     /// After the end of the turn of the slot that had the last one: a store is told which of the pages that its lines confirmed were
     /// not handed over, and which jobs ended, line by line.
     pub fn tell_store<K: RunStore>(&self, end: &SlotEnd, store: &mut K)
-        ensures { TellsSlot K.notes K.ends (slot_before self.now.slot) end.now.pages.items self.now.lines store.old store.new }
+        ensures { TellsSlot K.notes K.ends (slot_before self.now.slot)
+            end.now.pages.items self.now.lines store.old store.new }
     {
         let slot = slot_before(self.slot);
         tell_places(self.places.as_slice(), end.pages.as_slice(), slot, store);
@@ -180,8 +185,10 @@ impl<W: TimedWire + Drop> Lines<HoldingWire<W>> {
         ensures went { LinesWent [] self.old.lines self.new.lines }
         ensures slot { self.new.slot ≡ self.old.slot }
         ensures pages { ArePagesOf (slot_before self.old.slot) self.old.lines result.pages.items }
-        ensures kept { OnOk result.answer ((before : List ToStore) → K.keeps store.old before → K.keeps store.new (before ++ result.pages.items)) }
-        ensures settled { EndsSlot (slot_before self.old.slot) (is_stored_in result) self.old.lines self.new.lines }
+        ensures kept { OnOk result.answer ((before : List ToStore)
+            → K.keeps store.old before → K.keeps store.new (before ++ result.pages.items)) }
+        ensures settled { EndsSlot (slot_before self.old.slot)
+            (is_stored_in result) self.old.lines self.new.lines }
         ensures put { PutsIf K.puts result.pages.items (is_ok result.answer) store.old store.new }
     {
         let slot = slot_before(self.slot);
@@ -235,7 +242,8 @@ fn serve_slot<W: LineWire + Drop>(
     now: u64,
 )
     requires { slot < most_slots }
-    ensures went { LinesWent (TurnsSlot slot now (rests_at now places.old) ∷ []) places.old places.new }
+    ensures went { LinesWent (TurnsSlot slot now (rests_at now places.old)
+        ∷ []) places.old places.new }
     ensures tells { SlotTells slot now (rests_at now places.old) places.old places.new }
 {
     turn_slot(places, buffer, slot, now);
@@ -250,7 +258,8 @@ fn turn_slot<W: LineWire + Drop>(
     now: u64,
 )
     requires { slot < most_slots }
-    ensures goes { EachGoes (λ i. if nat_eq (slot_of i) slot then visit_of now (rests_at now places.old i) ∷ [] else []) places.old places.new }
+    ensures goes { EachGoes (λ i. if nat_eq (slot_of i) slot
+        then visit_of now (rests_at now places.old i) ∷ [] else []) places.old places.new }
     ensures tells { SlotTells slot now (rests_at now places.old) places.old places.new }
 {
     let rounds = places.len() / SLOTS + 1;
@@ -266,7 +275,8 @@ fn turn_slot<W: LineWire + Drop>(
 fn tell_slot<W: LineWire + Drop>(places: &mut [Place<W>], slot: usize, now: u64)
     requires { slot < most_slots }
     ensures goes { EachGoes (λ i. []) places.old places.new }
-    ensures others { EachComes (λ i before after. (nat_eq (slot_of i) slot ≡ false → after ≡ before) × StaysHeld before after) places.old places.new }
+    ensures others { EachComes (λ i before after. (nat_eq (slot_of i) slot ≡ false → after ≡ before)
+        × StaysHeld before after) places.old places.new }
 {
     let rounds = places.len() / SLOTS + 1;
     for round in 0..rounds {
@@ -284,7 +294,8 @@ fn ask_one<W: LineWire + Drop>(
     what: LineRequest,
     now: u64,
 ) -> Option<LineAnswer>
-    ensures went { EachGoes (λ line. if nat_eq line i then Asks now what result ∷ [] else []) places.old places.new }
+    ensures went { EachGoes
+        (λ line. if nat_eq line i then Asks now what result ∷ [] else []) places.old places.new }
     ensures frees { AskFrees i what result places.old places.new }
     ensures there { IsSome result ↔ (i < length places.old) }
 {
@@ -296,7 +307,8 @@ fn ask_one<W: LineWire + Drop>(
 
 /// Line i is woken, where there is one.
 fn wake_one<W: LineWire + Drop>(places: &mut [Place<W>], i: usize)
-    ensures went { EachGoes (λ line. if nat_eq line i then Wakes ∷ [] else []) places.old places.new }
+    ensures went { EachGoes
+        (λ line. if nat_eq line i then Wakes ∷ [] else []) places.old places.new }
     ensures stays { AllStayHeld places.old places.new }
 {
     if i < places.len() {
@@ -314,7 +326,8 @@ fn settle_places<K: PageStore<PageToStore>, W: TimedWire + Drop>(
     requires { slot < most_slots }
     ensures went { EachGoes (λ i. []) places.old places.new }
     ensures pages { ArePagesOf slot places.old result.pages.items }
-    ensures kept { OnOk result.answer ((before : List ToStore) → K.keeps store.old before → K.keeps store.new (before ++ result.pages.items)) }
+    ensures kept { OnOk result.answer ((before : List ToStore)
+        → K.keeps store.old before → K.keeps store.new (before ++ result.pages.items)) }
     ensures settled { EndsSlot slot (is_stored_in result) places.old places.new }
     ensures put { PutsIf K.puts result.pages.items (is_ok result.answer) store.old store.new }
 {
@@ -356,7 +369,8 @@ fn end_slot<W: TimedWire + Drop>(
 )
     requires { slot < most_slots }
     ensures went { EachGoes (λ i. []) places.old places.new }
-    ensures ends { EachComes (λ i. EndsWhere (nat_eq (slot_of i) slot && has_page pages.now i) is_stored) places.old places.new }
+    ensures ends { EachComes (λ i. EndsWhere (nat_eq (slot_of i) slot
+        && has_page pages.now i) is_stored) places.old places.new }
 {
     let rounds = places.len() / SLOTS + 1;
     for round in 0..rounds {
@@ -408,7 +422,8 @@ fn tell_place<W: LineWire + Drop, K: RunStore>(
     was_handed: bool,
     store: &mut K,
 )
-    ensures { TellsWhere K.notes K.ends number place.now.turned place.now.line.turned was_handed store.old store.new }
+    ensures { TellsWhere K.notes K.ends number
+        place.now.turned place.now.line.turned was_handed store.old store.new }
 {
     if place.has_turned() {
         tell_turn(number, place.line().turned(), was_handed, store);

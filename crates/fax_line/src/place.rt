@@ -45,7 +45,8 @@ impl<W: LineWire + Drop> Model for Place<W> {
 
     ghost Value = { PlaceValue };
 
-    ghost view = { λ p. record { line = p.line.value; due = p.due; awake = p.is_awake; turned = p.has_turned } };
+    ghost view = { λ p.
+        record { line = p.line.value; due = p.due; awake = p.is_awake; turned = p.has_turned } };
 
     ghost invariant = { λ p. IsDueOn p.due p.line.value };
 }
@@ -55,7 +56,8 @@ impl<W: LineWire + Drop> Place<W> {
     pub fn new(alloc: Global, line: Line<W>) -> Result<Self, AllocError>
         ensures line { IfOk result (λ place. place.line ≡ line) }
         ensures awake { IfOk result (λ place. place.awake ≡ true) }
-        ensures begins { (calls : List RestoredCall) → BeginsWith calls line → IfOk result (λ place. BeginsInPlace calls place) }
+        ensures begins { (calls : List RestoredCall)
+            → BeginsWith calls line → IfOk result (λ place. BeginsInPlace calls place) }
     {
         let due = line.next_due();
         let line = Box::new(alloc, line)?;
@@ -108,7 +110,8 @@ impl<W: LineWire + Drop> Place<W> {
     /// Its wire is told the time, between two turns, where something is due.
     pub fn tell_time(&mut self, now: u64)
         ensures goes { GoesInPlace [] self.old self.new }
-        ensures time { is_due self.old.due now ≡ true → IsToldTimeWhere now self.old.line.holding self.new.line.holding }
+        ensures time { is_due self.old.due now ≡ true
+            → IsToldTimeWhere now self.old.line.holding self.new.line.holding }
         ensures stays { StaysHeld self.old self.new }
         ensures turned { self.new.turned ≡ self.old.turned }
     {
@@ -121,7 +124,8 @@ impl<W: LineWire + Drop> Place<W> {
     /// This is asked of it.
     pub fn ask(&mut self, what: LineRequest, now: u64) -> LineAnswer
         ensures goes { GoesInPlace (Asks now what (Some result) ∷ []) self.old self.new }
-        ensures frees { Frees (leg_begun (Some result)) self.old.line.holding self.new.line.holding }
+        ensures frees { Frees (leg_begun (Some result))
+            self.old.line.holding self.new.line.holding }
         ensures peers { self.new.line.peers ≡ peers_after what (Some result) self.old.line.peers }
         ensures turned { self.new.turned ≡ self.old.turned }
     {
@@ -146,7 +150,8 @@ impl<W: TimedWire + Drop> Place<HoldingWire<W>> {
     pub fn hand_over(&mut self, alloc: Global, number: usize, pages: &mut Vec<PageToStore>)
         ensures goes { GoesInPlace [] self.old self.new }
         ensures turned { self.new.turned ≡ self.old.turned }
-        ensures hands { HandsOver self.old.turned number self.old self.new pages.old.items pages.new.items }
+        ensures hands { HandsOver self.old.turned
+            number self.old self.new pages.old.items pages.new.items }
     {
         if !self.has_turned {
             return;

@@ -25,10 +25,13 @@ pub fn serve<W: TimedWire + Drop, K: RunStore, P: Pace<HoldingWire<W>, K>>(
     store: &mut Option<K>,
     pace: &mut P,
 )
-    ensures { (done : List DoneOrder) × LinesWent (operations_of lines.old.slot done) lines.old.lines lines.new.lines × (lines.new.slot ≡ next_slot lines.old.slot done)
-        × AreRising (operations_of lines.old.slot done) (latest done) × Ends done (P.words pace.old) (P.words pace.new)
-        × RanIf K.is_same K.puts K.notes K.ends lines.old.slot done lines.old.lines lines.new.lines store.old store.new
-        × PacedToEnd P.gives P.hears P.sees done pace.old pace.new }
+    ensures { (done : List DoneOrder)
+        × LinesWent (operations_of lines.old.slot done) lines.old.lines lines.new.lines
+        × (lines.new.slot ≡ next_slot lines.old.slot done)
+        × AreRising (operations_of lines.old.slot done) (latest done)
+        × Ends done (P.words pace.old) (P.words pace.new)
+        × RanIf K.is_same K.puts K.notes K.ends lines.old.slot done lines.old.lines lines.new.lines
+        store.old store.new × PacedToEnd P.gives P.hears P.sees done pace.old pace.new }
 {
     let mut latest = 0u64;
     for _ in 0..u64::MAX {
@@ -61,7 +64,8 @@ fn settle<W: TimedWire + Drop, K: RunStore, P: Pace<HoldingWire<W>, K>>(
     ensures slot { lines.new.slot ≡ lines.old.slot }
     ensures words { P.words pace.new ≡ P.words pace.old }
     ensures sees { SeesTurn P.sees pace.old pace.new }
-    ensures settled { IsSettledIf K.is_same K.puts K.notes K.ends (slot_before lines.old.slot) lines.old.lines lines.new.lines store.old store.new }
+    ensures settled { IsSettledIf K.is_same K.puts K.notes K.ends (slot_before lines.old.slot)
+        lines.old.lines lines.new.lines store.old store.new }
 {
     match store {
         Some(store) => settle_stored(lines, store, pace),
@@ -83,7 +87,8 @@ fn settle_stored<W: TimedWire + Drop, K: RunStore, P: Pace<HoldingWire<W>, K>>(
     ensures slot { lines.new.slot ≡ lines.old.slot }
     ensures words { P.words pace.new ≡ P.words pace.old }
     ensures sees { SeesTurn P.sees pace.old pace.new }
-    ensures settled { (end : EndShown) × (made : IsSettled K.is_same K.puts K.notes K.ends (slot_before lines.old.slot) end lines.old.lines lines.new.lines store.old store.new)
+    ensures settled { (end : EndShown) × (made : IsSettled K.is_same K.puts K.notes
+        K.ends (slot_before lines.old.slot) end lines.old.lines lines.new.lines store.old store.new)
         × SawStored P.sees_stored made.kept pace.new }
 {
     pace.before_put(lines, store);

@@ -28,15 +28,23 @@ is_first before page = not (list_any (same_call page) before)
 
 -- the job of a page that is the first one of it, where these pages wait: all of them that came in its call
 abbrev pub job_of : List CallName → JobState → List PageValue → PageValue → JobValue
-job_of torn whole pages page = record { state = state_of torn whole page; first = page; pages = count_by (same_call page) pages }
+job_of torn whole pages page = record {
+  state = state_of torn whole page;
+  first = page;
+  pages = count_by (same_call page) pages;
+}
 
-abbrev pub jobs_by : List CallName → JobState → (pages before : List PageValue) → PageValue → List JobValue
-jobs_by torn whole pages before page = if is_first before page then job_of torn whole pages page ∷ [] else []
+abbrev pub jobs_by : List CallName
+    → JobState → (pages before : List PageValue) → PageValue → List JobValue
+jobs_by torn whole pages before page =
+    if is_first before page then job_of torn whole pages page ∷ [] else []
 
 -- those that begin after some pages
-abbrev pub jobs_after : List CallName → JobState → (pages before rest : List PageValue) → List JobValue
+abbrev pub jobs_after : List CallName
+    → JobState → (pages before rest : List PageValue) → List JobValue
 jobs_after torn whole pages before [] = []
-jobs_after torn whole pages before (page ∷ rest) = jobs_by torn whole pages before page ++ jobs_after torn whole pages (before ++ page ∷ []) rest
+jobs_after torn whole pages before (page ∷ rest) =
+    jobs_by torn whole pages before page ++ jobs_after torn whole pages (before ++ page ∷ []) rest
 
 -- THE JOBS OF PAGES: one for each call of a line, where its first page stands.
 abbrev pub jobs_of : List CallName → JobState → List PageValue → List JobValue
@@ -49,7 +57,8 @@ without_cards pages = filter (λ page. not (nat_eq page.number 0)) pages
 -- a page is looked at: each, where no job is chosen
 abbrev pub is_chosen : Option Choice → PageValue → Bool
 is_chosen None page = true
-is_chosen (Some choice) page = nat_eq page.life choice.life && nat_eq page.call choice.call && bytes_eq page.line choice.line.now
+is_chosen (Some choice) page = nat_eq page.life choice.life
+    && nat_eq page.call choice.call && bytes_eq page.line choice.line.now
 
 abbrev pub chosen : Option Choice → List PageValue → List PageValue
 chosen choice pages = filter (is_chosen choice) pages

@@ -14,9 +14,11 @@ pub record IsPage (page : PageValue) : Type 0 where
 
 -- NO TWO PAGES HAVE THEIR PICTURES UNDER ONE NAME: it tells the line, the life, the call and the number.
 abbrev pub PagesHaveNamesOfTheirOwn : Type 0
-PagesHaveNamesOfTheirOwn = (prefix : List ℕ) (page other : PageValue) → IsPage page → IsPage other → picture_name prefix page ≡ picture_name prefix other → name_of page ≡ name_of other
+PagesHaveNamesOfTheirOwn = (prefix : List ℕ) (page other : PageValue) → IsPage page → IsPage other
+    → picture_name prefix page ≡ picture_name prefix other → name_of page ≡ name_of other
 
 -- LINES OF JOBS ARE TEXT THAT A TERMINAL ONLY SHOWS, whatever a tag or the name of a line holds: line feeds, and the characters of ASCII
 -- from the space to `~`.
 abbrev pub LinesAreOnlyShown : Type 0
-LinesAreOnlyShown = (jobs : List JobValue) → All (λ octet. IsVisible octet ⊎ (octet ≡ 10)) (flat_map job_line jobs)
+LinesAreOnlyShown = (jobs : List JobValue)
+    → All (λ octet. IsVisible octet ⊎ (octet ≡ 10)) (flat_map job_line jobs)

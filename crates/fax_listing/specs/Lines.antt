@@ -29,15 +29,17 @@ abbrev pub tag_member : Option (List ℕ) → List Token
 tag_member tag = key (codes "tag") ∷ tag_value tag ∷ []
 
 abbrev pub format_members : Format → List Token
-format_members format = number_member (codes "width") (elements_of format.width) ++ text_member (codes "resolution") (resolution_name format.fine)
+format_members format = number_member (codes "width") (elements_of format.width)
+    ++ text_member (codes "resolution") (resolution_name format.fine)
 
 -- What is told of a job on the line of this name: its state, its call, the number of its first page that waits, how many wait, and the
 -- format of that first one.
 abbrev pub job_members : (name : List ℕ) → JobValue → List Token
 job_members name job =
     text_member (codes "state") (state_name job.state) ++ (text_member (codes "line") name
-    ++ (number_member (codes "life") job.first.life ++ (number_member (codes "call") job.first.call ++ (tag_member (tag_shown job.first.tag)
-    ++ (number_member (codes "first") job.first.number ++ (number_member (codes "pages") job.pages ++ format_members job.first.format))))))
+    ++ (number_member (codes "life") job.first.life ++ (number_member (codes "call") job.first.call
+    ++ (tag_member (tag_shown job.first.tag) ++ (number_member (codes "first") job.first.number
+    ++ (number_member (codes "pages") job.pages ++ format_members job.first.format))))))
 
 -- A job as an object. What is no UTF-8 of the name of its line is told as U+FFFD.
 abbrev pub job_tokens : JobValue → List Token

@@ -17,8 +17,10 @@ use Rattle.fax_listing.specs.declared.looking.SpoolOptions.{SpoolOptions}
 
 -- what is told of what is harmed of the files
 abbrev pub damage_told : (folder : List ℕ) → (waiting kept : Listing) → List ℕ
-damage_told folder waiting kept =
-    ((damage_text folder (codes "pages") waiting.one ++ damage_text folder (codes "pages-wal") waiting.other) ++ damage_text folder (codes "undelivered") kept.one) ++ damage_text folder (codes "undelivered-wal") kept.other
+damage_told folder waiting kept = ((damage_text folder (codes "pages") waiting.one
+    ++ damage_text folder (codes "pages-wal") waiting.other)
+    ++ damage_text folder (codes "undelivered") kept.one)
+    ++ damage_text folder (codes "undelivered-wal") kept.other
 
 -- where a job is chosen, one of these pages that wait is one of it
 abbrev pub is_found : SpoolOptions → List PageValue → Bool
@@ -33,20 +35,29 @@ status_of is_all = if is_all then Done else Fault
 
 -- These pages that wait are looked at, and these that could not be delivered, where these calls lack a page, and this was told before:
 -- each of their jobs has a line, and of the pages is made what is wanted.
-pub record LooksAt (options : SpoolOptions) (pages kept : List PageValue) (torn kept_torn : List CallName) (told : List ℕ) (before after : Option (List FileValue)) (seen : Seen) : Type 0 where
-  pub text : seen.text.items ≡ flat_map job_line (jobs_of torn Waits pages) ++ flat_map job_line (jobs_of kept_torn Undelivered kept)
+pub record LooksAt (options : SpoolOptions)
+    (pages kept : List PageValue) (torn kept_torn : List CallName)
+    (told : List ℕ) (before after : Option (List FileValue)) (seen : Seen) : Type 0 where
+  pub text : seen.text.items ≡ flat_map job_line (jobs_of torn Waits pages)
+      ++ flat_map job_line (jobs_of kept_torn Undelivered kept)
   pub is_whole : Bool
-  pub pictures : KeepsWanted options.wanted (pages ++ kept) is_whole (told ++ none_told options (pages ++ kept)) (string_bytes seen.told) before after
+  pub pictures : KeepsWanted options.wanted (pages ++ kept) is_whole (told
+      ++ none_told options (pages ++ kept)) (string_bytes seen.told) before after
   pub status : seen.status ≡ status_of (is_found options (pages ++ kept) && is_whole)
 
 -- THE FILES OF A SPOOL ARE LOOKED AT: as they are listed, those of their pages that are chosen, and what is harmed is told first.
-pub record Looks (options : SpoolOptions) (one other kept_one kept_other : List ℕ) (before after : Option (List FileValue)) (seen : Seen) : Type 0 where
+pub record Looks (options : SpoolOptions) (one other kept_one kept_other : List ℕ)
+    (before after : Option (List FileValue)) (seen : Seen) : Type 0 where
   pub waiting : Listing
   pub kept : Listing
   pub listed : IsListed one other waiting
   pub kept_listed : IsListed kept_one kept_other kept
-  pub looks : LooksAt options (chosen options.choice waiting.pages.items) (chosen options.choice (without_cards kept.pages.items)) waiting.torn.items kept.torn.items (damage_told options.folder.now waiting kept) before after seen
+  pub looks : LooksAt options (chosen options.choice waiting.pages.items)
+      (chosen options.choice (without_cards kept.pages.items)) waiting.torn.items
+      kept.torn.items (damage_told options.folder.now waiting kept) before after seen
 
 -- what holds of the octets of all files, where they are known
-abbrev pub AreKnown : (one other kept_one kept_other : Option (List ℕ)) → (List ℕ → List ℕ → List ℕ → List ℕ → Type 0) → Type 0
-AreKnown one other kept_one kept_other P = IfSome one (λ a. IfSome other (λ b. IfSome kept_one (λ c. IfSome kept_other (λ d. P a b c d))))
+abbrev pub AreKnown : (one other kept_one kept_other : Option (List ℕ))
+    → (List ℕ → List ℕ → List ℕ → List ℕ → Type 0) → Type 0
+AreKnown one other kept_one kept_other P =
+    IfSome one (λ a. IfSome other (λ b. IfSome kept_one (λ c. IfSome kept_other (λ d. P a b c d))))

@@ -21,7 +21,8 @@ pub record FileValue : Type 0 where
 
 -- where files are known, they are now one more: the last has this name and these octets
 abbrev pub IsAdded : (before after : Option (List FileValue)) → (name octets : List ℕ) → Type 0
-IsAdded before after name octets = IfSome before (λ files. after ≡ Some (files ++ record { name = name; octets = octets } ∷ []))
+IsAdded before after name octets =
+    IfSome before (λ files. after ≡ Some (files ++ record { name = name; octets = octets } ∷ []))
 
 -- whether a file was not made, once a look ended so
 abbrev pub failed_after_look : {A : Type 0} → Bool → Result A LookFault → Bool
@@ -35,7 +36,8 @@ failed_after_look failed (Err Stream) = true
 -- each other octet as `%` and two hexadecimal digits.
 unfoldable pub picture_name : (prefix : List ℕ) → PageValue → List ℕ
 picture_name prefix page =
-    prefix ++ codes "-" ++ percent_encode ESCAPED page.line ++ (codes "-" ++ decimal page.life ++ codes "-" ++ decimal page.call ++ codes "-" ++ decimal page.number ++ codes ".pbm")
+    prefix ++ codes "-" ++ percent_encode ESCAPED page.line ++ (codes "-" ++ decimal page.life
+    ++ codes "-" ++ decimal page.call ++ codes "-" ++ decimal page.number ++ codes ".pbm")
 
 -- a file has the name of a page, and all its octets are a picture of what the page's text means
 pub record IsPictureOf (prefix : List ℕ) (page : PageValue) (file : FileValue) : Type 0 where
@@ -54,7 +56,8 @@ pub record Pictured : Type 0 where
   pub file : Option FileValue
 
 abbrev pub IsPictured : (prefix : List ℕ) → Pictured → Type 0
-IsPictured prefix pictured = MatchOption pictured.file (MeansNone pictured.page) (IsPictureOf prefix pictured.page)
+IsPictured prefix pictured =
+    MatchOption pictured.file (MeansNone pictured.page) (IsPictureOf prefix pictured.page)
 
 abbrev pub is_made : Pictured → Bool
 is_made pictured = is_some pictured.file
@@ -72,7 +75,8 @@ abbrev pub told_of : (prefix : List ℕ) → Pictured → List ℕ
 told_of prefix pictured = told_where prefix pictured.page pictured.file
 
 -- A page is pictured, or it is told that it means none: what was told and made before, and after.
-pub record KeepsPicture (prefix : List ℕ) (page : PageValue) (made : Bool) (old_told told : List ℕ) (before after : Option (List FileValue)) : Type 0 where
+pub record KeepsPicture (prefix : List ℕ) (page : PageValue)
+    (made : Bool) (old_told told : List ℕ) (before after : Option (List FileValue)) : Type 0 where
   pub file : Option FileValue
   pub is : IsPictured prefix (record { page = page; file = file })
   pub made_is : made ≡ is_some file
@@ -80,10 +84,12 @@ pub record KeepsPicture (prefix : List ℕ) (page : PageValue) (made : Bool) (ol
   pub files_are : IfSome before (λ files. after ≡ Some (files ++ file_list file))
 
 -- EACH PAGE IS PICTURED, OR MEANS NONE: these files are made, in the order of the pages, and these lines told, and nothing else.
-pub record KeepsPictures (prefix : List ℕ) (pages : List PageValue) (is_whole : Bool) (old_told told : List ℕ) (before after : Option (List FileValue)) : Type 0 where
+pub record KeepsPictures (prefix : List ℕ) (pages : List PageValue) (is_whole : Bool)
+    (old_told told : List ℕ) (before after : Option (List FileValue)) : Type 0 where
   pub pictured : List Pictured
   pub of_pages : map (λ (p : Pictured). p.page) pictured ≡ pages
   pub each : All (IsPictured prefix) pictured
   pub whole : is_whole ≡ list_all is_made pictured
   pub told_is : told ≡ old_told ++ flat_map (told_of prefix) pictured
-  pub files_are : IfSome before (λ files. after ≡ Some (files ++ flat_map (λ (p : Pictured). file_list p.file) pictured))
+  pub files_are : IfSome before
+      (λ files. after ≡ Some (files ++ flat_map (λ (p : Pictured). file_list p.file) pictured))

@@ -10,7 +10,8 @@ IsVisible octet = (32 ≤ octet) × (octet ≤ 126)
 
 -- a unit of UTF-16, escaped (RFC 8259, section 7)
 abbrev pub unit_shown : ℕ → List ℕ
-unit_shown unit = 92 ∷ 117 ∷ digit_char (unit / 4096 % 16) ∷ digit_char (unit / 256 % 16) ∷ digit_char (unit / 16 % 16) ∷ digit_char (unit % 16) ∷ []
+unit_shown unit = 92 ∷ 117 ∷ digit_char (unit / 4096 % 16)
+    ∷ digit_char (unit / 256 % 16) ∷ digit_char (unit / 16 % 16) ∷ digit_char (unit % 16) ∷ []
 
 -- a character of a text of JSON: as it is where a terminal shows it, and else escaped
 abbrev pub char_shown : ℕ → List ℕ

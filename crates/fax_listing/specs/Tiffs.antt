@@ -34,7 +34,8 @@ shown_list None = []
 shown_list (Some shown) = shown ∷ []
 
 -- WHAT PAGES MEAN, in their order. Those that mean none are told, and nothing else; whether all mean one.
-pub record MeanPages (pages : List PageValue) (shown : List PageShown) (are_all : Bool) (old_told told : List ℕ) : Type 0 where
+pub record MeanPages (pages : List PageValue)
+    (shown : List PageShown) (are_all : Bool) (old_told told : List ℕ) : Type 0 where
   pub each : List Meant
   pub of_pages : map (λ (m : Meant). m.page) each ≡ pages
   pub are : All (λ (m : Meant). IsMeant m.page m.shown) each
@@ -45,16 +46,20 @@ pub record MeanPages (pages : List PageValue) (shown : List PageShown) (are_all 
 -- ---- the file
 
 -- Where there are pages, one file more of this name was made, whose octets mean them as a TIFF of class F; and else none.
-abbrev pub IsTiffAdded : (name : List ℕ) → List PageShown → (before after : Option (List FileValue)) → Type 0
+abbrev pub IsTiffAdded : (name : List ℕ)
+    → List PageShown → (before after : Option (List FileValue)) → Type 0
 IsTiffAdded name [] before after = after ≡ before
-IsTiffAdded name (page ∷ more) before after = (octets : List ℕ) × MeansTiff octets (page ∷ more) × IsAdded before after name octets
+IsTiffAdded name (page ∷ more) before after =
+    (octets : List ℕ) × MeansTiff octets (page ∷ more) × IsAdded before after name octets
 
 -- pages that no TIFF has: their numbers have 16 bits, and its places 32
 abbrev pub AreTooLong : List PageShown → Type 0
-AreTooLong shown = (coded : List CodedPage) × AreCodedPages shown coded × ((2 ^ 16 ≤ length coded) ⊎ (2 ^ 32 ≤ length (tiff_of coded)))
+AreTooLong shown = (coded : List CodedPage)
+    × AreCodedPages shown coded × ((2 ^ 16 ≤ length coded) ⊎ (2 ^ 32 ≤ length (tiff_of coded)))
 
 -- the file is made where the pages fit
-abbrev pub MakesTiff : (name : List ℕ) → List PageShown → (fits : Bool) → (before after : Option (List FileValue)) → Type 0
+abbrev pub MakesTiff : (name : List ℕ)
+    → List PageShown → (fits : Bool) → (before after : Option (List FileValue)) → Type 0
 MakesTiff name shown true before after = IsTiffAdded name shown before after
 MakesTiff name shown false before after = AreTooLong shown × (after ≡ before)
 
@@ -63,7 +68,8 @@ told_fit name true = []
 told_fit name false = too_long_text name
 
 -- ONE TIFF IS MADE of what the pages mean, in their order; pages that mean none are told, and so it is where they do not fit.
-pub record KeepsTiff (name : List ℕ) (pages : List PageValue) (is_whole : Bool) (old_told told : List ℕ) (before after : Option (List FileValue)) : Type 0 where
+pub record KeepsTiff (name : List ℕ) (pages : List PageValue) (is_whole : Bool)
+    (old_told told : List ℕ) (before after : Option (List FileValue)) : Type 0 where
   pub shown : List PageShown
   pub are_all : Bool
   pub fits : Bool
@@ -78,10 +84,12 @@ pub record KeepsTiff (name : List ℕ) (pages : List PageValue) (is_whole : Bool
 -- a page is coded after others, where there is one
 abbrev pub AddsCoded : Option PageShown → (old_coded coded : List CodedPage) → Type 0
 AddsCoded None old_coded coded = coded ≡ old_coded
-AddsCoded (Some shown) old_coded coded = (one : CodedPage) × IsPage shown × IsCodedPage shown one × (coded ≡ old_coded ++ one ∷ [])
+AddsCoded (Some shown) old_coded coded =
+    (one : CodedPage) × IsPage shown × IsCodedPage shown one × (coded ≡ old_coded ++ one ∷ [])
 
 -- the page that a record means is coded after others; or it is told that it means none
-pub record CodesPage (page : PageValue) (is_coded : Bool) (old_coded coded : List CodedPage) (old_told told : List ℕ) : Type 0 where
+pub record CodesPage (page : PageValue)
+    (is_coded : Bool) (old_coded coded : List CodedPage) (old_told told : List ℕ) : Type 0 where
   pub shown : Option PageShown
   pub is : IsMeant page shown
   pub coded_is : is_coded ≡ is_some shown
@@ -89,7 +97,8 @@ pub record CodesPage (page : PageValue) (is_coded : Bool) (old_coded coded : Lis
   pub adds : AddsCoded shown old_coded coded
 
 -- what pages mean is coded, in their order
-pub record CodesPages (pages : List PageValue) (coded : List CodedPage) (are_all : Bool) (old_told told : List ℕ) : Type 0 where
+pub record CodesPages (pages : List PageValue)
+    (coded : List CodedPage) (are_all : Bool) (old_told told : List ℕ) : Type 0 where
   pub shown : List PageShown
   pub mean : MeanPages pages shown are_all old_told told
   pub coded_are : AreCodedPages shown coded

@@ -115,7 +115,8 @@ fn push_if_first<'a>(
     before: &[WaitingPage],
     page: &'a WaitingPage,
 ) -> Result<(), AllocError>
-    ensures { OnOk result (jobs.new.items ≡ jobs.old.items ++ jobs_by torn.now whole pages.now before.now page.now) }
+    ensures { OnOk result (jobs.new.items
+        ≡ jobs.old.items ++ jobs_by torn.now whole pages.now before.now page.now) }
 {
     if is_first(before, page) {
         jobs.push(job_of(page, pages, torn, whole))?;

@@ -83,7 +83,8 @@ fn put_number(writer: &mut Writer, name: &str, number: u64) -> Result<(), AllocE
 
 /// Writes the tag of a call.
 fn put_tag(writer: &mut Writer, tag: Option<&str>) -> Result<(), AllocError>
-    ensures { OnOk result (Adds writer.old writer.new (tag_member (option_map (λ text. text.now) tag.entry))) }
+    ensures { OnOk result (Adds writer.old writer.new (tag_member (option_map
+        (λ text. text.now) tag.entry))) }
 {
     writer.key("tag")?;
     match tag {

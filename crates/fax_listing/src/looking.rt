@@ -50,7 +50,8 @@ pub fn look<F: PictureFiles>(
     files: &mut F,
     options: SpoolOptions<'_>,
 ) -> Result<Seen, LookFault>
-    ensures seen { IfOk result (Looks options.entry one.now other.now kept_one.now kept_other.now (F.made files.old) (F.made files.new)) }
+    ensures seen { IfOk result (Looks options.entry
+        one.now other.now kept_one.now kept_other.now (F.made files.old) (F.made files.new)) }
     ensures failed { F.failed files.new ≡ failed_after_look (F.failed files.old) result }
 {
     let waiting = list_spool(alloc, one, other)?;
@@ -66,7 +67,8 @@ fn tell_harms(
     waiting: &Listing,
     kept: &Listing,
 ) -> Result<String, AllocError>
-    ensures { IfOk result (λ told. string_bytes told ≡ damage_told folder.now waiting.now kept.now) }
+    ensures { IfOk result
+        (λ told. string_bytes told ≡ damage_told folder.now waiting.now kept.now) }
 {
     let mut told = String::new(alloc);
     tell_damage(&mut told, folder, "pages", waiting.one)?;
@@ -85,7 +87,10 @@ fn look_at<F: PictureFiles>(
     options: SpoolOptions<'_>,
     told: String,
 ) -> Result<Seen, LookFault>
-    ensures seen { IfOk result (LooksAt options.entry (chosen options.entry.choice waiting.pages.items) (chosen options.entry.choice (without_cards kept.pages.items)) waiting.torn.items kept.torn.items (string_bytes told) (F.made files.old) (F.made files.new)) }
+    ensures seen { IfOk result
+        (LooksAt options.entry (chosen options.entry.choice waiting.pages.items)
+        (chosen options.entry.choice (without_cards kept.pages.items)) waiting.torn.items
+        kept.torn.items (string_bytes told) (F.made files.old) (F.made files.new)) }
     ensures failed { F.failed files.new ≡ failed_after_look (F.failed files.old) result }
 {
     let mut pages = waiting.pages;
@@ -124,7 +129,8 @@ fn lines_of(
     torn: &[CallName],
     whole: JobState,
 ) -> Result<Vec<u8>, AllocError>
-    ensures { IfOk result (λ text. text.items ≡ flat_map job_line (jobs_of torn.now whole pages.now)) }
+    ensures { IfOk result
+        (λ text. text.items ≡ flat_map job_line (jobs_of torn.now whole pages.now)) }
 {
     let jobs = jobs_of(alloc, pages, torn, whole)?;
     write_jobs(alloc, jobs.as_slice())
@@ -137,7 +143,8 @@ fn tell_if_none(
     pages: &[WaitingPage],
 ) -> Result<bool, AllocError>
     ensures found { IfOk result (λ found. found ≡ is_found options.entry pages.now) }
-    ensures told { OnOk result (string_bytes told.new ≡ string_bytes told.old ++ none_told options.entry pages.now) }
+    ensures told { OnOk result (string_bytes told.new
+        ≡ string_bytes told.old ++ none_told options.entry pages.now) }
 {
     let is_found = options.choice.is_none() || !pages.is_empty();
     if !is_found {
@@ -154,7 +161,8 @@ fn keep_wanted<F: PictureFiles>(
     pages: &[WaitingPage],
     told: &mut String,
 ) -> Result<bool, LookFault>
-    ensures kept { IfOk result (λ is_whole. KeepsWanted wanted.entry pages.now is_whole (string_bytes told.old) (string_bytes told.new) (F.made files.old) (F.made files.new)) }
+    ensures kept { IfOk result (λ is_whole. KeepsWanted wanted.entry pages.now is_whole
+        (string_bytes told.old) (string_bytes told.new) (F.made files.old) (F.made files.new)) }
     ensures failed { F.failed files.new ≡ failed_after_look (F.failed files.old) result }
 {
     match wanted {

@@ -28,7 +28,8 @@ pub fn keep_pictures<F: PictureFiles>(
     pages: &[WaitingPage],
     told: &mut String,
 ) -> Result<bool, LookFault>
-    ensures kept { IfOk result (λ is_whole. KeepsPictures prefix.now pages.now is_whole (string_bytes told.old) (string_bytes told.new) (F.made files.old) (F.made files.new)) }
+    ensures kept { IfOk result (λ is_whole. KeepsPictures prefix.now pages.now is_whole
+        (string_bytes told.old) (string_bytes told.new) (F.made files.old) (F.made files.new)) }
     ensures failed { F.failed files.new ≡ failed_after_look (F.failed files.old) result }
 {
     let mut is_whole = true;
@@ -47,7 +48,8 @@ fn keep_picture<F: PictureFiles>(
     page: &WaitingPage,
     told: &mut String,
 ) -> Result<bool, LookFault>
-    ensures kept { IfOk result (λ is_made. KeepsPicture prefix.now page.now is_made (string_bytes told.old) (string_bytes told.new) (F.made files.old) (F.made files.new)) }
+    ensures kept { IfOk result (λ is_made. KeepsPicture prefix.now page.now is_made
+        (string_bytes told.old) (string_bytes told.new) (F.made files.old) (F.made files.new)) }
     ensures failed { F.failed files.new ≡ failed_after_look (F.failed files.old) result }
 {
     let name = picture_name(alloc, prefix, page)?;
@@ -87,7 +89,9 @@ fn make_picture<F: PictureFiles>(
     name: &str,
     page: &Page<PackedRows>,
 ) -> Result<(), LookFault>
-    ensures made { OnOk result ((octets : List ℕ) × (page_of page.now.format.fine octets ≡ Ok page.now) × IsAdded (F.made files.old) (F.made files.new) name.now octets) }
+    ensures made { OnOk result ((octets : List ℕ)
+        × (page_of page.now.format.fine octets ≡ Ok page.now)
+        × IsAdded (F.made files.old) (F.made files.new) name.now octets) }
     ensures failed { F.failed files.new ≡ failed_after_look (F.failed files.old) result }
 {
     let octets = write_pbm(alloc, page)?;

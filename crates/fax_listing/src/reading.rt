@@ -8,8 +8,10 @@ use std::alloc::{AllocError, Global};
 
 /// Reads all that a source has, whatever its length.
 pub(crate) fn read_whole<I: Source>(alloc: Global, source: &mut I) -> Result<Vec<u8>, LookFault>
-    ensures whole { IfOk result (λ octets. IfSome (I.remaining source.old) (λ all. octets.items ≡ all)) }
-    ensures failed { result ≡ Err LookFault.Stream → (I.failed source.new ≡ true) ⊎ (greatest_count ≤ I.reads source.new) }
+    ensures whole { IfOk result
+        (λ octets. IfSome (I.remaining source.old) (λ all. octets.items ≡ all)) }
+    ensures failed { result ≡ Err LookFault.Stream
+        → (I.failed source.new ≡ true) ⊎ (greatest_count ≤ I.reads source.new) }
     ensures unfailed { result ≢ Err LookFault.Stream → I.failed source.new ≡ I.failed source.old }
 {
     let mut octets = Vec::new(alloc);

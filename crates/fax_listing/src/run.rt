@@ -34,19 +34,27 @@ pub fn run_spool<I: Source, O: Sink, F: PictureFiles>(
     options: SpoolOptions<'_>,
 ) -> Looked
     // Where the files are known, what is written, made and told is what they tell.
-    ensures answers { result.status ≢ Status.Stream → result.status ≢ Status.NoMemory
-        → AreKnown (I.remaining one.old) (I.remaining other.old) (I.remaining kept_one.old) (I.remaining kept_other.old) (λ a b c d. (seen : Seen)
-        × Looks options.entry a b c d (F.made files.old) (F.made files.new) seen × (result.status ≡ seen.status)
-        × (string_bytes result.told ≡ string_bytes seen.told) × Appends (O.contents sink.old) (O.contents sink.new) seen.text.items) }
-    ensures memory { result.status ≡ Status.NoMemory → Appends (O.contents sink.old) (O.contents sink.new) (codes "fault memory\n") }
+    ensures answers { result.status ≢ Status.Stream
+        → result.status ≢ Status.NoMemory → AreKnown (I.remaining one.old) (I.remaining other.old)
+        (I.remaining kept_one.old) (I.remaining kept_other.old) (λ a b c d. (seen : Seen)
+        × Looks options.entry a b c d (F.made files.old) (F.made files.new) seen
+        × (result.status ≡ seen.status) × (string_bytes result.told ≡ string_bytes seen.told)
+        × Appends (O.contents sink.old) (O.contents sink.new) seen.text.items) }
+    ensures memory { result.status ≡ Status.NoMemory
+        → Appends (O.contents sink.old) (O.contents sink.new) (codes "fault memory\n") }
     ensures handed_on { result.status ≢ Status.Stream → O.held_back sink.new ≡ false }
 
     // Nothing but a stream or a file that cannot be made gives status 4, and each of them does.
-    ensures stream { result.status ≡ Status.Stream → (I.failed one.new ≡ true) ⊎ (greatest_count ≤ I.reads one.new)
-        ⊎ (I.failed other.new ≡ true) ⊎ (greatest_count ≤ I.reads other.new) ⊎ (I.failed kept_one.new ≡ true) ⊎ (greatest_count ≤ I.reads kept_one.new)
-        ⊎ (I.failed kept_other.new ≡ true) ⊎ (greatest_count ≤ I.reads kept_other.new) ⊎ (F.failed files.new ≡ true) ⊎ (O.failed sink.new ≡ true) }
-    ensures unfailed { result.status ≢ Status.Stream → (I.failed one.new ≡ I.failed one.old) × (I.failed other.new ≡ I.failed other.old)
-        × (I.failed kept_one.new ≡ I.failed kept_one.old) × (I.failed kept_other.new ≡ I.failed kept_other.old)
+    ensures stream { result.status ≡ Status.Stream
+        → (I.failed one.new ≡ true) ⊎ (greatest_count ≤ I.reads one.new)
+        ⊎ (I.failed other.new ≡ true) ⊎ (greatest_count ≤ I.reads other.new)
+        ⊎ (I.failed kept_one.new ≡ true) ⊎ (greatest_count ≤ I.reads kept_one.new)
+        ⊎ (I.failed kept_other.new ≡ true) ⊎ (greatest_count ≤ I.reads kept_other.new)
+        ⊎ (F.failed files.new ≡ true) ⊎ (O.failed sink.new ≡ true) }
+    ensures unfailed { result.status ≢ Status.Stream
+        → (I.failed one.new ≡ I.failed one.old) × (I.failed other.new ≡ I.failed other.old)
+        × (I.failed kept_one.new ≡ I.failed kept_one.old)
+        × (I.failed kept_other.new ≡ I.failed kept_other.old)
         × (F.failed files.new ≡ F.failed files.old) × (O.failed sink.new ≡ O.failed sink.old) }
 {
     match look_into(alloc, one, other, kept_one, kept_other, files, options) {
@@ -72,14 +80,20 @@ fn look_into<I: Source, F: PictureFiles>(
     files: &mut F,
     options: SpoolOptions<'_>,
 ) -> Result<Seen, LookFault>
-    ensures seen { IfOk result (λ seen. AreKnown (I.remaining one.old) (I.remaining other.old) (I.remaining kept_one.old) (I.remaining kept_other.old) (λ a b c d.
-        Looks options.entry a b c d (F.made files.old) (F.made files.new) seen)) }
-    ensures status { IfOk result (λ seen. (seen.status ≡ Status.Done) ⊎ (seen.status ≡ Status.Fault)) }
-    ensures stream { result ≡ Err LookFault.Stream → (I.failed one.new ≡ true) ⊎ (greatest_count ≤ I.reads one.new)
-        ⊎ (I.failed other.new ≡ true) ⊎ (greatest_count ≤ I.reads other.new) ⊎ (I.failed kept_one.new ≡ true) ⊎ (greatest_count ≤ I.reads kept_one.new)
-        ⊎ (I.failed kept_other.new ≡ true) ⊎ (greatest_count ≤ I.reads kept_other.new) ⊎ (F.failed files.new ≡ true) }
-    ensures unfailed { result ≢ Err LookFault.Stream → (I.failed one.new ≡ I.failed one.old) × (I.failed other.new ≡ I.failed other.old)
-        × (I.failed kept_one.new ≡ I.failed kept_one.old) × (I.failed kept_other.new ≡ I.failed kept_other.old)
+    ensures seen { IfOk result (λ seen. AreKnown (I.remaining one.old)
+        (I.remaining other.old) (I.remaining kept_one.old) (I.remaining kept_other.old)
+        (λ a b c d. Looks options.entry a b c d (F.made files.old) (F.made files.new) seen)) }
+    ensures status { IfOk result
+        (λ seen. (seen.status ≡ Status.Done) ⊎ (seen.status ≡ Status.Fault)) }
+    ensures stream { result ≡ Err LookFault.Stream → (I.failed one.new ≡ true)
+        ⊎ (greatest_count ≤ I.reads one.new) ⊎ (I.failed other.new ≡ true)
+        ⊎ (greatest_count ≤ I.reads other.new) ⊎ (I.failed kept_one.new ≡ true)
+        ⊎ (greatest_count ≤ I.reads kept_one.new) ⊎ (I.failed kept_other.new ≡ true)
+        ⊎ (greatest_count ≤ I.reads kept_other.new) ⊎ (F.failed files.new ≡ true) }
+    ensures unfailed { result ≢ Err LookFault.Stream
+        → (I.failed one.new ≡ I.failed one.old) × (I.failed other.new ≡ I.failed other.old)
+        × (I.failed kept_one.new ≡ I.failed kept_one.old)
+        × (I.failed kept_other.new ≡ I.failed kept_other.old)
         × (F.failed files.new ≡ F.failed files.old) }
 {
     let octets = read_whole(alloc, one)?;
@@ -99,11 +113,13 @@ fn look_into<I: Source, F: PictureFiles>(
 
 /// Writes the lines of a look.
 fn print<O: Sink>(sink: &mut O, seen: Seen) -> Looked
-    ensures text { result.status ≢ Status.Stream → Appends (O.contents sink.old) (O.contents sink.new) seen.text.items }
+    ensures text { result.status ≢ Status.Stream
+        → Appends (O.contents sink.old) (O.contents sink.new) seen.text.items }
     ensures status { result.status ≢ Status.Stream → result.status ≡ seen.status }
     ensures told { string_bytes result.told ≡ string_bytes seen.told }
     ensures handed_on { result.status ≢ Status.Stream → O.held_back sink.new ≡ false }
-    ensures failed { result.status ≡ Status.Stream → seen.status ≢ Status.Stream → O.failed sink.new ≡ true }
+    ensures failed { result.status ≡ Status.Stream
+        → seen.status ≢ Status.Stream → O.failed sink.new ≡ true }
     ensures unfailed { result.status ≢ Status.Stream → O.failed sink.new ≡ O.failed sink.old }
 {
     let Seen { text, told, status } = seen;
@@ -118,7 +134,8 @@ fn print<O: Sink>(sink: &mut O, seen: Seen) -> Looked
 
 /// Writes that memory was wanted and refused.
 fn print_no_memory<O: Sink>(sink: &mut O) -> Status
-    ensures text { result ≡ Status.NoMemory → Appends (O.contents sink.old) (O.contents sink.new) (codes "fault memory\n") }
+    ensures text { result ≡ Status.NoMemory
+        → Appends (O.contents sink.old) (O.contents sink.new) (codes "fault memory\n") }
     ensures cases { (result ≡ Status.NoMemory) ⊎ (result ≡ Status.Stream) }
     ensures handed_on { result ≢ Status.Stream → O.held_back sink.new ≡ false }
     ensures failed { result ≡ Status.Stream → O.failed sink.new ≡ true }

@@ -12,7 +12,8 @@ pub fn tell_damage(
     file: &str,
     harm: Harm,
 ) -> Result<(), AllocError>
-    ensures { OnOk result (string_bytes told.new ≡ string_bytes told.old ++ damage_text folder.now file.now harm) }
+    ensures { OnOk result (string_bytes told.new
+        ≡ string_bytes told.old ++ damage_text folder.now file.now harm) }
 {
     let Harm {
         damaged,
@@ -29,7 +30,8 @@ pub fn tell_damage(
 
 /// Tells that no page of the chosen job waits in a folder, in one line.
 pub fn tell_no_job(told: &mut String, folder: &str) -> Result<(), AllocError>
-    ensures { OnOk result (string_bytes told.new ≡ string_bytes told.old ++ no_job_text folder.now) }
+    ensures { OnOk result (string_bytes told.new
+        ≡ string_bytes told.old ++ no_job_text folder.now) }
 {
     write!(told, "faxgate: {folder}: no such job\n")
 }
@@ -43,7 +45,8 @@ pub(crate) fn tell_no_page(told: &mut String, name: &str) -> Result<(), AllocErr
 
 /// Tells that the TIFF of this name was not made, since its pages are too long for one, in one line.
 pub(crate) fn tell_too_long(told: &mut String, name: &str) -> Result<(), AllocError>
-    ensures { OnOk result (string_bytes told.new ≡ string_bytes told.old ++ too_long_text name.now) }
+    ensures { OnOk result (string_bytes told.new
+        ≡ string_bytes told.old ++ too_long_text name.now) }
 {
     write!(told, "faxgate: {name}: the pages are too long for a TIFF\n")
 }

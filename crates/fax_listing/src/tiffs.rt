@@ -25,7 +25,8 @@ pub fn keep_tiff<F: PictureFiles>(
     pages: &[WaitingPage],
     told: &mut String,
 ) -> Result<bool, LookFault>
-    ensures kept { IfOk result (λ is_whole. KeepsTiff name.now pages.now is_whole (string_bytes told.old) (string_bytes told.new) (F.made files.old) (F.made files.new)) }
+    ensures kept { IfOk result (λ is_whole. KeepsTiff name.now pages.now is_whole
+        (string_bytes told.old) (string_bytes told.new) (F.made files.old) (F.made files.new)) }
     ensures failed { F.failed files.new ≡ failed_after_look (F.failed files.old) result }
 {
     let (coded, are_all) = code_pages(alloc, pages, told)?;
@@ -39,7 +40,8 @@ fn code_pages(
     pages: &[WaitingPage],
     told: &mut String,
 ) -> Result<(Vec<CodedPage>, bool), NoMemory>
-    ensures { IfOk result (λ r. CodesPages pages.now r.0.items r.1 (string_bytes told.old) (string_bytes told.new)) }
+    ensures { IfOk result
+        (λ r. CodesPages pages.now r.0.items r.1 (string_bytes told.old) (string_bytes told.new)) }
 {
     let mut coded = Vec::new(alloc);
     let mut are_all = true;
@@ -57,7 +59,8 @@ fn code_page(
     coded: &mut Vec<CodedPage>,
     told: &mut String,
 ) -> Result<bool, NoMemory>
-    ensures { IfOk result (λ is_coded. CodesPage page.now is_coded coded.old.items coded.new.items (string_bytes told.old) (string_bytes told.new)) }
+    ensures { IfOk result (λ is_coded. CodesPage page.now
+        is_coded coded.old.items coded.new.items (string_bytes told.old) (string_bytes told.new)) }
 {
     match page_meant(alloc, page)? {
         Some(shown) => {
@@ -81,8 +84,10 @@ fn make_tiff<F: PictureFiles>(
     coded: &[CodedPage],
     told: &mut String,
 ) -> Result<bool, LookFault>
-    ensures made { (shown : List PageValue) → AreCodedPages shown coded.now → IfOk result (λ fits. MakesTiff name.now shown fits (F.made files.old) (F.made files.new)) }
-    ensures told { IfOk result (λ fits. string_bytes told.new ≡ string_bytes told.old ++ told_fit name.now fits) }
+    ensures made { (shown : List PageValue) → AreCodedPages shown coded.now → IfOk result
+        (λ fits. MakesTiff name.now shown fits (F.made files.old) (F.made files.new)) }
+    ensures told { IfOk result
+        (λ fits. string_bytes told.new ≡ string_bytes told.old ++ told_fit name.now fits) }
     ensures failed { F.failed files.new ≡ failed_after_look (F.failed files.old) result }
 {
     tiff_is_read_back();

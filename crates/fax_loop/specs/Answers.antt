@@ -21,15 +21,24 @@ use Rattle.fax_loop.specs.declared.ending.Ending.TheVariants as endings
 
 -- How the page is given: in rows of 1,728 elements, of the standard resolution, in one-dimensional lines.
 abbrev pub page_options : PageOptions
-page_options = record { format = record { width = width.W1728; fine = false }; coding = coding.Mh; least_bits = 0; output = output.Runs }
+page_options = record {
+  format = record {
+    width = width.W1728;
+    fine = false;
+  };
+  coding = coding.Mh;
+  least_bits = 0;
+  output = output.Runs;
+}
 
 -- the input is hex text of octets that mean this page
 abbrev pub IsInput : PageValue → List ℕ → Type 0
-IsInput page input = (page.format ≡ page_options.format)
-    × (octets : List ℕ) × IsHexOf input octets × MeansRows (row_width page_options) page_options.coding octets page.rows
+IsInput page input = (page.format ≡ page_options.format) × (octets : List ℕ)
+    × IsHexOf input octets × MeansRows (row_width page_options) page_options.coding octets page.rows
 
 -- the page was the one of the input, and it was sent so
-abbrev pub Sends : (Sent : PageValue → Option Report → List PageValue → Type 0) → List ℕ → Option Report → List PageValue → Type 0
+abbrev pub Sends : (Sent : PageValue → Option Report → List PageValue → Type 0)
+    → List ℕ → Option Report → List PageValue → Type 0
 Sends Sent input report pages = (page : PageValue) × IsInput page input × Sent page report pages
 
 -- the rows of pages, one after the other
@@ -49,8 +58,10 @@ IsOf report pages (Reports told rows) = (report ≡ Some told) × (rows ≡ rows
 IsOf report pages ReportsNone = report ≡ None
 IsOf report pages (Refuses fault) = fault ≡ faults.NoMemory
 
-abbrev pub Allows : (Sent : PageValue → Option Report → List PageValue → Type 0) → List ℕ → Outcome → Type 0
-Allows Sent input (Reports report rows) = (pages : List PageValue) × Sends Sent input (Some report) pages × (rows ≡ rows_of pages)
+abbrev pub Allows : (Sent : PageValue → Option Report → List PageValue → Type 0)
+    → List ℕ → Outcome → Type 0
+Allows Sent input (Reports report rows) =
+    (pages : List PageValue) × Sends Sent input (Some report) pages × (rows ≡ rows_of pages)
 Allows Sent input ReportsNone = (pages : List PageValue) × Sends Sent input None pages
 Allows Sent input (Refuses fault) = RefusesPage page_options input fault
 
@@ -88,25 +99,29 @@ ending_of (Refuses of) = fault_ending of
 
 -- the line of the job, and of each row that is told; or that of the fault
 abbrev pub IsTextOf : Outcome → List ℕ → Type 0
-IsTextOf (Reports report rows) text = (lines : List (List ℕ)) × TellRows lines rows × (text ≡ text_of_lines (report_text report ∷ lines))
+IsTextOf (Reports report rows) text = (lines : List (List ℕ))
+    × TellRows lines rows × (text ≡ text_of_lines (report_text report ∷ lines))
 IsTextOf ReportsNone text = text ≡ []
 IsTextOf (Refuses fault) text = text ≡ fault_line fault
 
 -- how a run may end by which pages are sent so, and the text that it then answers to an input
-pub record EndsSo (Sent : PageValue → Option Report → List PageValue → Type 0) (input : List ℕ) (ending : Ending) (text : List ℕ) : Type 0 where
+pub record EndsSo (Sent : PageValue → Option Report → List PageValue → Type 0)
+    (input : List ℕ) (ending : Ending) (text : List ℕ) : Type 0 where
   pub outcome : Outcome
   pub allowed : Allows Sent input outcome
   pub ending_is : ending ≡ ending_of outcome
   pub text_is : IsTextOf outcome text
 
 -- the exit status and the text that it may answer
-pub record Answers (Sent : PageValue → Option Report → List PageValue → Type 0) (input : List ℕ) (status : ℕ) (text : List ℕ) : Type 0 where
+pub record Answers (Sent : PageValue → Option Report → List PageValue → Type 0)
+    (input : List ℕ) (status : ℕ) (text : List ℕ) : Type 0 where
   pub ending : Ending
   pub ends_so : EndsSo Sent input ending text
   pub status_is : status ≡ ending_status ending
 
 -- how what a call came to is told
-pub record EndsOf (report : Option Report) (pages : List PageValue) (ending : Ending) (text : List ℕ) : Type 0 where
+pub record EndsOf (report : Option Report)
+    (pages : List PageValue) (ending : Ending) (text : List ℕ) : Type 0 where
   pub outcome : Outcome
   pub is_of : IsOf report pages outcome
   pub ending_is : ending ≡ ending_of outcome

@@ -31,9 +31,12 @@ given_by (Some l) = l.given
 
 -- It is so from the machine that calls to the gateway, and from the gateway to the machine that is called. What goes back may be any
 -- datagrams.
-pub record AreHonest (setup : Setup) (writes : Writing) (job : JobValue) (rounds : List Round) : Type 0 where
-  pub to_gateway : AreCarried (caller_after setup writes job rounds).given (arrived_on (calling_leg setup (trace_after rounds)))
-  pub to_answerer : AreCarried (given_by (both_legs setup writes (trace_after rounds)).leg) (arrived_on (answerer_after setup rounds))
+pub record AreHonest (setup : Setup) (writes : Writing) (job : JobValue) (rounds : List Round) :
+    Type 0 where
+  pub to_gateway : AreCarried (caller_after setup writes job rounds).given
+      (arrived_on (calling_leg setup (trace_after rounds)))
+  pub to_answerer : AreCarried (given_by (both_legs setup writes (trace_after rounds)).leg)
+      (arrived_on (answerer_after setup rounds))
 
 -- pages that are this page, each of them
 abbrev pub AreThePage : PageValue → List PageValue → Type 0
@@ -42,9 +45,9 @@ AreThePage page pages = All (λ p. p ≡ page) pages
 -- Then each page that the machine that is called confirms is the page that the machine that calls was given. (It may be more than
 -- one: where an MCF is lost, the page is sent again.)
 abbrev pub ConfirmsThePage : Type 0
-ConfirmsThePage =
-    (setup : Setup) (writes : Writing) (page : PageValue) (rounds : List Round) → setup.restored ≡ [] → IsWriting writes → IsPage page
-    → AreRounds setup writes rounds → IsTrace setup writes (trace_after rounds) → AreHonest setup writes (job_of 0 page) rounds
+ConfirmsThePage = (setup : Setup) (writes : Writing) (page : PageValue) (rounds : List Round)
+    → setup.restored ≡ [] → IsWriting writes → IsPage page → AreRounds setup writes rounds
+    → IsTrace setup writes (trace_after rounds) → AreHonest setup writes (job_of 0 page) rounds
     → AreThePage page (pages_on (answerer_after setup rounds))
 
 -- the datagrams that came to the gateway in the last call of its called leg
@@ -56,8 +59,10 @@ arrived_by (Some l) = l.arrived
 -- confirmed a page at least.
 abbrev pub ConfirmsIfDelivered : Type 0
 ConfirmsIfDelivered =
-    (setup : Setup) (writes : Writing) (page : PageValue) (rounds : List Round) (report : Report) → setup.restored ≡ [] → IsWriting writes → IsPage page
-    → AreRounds setup writes rounds → IsTrace setup writes (trace_after rounds) → AreHonest setup writes (job_of 0 page) rounds
-    → AreCarried (given_on (answerer_after setup rounds)) (arrived_by (both_legs setup writes (trace_after rounds)).leg)
-    → reported setup writes rounds ≡ Some report → report.outcome ≡ outcomes.Delivered
-    → pages_on (answerer_after setup rounds) ≢ []
+    (setup : Setup) (writes : Writing) (page : PageValue) (rounds : List Round) (report : Report)
+    → setup.restored ≡ [] → IsWriting writes → IsPage page → AreRounds setup writes rounds
+    → IsTrace setup writes (trace_after rounds) → AreHonest setup writes (job_of 0 page) rounds
+    → AreCarried (given_on (answerer_after setup rounds))
+    (arrived_by (both_legs setup writes (trace_after rounds)).leg)
+    → reported setup writes rounds ≡ Some report
+    → report.outcome ≡ outcomes.Delivered → pages_on (answerer_after setup rounds) ≢ []

@@ -77,12 +77,15 @@ IsDelivered (Some report) = report.outcome ≡ outcomes.Delivered
 
 -- Over lines that are linked so each page that was confirmed, and so each that is printed, is the page; and where the report is that
 -- the job was delivered, there is one at least, if the way back is linked too.
-pub record IsFaithful (before after : Lines) (page : PageValue) (report : Option Report) (pages : List PageValue) : Type 0 where
+pub record IsFaithful (before after : Lines)
+    (page : PageValue) (report : Option Report) (pages : List PageValue) : Type 0 where
   pub the_page : AreLinked before after → AreThePage page pages
-  pub delivered : AreLinked before after → AreLinkedBack before after → IsDelivered report → pages ≢ []
+  pub delivered : AreLinked before after
+      → AreLinkedBack before after → IsDelivered report → pages ≢ []
 
 -- So it is of each exchange of a page, which began with nothing restored.
 abbrev pub ConfirmsThePageOver : Type 0
-ConfirmsThePageOver =
-    (setup : Setup) (writes : Writing) (page : PageValue) (before after : Lines) (report : Option Report) (pages : List PageValue) → setup.restored ≡ [] → IsWriting writes → IsPage page
-    → IsPlayed setup writes (job_of 0 page) before after report pages → IsFaithful before after page report pages
+ConfirmsThePageOver = (setup : Setup) (writes : Writing) (page : PageValue) (before after : Lines)
+    (report : Option Report) (pages : List PageValue) → setup.restored ≡ [] → IsWriting writes
+    → IsPage page → IsPlayed setup writes (job_of 0 page) before after report pages
+    → IsFaithful before after page report pages

@@ -26,11 +26,13 @@ begins setup writes job = begun_leg job (core_left setup writes None) 0
 -- datagrams come
 abbrev pub calling_with : Writing → ℕ → List (List ℕ) → CalledLeg → CalledLeg
 calling_with writes now [] l = l
-calling_with writes now (octets ∷ earlier) l = hears writes octets now (calling_with writes now earlier l)
+calling_with writes now (octets ∷ earlier) l =
+    hears writes octets now (calling_with writes now earlier l)
 
 -- a turn: datagrams come, and then time goes on, once
 abbrev pub calling_turned : Writing → ℕ → List (List ℕ) → CalledLeg → CalledLeg
-calling_turned writes now came l = with_tick (calls writes (calling_with writes now came l) now) now (calling_with writes now came l)
+calling_turned writes now came l = with_tick
+    (calls writes (calling_with writes now came l) now) now (calling_with writes now came l)
 
 -- ---- THE MACHINE THAT IS CALLED answers as a gateway does on its calling leg. A datagram that came to it, and what the image was
 -- read as that it asks about
@@ -49,12 +51,15 @@ rung_once setup now (Some l) = l
 -- datagrams come
 abbrev pub called_with : Setup → ℕ → List ReadDatagram → Option CallingLeg → Option CallingLeg
 called_with setup now [] leg = leg
-called_with setup now (c ∷ earlier) leg = heard_on setup (Some (rung_once setup now (called_with setup now earlier leg))) now c.octets c.read
+called_with setup now (c ∷ earlier) leg = heard_on
+    setup (Some (rung_once setup now (called_with setup now earlier leg))) now c.octets c.read
 
 -- each of the readings is right
 abbrev pub AreCame : Setup → ℕ → List ReadDatagram → Option CallingLeg → Type 0
 AreCame setup now [] leg = Unit {0}
-AreCame setup now (c ∷ earlier) leg = IsRead (question (Some (rung_once setup now (called_with setup now earlier leg))) now c.octets) c.read × AreCame setup now earlier leg
+AreCame setup now (c ∷ earlier) leg =
+    IsRead (question (Some (rung_once setup now (called_with setup now earlier leg))) now c.octets)
+    c.read × AreCame setup now earlier leg
 
 -- a turn: datagrams come, and then time goes on, once
 abbrev pub called_turned : Setup → ℕ → List ReadDatagram → Option CallingLeg → Option CallingLeg

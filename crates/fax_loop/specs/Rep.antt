@@ -46,18 +46,21 @@ abbrev pub caller_of : CallingMachine → CalledEndpoint
 caller_of machine = record { caller = machine.caller; leg = leg_of machine.link }
 
 -- at most so many datagrams came over its end, and led on
-pub record CallerHears (setup : Setup) (writes : Writing) (l : CalledLeg) (now most : ℕ) (before after : EndTraffic) (endpoint : CalledEndpoint) : Type 0 where
+pub record CallerHears (setup : Setup) (writes : Writing) (l : CalledLeg)
+    (now most : ℕ) (before after : EndTraffic) (endpoint : CalledEndpoint) : Type 0 where
   pub came : List (List ℕ)
   pub few : length came ≤ most
   pub received : Grows came before.received after.received
   pub called : IsCalled setup writes (Some (calling_with writes now came l)) endpoint
 
 -- a turn
-pub record CallerTurns (setup : Setup) (writes : Writing) (l : CalledLeg) (now : ℕ) (before after : EndTraffic) (endpoint : CalledEndpoint) : Type 0 where
+pub record CallerTurns (setup : Setup) (writes : Writing)
+    (l : CalledLeg) (now : ℕ) (before after : EndTraffic) (endpoint : CalledEndpoint) : Type 0 where
   pub came : List (List ℕ)
   pub few : length came ≤ most_datagrams
   pub received : Grows came before.received after.received
-  pub sent : Grows (handed (called_legs.told_by setup (calling_with writes now came l).given (calls writes (calling_with writes now came l) now).given)) before.sent after.sent
+  pub sent : Grows (handed (called_legs.told_by setup (calling_with writes now came l).given
+      (calls writes (calling_with writes now came l) now).given)) before.sent after.sent
   pub called : IsCalled setup writes (Some (calling_turned writes now came l)) endpoint
 
 -- this is so of each setup, writing and call that led to it
@@ -77,7 +80,8 @@ abbrev pub answerer_of : {S : Type 0} → AnsweringMachine S → CallingValue
 answerer_of machine = record { number = 0; kept = machine.answerer; leg = leg_of machine.link }
 
 -- its call led to it, and it keeps the pages that it confirmed
-pub record IsAnswering {S : Type 0} (setup : Setup) (leg : Option CallingLeg) (machine : AnsweringMachine S) : Type 0 where
+pub record IsAnswering {S : Type 0} (setup : Setup)
+    (leg : Option CallingLeg) (machine : AnsweringMachine S) : Type 0 where
   pub calling : IsCalling setup leg (answerer_of machine)
   pub rung : machine.has_rung ≡ is_some leg
   pub pages_are : reverse machine.confirmed.items ≡ pages_on leg
@@ -95,13 +99,15 @@ EachCallHeard machine IsSo =
     (setup : Setup) (l : CallingLeg) → IsAnswering setup (Some l) machine → IsSo setup l
 
 -- a datagram came
-pub record AnswererListens {S : Type 0} (setup : Setup) (l : CallingLeg) (now : ℕ) (octets : List ℕ) (machine : AnsweringMachine S) : Type 0 where
+pub record AnswererListens {S : Type 0} (setup : Setup)
+    (l : CallingLeg) (now : ℕ) (octets : List ℕ) (machine : AnsweringMachine S) : Type 0 where
   pub read : Reading
   pub right : IsRead (question (Some l) now octets) read
   pub answering : IsAnswering setup (heard_on setup (Some l) now octets read) machine
 
 -- at most so many datagrams came over its end, and led on
-pub record AnswererHears {S : Type 0} (setup : Setup) (leg : Option CallingLeg) (now most : ℕ) (before after : EndTraffic) (machine : AnsweringMachine S) : Type 0 where
+pub record AnswererHears {S : Type 0} (setup : Setup) (leg : Option CallingLeg)
+    (now most : ℕ) (before after : EndTraffic) (machine : AnsweringMachine S) : Type 0 where
   pub came : List ReadDatagram
   pub few : length came ≤ most
   pub read : AreCame setup now came leg
@@ -109,12 +115,14 @@ pub record AnswererHears {S : Type 0} (setup : Setup) (leg : Option CallingLeg) 
   pub answering : IsAnswering setup (called_with setup now came leg) machine
 
 -- a turn
-pub record AnswererTurns {S : Type 0} (setup : Setup) (leg : Option CallingLeg) (now : ℕ) (before after : EndTraffic) (machine : AnsweringMachine S) : Type 0 where
+pub record AnswererTurns {S : Type 0} (setup : Setup) (leg : Option CallingLeg)
+    (now : ℕ) (before after : EndTraffic) (machine : AnsweringMachine S) : Type 0 where
   pub came : List ReadDatagram
   pub few : length came ≤ most_datagrams
   pub read : AreCame setup now came leg
   pub received : Grows (octets_of came) before.received after.received
-  pub sent : Grows (handed (told_calling setup (called_with setup now came leg) now)) before.sent after.sent
+  pub sent : Grows (handed (told_calling setup (called_with setup now came leg) now))
+      before.sent after.sent
   pub answering : IsAnswering setup (called_turned setup now came leg) machine
 
 -- the page that a tick confirmed, where it did
@@ -123,11 +131,13 @@ pages_in None = []
 pages_in (Some confirmed) = confirmed.page ∷ []
 
 -- ---- an exchange: these rounds led to it, since the lines were so
-pub record HasPlayed (setup : Setup) (writes : Writing) (job : JobValue) (rounds : List Round) (before after : Lines) (parties : Parties) : Type 0 where
+pub record HasPlayed (setup : Setup) (writes : Writing)
+    (job : JobValue) (rounds : List Round) (before after : Lines) (parties : Parties) : Type 0 where
   pub are_rounds : AreRounds setup writes rounds
   pub gateway : IsReachedBy setup writes (trace_after rounds) parties.gateway
   pub driver : HasMade (log_after rounds) parties.driver
-  pub caller : IsCalled setup writes (Some (caller_after setup writes job rounds)) (caller_of parties.caller)
+  pub caller :
+      IsCalled setup writes (Some (caller_after setup writes job rounds)) (caller_of parties.caller)
   pub answerer : IsAnswering setup (answerer_after setup rounds) parties.answerer
   pub carried : CarriesRounds setup writes job rounds before after
 
@@ -143,27 +153,30 @@ EachBeginning job now parties IsSo =
 abbrev pub EachGoing : JobValue → (moment : ℕ) → (now : Lines) → Parties
     → (Setup → Writing → List Round → Lines → Type 0) → Type 0
 EachGoing job moment now parties IsSo =
-    (setup : Setup) (writes : Writing) (rounds : List Round) (before : Lines) → IsWriting writes
-    → moment ≡ moment_after rounds → length rounds < most_rounds → reported setup writes rounds ≡ None
+    (setup : Setup) (writes : Writing) (rounds : List Round) (before : Lines)
+    → IsWriting writes → moment ≡ moment_after rounds
+    → length rounds < most_rounds → reported setup writes rounds ≡ None
     → failed_in_a_row (receipts (log_after rounds)) < most_failed
     → HasPlayed setup writes job rounds before now parties → IsSo setup writes rounds before
 
 -- one more was played, and this says whether the gateway's last 100 receives did not all fail
 abbrev pub PlaysRound : Setup → Writing → JobValue → List Round → (goes_on : Bool)
     → (before after : Lines) → Parties → Type 0
-PlaysRound setup writes job rounds goes_on before after parties =
-    (round : Round) × (IsTrue goes_on ↔ (failed_in_a_row (receipts (log_after (round ∷ rounds))) < most_failed))
+PlaysRound setup writes job rounds goes_on before after parties = (round : Round)
+    × (IsTrue goes_on ↔ (failed_in_a_row (receipts (log_after (round ∷ rounds))) < most_failed))
     × HasPlayed setup writes job (round ∷ rounds) before after parties
 
 -- so many rounds, after which this says whether the gateway's last 100 receives did not all fail
-pub record HasGone (setup : Setup) (writes : Writing) (job : JobValue) (count : ℕ) (goes_on : Bool) (before after : Lines) (parties : Parties) : Type 0 where
+pub record HasGone (setup : Setup) (writes : Writing) (job : JobValue)
+    (count : ℕ) (goes_on : Bool) (before after : Lines) (parties : Parties) : Type 0 where
   pub rounds : List Round
   pub many : length rounds ≡ count
   pub receives : IsTrue goes_on ↔ (failed_in_a_row (receipts (log_after rounds)) < most_failed)
   pub played : HasPlayed setup writes job rounds before after parties
 
 -- and no more are played
-pub record HasEnded (setup : Setup) (writes : Writing) (job : JobValue) (before after : Lines) (parties : Parties) : Type 0 where
+pub record HasEnded (setup : Setup)
+    (writes : Writing) (job : JobValue) (before after : Lines) (parties : Parties) : Type 0 where
   pub rounds : List Round
   pub over : IsOver setup writes rounds
   pub played : HasPlayed setup writes job rounds before after parties
@@ -177,7 +190,8 @@ EachEnd parties IsSo =
 
 -- ---- this text is that of an answer
 abbrev pub IsAnswerText : Answer → List ℕ → Type 0
-IsAnswerText (answer.Reported told) text = (lines : List (List ℕ)) × TellRows lines (rows_of told.confirmed.items)
+IsAnswerText (answer.Reported told) text =
+    (lines : List (List ℕ)) × TellRows lines (rows_of told.confirmed.items)
     × (text ≡ (string_bytes told.line ++ 10 ∷ []) ++ text_of_lines lines)
 IsAnswerText answer.Unreported text = text ≡ []
 IsAnswerText (answer.Fault line) text = text ≡ line.items

@@ -14,12 +14,14 @@ abbrev pub other_socket : {S : Type 0} → Leg → UdpWire S → S
 other_socket leg wire = at_leg leg wire.called wire.calling
 
 -- By a receive on a leg nothing is sent there, and the other leg's socket is left as it was.
-pub record Receives {S : Type 0} (told : S → SocketTraffic) (leg : Leg) (old new : UdpWire S) : Type 0 where
+pub record Receives {S : Type 0} (told : S → SocketTraffic) (leg : Leg) (old new : UdpWire S) :
+    Type 0 where
   pub sent : Grows [] (told (socket_of leg old)).sent (told (socket_of leg new)).sent
   pub beside : other_socket leg new ≡ other_socket leg old
 
 -- By a send on a leg these octets are handed to its socket, nothing is received there, and the other leg's is left as it was.
-pub record Hands {S : Type 0} (told : S → SocketTraffic) (leg : Leg) (octets : List ℕ) (old new : UdpWire S) : Type 0 where
+pub record Hands {S : Type 0} (told : S → SocketTraffic)
+    (leg : Leg) (octets : List ℕ) (old new : UdpWire S) : Type 0 where
   pub received : Grows [] (told (socket_of leg old)).received (told (socket_of leg new)).received
   pub sent : Grows (octets ∷ []) (told (socket_of leg old)).sent (told (socket_of leg new)).sent
   pub beside : other_socket leg new ≡ other_socket leg old

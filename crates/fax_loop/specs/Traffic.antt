@@ -15,7 +15,8 @@ pub record SocketTraffic : Type 0 where
 -- what a receive into this buffer brought it
 abbrev pub brought_by : {E : Type 0} → List ℕ → Result (Option ℕ) E → List Brought
 brought_by buffer (Ok None) = []
-brought_by buffer (Ok (Some count)) = record { room = length buffer; octets = take count buffer } ∷ []
+brought_by buffer (Ok (Some count)) =
+    record { room = length buffer; octets = take count buffer } ∷ []
 brought_by buffer (Err fault) = []
 
 -- what is told of it as of an end
@@ -23,4 +24,5 @@ abbrev pub octets_brought : List Brought → List (List ℕ)
 octets_brought came = map (λ b. b.octets) came
 
 abbrev pub end_traffic : SocketTraffic → EndTraffic
-end_traffic socket = record { received = option_map octets_brought socket.received; sent = socket.sent }
+end_traffic socket =
+    record { received = option_map octets_brought socket.received; sent = socket.sent }

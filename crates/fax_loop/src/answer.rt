@@ -57,7 +57,8 @@ pub(crate) enum Answer {
 impl Answer {
     /// Writes the text, and hands it on.
     pub fn write<O: Sink>(&self, alloc: Global, sink: &mut O) -> Result<(), WriteFault>
-        ensures text { OnOk result ((text : List ℕ) × IsAnswerText self.now text × Appends (O.contents sink.old) (O.contents sink.new) text) }
+        ensures text { OnOk result ((text : List ℕ) × IsAnswerText self.now text
+            × Appends (O.contents sink.old) (O.contents sink.new) text) }
         ensures failed { O.failed sink.new ≡ failed_after_write (O.failed sink.old) result }
         ensures handed_on { OnOk result (O.held_back sink.new ≡ false) }
     {
@@ -96,7 +97,9 @@ pub(crate) fn answer_to<L: OpensLines>(
     settings: Settings,
 ) -> io::Result<Answer>
     requires { AreAllowed settings }
-    ensures { IfOk result (λ answer. (text : List ℕ) → IsAnswerText answer text → EndsSo (IsSent (told_lines L.End.told L.Wire.known) (L.opened opener.now) settings) input.items (ending_of_answer answer) text) }
+    ensures { IfOk result (λ answer. (text : List ℕ)
+        → IsAnswerText answer text → EndsSo (IsSent (told_lines L.End.told L.Wire.known)
+        (L.opened opener.now) settings) input.items (ending_of_answer answer) text) }
 {
     match page_of_hex(alloc, input, GIVEN) {
         Ok(page) => answer_to_page(opener, alloc, page, settings),
@@ -116,7 +119,9 @@ fn answer_to_page<L: OpensLines>(
     settings: Settings,
 ) -> io::Result<Answer>
     requires { AreAllowed settings }
-    ensures { IfOk result (λ answer. (input text : List ℕ) → IsInput page input → IsAnswerText answer text → EndsSo (IsSent (told_lines L.End.told L.Wire.known) (L.opened opener.now) settings) input (ending_of_answer answer) text) }
+    ensures { IfOk result (λ answer. (input text : List ℕ) → IsInput page input
+        → IsAnswerText answer text → EndsSo (IsSent (told_lines L.End.told L.Wire.known)
+        (L.opened opener.now) settings) input (ending_of_answer answer) text) }
 {
     match send_page(opener, alloc, page, settings) {
         Ok(ended) => Ok(answer_of(alloc, ended)),
@@ -127,7 +132,8 @@ fn answer_to_page<L: OpensLines>(
 
 /// The answer where a call ended so.
 fn answer_of(alloc: Global, ended: CallEnd) -> Answer
-    ensures { (text : List ℕ) → IsAnswerText result text → EndsOf ended.report ended.confirmed.items (ending_of_answer result) text }
+    ensures { (text : List ℕ) → IsAnswerText result text
+        → EndsOf ended.report ended.confirmed.items (ending_of_answer result) text }
 {
     let Some(report) = ended.report else {
         return Answer::Unreported;

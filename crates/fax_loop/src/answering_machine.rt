@@ -30,7 +30,8 @@ impl<S: RowStore> AnsweringMachine<S> {
     /// A machine that no datagram has reached, with these settings.
     pub fn new(alloc: Global, settings: Settings) -> Result<Self, NoMemory>
         requires { AreAllowed settings }
-        ensures { IfOk result (λ machine. (setup : Setup) → HasSettings setup settings → IsAnswering setup None machine) }
+        ensures { IfOk result (λ machine. (setup : Setup)
+            → HasSettings setup settings → IsAnswering setup None machine) }
     {
         let link = Link::new(alloc, settings.redundancy)?;
         Ok(AnsweringMachine {

@@ -37,7 +37,8 @@ impl CallingMachine {
     ) -> Result<Self, NoMemory>
         requires { AreAllowed settings }
         ensures job { IfOk result (λ machine. IsJobOfCall machine.caller.procedure job.now) }
-        ensures begun { IfOk result (λ machine. (setup : Setup) (writes : Writing) → HasSettings setup settings
+        ensures begun { IfOk result
+            (λ machine. (setup : Setup) (writes : Writing) → HasSettings setup settings
             → IsCalled setup writes (Some (begins setup writes job.now)) (caller_of machine)) }
     {
         let link = Link::new(alloc, settings.redundancy)?;
@@ -70,7 +71,8 @@ impl CallingMachine {
 
     /// It hears what has come.
     fn hear<E: End>(&mut self, end: &mut E, now: u64) -> Result<(), NoMemory>
-        ensures job { (job : JobValue) → IsJobOfCall self.old.caller.procedure job → IsJobOfCall self.new.caller.procedure job }
+        ensures job { (job : JobValue) → IsJobOfCall self.old.caller.procedure job
+            → IsJobOfCall self.new.caller.procedure job }
         ensures sent { Grows [] (E.told end.old).sent (E.told end.new).sent }
         ensures heard { OnOk result (EachCall self.old (λ setup writes l.
             CallerHears setup writes l now most_datagrams (E.told end.old) (E.told end.new)
@@ -88,7 +90,8 @@ impl CallingMachine {
 
     /// It hears a datagram.
     fn hear_one(&mut self, octets: &[u8], now: u64) -> Result<(), NoMemory>
-        ensures job { (job : JobValue) → IsJobOfCall self.old.caller.procedure job → IsJobOfCall self.new.caller.procedure job }
+        ensures job { (job : JobValue) → IsJobOfCall self.old.caller.procedure job
+            → IsJobOfCall self.new.caller.procedure job }
         ensures heard { OnOk result (EachCall self.old (λ setup writes l.
             IsCalled setup writes (Some (hears writes octets.now now l)) (caller_of self.new))) }
     {

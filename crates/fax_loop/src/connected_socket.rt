@@ -15,7 +15,8 @@ pub trait ConnectedSocket {
     /// Receives a datagram into the front of the buffer, and says how many octets it has. `None`: nothing has come.
     fn receive_octets(&mut self, buffer: &mut [u8]) -> io::Result<Option<usize>>
         ensures fits { IfOk result (λ came. IfSome came (λ count. count ≤ length buffer.new)) }
-        ensures received { Grows (brought_by buffer.new result) (told self.old).received (told self.new).received }
+        ensures received { Grows (brought_by buffer.new result)
+            (told self.old).received (told self.new).received }
         ensures sent { Grows [] (told self.old).sent (told self.new).sent };
 
     /// Sends a datagram. It was handed over also where the send failed.

@@ -16,7 +16,8 @@ pub trait End {
     /// receive failed.
     fn receive(&mut self, buffer: &mut [u8]) -> Option<usize>
         ensures fits { IfSome result (λ count. count ≤ length buffer.new) }
-        ensures received { Grows (brought buffer.new result) (told self.old).received (told self.new).received }
+        ensures received { Grows (brought buffer.new result)
+            (told self.old).received (told self.new).received }
         ensures sent { Grows [] (told self.old).sent (told self.new).sent };
 
     /// Sends a datagram. It was handed over also where the send failed.

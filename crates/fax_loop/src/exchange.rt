@@ -67,7 +67,8 @@ pub(crate) fn send_page<L: OpensLines>(
     settings: Settings,
 ) -> Result<CallEnd, LoopError>
     requires { AreAllowed settings }
-    ensures { IfOk result (λ ended. IsSent (told_lines L.End.told L.Wire.known) (L.opened opener.now) settings page ended.report ended.confirmed.items) }
+    ensures { IfOk result (λ ended. IsSent (told_lines L.End.told L.Wire.known)
+        (L.opened opener.now) settings page ended.report ended.confirmed.items) }
 {
     let mut lines = opener.open()?;
     let ended = exchange(alloc, &mut lines, page, settings)?;
@@ -106,7 +107,8 @@ pub fn exchange<E: End + Drop, W: Wire + Drop>(
 /// A gateway with these settings that was rung at moment 0.
 fn rung_gateway(alloc: Global, settings: Settings) -> Result<Gateway<PackedRows>, NoMemory>
     requires { AreAllowed settings }
-    ensures { IfOk result (λ gateway. (setup : Setup) (writes : Writing) → AreSet setup settings → IsReachedBy setup writes (Ring 0 0 ∷ []) gateway) }
+    ensures { IfOk result (λ gateway. (setup : Setup) (writes : Writing)
+        → AreSet setup settings → IsReachedBy setup writes (Ring 0 0 ∷ []) gateway) }
 {
     let mut gateway = Gateway::with_settings(alloc, settings)?;
     // a new gateway is neither busy nor short of numbers
@@ -121,8 +123,9 @@ impl Parties {
     fn new(alloc: Global, job: &Job<PackedRows>, settings: Settings) -> Result<Self, NoMemory>
         requires { AreAllowed settings }
         ensures job { IfOk result (λ parties. IsJobOfCall parties.caller.caller.procedure job.now) }
-        ensures begun { IfOk result (λ parties. (setup : Setup) (writes : Writing) (lines : LinesShown) → AreSet setup settings
-            → HasPlayed setup writes job.now [] lines lines parties) }
+        ensures begun { IfOk result
+            (λ parties. (setup : Setup) (writes : Writing) (lines : LinesShown)
+            → AreSet setup settings → HasPlayed setup writes job.now [] lines lines parties) }
     {
         let caller = CallingMachine::new(alloc, job, settings)?;
         let answerer = AnsweringMachine::new(alloc, settings)?;
@@ -159,8 +162,8 @@ impl Parties {
         job: &Job<PackedRows>,
     ) -> Result<(), NoMemory>
         requires { IsJobOfCall self.old.caller.caller.procedure job.now }
-        ensures { OnOk result (
-            EachBeginning job.now (told_lines E.told W.known lines.old) self.old (λ setup writes before.
+        ensures { OnOk result (EachBeginning job.now (told_lines E.told W.known lines.old) self.old
+            (λ setup writes before.
             HasEnded setup writes job.now before (told_lines E.told W.known lines.new) self.new)) }
     {
         let mut goes_on = true;
@@ -186,9 +189,10 @@ impl Parties {
     ) -> Result<bool, NoMemory>
         requires { IsJobOfCall self.old.caller.caller.procedure job.now }
         ensures job { OnOk result (IsJobOfCall self.new.caller.caller.procedure job.now) }
-        ensures played { IfOk result (λ goes_on.
-            EachGoing job.now now (told_lines E.told W.known lines.old) self.old (λ setup writes rounds before.
-            PlaysRound setup writes job.now rounds goes_on before (told_lines E.told W.known lines.new) self.new)) }
+        ensures played { IfOk result
+            (λ goes_on. EachGoing job.now now (told_lines E.told W.known lines.old) self.old
+            (λ setup writes rounds before. PlaysRound setup
+            writes job.now rounds goes_on before (told_lines E.told W.known lines.new) self.new)) }
     {
         self.caller.round(&mut lines.caller, job, now)?;
         let turned = self.driver.turn(&mut self.gateway, &mut lines.wire, now);

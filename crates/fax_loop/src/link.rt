@@ -20,7 +20,8 @@ impl Link {
     /// A link over which nothing came or was given; what is sent has this redundancy, at most 8.
     pub fn new(alloc: Global, redundancy: u8) -> Result<Self, NoMemory>
         requires { redundancy ≤ most_redundancy }
-        ensures { IfOk result (λ link. (setup : Setup) → redundancy ≡ setup.redundancy → IsLeg setup [] [] (leg_of link)) }
+        ensures { IfOk result (λ link. (setup : Setup)
+            → redundancy ≡ setup.redundancy → IsLeg setup [] [] (leg_of link)) }
     {
         let sender = Sender::new(alloc, redundancy)?;
         Ok(Link {

@@ -28,9 +28,18 @@ pub fn run_loop<L: OpensLines, I: Source, O: Sink>(
     // Where the input is known, what is written is an answer to it, of lines that were opened so, unless a read or a write failed,
     // the input went past its bound, or no lines could be opened.
     ensures answers { result ≢ 4 → IfSome (I.remaining source.old) (λ input. (text : List ℕ)
-        × Answers (IsSent (told_lines L.End.told L.Wire.known) (L.opened opener.now) settings) input result text × Appends (O.contents sink.old) (O.contents sink.new) text) }
-    ensures run { RunsOver record { remaining = I.remaining; reads = I.reads; given = I.given; failed = I.failed }
-        record { contents = O.contents; failed = O.failed; held_back = O.held_back } source.old source.new sink.old sink.new result }
+        × Answers (IsSent (told_lines L.End.told L.Wire.known) (L.opened opener.now) settings)
+        input result text × Appends (O.contents sink.old) (O.contents sink.new) text) }
+    ensures run { RunsOver record {
+      remaining = I.remaining;
+      reads = I.reads;
+      given = I.given;
+      failed = I.failed;
+    } record {
+      contents = O.contents;
+      failed = O.failed;
+      held_back = O.held_back;
+    } source.old source.new sink.old sink.new result }
 {
     play_loop(opener, alloc, source, sink, settings)
         .status()
@@ -49,14 +58,25 @@ pub fn play_loop<L: OpensLines, I: Source, O: Sink>(
 
     // Where the input is known, what is written is an answer to it, of lines that were opened so, unless a read or a write failed,
     // the input went past its bound, or no lines could be opened.
-    ensures answers { ending_status result ≢ 4 → IfSome (I.remaining source.old) (λ input. (text : List ℕ)
-        × EndsSo (IsSent (told_lines L.End.told L.Wire.known) (L.opened opener.now) settings) input result text × Appends (O.contents sink.old) (O.contents sink.new) text) }
-    ensures run { RunsOver record { remaining = I.remaining; reads = I.reads; given = I.given; failed = I.failed }
-        record { contents = O.contents; failed = O.failed; held_back = O.held_back } source.old source.new sink.old sink.new (ending_status result) }
+    ensures answers { ending_status result ≢ 4
+        → IfSome (I.remaining source.old) (λ input. (text : List ℕ)
+        × EndsSo (IsSent (told_lines L.End.told L.Wire.known) (L.opened opener.now) settings)
+        input result text × Appends (O.contents sink.old) (O.contents sink.new) text) }
+    ensures run { RunsOver record {
+      remaining = I.remaining;
+      reads = I.reads;
+      given = I.given;
+      failed = I.failed;
+    } record {
+      contents = O.contents;
+      failed = O.failed;
+      held_back = O.held_back;
+    } source.old source.new sink.old sink.new (ending_status result) }
 
     // A source that was not read is fresh: its counts are 0, and it has not failed.
-    ensures stream { I.reads source.old ≡ 0 → I.given source.old ≡ 0 → result ≡ Ending.Stream → (I.failed source.new ≡ true)
-        ⊎ (O.failed sink.new ≡ true) ⊎ (MOST_OCTETS < I.given source.new) ⊎ (I.reads source.new ≡ MOST_READS) }
+    ensures stream { I.reads source.old ≡ 0 → I.given source.old ≡ 0
+        → result ≡ Ending.Stream → (I.failed source.new ≡ true) ⊎ (O.failed sink.new ≡ true)
+        ⊎ (MOST_OCTETS < I.given source.new) ⊎ (I.reads source.new ≡ MOST_READS) }
 {
     let answer = match read_input(alloc, source) {
         Ok(input) => match answer_to(opener, alloc, input, settings) {

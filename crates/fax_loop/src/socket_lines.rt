@@ -29,8 +29,10 @@ impl<P: OpensPairs> OpensLines for SocketLines<P> {
 
     type Wire = UdpWire<P::Socket>;
 
-    ghost opened = { λ opener lines. P.are_paired opener.pairs lines.caller.socket lines.wire.calling
-        × P.are_paired opener.pairs lines.answerer.socket lines.wire.called × (lines.wire.failures ≡ 0) };
+    ghost opened = { λ opener lines.
+        P.are_paired opener.pairs lines.caller.socket lines.wire.calling
+        × P.are_paired opener.pairs lines.answerer.socket lines.wire.called
+        × (lines.wire.failures ≡ 0) };
 
     fn open(&self) -> io::Result<Lines<UdpEnd<P::Socket>, UdpWire<P::Socket>>> {
         let (caller, calling) = self.pairs.pair()?;

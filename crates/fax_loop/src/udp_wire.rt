@@ -62,7 +62,8 @@ impl<S: ConnectedSocket + Drop> Wire for UdpWire<S> {
     fn receive(&mut self, leg: Leg, buffer: &mut [u8]) -> Result<Option<usize>, WireFault>
         ensures fits { IfOk result (λ came. IfSome came (λ count. count ≤ length buffer.new)) }
         ensures failures { self.new.failures ≡ failures_after self.old.failures result }
-        ensures brings { Grows (brought_by buffer.new result) (S.told (socket_of leg self.old)).received (S.told (socket_of leg self.new)).received }
+        ensures brings { Grows (brought_by buffer.new result)
+            (S.told (socket_of leg self.old)).received (S.told (socket_of leg self.new)).received }
         ensures makes { Receives S.told leg self.old self.new }
     {
         match leg {

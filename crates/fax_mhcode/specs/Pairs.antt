@@ -23,7 +23,8 @@ pub record RunsSoFar (width : ℕ) (old new : Place) (row : Elements) (colour : 
 -- Runs of any line that were read up to here, of which these elements were made and so many are left,
 -- go on up to there, with these elements and so many left; and a white run is next, as before.
 abbrev pub GoesOn : Place → Elements → ℕ → Place → Elements → ℕ → Type 0
-GoesOn here old before there new after = (width : ℕ) (start : Place) → RunsSoFar width start here old White
+GoesOn here old before there new after = (width : ℕ) (start : Place)
+    → RunsSoFar width start here old White
     → length old + before ≡ width → RunsSoFar width start there new White
 
 -- bits begin with the spelling of a white run and of a black one, which have so many bits

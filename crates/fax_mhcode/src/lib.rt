@@ -28,12 +28,15 @@ pub use writing::{write_lent_line_1d, write_line_1d};
 /// Reads a one-dimensional line, and makes the row of this width that it spells. An `Err` leaves the
 /// reader where it stood.
 pub fn read_line_1d(alloc: Global, reader: &mut BitReader, width: Width) -> Result<Row, LineFault>
-    ensures ok { IfOk result (λ row. (text : List Bool) × SpellsLine (elements_of width) text row × Passes reader.old reader.new text) }
-    ensures fault { IfErr result (λ fault. fault ≢ LineFault.NoMemory → FailsLine (elements_of width) reader.old.left fault) }
+    ensures ok { IfOk result (λ row. (text : List Bool)
+        × SpellsLine (elements_of width) text row × Passes reader.old reader.new text) }
+    ensures fault { IfErr result (λ fault. fault ≢ LineFault.NoMemory
+        → FailsLine (elements_of width) reader.old.left fault) }
     ensures err { OnErr result (reader.new ≡ reader.old) }
 
     // Memory aside, a line that begins the bits is read, and a fault comes only where it is met.
-    ensures reads { (row : Elements) (text rest : List Bool) → SpellsLine (elements_of width) text row
+    ensures reads { (row : Elements) (text rest : List Bool)
+        → SpellsLine (elements_of width) text row
         → reader.old.left ≡ text ++ rest → (result ≡ Ok row) ⊎ (result ≡ Err LineFault.NoMemory) }
     ensures fails { (fault : LineFault) → FailsLine (elements_of width) reader.old.left fault
         → (result ≡ Err fault) ⊎ (result ≡ Err LineFault.NoMemory) }
@@ -55,15 +58,18 @@ pub fn read_line_1d_into(
     width: Width,
 ) -> Result<(), LineFault>
     requires { line.old ≡ [] }
-    ensures ok { OnOk result ((text : List Bool) × SpellsLine (elements_of width) text line.new × Passes reader.old reader.new text) }
-    ensures fault { IfErr result (λ fault. fault ≢ LineFault.NoMemory → FailsLine (elements_of width) reader.old.left fault) }
+    ensures ok { OnOk result ((text : List Bool)
+        × SpellsLine (elements_of width) text line.new × Passes reader.old reader.new text) }
+    ensures fault { IfErr result (λ fault. fault ≢ LineFault.NoMemory
+        → FailsLine (elements_of width) reader.old.left fault) }
     ensures err { OnErr result (reader.new ≡ reader.old) }
     ensures empty { OnErr result (line.new ≡ []) }
     ensures memory { result ≢ Err LineFault.NoMemory }
 
     // Memory aside, a line that begins the bits is read, and a fault comes only where it is met.
-    ensures reads { (row : Elements) (text rest : List Bool) → SpellsLine (elements_of width) text row
-        → reader.old.left ≡ text ++ rest → (IsOk result × (line.new ≡ row)) ⊎ (result ≡ Err LineFault.NoMemory) }
+    ensures reads { (row : Elements) (text rest : List Bool)
+        → SpellsLine (elements_of width) text row → reader.old.left ≡ text ++ rest
+        → (IsOk result × (line.new ≡ row)) ⊎ (result ≡ Err LineFault.NoMemory) }
     ensures fails { (fault : LineFault) → FailsLine (elements_of width) reader.old.left fault
         → (result ≡ Err fault) ⊎ (result ≡ Err LineFault.NoMemory) }
 {
@@ -82,7 +88,8 @@ pub fn read_line_1d_into(
 fn read_runs(line: &mut RowBuilder, reader: &mut BitReader, width: u16) -> Result<(), LineFault>
     requires width { IsWidth width }
     requires empty { line.old ≡ [] }
-    ensures ok { OnOk result ((text : List Bool) × SpellsLine width text line.new × Passes reader.old reader.new text) }
+    ensures ok { OnOk result ((text : List Bool)
+        × SpellsLine width text line.new × Passes reader.old reader.new text) }
     ensures fault { IfErr result (λ fault. FailsLine width reader.old.left fault) }
 {
     let mut left = width;

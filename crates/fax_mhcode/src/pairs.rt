@@ -48,7 +48,8 @@ struct Painted {
 fn paint_pairs(line: &mut RowBuilder, window: u64, left: u16) -> Painted
     requires window { window < 2 ^ 56 }
     requires room { length line.old + left ≤ 2432 }
-    ensures goes_on { (here there : Place) → take 56 here.left ≡ word_bits 56 window → Passes here there (take result.bits here.left)
+    ensures goes_on { (here there : Place)
+        → take 56 here.left ≡ word_bits 56 window → Passes here there (take result.bits here.left)
         → GoesOn here line.old left there line.new result.left }
     ensures left { length line.new + result.left ≡ length line.old + left }
     ensures bits { result.bits ≤ 55 }

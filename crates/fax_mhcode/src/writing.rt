@@ -11,7 +11,8 @@ use fax_runcodes::{Colour, Row, RowRef, put_run, put_two_runs};
 /// Writes the line of a row: its runs, white first, each in its one written form. Only the writer
 /// takes memory. An `Err` changes nothing.
 pub fn write_line_1d(writer: &mut BitWriter, row: &Row) -> Result<(), NoMemory>
-    ensures ok { OnOk result ((text : List Bool) × WritesLine row.now text × (writer.new ≡ writer.old ++ text)) }
+    ensures ok { OnOk result ((text : List Bool)
+        × WritesLine row.now text × (writer.new ≡ writer.old ++ text)) }
     ensures err { OnErr result (writer.new ≡ writer.old) }
 {
     write_lent_line_1d(writer, &row.lend())
@@ -20,7 +21,8 @@ pub fn write_line_1d(writer: &mut BitWriter, row: &Row) -> Result<(), NoMemory>
 /// Writes the line of a row that is lent, as [`write_line_1d`] does. Only the writer takes memory. An
 /// `Err` changes nothing.
 pub fn write_lent_line_1d(writer: &mut BitWriter, row: &RowRef<'_>) -> Result<(), NoMemory>
-    ensures ok { OnOk result ((text : List Bool) × WritesLine row.now text × (writer.new ≡ writer.old ++ text)) }
+    ensures ok { OnOk result ((text : List Bool)
+        × WritesLine row.now text × (writer.new ≡ writer.old ++ text)) }
     ensures err { OnErr result (writer.new ≡ writer.old) }
 {
     let (changes, width) = (row.changes(), row.width());
@@ -37,7 +39,8 @@ fn put_runs(writer: &mut RoomyWriter, changes: &[u16], width: u16)
     requires rising { AreRising 0 changes.now width }
     requires is_width { IsWidth width }
     requires room { 29 * (length changes.now + 1) ≤ writer.old.room }
-    ensures { (text : List Bool) × WritesLine (painted White 0 changes.now width) text × (writer.new.bits ≡ writer.old.bits ++ text) }
+    ensures { (text : List Bool) × WritesLine (painted White 0 changes.now width) text
+        × (writer.new.bits ≡ writer.old.bits ++ text) }
 {
     let mut rest = changes;
     let mut from = 0;

@@ -13,10 +13,13 @@ use Rattle.fax_mrcode.specs.Places.{b1, b2, run_start}
 use Rattle.fax_mrcode.specs.Lines.{Steps}
 
 -- a run of a horizontal step, from a place on, which may be empty only where this holds
-abbrev pub StopsAtRun : (width : ℕ) → Colour → ℕ → (may_be_empty : Type 0) → List Bool → LineFault → Type 0
+abbrev pub StopsAtRun : (width : ℕ)
+    → Colour → ℕ → (may_be_empty : Type 0) → List Bool → LineFault → Type 0
 StopsAtRun width colour start may_be_empty bits (Run fault) = FailsRun colour bits fault
-StopsAtRun width colour start may_be_empty bits PastWidth = (run : ℕ) × (rest : List Bool) × ReadsRun colour bits run rest × (width < start + run)
-StopsAtRun width colour start may_be_empty bits BadPlace = (rest : List Bool) × ReadsRun colour bits 0 rest × (may_be_empty → ⊥)
+StopsAtRun width colour start may_be_empty bits PastWidth =
+    (run : ℕ) × (rest : List Bool) × ReadsRun colour bits run rest × (width < start + run)
+StopsAtRun width colour start may_be_empty bits BadPlace =
+    (rest : List Bool) × ReadsRun colour bits 0 rest × (may_be_empty → ⊥)
 StopsAtRun width colour start may_be_empty bits NoMode = ⊥
 StopsAtRun width colour start may_be_empty bits NoMemory = ⊥
 
@@ -29,18 +32,18 @@ module _ (reference row : Elements) where
   StopsIn (Vertical offset) from bits fault = (fault ≡ BadPlace)
       × ((a1 : ℕ) → IsAt offset a1 (b1 reference row from) → (a1 < from) ⊎ (length row < a1))
   -- the first run, empty right of a0 = -1 alone; or the second run, empty at the width alone
-  StopsIn Horizontal from bits fault =
-      let colour = colour_before row from in
-      StopsAtRun (length row) colour (run_start from) (from ≡ 0) bits fault
-      ⊎ ((run : ℕ) × (rest : List Bool) × ReadsRun colour bits run rest
-      × ((0 < run) ⊎ (from ≡ 0)) × (run_start from + run ≤ length row)
-      × StopsAtRun (length row) (other colour) (run_start from + run) (run_start from + run ≡ length row) rest fault)
+  StopsIn Horizontal from bits fault = let colour = colour_before row from
+      in StopsAtRun (length row) colour (run_start from) (from ≡ 0) bits fault
+      ⊎ ((run : ℕ) × (rest : List Bool) × ReadsRun colour bits run rest × ((0 < run) ⊎ (from ≡ 0))
+      × (run_start from + run ≤ length row) × StopsAtRun (length row) (other colour) (run_start from
+      + run) (run_start from + run ≡ length row) rest fault)
 
   -- why no step is taken from a0, where these bits are left
   abbrev pub Stops : ℕ → List Bool → LineFault → Type 0
   Stops from bits fault =
       ((fault ≡ NoMode) × ((mode : Mode) (rest : List Bool) → bits ≡ mode_word mode ++ rest → ⊥))
-      ⊎ ((mode : Mode) × (rest : List Bool) × (bits ≡ mode_word mode ++ rest) × StopsIn mode from rest fault)
+      ⊎ ((mode : Mode)
+      × (rest : List Bool) × (bits ≡ mode_word mode ++ rest) × StopsIn mode from rest fault)
 
 -- Reading a line against this reference meets this fault: after steps that don't reach the width no
 -- further step can be taken.

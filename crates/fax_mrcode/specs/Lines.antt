@@ -11,8 +11,10 @@ module _ (reference row : Elements) where
   -- From a0 (`from` is a0 + 1) a step in this mode may be taken, with this text after the mode's
   -- word, and the next a0 is this place.
   abbrev pub Step : ℕ → Mode → List Bool → ℕ → Type 0
-  Step from Pass text next = (b2 reference row from < a1 row from) × (text ≡ []) × (next ≡ b2 reference row from)
-  Step from (Vertical offset) text next = IsAt offset (a1 row from) (b1 reference row from) × (text ≡ []) × (next ≡ a1 row from)
+  Step from Pass text next =
+      (b2 reference row from < a1 row from) × (text ≡ []) × (next ≡ b2 reference row from)
+  Step from (Vertical offset) text next =
+      IsAt offset (a1 row from) (b1 reference row from) × (text ≡ []) × (next ≡ a1 row from)
   Step from Horizontal text next = (first second : List Bool) × (text ≡ first ++ second)
       × SpellsRun (colour_before row from) first (a1 row from - run_start from)
       × SpellsRun (other (colour_before row from)) second (a2 row from - a1 row from)
@@ -21,8 +23,9 @@ module _ (reference row : Elements) where
   -- from one a0 to another the bits are the words of steps in these modes
   abbrev pub Steps : ℕ → List Mode → List Bool → ℕ → Type 0
   Steps from [] text end = (text ≡ []) × (end ≡ from)
-  Steps from (mode ∷ modes) text end = (from ≤ length row) × (step rest : List Bool) × (next : ℕ)
-      × (text ≡ mode_word mode ++ step ++ rest) × Step from mode step next × Steps (next + 1) modes rest end
+  Steps from (mode ∷ modes) text end = (from ≤ length row)
+      × (step rest : List Bool) × (next : ℕ) × (text ≡ mode_word mode ++ step ++ rest)
+      × Step from mode step next × Steps (next + 1) modes rest end
 
 -- Bits spell a row against a reference row: the words of steps from a0 = -1 until a0 is the width.
 pub record SpellsLine (reference : Elements) (text : List Bool) (row : Elements) : Type 0 where

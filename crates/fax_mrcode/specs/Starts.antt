@@ -25,7 +25,8 @@ pub record StepsAt (changes : List ℕ) (width from : ℕ) : Type 0 where
 -- like this one. Those before the index lie no further right than a0 (`from` is a0 + 1).
 pub record IsCursor (changes : List ℕ) (colour : Colour) (from index : ℕ) : Type 0 where
   pub parity : colour_after_changes index ≡ colour
-  pub passed : (k : ℕ) → k < index → k < length changes → colour_after_changes k ≡ colour → slice_index changes k < from
+  pub passed : (k : ℕ) → k < index
+      → k < length changes → colour_after_changes k ≡ colour → slice_index changes k < from
   pub few : index ≤ length changes + 1
 
 -- It is the index of b1, or past the end where b1 is the width.
@@ -45,44 +46,57 @@ pub record IsStart (changes : List ℕ) (width : ℕ) (line : Elements) (start :
   pub cursor : start.from ≤ width → IsCursor changes start.colour start.from start.index
 
 -- a row that a line may become: its elements so far, and then at a0 this colour
-pub record Completes (width : ℕ) (line : Elements) (from : ℕ) (colour : Colour) (row : Elements) : Type 0 where
+pub record Completes (width : ℕ) (line : Elements) (from : ℕ) (colour : Colour) (row : Elements) :
+    Type 0 where
   pub same_width : length row ≡ width
   pub front : (k : ℕ) → k < length line → colour_at row k ≡ colour_at line k
   pub here : from ≤ width → colour_before row from ≡ colour
 
 -- A step in this mode was taken from one start to the next: each row that the line may become after
 -- it is one that it might become before it, and has this step.
-pub record TakesStep (reference : Elements) (width : ℕ) (mode : Mode) (text : List Bool) (before : Elements) (start : Start) (later : Elements) (next : Start) : Type 0 where
+pub record TakesStep (reference : Elements) (width : ℕ) (mode : Mode) (text : List Bool)
+    (before : Elements) (start : Start) (later : Elements) (next : Start) : Type 0 where
   pub place : ℕ
   pub from_is : next.from ≡ place + 1
   pub right : start.from ≤ place
-  pub completes : (row : Elements) → Completes width later next.from next.colour row → Completes width before start.from start.colour row
-  pub step : (row : Elements) → Completes width later next.from next.colour row → Step reference row start.from mode text place
+  pub completes : (row : Elements) → Completes width later next.from next.colour row
+      → Completes width before start.from start.colour row
+  pub step : (row : Elements) → Completes width later next.from next.colour row
+      → Step reference row start.from mode text place
 
 -- the elements so far, with those of a step after them: first in the colour at a0, then in the other
 abbrev pub after_step : Elements → Start → TakenStep → Elements
-after_step line start taken = (line ++ replicate taken.first start.colour) ++ replicate taken.second (other start.colour)
+after_step line start taken =
+    (line ++ replicate taken.first start.colour) ++ replicate taken.second (other start.colour)
 
 -- A step in this mode is taken from here, whatever elements stand left of a0.
-pub record IsTaken (changes : List ℕ) (width : ℕ) (mode : Mode) (text : List Bool) (start : Start) (taken : TakenStep) : Type 0 where
-  pub next : (line : Elements) → IsStart changes width line start → IsStart changes width (after_step line start taken) taken.next
-  pub takes : (line : Elements) → IsStart changes width line start
-      → TakesStep (painted White 0 changes width) width mode text line start (after_step line start taken) taken.next
+pub record IsTaken (changes : List ℕ)
+    (width : ℕ) (mode : Mode) (text : List Bool) (start : Start) (taken : TakenStep) : Type 0 where
+  pub next : (line : Elements) → IsStart changes width line start
+      → IsStart changes width (after_step line start taken) taken.next
+  pub takes : (line : Elements)
+      → IsStart changes width line start → TakesStep (painted White 0 changes width)
+      width mode text line start (after_step line start taken) taken.next
 
 -- Steps with this text were taken from one start to the next: each row that the line may become after
 -- them is one that it might become before them, and has these steps.
-pub record TakesSteps (reference : Elements) (width : ℕ) (text : List Bool) (before : Elements) (start : Start) (later : Elements) (next : Start) : Type 0 where
+pub record TakesSteps (reference : Elements) (width : ℕ) (text : List Bool)
+    (before : Elements) (start : Start) (later : Elements) (next : Start) : Type 0 where
   pub modes : List Mode
   pub right : start.from < next.from
-  pub completes : (row : Elements) → Completes width later next.from next.colour row → Completes width before start.from start.colour row
-  pub steps : (row : Elements) → Completes width later next.from next.colour row → Steps reference row start.from modes text next.from
+  pub completes : (row : Elements) → Completes width later next.from next.colour row
+      → Completes width before start.from start.colour row
+  pub steps : (row : Elements) → Completes width later next.from next.colour row
+      → Steps reference row start.from modes text next.from
 
 -- From old to new steps were passed that each row has which the line may become.
-pub record StepsSoFar (reference : Elements) (width : ℕ) (old new : Place) (line : Elements) (start : Start) : Type 0 where
+pub record StepsSoFar (reference : Elements)
+    (width : ℕ) (old new : Place) (line : Elements) (start : Start) : Type 0 where
   pub modes : List Mode
   pub text : List Bool
   pub passes : Passes old new text
-  pub steps : (row : Elements) → Completes width line start.from start.colour row → Steps reference row 0 modes text start.from
+  pub steps : (row : Elements) → Completes width line start.from start.colour row
+      → Steps reference row 0 modes text start.from
 
 -- ---- lines that have their whole width from the start on
 
@@ -103,11 +117,14 @@ pub record IsStartIn (changes : List ℕ) (width : ℕ) (line : Elements) (start
 
 -- where the step of a window starts: the colour at a0 is that up to the changing place of the index
 abbrev pub start_of : Near → Start
-start_of near = record { from = near.from; colour = colour_after_changes near.index; index = near.index }
+start_of near =
+    record { from = near.from; colour = colour_after_changes near.index; index = near.index }
 
 -- Steps were taken in a line of the whole width, and their text is in front of the bits that are ahead then.
-pub record TakesNear (reference : Elements) (width : ℕ) (before : Elements) (near : Near) (later : Elements) (next : Near) : Type 0 where
+pub record TakesNear (reference : Elements)
+    (width : ℕ) (before : Elements) (near : Near) (later : Elements) (next : Near) : Type 0 where
   pub text : List Bool
   pub first : FirstAre near.ahead.window near.ahead.left next.ahead.left text
   pub after : ShowsAfter near.ahead.window near.ahead.left next.ahead.window next.ahead.left
-  pub takes : TakesSteps reference width text (left_of_a0 before (start_of near)) (start_of near) (left_of_a0 later (start_of next)) (start_of next)
+  pub takes : TakesSteps reference width text (left_of_a0 before (start_of near))
+      (start_of near) (left_of_a0 later (start_of next)) (start_of next)

@@ -11,8 +11,10 @@ pub record Shows (window known : ℕ) (bits : List Bool) : Type 0 where
 -- a window shows the last so many bits of those that another shows
 pub record ShowsAfter (window known next left : ℕ) : Type 0 where
   pub less : left ≤ known
-  pub shows : (bits : List Bool) → Shows window known bits → Shows next left (drop (known - left) bits)
+  pub shows : (bits : List Bool)
+      → Shows window known bits → Shows next left (drop (known - left) bits)
 
 -- all but the last so many bits that a window shows are this text
 abbrev pub FirstAre : (window known left : ℕ) → List Bool → Type 0
-FirstAre window known left text = (bits : List Bool) → Shows window known bits → take (known - left) bits ≡ text
+FirstAre window known left text = (bits : List Bool)
+    → Shows window known bits → take (known - left) bits ≡ text

@@ -12,7 +12,8 @@ use Rattle.fax_mrcode.specs.Places.{a1, a2, b1, b2, run_start}
 module _ (reference row : Elements) where
   -- the one step that is written from a0: its mode, its text after the mode's word, the next a0
   abbrev pub WritesStep : ℕ → Mode → List Bool → ℕ → Type 0
-  WritesStep from Pass text next = (b2 reference row from < a1 row from) × (text ≡ []) × (next ≡ b2 reference row from)
+  WritesStep from Pass text next =
+      (b2 reference row from < a1 row from) × (text ≡ []) × (next ≡ b2 reference row from)
   WritesStep from (Vertical offset) text next = (a1 row from ≤ b2 reference row from)
       × IsAt offset (a1 row from) (b1 reference row from) × (text ≡ []) × (next ≡ a1 row from)
   WritesStep from Horizontal text next = (a1 row from ≤ b2 reference row from)
@@ -24,8 +25,9 @@ module _ (reference row : Elements) where
   -- the bits from one a0 to the width, in these modes
   abbrev pub WritesSteps : ℕ → List Mode → List Bool → Type 0
   WritesSteps from [] text = (text ≡ []) × (from ≡ length row + 1)
-  WritesSteps from (mode ∷ modes) text = (from ≤ length row) × (step rest : List Bool) × (next : ℕ)
-      × (text ≡ mode_word mode ++ step ++ rest) × WritesStep from mode step next × WritesSteps (next + 1) modes rest
+  WritesSteps from (mode ∷ modes) text = (from ≤ length row)
+      × (step rest : List Bool) × (next : ℕ) × (text ≡ mode_word mode ++ step ++ rest)
+      × WritesStep from mode step next × WritesSteps (next + 1) modes rest
 
 -- the bits in which a row is written against a reference row
 pub record WritesLine (reference row : Elements) (text : List Bool) : Type 0 where

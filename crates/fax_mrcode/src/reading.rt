@@ -34,8 +34,10 @@ pub fn read_line_2d(
     reader: &mut BitReader,
     reference: &Row,
 ) -> Result<Row, LineFault>
-    ensures ok { IfOk result (λ row. (text : List Bool) × SpellsLine reference.now text row × Passes reader.old reader.new text) }
-    ensures fault { IfErr result (λ fault. fault ≢ LineFault.NoMemory → FailsLine reference.now reader.old.left fault) }
+    ensures ok { IfOk result (λ row. (text : List Bool)
+        × SpellsLine reference.now text row × Passes reader.old reader.new text) }
+    ensures fault { IfErr result
+        (λ fault. fault ≢ LineFault.NoMemory → FailsLine reference.now reader.old.left fault) }
     ensures err { OnErr result (reader.new ≡ reader.old) }
 
     // Memory aside, a line that begins the bits is read, and a fault comes only where it is met.
@@ -61,15 +63,18 @@ pub fn read_line_2d_into(
     reference: &RowRef<'_>,
 ) -> Result<(), LineFault>
     requires { line.old ≡ [] }
-    ensures ok { OnOk result ((text : List Bool) × SpellsLine reference.now text line.new × Passes reader.old reader.new text) }
-    ensures fault { IfErr result (λ fault. fault ≢ LineFault.NoMemory → FailsLine reference.now reader.old.left fault) }
+    ensures ok { OnOk result ((text : List Bool)
+        × SpellsLine reference.now text line.new × Passes reader.old reader.new text) }
+    ensures fault { IfErr result
+        (λ fault. fault ≢ LineFault.NoMemory → FailsLine reference.now reader.old.left fault) }
     ensures err { OnErr result (reader.new ≡ reader.old) }
     ensures empty { OnErr result (line.new ≡ []) }
     ensures memory { result ≢ Err LineFault.NoMemory }
 
     // A line that begins the bits is read, and a fault comes only where it is met.
-    ensures reads { (row : Elements) (text rest : List Bool) → SpellsLine reference.now text row
-        → reader.old.left ≡ text ++ rest → (IsOk result × (line.new ≡ row)) ⊎ (result ≡ Err LineFault.NoMemory) }
+    ensures reads { (row : Elements) (text rest : List Bool)
+        → SpellsLine reference.now text row → reader.old.left ≡ text ++ rest
+        → (IsOk result × (line.new ≡ row)) ⊎ (result ≡ Err LineFault.NoMemory) }
     ensures fails { (fault : LineFault) → FailsLine reference.now reader.old.left fault
         → (result ≡ Err fault) ⊎ (result ≡ Err LineFault.NoMemory) }
 {
@@ -143,8 +148,11 @@ fn read_steps(
     requires empty { line.old ≡ [] }
     requires rising { AreRising 0 changes.now width }
     requires few { width ≤ 2432 }
-    ensures ok { OnOk result ((text : List Bool) × SpellsLine (painted Colour.White 0 changes.now width) text line.new × Passes reader.old reader.new text) }
-    ensures fault { IfErr result (λ fault. FailsLine (painted Colour.White 0 changes.now width) reader.old.left fault) }
+    ensures ok { OnOk result ((text : List Bool)
+        × SpellsLine (painted Colour.White 0 changes.now width) text line.new
+        × Passes reader.old reader.new text) }
+    ensures fault { IfErr result
+        (λ fault. FailsLine (painted Colour.White 0 changes.now width) reader.old.left fault) }
 {
     let mut start = Start::of_line();
     line.paint(start.colour, width - line.len());
@@ -177,9 +185,12 @@ fn read_step_in(
     requires start { IsStartIn changes.now width line.old start }
     requires at { StepsAt changes.now width start.from }
     ensures next { IfOk result (λ next. IsStartIn changes.now width line.new next) }
-    ensures ok { IfOk result (λ next. (mode : Mode) × (text : List Bool) × Passes reader.old reader.new (mode_word mode ++ text)
-        × TakesStep (painted Colour.White 0 changes.now width) width mode text (left_of_a0 line.old start) start (left_of_a0 line.new next) next) }
-    ensures fault { IfErr result (λ fault. (row : Elements) → Completes width (left_of_a0 line.old start) start.from start.colour row
+    ensures ok { IfOk result (λ next. (mode : Mode)
+        × (text : List Bool) × Passes reader.old reader.new (mode_word mode ++ text)
+        × TakesStep (painted Colour.White 0 changes.now width)
+        width mode text (left_of_a0 line.old start) start (left_of_a0 line.new next) next) }
+    ensures fault { IfErr result (λ fault. (row : Elements)
+        → Completes width (left_of_a0 line.old start) start.from start.colour row
         → Stops (painted Colour.White 0 changes.now width) row start.from reader.old.left fault) }
 {
     line.shorten(start.run_start());
@@ -201,9 +212,11 @@ fn read_step(
     requires start { IsStart changes.now width line.old start }
     requires at { StepsAt changes.now width start.from }
     ensures next { IfOk result (λ next. IsStart changes.now width line.new next) }
-    ensures ok { IfOk result (λ next. (mode : Mode) × (text : List Bool) × Passes reader.old reader.new (mode_word mode ++ text)
-        × TakesStep (painted Colour.White 0 changes.now width) width mode text line.old start line.new next) }
-    ensures fault { IfErr result (λ fault. (row : Elements) → Completes width line.old start.from start.colour row
+    ensures ok { IfOk result (λ next. (mode : Mode) × (text : List Bool)
+        × Passes reader.old reader.new (mode_word mode ++ text) × TakesStep (painted
+        Colour.White 0 changes.now width) width mode text line.old start line.new next) }
+    ensures fault { IfErr result
+        (λ fault. (row : Elements) → Completes width line.old start.from start.colour row
         → Stops (painted Colour.White 0 changes.now width) row start.from reader.old.left fault) }
 {
     let taken = take_step(reader, changes, width, start)?;
@@ -223,9 +236,11 @@ fn take_step(
 ) -> Result<TakenStep, LineFault>
     requires cursor { IsCursor changes.now start.colour start.from start.index }
     requires at { StepsAt changes.now width start.from }
-    ensures ok { IfOk result (λ taken. (mode : Mode) × (text : List Bool) × Passes reader.old reader.new (mode_word mode ++ text)
+    ensures ok { IfOk result (λ taken. (mode : Mode)
+        × (text : List Bool) × Passes reader.old reader.new (mode_word mode ++ text)
         × IsTaken changes.now width mode text start taken) }
-    ensures fault { IfErr result (λ fault. (line row : Elements) → Completes width line start.from start.colour row
+    ensures fault { IfErr result
+        (λ fault. (line row : Elements) → Completes width line start.from start.colour row
         → Stops (painted Colour.White 0 changes.now width) row start.from reader.old.left fault) }
 {
     let mode = read_mode(reader)?;
@@ -246,7 +261,8 @@ fn pass(changes: &[u16], width: u16, start: Start) -> Result<TakenStep, LineFaul
     requires b1 { IsIndexOfB1 changes.now start.colour start.from start.index }
     requires at { StepsAt changes.now width start.from }
     ensures ok { IfOk result (λ taken. IsTaken changes.now width Mode.Pass [] start taken) }
-    ensures fault { IfErr result (λ fault. (line row : Elements) (bits : List Bool) → Completes width line start.from start.colour row
+    ensures fault { IfErr result (λ fault. (line row : Elements) (bits : List Bool)
+        → Completes width line start.from start.colour row
         → StopsIn (painted Colour.White 0 changes.now width) row Mode.Pass start.from bits fault) }
 {
     let b2 = place_at(changes, start.index + 1, width);
@@ -273,9 +289,11 @@ fn vertical(
 ) -> Result<TakenStep, LineFault>
     requires b1 { IsIndexOfB1 changes.now start.colour start.from start.index }
     requires at { StepsAt changes.now width start.from }
-    ensures ok { IfOk result (λ taken. IsTaken changes.now width (Mode.Vertical offset) [] start taken) }
-    ensures fault { IfErr result (λ fault. (line row : Elements) (bits : List Bool) → Completes width line start.from start.colour row
-        → StopsIn (painted Colour.White 0 changes.now width) row (Mode.Vertical offset) start.from bits fault) }
+    ensures ok { IfOk result
+        (λ taken. IsTaken changes.now width (Mode.Vertical offset) [] start taken) }
+    ensures fault { IfErr result (λ fault. (line row : Elements) (bits : List Bool)
+        → Completes width line start.from start.colour row → StopsIn (painted
+        Colour.White 0 changes.now width) row (Mode.Vertical offset) start.from bits fault) }
 {
     let b1 = place_at(changes, start.index, width);
     let past_a1 = b1 + offset.right_of_left3();
@@ -310,8 +328,9 @@ fn horizontal(
     requires at { StepsAt changes.now width start.from }
     ensures ok { IfOk result (λ taken. (text : List Bool) × Passes reader.old reader.new text
         × IsTaken changes.now width Mode.Horizontal text start taken) }
-    ensures fault { IfErr result (λ fault. (line row : Elements) → Completes width line start.from start.colour row
-        → StopsIn (painted Colour.White 0 changes.now width) row Mode.Horizontal start.from reader.old.left fault) }
+    ensures fault { IfErr result (λ fault. (line row : Elements)
+        → Completes width line start.from start.colour row → StopsIn (painted
+        Colour.White 0 changes.now width) row Mode.Horizontal start.from reader.old.left fault) }
 {
     let mut ahead = reader.copy();
     let a0 = start.run_start();
@@ -340,9 +359,11 @@ fn read_stretch(
     may_be_empty: bool,
 ) -> Result<u16, LineFault>
     requires within { place ≤ width }
-    ensures ok { IfOk result (λ run. (text : List Bool) × SpellsRun colour text run × Passes reader.old reader.new text
+    ensures ok { IfOk result
+        (λ run. (text : List Bool) × SpellsRun colour text run × Passes reader.old reader.new text
         × (place + run ≤ width) × ((0 < run) ⊎ IsTrue may_be_empty)) }
-    ensures fault { IfErr result (λ fault. StopsAtRun width colour place (IsTrue may_be_empty) reader.old.left fault) }
+    ensures fault { IfErr result
+        (λ fault. StopsAtRun width colour place (IsTrue may_be_empty) reader.old.left fault) }
 {
     let run = read_run(reader, colour)?;
     if run == 0 && !may_be_empty {

@@ -19,7 +19,8 @@ use fax_runcodes::{Colour, Row, RowRef, put_two_runs};
 /// changes nothing.
 pub fn write_line_2d(writer: &mut BitWriter, reference: &Row, row: &Row) -> Result<(), NoMemory>
     requires { length row.now ≡ length reference.now }
-    ensures ok { OnOk result ((text : List Bool) × WritesLine reference.now row.now text × (writer.new ≡ writer.old ++ text)) }
+    ensures ok { OnOk result ((text : List Bool)
+        × WritesLine reference.now row.now text × (writer.new ≡ writer.old ++ text)) }
     ensures err { OnErr result (writer.new ≡ writer.old) }
 {
     write_lent_line_2d(writer, &reference.lend(), &row.lend())
@@ -33,7 +34,8 @@ pub fn write_lent_line_2d(
     row: &RowRef<'_>,
 ) -> Result<(), NoMemory>
     requires { length row.now ≡ length reference.now }
-    ensures ok { OnOk result ((text : List Bool) × WritesLine reference.now row.now text × (writer.new ≡ writer.old ++ text)) }
+    ensures ok { OnOk result ((text : List Bool)
+        × WritesLine reference.now row.now text × (writer.new ≡ writer.old ++ text)) }
     ensures err { OnErr result (writer.new ≡ writer.old) }
 {
     let room = 8 * (usize::from(row.width()) + 1);
@@ -51,7 +53,8 @@ pub fn write_lent_line_2d(
 fn put_steps(writer: &mut RoomyWriter, reference: &RowRef<'_>, row: &RowRef<'_>)
     requires same_width { length row.now ≡ length reference.now }
     requires room { 57 * (length row.now + 1) ≤ writer.old.room }
-    ensures { (text : List Bool) × WritesLine reference.now row.now text × (writer.new.bits ≡ writer.old.bits ++ text) }
+    ensures { (text : List Bool)
+        × WritesLine reference.now row.now text × (writer.new.bits ≡ writer.old.bits ++ text) }
 {
     let width = row.width();
     let (changes, above) = (row.changes(), reference.changes());
@@ -101,7 +104,9 @@ fn first_from(changes: &[u16], mut index: usize, from: u16, width: u16) -> (usiz
     ensures later { index ≤ result.0 }
     ensures near { result.0 ≤ max index (length changes.now + 1) }
     ensures turns { colour_after_changes result.0 ≡ colour_after_changes index }
-    ensures passed { (k : ℕ) → index ≤ k → k < result.0 → colour_after_changes k ≡ colour_after_changes index → slice_index_or changes.now k width < from }
+    ensures passed { (k : ℕ)
+        → index ≤ k → k < result.0 → colour_after_changes k ≡ colour_after_changes index
+        → slice_index_or changes.now k width < from }
     ensures place { result.1 ≡ slice_index_or changes.now result.0 width }
     ensures found { from ≤ result.1 }
 {

@@ -21,11 +21,13 @@ came_in pieces.Gap = None
 -- the note of what is told of a piece
 abbrev pub answer_note : answer.Telling → Option Came → List AnswerNote
 answer_note t None = []
-answer_note t (Some c) = record { state = t.state; waits = t.waits; came = c; decision = t.verdict } ∷ []
+answer_note t (Some c) =
+    record { state = t.state; waits = t.waits; came = c; decision = t.verdict } ∷ []
 
 abbrev pub call_note : call.Telling → Option Came → List CallNote
 call_note t None = []
-call_note t (Some c) = record { state = t.state; waits = t.waits; came = c; decision = t.verdict } ∷ []
+call_note t (Some c) =
+    record { state = t.state; waits = t.waits; came = c; decision = t.verdict } ∷ []
 
 abbrev pub answer_notes : List answer.Telling → List AnswerNote
 answer_notes [] = []
@@ -37,18 +39,20 @@ call_notes (t ∷ more) = call_note t (came_in t.piece) ++ call_notes more
 
 -- telling it makes this of the notes, where memory was not lacking
 abbrev pub NotesAnswer : answer.Telling → (old new : AnswerNotesValue) → Type 0
-NotesAnswer t old new = new.is_lacking ≡ false → (old.is_lacking ≡ false) × (new.notes ≡ old.notes ++ answer_note t (came_in t.piece))
+NotesAnswer t old new = new.is_lacking ≡ false
+    → (old.is_lacking ≡ false) × (new.notes ≡ old.notes ++ answer_note t (came_in t.piece))
 
 abbrev pub NotesCall : call.Telling → (old new : CallNotesValue) → Type 0
-NotesCall t old new = new.is_lacking ≡ false → (old.is_lacking ≡ false) × (new.notes ≡ old.notes ++ call_note t (came_in t.piece))
+NotesCall t old new = new.is_lacking ≡ false
+    → (old.is_lacking ≡ false) × (new.notes ≡ old.notes ++ call_note t (came_in t.piece))
 
 -- and so the notes are of all that was told
 abbrev pub KeepsAnswers : Type 0
-KeepsAnswers =
-    (told : List answer.Telling) (old new : AnswerNotesValue) → answer.Watches NotesAnswer old new told → new.is_lacking ≡ false
+KeepsAnswers = (told : List answer.Telling) (old new : AnswerNotesValue)
+    → answer.Watches NotesAnswer old new told → new.is_lacking ≡ false
     → (old.is_lacking ≡ false) × (new.notes ≡ old.notes ++ answer_notes told)
 
 abbrev pub KeepsCalls : Type 0
-KeepsCalls =
-    (told : List call.Telling) (old new : CallNotesValue) → call.Watches NotesCall old new told → new.is_lacking ≡ false
-    → (old.is_lacking ≡ false) × (new.notes ≡ old.notes ++ call_notes told)
+KeepsCalls = (told : List call.Telling) (old new : CallNotesValue)
+    → call.Watches NotesCall old new told
+    → new.is_lacking ≡ false → (old.is_lacking ≡ false) × (new.notes ≡ old.notes ++ call_notes told)

@@ -66,7 +66,8 @@ impl CallNotes {
 
     /// Notes this.
     fn note(&mut self, note: CallNote)
-        ensures { self.new.is_lacking ≡ false → (self.old.is_lacking ≡ false) × (self.new.notes ≡ self.old.notes ++ note ∷ []) }
+        ensures { self.new.is_lacking ≡ false
+            → (self.old.is_lacking ≡ false) × (self.new.notes ≡ self.old.notes ++ note ∷ []) }
     {
         if self.notes.push(note).is_err() {
             self.is_lacking = true;

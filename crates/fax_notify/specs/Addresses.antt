@@ -15,7 +15,8 @@ abstract_octets rest = family ++ (0 ∷ rest)
 
 -- the same by the first octet
 abbrev pub octets_by : ℕ → List ℕ → Option (List ℕ)
-octets_by first rest = if first == 47 then Some (path_octets rest) else if first == 64 then Some (abstract_octets rest) else None
+octets_by first rest = if first == 47
+    then Some (path_octets rest) else if first == 64 then Some (abstract_octets rest) else None
 
 -- THE ADDRESS of the socket of a name, which has 107 octets at most, and begins with `/` or `@`; of any other there is none.
 abbrev pub address_octets : List ℕ → Option (List ℕ)

@@ -8,4 +8,5 @@ pub record Carried : Type 0 where
 
 -- one more was, where that is told
 abbrev pub carried_after : (address octets : List ℕ) → Option (List Carried) → Option (List Carried)
-carried_after address octets carried = option_map (λ earlier. record { address = address; octets = octets } ∷ earlier) carried
+carried_after address octets carried =
+    option_map (λ earlier. record { address = address; octets = octets } ∷ earlier) carried

@@ -19,4 +19,5 @@ words_of Stopping = codes "stops once no line has a call or a job"
 
 -- THE MESSAGE: READY=1 or STOPPING=1, a line feed, and STATUS= with the words.
 abbrev pub message_octets : Notice → List ℕ
-message_octets notice = assigned (state_of notice) (codes "1") ++ (codes "\n" ++ assigned (codes "STATUS") (words_of notice))
+message_octets notice = assigned (state_of notice) (codes "1")
+    ++ (codes "\n" ++ assigned (codes "STATUS") (words_of notice))

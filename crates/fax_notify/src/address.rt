@@ -10,7 +10,8 @@ const MOST_AFTER_FIRST: usize = 106;
 /// The octets of the address of the socket of this name, as the system takes them. `None`: it is no name of a socket. An `Err` comes for the
 /// name of one alone.
 pub fn address_of(alloc: Global, name: &str) -> Result<Option<Vec<u8>>, AllocError>
-    ensures ok { IfOk result (λ found. option_map (λ octets. octets.items) found ≡ address_octets name.now) }
+    ensures ok { IfOk result
+        (λ found. option_map (λ octets. octets.items) found ≡ address_octets name.now) }
     ensures err { OnErr result (is_some (address_octets name.now) ≡ true) }
 {
     let Some((first, rest)) = name.as_bytes().split_first() else {

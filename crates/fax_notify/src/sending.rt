@@ -52,8 +52,10 @@ pub fn send_notice<C: Carrier>(
     name: &str,
     notice: Notice,
 ) -> Result<(), NoticeFault>
-    ensures ok { OnOk result (IsCarried (address_octets name.now) (message_octets notice) (C.carried carrier.old) (C.carried carrier.new)) }
-    ensures fault { IfErr result (λ fault. Fails fault (address_octets name.now) (message_octets notice) (C.carried carrier.old) (C.carried carrier.new)) }
+    ensures ok { OnOk result (IsCarried (address_octets name.now)
+        (message_octets notice) (C.carried carrier.old) (C.carried carrier.new)) }
+    ensures fault { IfErr result (λ fault. Fails fault (address_octets name.now)
+        (message_octets notice) (C.carried carrier.old) (C.carried carrier.new)) }
 {
     let Some(address) = address_of(alloc, name)? else {
         return Err(NoticeFault::NoName);

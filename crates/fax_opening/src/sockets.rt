@@ -133,7 +133,8 @@ pub fn open_restored_lines<W: OpenedWire + Drop, N: Net>(
     ensures new { pages.now ≡ [] → IfOk result (λ lines. AreNew lines.lines) }
     ensures first { IfOk result (λ lines. lines.slot ≡ 0) }
     ensures as_many { IfOk result (λ lines. length lines.lines ≡ length configs.now) }
-    ensures restored { queues.old.items ≡ [] → IfOk result (λ lines. AreRestored (whole_pages torn.now pages.now) configs.now lines.lines queues.new.items) }
+    ensures restored { queues.old.items ≡ [] → IfOk result (λ lines.
+        AreRestored (whole_pages torn.now pages.now) configs.now lines.lines queues.new.items) }
 {
     let mut lines = Lines::new(alloc)?;
     for config in configs {
@@ -153,7 +154,8 @@ fn add_line<W: OpenedWire + Drop, N: Net>(
     queues: &mut Vec<Queue>,
 ) -> Result<(), ServeFault>
     ensures begun { OnOk result (AreBegun lines.old.lines → AreBegun lines.new.lines) }
-    ensures restored { OnOk result (AddsRestored (whole_pages torn.now pages.now) config.now lines.old.lines lines.new.lines queues.old.items queues.new.items) }
+    ensures restored { OnOk result (AddsRestored (whole_pages torn.now pages.now)
+        config.now lines.old.lines lines.new.lines queues.old.items queues.new.items) }
     ensures new { OnOk result (pages.now ≡ [] → AreNew lines.old.lines → AreNew lines.new.lines) }
     ensures slot { OnOk result (lines.new.slot ≡ lines.old.slot) }
     ensures one_more { OnOk result (length lines.new.lines ≡ length lines.old.lines + 1) }

@@ -52,7 +52,8 @@ tag_if (Some text) = tag_of_text text
 
 abbrev pub first_on : ℕ → Option QueueValue → FirstJob
 first_on life None = of_this_life
-first_on life (Some queue) = if is_of_earlier_life life queue.waits then record { is_restored = true; tag = tag_if (first_tag queue) } else of_this_life
+first_on life (Some queue) = if is_of_earlier_life life queue.waits
+    then record { is_restored = true; tag = tag_if (first_tag queue) } else of_this_life
 
 -- where something keeps the pages of the lines
 abbrev pub first_if : {K : Type 0} → Option K → (K → FirstJob) → FirstJob
@@ -75,4 +76,5 @@ store_fails store = refuses_now store.storage.spool || undelivered_fails store.u
 
 -- line i, counted from 0
 abbrev pub line_at : List PlaceValue → (has_failed : Bool) → (ℕ → FirstJob) → ℕ → Option LineView
-line_at lines has_failed first i = option_map (λ place. line_seen place.line (first i) has_failed) (slice_get lines i)
+line_at lines has_failed first i =
+    option_map (λ place. line_seen place.line (first i) has_failed) (slice_get lines i)

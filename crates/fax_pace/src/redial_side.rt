@@ -103,7 +103,8 @@ pub(crate) struct SeenRedials<'s, R: RedialSide> {
 impl<'s, R: RedialSide> View for SeenRedials<'s, R> {
     ghost use Rattle.std.specs.Prelude.{◌-◌, nat_lt, false, None, if◌then◌else◌};
 
-    ghost line = { λ seen i. if nat_lt i seen.first then None else R.line seen.redials.now (i - seen.first) };
+    ghost line = { λ seen i. if nat_lt i seen.first
+        then None else R.line seen.redials.now (i - seen.first) };
 
     ghost failed = { λ seen. false };
 

@@ -47,9 +47,11 @@ impl Schedule {
     /// after this one was; else it is due a millisecond from now, and what was left out is counted.
     pub fn begin(&mut self, now: u64) -> u64
         ensures late { result ≡ now - self.old.due }
-        ensures in_time { result ≤ 1000 → self.old.due < 2 ^ 64 - 1 → self.new ≡ record { due = self.old.due + 1; skipped = self.old.skipped } }
+        ensures in_time { result ≤ 1000 → self.old.due < 2 ^ 64 - 1
+            → self.new ≡ record { due = self.old.due + 1; skipped = self.old.skipped } }
         ensures skips { 1000 < result → now < 2 ^ 64 - 1 → self.new.due ≡ now + 1 }
-        ensures counted { 1000 < result → self.new.skipped ≡ min (self.old.skipped + result) (2 ^ 64 - 1) }
+        ensures counted { 1000 < result
+            → self.new.skipped ≡ min (self.old.skipped + result) (2 ^ 64 - 1) }
     {
         let late = now.saturating_sub(self.due);
         if late > MOST_AFTER_MS {

@@ -16,7 +16,8 @@ pub(crate) fn set_tags<L: SeenLines, D: Disk, U: Disk>(
     slot: usize,
     seen: &L,
 ) -> bool
-    ensures { IsUnchanged store.old.storage.queues.items store.new.storage.queues.items store.old.storage.spool store.new.storage.spool }
+    ensures { IsUnchanged store.old.storage.queues.items
+        store.new.storage.queues.items store.old.storage.spool store.new.storage.spool }
 {
     let mut confirms = false;
     let rounds = seen.len() / SLOTS + 1;
@@ -38,7 +39,8 @@ fn confirmed_in<L: SeenLines>(seen: &L, i: usize) -> Option<u32> {
 
 /// The tag of the call of line i is noted, where it has one.
 fn set_tag<D: Disk, U: Disk>(store: &mut PairedStore<D, U>, i: usize, tag: Option<Tag>)
-    ensures { IsUnchanged store.old.storage.queues.items store.new.storage.queues.items store.old.storage.spool store.new.storage.spool }
+    ensures { IsUnchanged store.old.storage.queues.items
+        store.new.storage.queues.items store.old.storage.spool store.new.storage.spool }
 {
     if let Some(tag) = tag {
         store.set_tag(i, tag.text());

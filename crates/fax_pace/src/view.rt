@@ -29,7 +29,9 @@ impl<'a, W: LineWire + Drop, D: Disk, U: Disk> View for Seen<'a, W, D, U> {
     ghost use Rattle.std.specs.Prelude.{slice_get};
     ghost use Rattle.fax_pace.specs.Views.{failed_if, first_if, first_on, line_at, store_fails};
 
-    ghost line = { λ seen i. line_at seen.lines.now.lines (failed_if seen.store (λ store. store_fails store.now)) (λ i. first_if seen.store (λ store. first_on store.now.storage.life (slice_get store.now.storage.queues.items i))) i };
+    ghost line = { λ seen i. line_at seen.lines.now.lines (failed_if seen.store
+        (λ store. store_fails store.now)) (λ i. first_if seen.store (λ store.
+        first_on store.now.storage.life (slice_get store.now.storage.queues.items i))) i };
 
     ghost failed = { λ seen. failed_if seen.store (λ store. store_fails store.now) };
 
@@ -257,7 +259,8 @@ pub(crate) fn has_failed<D: Disk, U: Disk>(store: Option<&PairedStore<D, U>>) ->
 
 /// Whether the disk of the pages that could not be delivered has failed, where there is one.
 fn has_failed_too<U: Disk>(kept: Option<&Undelivered<U>>) -> bool
-    ensures { MatchOption kept.entry (result ≡ false) (λ kept. result ≡ refuses_now kept.now.spool) }
+    ensures { MatchOption kept.entry (result ≡ false)
+        (λ kept. result ≡ refuses_now kept.now.spool) }
 {
     match kept {
         Some(kept) => kept.refuses(),
@@ -291,7 +294,8 @@ fn sending<W: LineWire + Drop>(line: &Line<W>) -> Option<u32>
 
 /// The job whose call is asked for: none while the end of a job cannot be noted, since it would be sent a second time.
 fn asked<W: LineWire + Drop>(line: &Line<W>, has_failed: bool) -> Option<AskedView>
-    ensures { result ≡ asked_seen has_failed (job_asked line.now.gateway.settings.asks line.now.gateway.book) }
+    ensures { result
+        ≡ asked_seen has_failed (job_asked line.now.gateway.settings.asks line.now.gateway.book) }
 {
     if has_failed {
         return None;
@@ -319,7 +323,8 @@ fn leg_view<W: LineWire + Drop>(line: &Line<W>, leg: Leg) -> LegView
 
 /// The job of line i that is first in turn: whether it was confirmed in an earlier life, and the tag that it has then.
 fn first_job<D: Disk, U: Disk>(store: Option<&PairedStore<D, U>>, i: usize) -> FirstJob
-    ensures { result ≡ first_if store.entry (λ store. first_on store.now.storage.life (slice_get store.now.storage.queues.items i)) }
+    ensures { result ≡ first_if store.entry
+        (λ store. first_on store.now.storage.life (slice_get store.now.storage.queues.items i)) }
 {
     match store {
         Some(store) if store.storage.is_restored(i) => FirstJob {

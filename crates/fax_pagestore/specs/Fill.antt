@@ -23,4 +23,5 @@ kept_octet before (suc n) = suc n ∷ []
 -- octets without those of zeros that stand after so many others, where so many stood before all of them
 unfoldable pub less_fill : (before : ℕ) → List ℕ → List ℕ
 less_fill before [] = []
-less_fill before (octet ∷ octets) = kept_octet before octet ++ less_fill (zeros_with before octet) octets
+less_fill before (octet ∷ octets) =
+    kept_octet before octet ++ less_fill (zeros_with before octet) octets

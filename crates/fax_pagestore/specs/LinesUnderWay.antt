@@ -9,7 +9,8 @@ use Rattle.fax_pagestore.specs.declared.reader.settled.Settled.{Settled}
 
 -- Bits begin with runs of these elements, one at least, that don't reach the width; the next run has this colour, and this is
 -- left after them.
-pub record BeginsLine (width : ℕ) (bits : List Bool) (row : Elements) (colour : Colour) (rest : List Bool) : Type 0 where
+pub record BeginsLine (width : ℕ)
+    (bits : List Bool) (row : Elements) (colour : Colour) (rest : List Bool) : Type 0 where
   pub runs : List ℕ
   pub text : List Bool
   pub spelt : SpellsRuns White text runs
@@ -28,5 +29,7 @@ pub record BeginSameLine (width : ℕ) (bits others : List Bool) : Type 0 where
   pub same : BeginsLine width others row colour rest
 
 -- Of the bits after a separator of this tag these are kept: they, or in one dimension others that begin the same line.
-abbrev pub AreKept : (width : ℕ) (tag : Option Bool) (settled : Option Settled) (bits kept : List Bool) → Type 0
-AreKept width tag settled bits kept = (kept ≡ bits) ⊎ ((tag ≡ Some true) × (settled ≡ None) × BeginSameLine width bits kept)
+abbrev pub AreKept :
+    (width : ℕ) (tag : Option Bool) (settled : Option Settled) (bits kept : List Bool) → Type 0
+AreKept width tag settled bits kept =
+    (kept ≡ bits) ⊎ ((tag ≡ Some true) × (settled ≡ None) × BeginSameLine width bits kept)

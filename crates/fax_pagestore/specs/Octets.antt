@@ -9,7 +9,8 @@ use Rattle.fax_pagestore.specs.Readers.{ReaderValue}
 -- how many elements have another colour than the one before them, where an element of this colour stands before the first
 unfoldable pub changes_after : (before : Colour) → Elements → ℕ
 changes_after before [] = 0
-changes_after before (colour ∷ row) = if differ colour before then changes_after colour row + 1 else changes_after colour row
+changes_after before (colour ∷ row) =
+    if differ colour before then changes_after colour row + 1 else changes_after colour row
 
 -- a row: an entry of 16 octets, and two for each changing element (ITU-T T.4, 4.2.1.3.1)
 unfoldable pub octets_of_row : Elements → ℕ

@@ -21,8 +21,9 @@ pub record HasRowAt (places : List ℕ) (start count width : ℕ) : Type 0 where
 
 -- the places of each extent end before those of the extents after it begin
 abbrev pub AreInOrder : List Extent → Type 0
-AreInOrder extents = (j k : ℕ) (e : Extent) → j < k → k < length extents
-    → (slice_index_or extents j e).start + (slice_index_or extents j e).count ≤ (slice_index_or extents k e).start
+AreInOrder extents = (j k : ℕ) (e : Extent) → j < k
+    → k < length extents → (slice_index_or extents j e).start + (slice_index_or extents j e).count
+    ≤ (slice_index_or extents k e).start
 
 -- The places of each extent begin where those of the one before it end, and the last end here: none are spare.
 abbrev pub AreSideBySide : (from : ℕ) → List Extent → (end : ℕ) → Type 0

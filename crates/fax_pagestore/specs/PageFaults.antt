@@ -22,11 +22,13 @@ RunsOut coding bits = AreZeros bits
 
 -- a line begins: the bits are not only zeros, and don't begin with 11 of them
 abbrev pub LineBegins : List Bool → Type 0
-LineBegins bits = (zeros : ℕ) × (rest : List Bool) × (zeros < 11) × (bits ≡ replicate zeros false ++ true ∷ rest)
+LineBegins bits =
+    (zeros : ℕ) × (rest : List Bool) × (zeros < 11) × (bits ≡ replicate zeros false ++ true ∷ rest)
 
 -- a whole separator begins, of some tag
 abbrev pub SeparatorBegins : Coding → List Bool → Type 0
-SeparatorBegins coding bits = (tag : Bool) × (separator rest : List Bool) × IsSeparator coding tag separator × (bits ≡ separator ++ rest)
+SeparatorBegins coding bits = (tag : Bool)
+    × (separator rest : List Bool) × IsSeparator coding tag separator × (bits ≡ separator ++ rest)
 
 -- the last of the rows so far
 abbrev pub last_of : List Elements → Option Elements
@@ -47,7 +49,8 @@ FailsRow width false None bits = Unit {0}
 
 -- a row is read, and after its line this rest is left
 abbrev pub ReadsRow : ℕ → Bool → Option Elements → List Bool → List Bool → Type 0
-ReadsRow width tag before bits rest = (line : List Bool) × (row : Elements) × SpellsRow width tag before line row × (bits ≡ line ++ rest)
+ReadsRow width tag before bits rest = (line : List Bool)
+    × (row : Elements) × SpellsRow width tag before line row × (bits ≡ line ++ rest)
 
 -- A line is wanted: it begins after one separator, and there is room for its row.
 pub record WantsLine (rows : List Elements) (further : ℕ) (bits : List Bool) : Type 0 where
@@ -66,12 +69,15 @@ Stops coding width rows further tag bits NoRtc =
     -- a separator of tag 0 is followed by another, or is the sixth
     ⊎ ((tag ≡ false) × (((further < 5) × SeparatorBegins coding bits) ⊎ (further ≡ 5)))
     -- no separator is whole after a line
-    ⊎ (WantsLine rows further bits × (rest : List Bool) × ReadsRow width tag (last_of rows) bits rest × RunsOut coding rest)
+    ⊎ (WantsLine rows further bits
+    × (rest : List Bool) × ReadsRow width tag (last_of rows) bits rest × RunsOut coding rest)
 Stops coding width rows further tag bits Empty = (further ≡ 5) × (tag ≡ true) × (rows ≡ [])
-Stops coding width rows further tag bits TooManyRows = (further ≡ 0) × LineBegins bits × (length rows ≡ most_rows)
+Stops coding width rows further tag bits TooManyRows =
+    (further ≡ 0) × LineBegins bits × (length rows ≡ most_rows)
 -- the line can't be read, or a 1 comes after it before 11 zeros
-Stops coding width rows further tag bits (BadLine n) = (n ≡ length rows) × WantsLine rows further bits
-    × (FailsRow width tag (last_of rows) bits ⊎ ((rest : List Bool) × ReadsRow width tag (last_of rows) bits rest × LineBegins rest))
+Stops coding width rows further tag bits (BadLine n) =
+    (n ≡ length rows) × WantsLine rows further bits × (FailsRow width tag (last_of rows) bits
+    ⊎ ((rest : List Bool) × ReadsRow width tag (last_of rows) bits rest × LineBegins rest))
 Stops coding width rows further tag bits NoEol = ⊥
 Stops coding width rows further tag bits NoMemory = ⊥
 
@@ -87,7 +93,8 @@ abbrev pub BreaksOff : Coding → ℕ → Bool → List Bool → Type 0
 BreaksOff coding further tag bits = (further < 5) × RunsOut coding bits
 
 -- After a separator of this tag stand at most five more, and after these, for this reason, no return to control.
-pub record StopsInReturn (coding : Coding) (tag : Bool) (bits : List Bool) (Reason : ℕ → Bool → List Bool → Type 0) : Type 0 where
+pub record StopsInReturn (coding : Coding)
+    (tag : Bool) (bits : List Bool) (Reason : ℕ → Bool → List Bool → Type 0) : Type 0 where
   pub further : ℕ
   pub text : List Bool
   pub last : Bool
@@ -98,7 +105,8 @@ pub record StopsInReturn (coding : Coding) (tag : Bool) (bits : List Bool) (Reas
   pub reason : Reason further last rest
 
 -- what was read before nothing more is
-pub record FailsAfterFront (coding : Coding) (width : ℕ) (octets : List ℕ) (fault : PageFault) : Type 0 where
+pub record FailsAfterFront (coding : Coding) (width : ℕ) (octets : List ℕ) (fault : PageFault) :
+    Type 0 where
   pub rows : List Elements
   pub further : ℕ
   pub tag : Bool
@@ -110,8 +118,10 @@ pub record FailsAfterFront (coding : Coding) (width : ℕ) (octets : List ℕ) (
 
 -- no front of the octets ends with an EOL and its tag
 abbrev pub HasNoEol : Coding → List ℕ → Type 0
-HasNoEol coding octets = (tag : Bool) (front rest : List Bool) → IsFront coding tag front → bits_of octets ≡ front ++ rest → ⊥
+HasNoEol coding octets = (tag : Bool) (front rest : List Bool)
+    → IsFront coding tag front → bits_of octets ≡ front ++ rest → ⊥
 
 -- Reading a page from octets meets this fault.
 abbrev pub FailsPage : ℕ → Coding → List ℕ → PageFault → Type 0
-FailsPage width coding octets fault = ((fault ≡ NoEol) × HasNoEol coding octets) ⊎ FailsAfterFront coding width octets fault
+FailsPage width coding octets fault =
+    ((fault ≡ NoEol) × HasNoEol coding octets) ⊎ FailsAfterFront coding width octets fault

@@ -22,8 +22,8 @@ IsTag Mr tag text = text ≡ tag ∷ []
 
 -- a separator: fill, an EOL and its tag, that is at least 11 zeros, a 1 and the tag
 abbrev pub IsSeparator : Coding → Bool → List Bool → Type 0
-IsSeparator coding tag text = (zeros : ℕ) × (tag_text : List Bool) × (11 ≤ zeros) × IsTag coding tag tag_text
-    × (text ≡ replicate zeros false ++ true ∷ tag_text)
+IsSeparator coding tag text = (zeros : ℕ) × (tag_text : List Bool)
+    × (11 ≤ zeros) × IsTag coding tag tag_text × (text ≡ replicate zeros false ++ true ∷ tag_text)
 
 -- So many separators after one of this tag, of which the last has the tag `last`: each that is followed
 -- by another has tag 1.
@@ -53,7 +53,8 @@ SpellsRow width false None text row = ⊥
 
 -- After a separator of this tag, and this row before, the bits are the lines of rows, each with a
 -- separator after it, of which the last has the tag `last`.
-abbrev pub SpellsRows : Coding → ℕ → Bool → Option Elements → List Elements → List Bool → Bool → Type 0
+abbrev pub SpellsRows : Coding
+    → ℕ → Bool → Option Elements → List Elements → List Bool → Bool → Type 0
 SpellsRows coding width tag before [] text last = (text ≡ []) × (last ≡ tag)
 SpellsRows coding width tag before (row ∷ rows) text last =
     (line separator rest : List Bool) × (next : Bool) × (text ≡ line ++ (separator ++ rest))
@@ -62,7 +63,8 @@ SpellsRows coding width tag before (row ∷ rows) text last =
 
 -- What is read of octets up to a place after a separator of this tag: any bits up to the first EOL, the
 -- lines of these rows, each with a separator after it, and so many further separators.
-pub record ReadSoFar (coding : Coding) (width : ℕ) (octets : List ℕ) (rows : List Elements) (further : ℕ) (tag : Bool) (rest : List Bool) : Type 0 where
+pub record ReadSoFar (coding : Coding) (width : ℕ) (octets : List ℕ)
+    (rows : List Elements) (further : ℕ) (tag : Bool) (rest : List Bool) : Type 0 where
   pub front : List Bool
   pub lines : List Bool
   pub separators : List Bool
@@ -75,11 +77,13 @@ pub record ReadSoFar (coding : Coding) (width : ℕ) (octets : List ℕ) (rows :
 
 -- Octets mean these rows of a width: any bits up to the first EOL, the lines, each with a separator
 -- after it, five more separators, and anything. The last six separators have tag 1.
-pub record MeansRows (width : ℕ) (coding : Coding) (octets : List ℕ) (rows : List Elements) : Type 0 where
+pub record MeansRows (width : ℕ) (coding : Coding) (octets : List ℕ) (rows : List Elements) :
+    Type 0 where
   pub are_rows : AreRows width rows
   pub more : List Bool
   pub read : ReadSoFar coding width octets rows 5 true more
 
 -- octets mean a page under its format
 abbrev pub MeansPage : Format → Coding → List ℕ → PageValue → Type 0
-MeansPage format coding octets page = (page.format ≡ format) × MeansRows (elements_of format.width) coding octets page.rows
+MeansPage format coding octets page =
+    (page.format ≡ format) × MeansRows (elements_of format.width) coding octets page.rows

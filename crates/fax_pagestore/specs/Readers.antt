@@ -31,16 +31,26 @@ pub record ReaderValue : Type 0 where
 
 -- a reader to which nothing came
 abbrev pub new_reader : Format → Coding → ReaderValue
-new_reader format coding = record { format = format; coding = coding; rows = []; tag = None; left = []; zeros = 0; settled = None }
+new_reader format coding = record {
+  format = format;
+  coding = coding;
+  rows = [];
+  tag = None;
+  left = [];
+  zeros = 0;
+  settled = None;
+}
 
 -- Of octets these rows are read, and a separator of this tag after the last; these bits are left. Before the
 -- first EOL there are no rows, and none begins before what is left.
 abbrev pub IsReadUpTo : Coding → ℕ → List ℕ → List Elements → Option Bool → List Bool → Type 0
-IsReadUpTo coding width octets rows None left = (rows ≡ []) × (before : List Bool) × (bits_of octets ≡ before ++ left) × BeginNoEol before left
+IsReadUpTo coding width octets rows None left =
+    (rows ≡ []) × (before : List Bool) × (bits_of octets ≡ before ++ left) × BeginNoEol before left
 IsReadUpTo coding width octets rows (Some tag) left = ReadSoFar coding width octets rows 0 tag left
 
 -- bits begin with the line of some row, after a separator of this tag, and a separator after it
-pub record BeginsRow (coding : Coding) (width : ℕ) (tag : Bool) (before : Option Elements) (bits : List Bool) : Type 0 where
+pub record BeginsRow (coding : Coding)
+    (width : ℕ) (tag : Bool) (before : Option Elements) (bits : List Bool) : Type 0 where
   pub line : List Bool
   pub row : Elements
   pub rest : List Bool
@@ -71,21 +81,27 @@ StaysBad fault bits = (fault ≢ Run End) × (fault ≡ NoMode → 7 ≤ length 
 -- A reader is at the end of these octets. What can be read of them is read. Once it is settled what they are, no
 -- bits are kept, and they are that with any octets after them.
 pub record IsAfter (octets : List ℕ) (reader : ReaderValue) : Type 0 where
-  pub read : reader.settled ≡ None → IsReadUpTo reader.coding (elements_of reader.format.width) octets reader.rows reader.tag reader.left
-  pub waits : reader.settled ≡ None → NoMoreIsWhole reader.coding (elements_of reader.format.width) reader.rows reader.tag reader.left
-  pub settled : (what : Settled) → reader.settled ≡ Some what
-      → (reader.left ≡ []) × ((more : List ℕ) → AreJudged reader.coding (elements_of reader.format.width) (octets ++ more) reader.rows (fault_of what))
+  pub read : reader.settled ≡ None → IsReadUpTo reader.coding
+      (elements_of reader.format.width) octets reader.rows reader.tag reader.left
+  pub waits : reader.settled ≡ None → NoMoreIsWhole reader.coding
+      (elements_of reader.format.width) reader.rows reader.tag reader.left
+  pub settled : (what : Settled) → reader.settled ≡ Some what → (reader.left ≡ [])
+      × ((more : List ℕ) → AreJudged reader.coding (elements_of reader.format.width) (octets
+      ++ more) reader.rows (fault_of what))
 
 -- Octets are read as others are: whatever follows both, what these mean the octets mean, and the fault that these meet they meet.
 abbrev pub AreReadAs : Coding → ℕ → (octets others : List ℕ) → Type 0
-AreReadAs coding width octets others = (more : List ℕ) (rows : List Elements) (fault : Option PageFault)
-    → AreJudged coding width (others ++ more) rows fault → AreJudged coding width (octets ++ more) rows fault
+AreReadAs coding width octets others =
+    (more : List ℕ) (rows : List Elements) (fault : Option PageFault)
+    → AreJudged coding width (others ++ more) rows fault
+    → AreJudged coding width (octets ++ more) rows fault
 
 -- These octets came to a reader, whatever the pieces in which they came: it is at the end of others, as which they are read
 -- less long fill.
 pub record HasRead (octets : List ℕ) (reader : ReaderValue) : Type 0 where
   pub others : List ℕ
-  pub read_as : AreReadAs reader.coding (elements_of reader.format.width) (less_fill 0 octets) others
+  pub read_as :
+      AreReadAs reader.coding (elements_of reader.format.width) (less_fill 0 octets) others
   pub after : IsAfter others reader
   pub zeros : reader.settled ≡ None → reader.zeros ≡ zeros_after 0 octets
 
@@ -131,7 +147,8 @@ reader_at mark rows = record {
 }
 
 -- From one place to the next a row was read, and a separator of this tag after it.
-pub record ReadsOne (coding : Coding) (width : ℕ) (tag next : Bool) (rows all : List Elements) (old new : Place) : Type 0 where
+pub record ReadsOne (coding : Coding)
+    (width : ℕ) (tag next : Bool) (rows all : List Elements) (old new : Place) : Type 0 where
   pub row : Elements
   pub line : List Bool
   pub separator : List Bool

@@ -11,7 +11,8 @@ use Rattle.fax_pagestore.specs.Pages.{PageValue}
 use Rattle.fax_pagestore.specs.WrittenPages.{WritesPage, WritesRows, ends_of_line}
 
 -- octets that hold the written text of a page, with fewer than eight zeros after it
-pub record IsTextOf (page : PageValue) (coding : Coding) (least : ℕ) (octets : List ℕ) : Type 0 where
+pub record IsTextOf (page : PageValue) (coding : Coding) (least : ℕ) (octets : List ℕ) :
+    Type 0 where
   pub are_octets : AreOctets octets
   pub text : List Bool
   pub writes : WritesPage coding page.format.fine least page.rows text
@@ -51,7 +52,8 @@ pub record HasLeft (page : PageValue) (octets : List ℕ) (writer : WriterValue)
   pub padded : IsPadded octets (writer.waiting ++ text)
 
 -- Bits were put after others, with which a page is written from one place to the next.
-pub record WritesOn (coding : Coding) (least : ℕ) (page : PageValue) (place next : Place) (old new : List Bool) : Type 0 where
+pub record WritesOn (coding : Coding)
+    (least : ℕ) (page : PageValue) (place next : Place) (old new : List Bool) : Type 0 where
   pub bits : List Bool
   pub put : new ≡ old ++ bits
   pub rest : (text : List Bool) → IsWrittenFrom coding least page place text

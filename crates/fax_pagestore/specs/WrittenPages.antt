@@ -44,12 +44,14 @@ WritesRow false None row line = ⊥
 -- the lines of rows from this index on, each with its fill, an EOL and the tag after it
 abbrev pub WritesRows : Coding → Bool → ℕ → ℕ → Option Elements → List Elements → List Bool → Type 0
 WritesRows coding fine least index before [] text = text ≡ []
-WritesRows coding fine least index before (row ∷ rows) text = (line rest : List Bool)
-    × WritesRow (is_one_dimensional coding fine index) before row line
-    × (text ≡ line ++ (fill least line ++ (end_of_line ++ (tag_bits coding (next_tag coding fine index rows) ++ rest))))
+WritesRows coding fine least index before (row ∷ rows) text =
+    (line rest : List Bool) × WritesRow (is_one_dimensional coding fine index) before row line
+    × (text ≡ line ++ (fill least line
+    ++ (end_of_line ++ (tag_bits coding (next_tag coding fine index rows) ++ rest))))
     × WritesRows coding fine least (index + 1) (Some row) rows rest
 
 -- the bits of a page: EOL, the lines, and five more EOL
 abbrev pub WritesPage : Coding → Bool → ℕ → List Elements → List Bool → Type 0
-WritesPage coding fine least rows text = (lines : List Bool) × WritesRows coding fine least 0 None rows lines
+WritesPage coding fine least rows text =
+    (lines : List Bool) × WritesRows coding fine least 0 None rows lines
     × (text ≡ end_of_line ++ (tag_bits coding true ++ (lines ++ ends_of_line coding 5)))

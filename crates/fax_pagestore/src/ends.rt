@@ -95,7 +95,8 @@ fn after_blocks(octets: &[u8], from: usize) -> usize
 /// Whether none of the octets of the block that begins here counts as an EOL, all looked at side by side.
 fn block_is_clear(octets: &[u8], first: usize) -> bool
     requires { first + 16 < length octets.now }
-    ensures { IsTrue result → (i : ℕ) → first ≤ i → i < first + 16 → CountsNot (get_or octets.now i 0) (get_or octets.now (i + 1) 0) }
+    ensures { IsTrue result → (i : ℕ) → first ≤ i
+        → i < first + 16 → CountsNot (get_or octets.now i 0) (get_or octets.now (i + 1) 0) }
 {
     let mut found = false;
     for place in first..first + BLOCK {
@@ -132,7 +133,8 @@ const MOST_PASSED: usize = 1 << 28;
 /// the one in which it ends.
 pub(crate) fn bits_before_eol(octets: &[u8]) -> u32
     ensures within { result ≤ 8 * length octets.now }
-    ensures none { BeginNoEol (take result (bits_of octets.now)) (drop result (bits_of octets.now)) }
+    ensures none { BeginNoEol (take result (bits_of octets.now))
+        (drop result (bits_of octets.now)) }
 {
     let passed = place_of_eol(octets).saturating_sub(2);
     8 * passed.min(MOST_PASSED) as u32

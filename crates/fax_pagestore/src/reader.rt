@@ -75,10 +75,22 @@ impl<S: RowStore> Model for PageReader<S> {
 
     ghost Value = { ReaderValue };
 
-    ghost view = { λ r. record { format = r.format; coding = r.coding; rows = S.rows r.rows; tag = r.tag; left = drop r.used (bits_of r.octets.items); zeros = r.zeros; settled = r.settled } };
+    ghost view = { λ r.
+        record {
+          format = r.format;
+          coding = r.coding;
+          rows = S.rows r.rows;
+          tag = r.tag;
+          left = drop r.used (bits_of r.octets.items);
+          zeros = r.zeros;
+          settled = r.settled;
+        } };
 
-    ghost invariant = { λ r. (r.used ≤ 8 * length r.octets.items) × (length (S.rows r.rows) ≤ most_rows)
-        × All (λ row. length row ≡ elements_of r.format.width) (S.rows r.rows) × (r.settled ≡ Some Page → 0 < length (S.rows r.rows)) × (r.used < 8) × (length r.octets.items ≤ most_octets) };
+    ghost invariant = { λ r. (r.used ≤ 8 * length r.octets.items)
+        × (length (S.rows r.rows) ≤ most_rows)
+        × All (λ row. length row ≡ elements_of r.format.width) (S.rows r.rows)
+        × (r.settled ≡ Some Page → 0 < length (S.rows r.rows))
+        × (r.used < 8) × (length r.octets.items ≤ most_octets) };
 }
 
 impl<S: RowStore> PageReader<S> {
@@ -105,16 +117,20 @@ impl<S: RowStore> PageReader<S> {
     /// of a page, and after a fault that no octets mend, it takes nothing and no memory. An `Err` is that of
     /// memory, and changes nothing.
     pub fn feed(&mut self, piece: &[u8]) -> Result<(), PageFault>
-        ensures read { OnOk result ((octets : List ℕ) → HasRead octets self.old → HasRead (octets ++ piece.now) self.new) }
-        ensures rows { OnOk result ((more : List Elements) × (self.new.rows ≡ self.old.rows ++ more)) }
-        ensures same { OnOk result ((self.new.format ≡ self.old.format) × (self.new.coding ≡ self.old.coding)) }
+        ensures read { OnOk result ((octets : List ℕ)
+            → HasRead octets self.old → HasRead (octets ++ piece.now) self.new) }
+        ensures rows { OnOk result ((more : List Elements)
+            × (self.new.rows ≡ self.old.rows ++ more)) }
+        ensures same { OnOk result ((self.new.format ≡ self.old.format)
+            × (self.new.coding ≡ self.old.coding)) }
         ensures settled { IsSome self.old.settled → IsOk result × (self.new ≡ self.old) }
         ensures fault { IfErr result (λ fault. fault ≡ PageFault.NoMemory) }
         ensures err { OnErr result (self.new ≡ self.old) }
 
         // What is kept beside the rows is bounded, and while only fill comes it does not grow.
         ensures kept { OnOk result (length self.new.left ≤ 8 * most_octets) }
-        ensures fill { OnOk result ((n : ℕ) → piece.now ≡ replicate n 0 → most_kept self.new ≤ most_kept self.old) }
+        ensures fill { OnOk result ((n : ℕ)
+            → piece.now ≡ replicate n 0 → most_kept self.new ≤ most_kept self.old) }
     {
         if self.settled.is_some() {
             return Ok(());
@@ -179,7 +195,8 @@ impl<S: RowStore> PageReader<S> {
 
     /// Why the octets so far are no page, if they are none. It takes no memory.
     fn fault(&self) -> Option<PageFault>
-        ensures judged { (octets : List ℕ) → HasRead octets self.now → AreJudged self.now.coding (elements_of self.now.format.width) octets self.now.rows result }
+        ensures judged { (octets : List ℕ) → HasRead octets self.now → AreJudged self.now.coding
+            (elements_of self.now.format.width) octets self.now.rows result }
         ensures some { IsNone result → 0 < length self.now.rows }
     {
         match self.settled {
@@ -198,12 +215,17 @@ impl<S: RowStore> PageReader<S> {
     /// What [`PageReader::finish`] would answer, without the page. It takes no memory. A line that is not whole
     /// is looked at anew by each call.
     pub fn check(&self) -> Result<(), PageFault>
-        ensures ok { OnOk result ((octets : List ℕ) → HasRead octets self.now → MeansRows (elements_of self.now.format.width) self.now.coding octets self.now.rows) }
-        ensures fault { IfErr result (λ fault. (octets : List ℕ) → HasRead octets self.now → FailsPage (elements_of self.now.format.width) self.now.coding octets fault) }
+        ensures ok { OnOk result ((octets : List ℕ) → HasRead octets self.now
+            → MeansRows (elements_of self.now.format.width) self.now.coding octets self.now.rows) }
+        ensures fault { IfErr result (λ fault. (octets : List ℕ) → HasRead octets self.now
+            → FailsPage (elements_of self.now.format.width) self.now.coding octets fault) }
 
         // So octets that mean a page are judged so, and a fault comes wherever it is met.
-        ensures reads { (octets : List ℕ) (page : PageValue) → HasRead octets self.now → MeansPage self.now.format self.now.coding octets page → IsOk result }
-        ensures fails { (octets : List ℕ) (fault : PageFault) → HasRead octets self.now → FailsPage (elements_of self.now.format.width) self.now.coding octets fault → result ≡ Err fault }
+        ensures reads { (octets : List ℕ) (page : PageValue) → HasRead octets self.now
+            → MeansPage self.now.format self.now.coding octets page → IsOk result }
+        ensures fails { (octets : List ℕ) (fault : PageFault) → HasRead octets self.now
+            → FailsPage (elements_of self.now.format.width) self.now.coding octets fault
+            → result ≡ Err fault }
     {
         match self.fault() {
             None => Ok(()),
@@ -213,14 +235,19 @@ impl<S: RowStore> PageReader<S> {
 
     /// The page that all octets so far mean. The reader is then as a new one. It takes no memory.
     pub fn finish(&mut self) -> Result<Page<S>, PageFault>
-        ensures ok { IfOk result (λ page. (octets : List ℕ) → HasRead octets self.old → MeansPage self.old.format self.old.coding octets page) }
-        ensures fault { IfErr result (λ fault. (octets : List ℕ) → HasRead octets self.old → FailsPage (elements_of self.old.format.width) self.old.coding octets fault) }
+        ensures ok { IfOk result (λ page. (octets : List ℕ)
+            → HasRead octets self.old → MeansPage self.old.format self.old.coding octets page) }
+        ensures fault { IfErr result (λ fault. (octets : List ℕ) → HasRead octets self.old
+            → FailsPage (elements_of self.old.format.width) self.old.coding octets fault) }
         ensures new { self.new ≡ new_reader self.old.format self.old.coding }
         ensures rows { IfOk result (λ page. page.rows ≡ self.old.rows) }
 
         // So octets that mean a page are read, and a fault comes wherever it is met.
-        ensures reads { (octets : List ℕ) (page : PageValue) → HasRead octets self.old → MeansPage self.old.format self.old.coding octets page → result ≡ Ok page }
-        ensures fails { (octets : List ℕ) (fault : PageFault) → HasRead octets self.old → FailsPage (elements_of self.old.format.width) self.old.coding octets fault → result ≡ Err fault }
+        ensures reads { (octets : List ℕ) (page : PageValue) → HasRead octets self.old
+            → MeansPage self.old.format self.old.coding octets page → result ≡ Ok page }
+        ensures fails { (octets : List ℕ) (fault : PageFault) → HasRead octets self.old
+            → FailsPage (elements_of self.old.format.width) self.old.coding octets fault
+            → result ≡ Err fault }
     {
         let fault = self.fault();
         let format = self.format;

@@ -41,11 +41,15 @@ pub fn read_page<S: RowStore>(
     coding: Coding,
 ) -> Result<Page<S>, PageFault>
     ensures ok { IfOk result (λ page. MeansPage format coding octets.now page) }
-    ensures fault { IfErr result (λ fault. fault ≢ PageFault.NoMemory → FailsPage (elements_of format.width) coding octets.now fault) }
+    ensures fault { IfErr result (λ fault. fault ≢ PageFault.NoMemory
+        → FailsPage (elements_of format.width) coding octets.now fault) }
 
     // Memory aside, octets that mean a page are read, and a fault comes wherever it is met.
-    ensures reads { (page : PageValue) → MeansPage format coding octets.now page → (result ≡ Ok page) ⊎ (result ≡ Err PageFault.NoMemory) }
-    ensures fails { (fault : PageFault) → FailsPage (elements_of format.width) coding octets.now fault → (result ≡ Err fault) ⊎ (result ≡ Err PageFault.NoMemory) }
+    ensures reads { (page : PageValue) → MeansPage format coding octets.now page
+        → (result ≡ Ok page) ⊎ (result ≡ Err PageFault.NoMemory) }
+    ensures fails { (fault : PageFault)
+        → FailsPage (elements_of format.width) coding octets.now fault
+        → (result ≡ Err fault) ⊎ (result ≡ Err PageFault.NoMemory) }
 
     // That there is no EOL is told before memory is taken.
     ensures no_eol { HasNoEol coding octets.now → result ≡ Err PageFault.NoEol }
@@ -64,7 +68,8 @@ pub fn read_page<S: RowStore>(
 /// counts as tagged 1. `None` says that the tag bit is missing.
 #[inline]
 fn pass_tag(reader: &mut BitReader, coding: Coding) -> Option<bool>
-    ensures found { IfSome result (λ tag. (text : List Bool) × IsTag coding tag text × Passes reader.old reader.new text) }
+    ensures found { IfSome result
+        (λ tag. (text : List Bool) × IsTag coding tag text × Passes reader.old reader.new text) }
     ensures none { IsNone result → (coding ≡ Coding.Mr) × (reader.old.left ≡ []) }
 {
     match coding {
@@ -91,7 +96,8 @@ fn next_bit(reader: &BitReader) -> Option<u64>
 /// Passes any bits up to the first EOL, the EOL and its tag, and answers the tag. `None` says that there
 /// is no EOL with its tag.
 pub(crate) fn pass_front(reader: &mut BitReader, coding: Coding) -> Option<bool>
-    ensures found { IfSome result (λ tag. (front : List Bool) × IsFront coding tag front × Passes reader.old reader.new front) }
+    ensures found { IfSome result (λ tag. (front : List Bool)
+        × IsFront coding tag front × Passes reader.old reader.new front) }
     ensures none { IsNone result → HoldsNoTaggedEol coding reader.old.left }
 {
     loop {
@@ -120,7 +126,8 @@ pub(crate) enum Ahead {
 /// there is no 1 in it.
 #[inline]
 fn zeros_in_window(reader: &BitReader) -> u32
-    ensures one { result < 56 → (rest : List Bool) × (reader.now.left ≡ replicate result false ++ true ∷ rest) }
+    ensures one { result < 56
+        → (rest : List Bool) × (reader.now.left ≡ replicate result false ++ true ∷ rest) }
     ensures none { 56 ≤ result → LineBegins reader.now.left → ⊥ }
 {
     reader.window().leading_zeros() - (u64::BITS - WINDOW_BITS)
@@ -130,9 +137,11 @@ fn zeros_in_window(reader: &BitReader) -> u32
 /// tag, no return to control can follow.
 #[inline(always)]
 pub(crate) fn pass_separator(reader: &mut BitReader, coding: Coding) -> Result<Ahead, PageFault>
-    ensures separator { (tag : Bool) → result ≡ Ok (Ahead.Separator tag) → (text : List Bool) × IsSeparator coding tag text × Passes reader.old reader.new text }
+    ensures separator { (tag : Bool) → result ≡ Ok (Ahead.Separator tag)
+        → (text : List Bool) × IsSeparator coding tag text × Passes reader.old reader.new text }
     ensures line { result ≡ Ok Ahead.Line → LineBegins reader.old.left }
-    ensures fault { IfErr result (λ fault. (fault ≡ PageFault.NoRtc) × RunsOut coding reader.old.left) }
+    ensures fault { IfErr result
+        (λ fault. (fault ≡ PageFault.NoRtc) × RunsOut coding reader.old.left) }
 {
     let zeros = zeros_in_window(reader);
     if zeros < EOL_ZEROS {
@@ -151,8 +160,10 @@ pub(crate) fn pass_separator(reader: &mut BitReader, coding: Coding) -> Result<A
 #[cold]
 fn pass_filled_eol(reader: &mut BitReader, coding: Coding) -> Result<bool, PageFault>
     requires { LineBegins reader.old.left → ⊥ }
-    ensures ok { IfOk result (λ tag. (text : List Bool) × IsSeparator coding tag text × Passes reader.old reader.new text) }
-    ensures fault { IfErr result (λ fault. (fault ≡ PageFault.NoRtc) × RunsOut coding reader.old.left) }
+    ensures ok { IfOk result (λ tag. (text : List Bool)
+        × IsSeparator coding tag text × Passes reader.old reader.new text) }
+    ensures fault { IfErr result
+        (λ fault. (fault ≡ PageFault.NoRtc) × RunsOut coding reader.old.left) }
 {
     reader.skip_zeros();
     if !reader.has(1) {
@@ -196,9 +207,12 @@ pub(crate) enum Ending {
 #[cold]
 pub(crate) fn pass_return_to_control(reader: &mut BitReader, coding: Coding, first: bool) -> Ending
     requires { LineBegins reader.old.left → ⊥ }
-    ensures whole { result ≡ Ending.Whole → (text : List Bool) × InARow coding first 5 text true × Passes reader.old reader.new text }
-    ensures broken { result ≡ Ending.Broken → StopsInReturn coding first reader.old.left (BreaksReturn coding) }
-    ensures breaks_off { result ≡ Ending.BreaksOff → StopsInReturn coding first reader.old.left (BreaksOff coding) }
+    ensures whole { result ≡ Ending.Whole → (text : List Bool)
+        × InARow coding first 5 text true × Passes reader.old reader.new text }
+    ensures broken { result ≡ Ending.Broken
+        → StopsInReturn coding first reader.old.left (BreaksReturn coding) }
+    ensures breaks_off { result ≡ Ending.BreaksOff
+        → StopsInReturn coding first reader.old.left (BreaksOff coding) }
 {
     let mut tag = first;
     for _ in 0..FURTHER_EOLS {
@@ -224,8 +238,11 @@ fn read_line(
     n: u32,
 ) -> bool
     requires { one_dimensional ≡ false → 0 < n → IsWidth (length kept.now) }
-    ensures read { IsTrue result → (text : List Bool) × SpellsRow (elements_of width) one_dimensional (row_before n kept.now) text line.new × Passes reader.old reader.new text }
-    ensures fails { result ≡ false → FailsRow (elements_of width) one_dimensional (row_before n kept.now) reader.old.left }
+    ensures read { IsTrue result → (text : List Bool)
+        × SpellsRow (elements_of width) one_dimensional (row_before n kept.now) text line.new
+        × Passes reader.old reader.new text }
+    ensures fails { result ≡ false
+        → FailsRow (elements_of width) one_dimensional (row_before n kept.now) reader.old.left }
 {
     line.clear();
     if one_dimensional {
@@ -250,9 +267,11 @@ pub(crate) fn read_row(
     n: u32,
 ) -> Result<bool, PageFault>
     requires { tag ≡ false → 0 < n → IsWidth (length kept.now) }
-    ensures ok { IfOk result (λ next. (text separator : List Bool) × SpellsRow (elements_of width) tag (row_before n kept.now) text line.new × IsSeparator coding next separator
-        × Passes reader.old reader.new (text ++ separator)) }
-    ensures fault { IfErr result (λ fault. (rows : List Elements) → length rows ≡ n → (tag ≡ false → row_before n kept.now ≡ last_of rows) → WantsLine rows 0 reader.old.left
+    ensures ok { IfOk result (λ next. (text separator : List Bool)
+        × SpellsRow (elements_of width) tag (row_before n kept.now) text line.new
+        × IsSeparator coding next separator × Passes reader.old reader.new (text ++ separator)) }
+    ensures fault { IfErr result (λ fault. (rows : List Elements) → length rows ≡ n
+        → (tag ≡ false → row_before n kept.now ≡ last_of rows) → WantsLine rows 0 reader.old.left
         → Stops coding (elements_of width) rows 0 tag reader.old.left fault) }
 {
     if !read_line(line, reader, width, tag, kept, n) {
@@ -274,9 +293,12 @@ pub(crate) fn read_row_alone(
     coding: Coding,
     n: u32,
 ) -> Result<bool, PageFault>
-    ensures ok { IfOk result (λ next. (text separator : List Bool) × SpellsRow (elements_of width) true None text line.new × IsSeparator coding next separator
-        × Passes reader.old reader.new (text ++ separator)) }
-    ensures fault { IfErr result (λ fault. (rows : List Elements) → length rows ≡ n → WantsLine rows 0 reader.old.left → Stops coding (elements_of width) rows 0 true reader.old.left fault) }
+    ensures ok { IfOk result (λ next. (text separator : List Bool)
+        × SpellsRow (elements_of width) true None text line.new
+        × IsSeparator coding next separator × Passes reader.old reader.new (text ++ separator)) }
+    ensures fault { IfErr result
+        (λ fault. (rows : List Elements) → length rows ≡ n → WantsLine rows 0 reader.old.left
+        → Stops coding (elements_of width) rows 0 true reader.old.left fault) }
 {
     line.clear();
     if read_line_1d_into(line, reader, width).is_err() {
@@ -296,9 +318,11 @@ fn read_rows<S: RowStore>(
     coding: Coding,
     first: bool,
 ) -> Result<S, PageFault>
-    ensures ok { IfOk result (λ rows. (octets : List ℕ) → ReadSoFar coding (elements_of width) octets [] 0 first reader.old.left
+    ensures ok { IfOk result (λ rows. (octets : List ℕ)
+        → ReadSoFar coding (elements_of width) octets [] 0 first reader.old.left
         → MeansRows (elements_of width) coding octets (S.rows rows)) }
-    ensures fault { IfErr result (λ fault. fault ≢ PageFault.NoMemory → (octets : List ℕ) → ReadSoFar coding (elements_of width) octets [] 0 first reader.old.left
+    ensures fault { IfErr result (λ fault. fault ≢ PageFault.NoMemory
+        → (octets : List ℕ) → ReadSoFar coding (elements_of width) octets [] 0 first reader.old.left
         → FailsAfterFront coding (elements_of width) octets fault) }
 {
     let mut rows = S::empty(alloc);

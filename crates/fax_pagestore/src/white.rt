@@ -53,7 +53,9 @@ const WHITE_AGAIN: LineAndEol = LineAndEol {
 /// A one-dimensional line that is white throughout, in two words, and an EOL.
 #[inline(always)]
 fn white_line(width: Width) -> LineAndEol
-    ensures spelt { (text : List Bool) × mh.SpellsLine (elements_of width) text (replicate (elements_of width) White) × (word_bits result.bits result.word ≡ text ++ end_of_line) }
+    ensures spelt { (text : List Bool)
+        × mh.SpellsLine (elements_of width) text (replicate (elements_of width) White)
+        × (word_bits result.bits result.word ≡ text ++ end_of_line) }
     ensures few { result.bits ≤ 32 }
 {
     match width {
@@ -68,7 +70,8 @@ fn white_line(width: Width) -> LineAndEol
 #[inline(always)]
 fn white_line_after(width: Width, tag: bool, kept: &RowBuilder, n: u32) -> Option<LineAndEol>
     requires { tag ≡ false → 0 < n → length kept.now ≡ elements_of width }
-    ensures spelt { IfSome result (λ line. (text : List Bool) × SpellsRow (elements_of width) tag (row_before n kept.now) text (replicate (elements_of width) White)
+    ensures spelt { IfSome result (λ line. (text : List Bool) × SpellsRow (elements_of width)
+        tag (row_before n kept.now) text (replicate (elements_of width) White)
         × (word_bits line.bits line.word ≡ text ++ end_of_line)) }
     ensures few { IfSome result (λ line. line.bits ≤ 32) }
 {
@@ -96,8 +99,9 @@ pub(crate) fn pass_white_row(
 ) -> Option<bool>
     requires window { word_bits 56 window ≡ padded 56 reader.old.left }
     requires width { tag ≡ false → 0 < n → length kept.old ≡ elements_of width }
-    ensures some { IfSome result (λ next. (text separator : List Bool) × SpellsRow (elements_of width) tag (row_before n kept.old) text kept.new × IsSeparator coding next separator
-        × Passes reader.old reader.new (text ++ separator)) }
+    ensures some { IfSome result (λ next. (text separator : List Bool)
+        × SpellsRow (elements_of width) tag (row_before n kept.old) text kept.new
+        × IsSeparator coding next separator × Passes reader.old reader.new (text ++ separator)) }
     ensures none { IsNone result → (reader.new ≡ reader.old) × (kept.new ≡ kept.old) }
 {
     let line = white_line_after(width, tag, kept, n)?;

@@ -54,14 +54,21 @@ impl Model for PageWriter {
 
     ghost Value = { WriterValue };
 
-    ghost view = { λ w. record { format = w.format; coding = w.coding; least = w.least_bits; place = w.place; waiting = w.waiting } };
+    ghost view = { λ w. record {
+      format = w.format;
+      coding = w.coding;
+      least = w.least_bits;
+      place = w.place;
+      waiting = w.waiting;
+    } };
 }
 
 impl PageWriter {
     /// A writer of a page of this format, of which nothing is given. The least number of bits is that of a
     /// line with its fill and its EOL.
     pub fn new(alloc: Global, format: Format, coding: Coding, least_bits: u32) -> Self
-        ensures left { (page : PageValue) (octets : List ℕ) → page.format ≡ format → IsTextOf page coding least_bits octets → HasLeft page octets result }
+        ensures left { (page : PageValue) (octets : List ℕ) → page.format ≡ format
+            → IsTextOf page coding least_bits octets → HasLeft page octets result }
         ensures more { HasMore result }
     {
         PageWriter {
@@ -76,8 +83,10 @@ impl PageWriter {
     /// The next n octets of the page's text, fewer at its end, and one at least where it has not ended. The page is the
     /// same each time: of another page nothing else is said. An `Err` changes nothing.
     pub fn next<S: RowStore>(&mut self, page: &Page<S>, n: usize) -> Result<Octets, NoMemory>
-        ensures given { IfOk result (λ given. (octets : List ℕ) → HasLeft page.now octets self.old → given ≡ take n octets) }
-        ensures left { OnOk result ((octets : List ℕ) → HasLeft page.now octets self.old → HasLeft page.now (drop n octets) self.new) }
+        ensures given { IfOk result (λ given. (octets : List ℕ)
+            → HasLeft page.now octets self.old → given ≡ take n octets) }
+        ensures left { OnOk result ((octets : List ℕ)
+            → HasLeft page.now octets self.old → HasLeft page.now (drop n octets) self.new) }
         ensures few { IfOk result (λ given. length given ≤ n) }
         ensures some { IfOk result (λ given. 1 ≤ n → HasMore self.old → 1 ≤ length given) }
         ensures err { OnErr result (self.new ≡ self.old) }
@@ -93,7 +102,8 @@ impl PageWriter {
 
     /// Whether no octet of the text is left.
     pub fn ended(&self) -> bool
-        ensures left { (page : PageValue) (octets : List ℕ) → HasLeft page octets self.now → IsTrue result ↔ (octets ≡ []) }
+        ensures left { (page : PageValue) (octets : List ℕ)
+            → HasLeft page octets self.now → IsTrue result ↔ (octets ≡ []) }
         ensures more { result ≡ false → HasMore self.now }
     {
         matches!(self.place, Place::End) && self.waiting.bits() == 0
@@ -101,8 +111,10 @@ impl PageWriter {
 
     /// Writes on until there are n octets to give, and gives them.
     fn write_and_give<S: RowStore>(&mut self, page: &Page<S>, n: usize) -> Result<Octets, NoMemory>
-        ensures given { IfOk result (λ given. (octets : List ℕ) → HasLeft page.now octets self.old → given ≡ take n octets) }
-        ensures left { OnOk result ((octets : List ℕ) → HasLeft page.now octets self.old → HasLeft page.now (drop n octets) self.new) }
+        ensures given { IfOk result (λ given. (octets : List ℕ)
+            → HasLeft page.now octets self.old → given ≡ take n octets) }
+        ensures left { OnOk result ((octets : List ℕ)
+            → HasLeft page.now octets self.old → HasLeft page.now (drop n octets) self.new) }
         ensures few { IfOk result (λ given. length given ≤ n) }
         ensures some { IfOk result (λ given. 1 ≤ n → HasMore self.old → 1 ≤ length given) }
         ensures err { OnErr result (self.new ≡ self.old) }
@@ -141,9 +153,11 @@ impl PageWriter {
         page: &Page<S>,
         wanted: u128,
     ) -> Result<Place, NoMemory>
-        ensures on { IfOk result (λ place. WritesOn self.now.coding self.now.least page.now self.now.place place writer.old writer.new) }
+        ensures on { IfOk result (λ place. WritesOn self.now.coding
+            self.now.least page.now self.now.place place writer.old writer.new) }
         ensures enough { IfOk result (λ place. (wanted ≤ length writer.new) ⊎ (place ≡ Place.End)) }
-        ensures more { IfOk result (λ place. (self.now.place ≡ Place.End → writer.old ≢ []) → place ≡ Place.End → writer.new ≢ []) }
+        ensures more { IfOk result (λ place. (self.now.place ≡ Place.End → writer.old ≢ [])
+            → place ≡ Place.End → writer.new ≢ []) }
         ensures err { OnErr result ((bits : List Bool) × (writer.new ≡ writer.old ++ bits)) }
     {
         let mut place = self.place;
@@ -165,7 +179,8 @@ fn write_step<S: RowStore>(
     least_bits: u32,
     place: Place,
 ) -> Result<Place, NoMemory>
-    ensures on { IfOk result (λ next. WritesOn coding least_bits page.now place next writer.old writer.new) }
+    ensures on { IfOk result
+        (λ next. WritesOn coding least_bits page.now place next writer.old writer.new) }
     ensures more { OnOk result (place ≢ Place.End → length writer.old < length writer.new) }
     ensures err { OnErr result ((bits : List Bool) × (writer.new ≡ writer.old ++ bits)) }
 {
@@ -196,7 +211,8 @@ fn write_row<S: RowStore>(
     n: u32,
 ) -> Result<(), NoMemory>
     requires { n < length page.now.rows }
-    ensures on { OnOk result (WritesOn coding least_bits page.now (Place.Row n) (Place.Row (n + 1)) writer.old writer.new) }
+    ensures on { OnOk result (WritesOn coding least_bits page.now (Place.Row n)
+        (Place.Row (n + 1)) writer.old writer.new) }
     ensures more { OnOk result (length writer.old < length writer.new) }
     ensures err { OnErr result ((bits : List Bool) × (writer.new ≡ writer.old ++ bits)) }
 {

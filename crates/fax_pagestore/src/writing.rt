@@ -32,7 +32,9 @@ pub fn write_page<S: RowStore>(
     coding: Coding,
     least_bits: u32,
 ) -> Result<Octets, NoMemory>
-    ensures { IfOk result (λ octets. (text : List Bool) × WritesPage coding page.now.format.fine least_bits page.now.rows text × IsPadded octets text) }
+    ensures { IfOk result (λ octets. (text : List Bool)
+        × WritesPage coding page.now.format.fine least_bits page.now.rows text
+        × IsPadded octets text) }
 {
     let mut writer = BitWriter::new(alloc);
     write_end_of_line(&mut writer, coding, true)?;
@@ -49,7 +51,9 @@ fn write_rows<S: RowStore>(
     coding: Coding,
     least_bits: u32,
 ) -> Result<(), NoMemory>
-    ensures { OnOk result ((text : List Bool) × WritesRows coding page.now.format.fine least_bits 0 None page.now.rows text × (writer.new ≡ writer.old ++ text)) }
+    ensures { OnOk result ((text : List Bool)
+        × WritesRows coding page.now.format.fine least_bits 0 None page.now.rows text
+        × (writer.new ≡ writer.old ++ text)) }
 {
     let (rows, fine) = (page.rows(), page.format().fine);
     let count = rows.len();
@@ -75,7 +79,9 @@ pub(crate) fn write_filled_line(
     least_bits: u32,
 ) -> Result<(), NoMemory>
     requires { ForSome (option_copied reference) (λ before. length row.now ≡ length before) }
-    ensures ok { OnOk result ((line : List Bool) × WritesRow (is_none (option_copied reference.entry)) (option_copied reference.entry) row.now line × (writer.new ≡ writer.old ++ (line ++ fill least_bits line))) }
+    ensures ok { OnOk result ((line : List Bool)
+        × WritesRow (is_none (option_copied reference.entry)) (option_copied reference.entry)
+        row.now line × (writer.new ≡ writer.old ++ (line ++ fill least_bits line))) }
     ensures err { OnErr result ((bits : List Bool) × (writer.new ≡ writer.old ++ bits)) }
 {
     let before = writer.bits();
@@ -95,7 +101,9 @@ fn write_line(
     row: &RowRef<'_>,
 ) -> Result<(), NoMemory>
     requires { ForSome (option_copied reference) (λ before. length row.now ≡ length before) }
-    ensures ok { OnOk result ((line : List Bool) × WritesRow (is_none (option_copied reference.entry)) (option_copied reference.entry) row.now line × (writer.new ≡ writer.old ++ line)) }
+    ensures ok { OnOk result ((line : List Bool)
+        × WritesRow (is_none (option_copied reference.entry))
+        (option_copied reference.entry) row.now line × (writer.new ≡ writer.old ++ line)) }
     ensures err { OnErr result (writer.new ≡ writer.old) }
 {
     match reference {

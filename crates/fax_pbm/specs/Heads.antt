@@ -14,7 +14,8 @@ ends_line c = c == 10 || c == 13
 unfoldable pub after_blanks : Bool → List ℕ → List ℕ
 after_blanks within [] = []
 after_blanks true (c ∷ text) = after_blanks (not (ends_line c)) text
-after_blanks false (c ∷ text) = if is_space c || c == 35 then after_blanks (c == 35) text else c ∷ text
+after_blanks false (c ∷ text) =
+    if is_space c || c == 35 then after_blanks (c == 35) text else c ∷ text
 
 -- the number that the digits at the front spell, after those of n
 unfoldable pub number_after : ℕ → List ℕ → ℕ

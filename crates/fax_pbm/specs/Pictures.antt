@@ -41,9 +41,10 @@ pub record Number : Type 0 where
 
 -- the number of these digits
 abbrev pub number_at : List ℕ → Result Number PbmFault
-number_at digits =
-    if is_ascii_digit (slice_index digits 0) then Ok (record { value = min (number_after 0 digits) most_number; after = after_digits digits })
-    else Err NoHead
+number_at digits = if is_ascii_digit (slice_index digits 0) then Ok (record {
+  value = min (number_after 0 digits) most_number;
+  after = after_digits digits;
+}) else Err NoHead
 
 -- the number after white space and comments
 unfoldable pub number_of : List ℕ → Result Number PbmFault
@@ -61,8 +62,9 @@ pub record Head : Type 0 where
 
 -- the head after its first two octets
 unfoldable pub head_after : List ℕ → Result Head PbmFault
-head_after text = number_of text >>= (λ width. number_of width.after >>= (λ height. raster_of height.after >>= (λ raster.
-    Ok (record { width = width.value; height = height.value; raster = raster }))))
+head_after text =
+    number_of text >>= (λ width. number_of width.after >>= (λ height. raster_of height.after >>=
+    (λ raster. Ok (record { width = width.value; height = height.value; raster = raster }))))
 
 -- the octets begin with `P4`
 abbrev pub begins_as_picture : List ℕ → Bool
@@ -82,7 +84,8 @@ head_shown h = record { width = h.width; height = h.height; raster = h.raster.no
 
 -- the width of so many elements
 abbrev pub width_of : ℕ → Result Width PbmFault
-width_of n = if n == 1728 then Ok W1728 else (if n == 2048 then Ok W2048 else (if n == 2432 then Ok W2432 else Err BadWidth))
+width_of n = if n == 1728 then Ok W1728
+    else (if n == 2048 then Ok W2048 else (if n == 2432 then Ok W2432 else Err BadWidth))
 
 -- the element of a bit: 1 is black
 abbrev pub element : Bool → Colour
@@ -92,7 +95,8 @@ element false = White
 -- the rows of a raster, each in so many octets
 unfoldable pub rows_of : ℕ → ℕ → List ℕ → List Elements
 rows_of size zero raster = []
-rows_of size (suc n) raster = map element (bits_of (take size raster)) ∷ rows_of size n (drop size raster)
+rows_of size (suc n) raster =
+    map element (bits_of (take size raster)) ∷ rows_of size n (drop size raster)
 
 -- a page may have so many rows
 abbrev pub is_height : ℕ → Bool
@@ -101,10 +105,9 @@ is_height n = nat_lt 0 n && nat_le n most_rows
 -- so many rows of a raster, which has them and no more
 unfoldable pub raster_rows : ℕ → ℕ → List ℕ → Result (List Elements) PbmFault
 raster_rows elements height raster =
-    if is_height height then
-    (if nat_lt (length raster) (height * (elements / 8)) then Err Cut
-    else (if nat_lt (height * (elements / 8)) (length raster) then Err Longer else Ok (rows_of (elements / 8) height raster)))
-    else Err BadHeight
+    if is_height height then (if nat_lt (length raster) (height * (elements / 8))
+    then Err Cut else (if nat_lt (height * (elements / 8)) (length raster)
+    then Err Longer else Ok (rows_of (elements / 8) height raster))) else Err BadHeight
 
 -- the raster has these rows, each in so many octets, and no more
 pub record IsRaster (size : ℕ) (rows : List Elements) (raster : List ℕ) : Type 0 where
@@ -115,5 +118,6 @@ pub record IsRaster (size : ℕ) (rows : List Elements) (raster : List ℕ) : Ty
 
 -- the page that octets mean, in the fine resolution or the standard one
 unfoldable pub page_of : Bool → List ℕ → Result PageValue PbmFault
-page_of fine octets = head_of octets >>= (λ head. width_of head.width >>= (λ width. raster_rows (elements_of width) head.height head.raster >>= (λ rows.
-    Ok (record { format = record { width = width; fine = fine }; rows = rows }))))
+page_of fine octets = head_of octets >>= (λ head.
+    width_of head.width >>= (λ width. raster_rows (elements_of width) head.height head.raster >>=
+    (λ rows. Ok (record { format = record { width = width; fine = fine }; rows = rows }))))

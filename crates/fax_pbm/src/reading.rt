@@ -18,7 +18,8 @@ use std::alloc::Global;
 #[tactic(auto, unfolding(crate::specs::Pictures::page_of))]
 pub fn read_pbm(alloc: Global, octets: &[u8], fine: bool) -> Result<Page<PackedRows>, PbmFault>
     ensures ok { IfOk result (λ page. page_of fine octets.now ≡ Ok page) }
-    ensures fault { IfErr result (λ fault. fault ≢ PbmFault.NoMemory → page_of fine octets.now ≡ Err fault) }
+    ensures fault { IfErr result
+        (λ fault. fault ≢ PbmFault.NoMemory → page_of fine octets.now ≡ Err fault) }
 {
     let head = read_head(octets)?;
     let width = width_in(head.width)?;
@@ -47,7 +48,8 @@ fn read_raster(
 ) -> Result<PackedRows, PbmFault>
     ensures ok { IfOk result (λ rows. raster_rows (elements_of width) height raster.now ≡ Ok rows) }
     ensures are_rows { IfOk result (AreRows (elements_of width)) }
-    ensures fault { IfErr result (λ fault. fault ≢ PbmFault.NoMemory → raster_rows (elements_of width) height raster.now ≡ Err fault) }
+    ensures fault { IfErr result (λ fault. fault ≢ PbmFault.NoMemory
+        → raster_rows (elements_of width) height raster.now ≡ Err fault) }
 {
     if are_rows(height) {
         read_exactly(alloc, width, height, raster)
@@ -73,7 +75,8 @@ fn read_exactly(
     requires { is_height height ≡ true }
     ensures ok { IfOk result (λ rows. raster_rows (elements_of width) height raster.now ≡ Ok rows) }
     ensures are_rows { IfOk result (AreRows (elements_of width)) }
-    ensures fault { IfErr result (λ fault. fault ≢ PbmFault.NoMemory → raster_rows (elements_of width) height raster.now ≡ Err fault) }
+    ensures fault { IfErr result (λ fault. fault ≢ PbmFault.NoMemory
+        → raster_rows (elements_of width) height raster.now ≡ Err fault) }
 {
     let size = usize::from(width.elements() / 8);
     let wanted = height as usize * size;

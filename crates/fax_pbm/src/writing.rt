@@ -26,7 +26,8 @@ pub fn write_pbm<S: RowStore>(alloc: Global, page: &Page<S>) -> Result<Vec<u8>, 
 
 /// The head of a picture.
 fn write_head(alloc: Global, width: u32, height: u32) -> Result<Vec<u8>, NoMemory>
-    ensures { IfOk result (λ octets. octets.items ≡ codes "P4\n" ++ (decimal width ++ 32 ∷ []) ++ (decimal height ++ 10 ∷ [])) }
+    ensures { IfOk result (λ octets.
+        octets.items ≡ codes "P4\n" ++ (decimal width ++ 32 ∷ []) ++ (decimal height ++ 10 ∷ [])) }
 {
     let mut octets = Vec::from_slice(alloc, b"P4\n")?;
     push_number(&mut octets, width, b' ')?;
@@ -46,7 +47,8 @@ fn push_number(octets: &mut Vec<u8>, number: u32, after: u8) -> Result<(), NoMem
 /// Adds the elements of rows, each in octets of its own.
 fn push_rows<S: RowStore>(octets: &mut Vec<u8>, rows: &S) -> Result<(), NoMemory>
     ensures { OnOk result ((raster : List ℕ) × (octets.new.items ≡ octets.old.items ++ raster)
-        × ((size : ℕ) → All (λ row. length row ≡ 8 * size) (S.rows rows.now) → IsRaster size (S.rows rows.now) raster)) }
+        × ((size : ℕ) → All (λ row. length row ≡ 8 * size) (S.rows rows.now)
+        → IsRaster size (S.rows rows.now) raster)) }
 {
     for i in 0..rows.len() {
         push_row(octets, &rows.lend(i))?;
@@ -56,7 +58,8 @@ fn push_rows<S: RowStore>(octets: &mut Vec<u8>, rows: &S) -> Result<(), NoMemory
 
 /// Adds the elements of a row.
 fn push_row(octets: &mut Vec<u8>, row: &RowRef<'_>) -> Result<(), NoMemory>
-    ensures { OnOk result ((more : List ℕ) × (octets.new.items ≡ octets.old.items ++ more) × (bits_of more ≡ map pixel row.now)) }
+    ensures { OnOk result ((more : List ℕ)
+        × (octets.new.items ≡ octets.old.items ++ more) × (bits_of more ≡ map pixel row.now)) }
 {
     let mut room = [0; MOST_OCTETS_OF_ROW];
     let elements = &mut room[..usize::from(row.width() / 8)];

@@ -24,4 +24,5 @@ of_sip (Some sip) = 2
 
 -- two sockets a line, one a redial line, and beside those the standard streams, what sockets are waited for by, and one to spare
 abbrev pub most_descriptors : Config → ℕ
-most_descriptors config = 2 * length config.lines.items + length config.redial.items + 5 + of_control config.control + of_http config.http + of_spool config.spool + of_sip config.sip
+most_descriptors config = 2 * length config.lines.items + length config.redial.items + 5
+    + of_control config.control + of_http config.http + of_spool config.spool + of_sip config.sip

@@ -22,16 +22,19 @@ served old = record { config = old.config; before = None; failures = old.failure
 
 -- The configuration is the same; or it was read again, and had no fault.
 abbrev pub IsSameOrAnother : (old new : ServiceValue) → Type 0
-IsSameOrAnother old new = ((new.config ≡ old.config) × (new.before ≡ None)) ⊎ (new.before ≡ Some old.config)
+IsSameOrAnother old new =
+    ((new.config ≡ old.config) × (new.before ≡ None)) ⊎ (new.before ≡ Some old.config)
 
 -- what is to be served next
 abbrev pub IsNext : RunEnd → (old new : ServiceValue) → Type 0
 IsNext Stopped old new = new ≡ served old
-IsNext SpoolFailed old new = IsSameOrAnother old new × (new.failures ≡ min (old.failures + 1) (2 ^ 64 - 1))
+IsNext SpoolFailed old new =
+    IsSameOrAnother old new × (new.failures ≡ min (old.failures + 1) (2 ^ 64 - 1))
 IsNext Reload old new = IsSameOrAnother old new × (new.failures ≡ old.failures)
 
 -- A RUN WAS SERVED, of the configuration of the service, and it ended.
-pub record WasServed (IsRun : Config → Type 0) (old new : ServiceValue) (ends : Option Status) : Type 0 where
+pub record WasServed (IsRun : Config → Type 0) (old new : ServiceValue) (ends : Option Status) :
+    Type 0 where
   pub ran : IsRun old.config
   pub end : RunEnd
   pub next : IsNext end old new
@@ -62,16 +65,19 @@ pub record EndsForFault (old new : ServiceValue) (ends : Option Status) : Type 0
   pub is_fault : fault ≢ status.Done
 
 abbrev pub WasNotServed : (old new : ServiceValue) → (ends : Option Status) → Type 0
-WasNotServed old new ends = GoesBack old new ends ⊎ WaitsForDisk old new ends ⊎ EndsForFault old new ends
+WasNotServed old new ends =
+    GoesBack old new ends ⊎ WaitsForDisk old new ends ⊎ EndsForFault old new ends
 
 -- ---- both
 
-abbrev pub IsServiceRun : (IsRun : Config → Type 0) → (old new : ServiceValue) → (ends : Option Status) → Type 0
+abbrev pub IsServiceRun : (IsRun : Config → Type 0)
+    → (old new : ServiceValue) → (ends : Option Status) → Type 0
 IsServiceRun IsRun old new ends = WasServed IsRun old new ends ⊎ WasNotServed old new ends
 
 -- A RUN OF A SERVICE is that of a server of its configuration, or none, for a fault; and the process ends with an exit status, or has
 -- another run. So it ends with 0 only after a server was told to stop, or while the disk of its spool is waited for.
-pub record RunsService (IsRun : Config → Type 0) (old new : ServiceValue) (code : Option ℕ) : Type 0 where
+pub record RunsService (IsRun : Config → Type 0) (old new : ServiceValue) (code : Option ℕ) :
+    Type 0 where
   pub ends : Option Status
   pub run : IsServiceRun IsRun old new ends
   pub code_is : code ≡ option_map status_code ends

@@ -83,7 +83,8 @@ impl Service {
         start: S,
         undelivered: T,
     ) -> Option<u8>
-        ensures { RunsService (RanServer ⟦<FolderStore<S, T> as ServedStore>⟧.ran) self.old self.new result }
+        ensures { RunsService (RanServer ⟦<FolderStore<S, T> as ServedStore>⟧.ran)
+            self.old self.new result }
     {
         match self.run_once(console, system, start, undelivered) {
             Some(status) => Some(status.code()),
@@ -99,7 +100,8 @@ impl Service {
         start: S,
         undelivered: T,
     ) -> Option<Status>
-        ensures { IsServiceRun (RanServer ⟦<FolderStore<S, T> as ServedStore>⟧.ran) self.old self.new result }
+        ensures { IsServiceRun (RanServer ⟦<FolderStore<S, T> as ServedStore>⟧.ran)
+            self.old self.new result }
     {
         if let Some(status) = self.tell_shared(console, system) {
             return Some(status);

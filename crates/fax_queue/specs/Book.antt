@@ -37,8 +37,10 @@ abbrev pub told_by : List PageAction → List BookEntry
 told_by [] = []
 told_by (Turns given ∷ actions) = told_by actions
 told_by (Begins ∷ actions) = told_by actions
-told_by (Stores given page ∷ actions) = Confirms given (page_of page) page.waits.closes ∷ told_by actions
-told_by (Refuses given page is_there ∷ actions) = Confirms given (page_of page) page.waits.closes ∷ told_by actions
+told_by (Stores given page ∷ actions) =
+    Confirms given (page_of page) page.waits.closes ∷ told_by actions
+told_by (Refuses given page is_there ∷ actions) =
+    Confirms given (page_of page) page.waits.closes ∷ told_by actions
 told_by (Ends pages ∷ actions) = Reports pages ∷ told_by actions
 told_by (Leaves pages ∷ actions) = Reports pages ∷ told_by actions
 told_by (Lets pages ∷ actions) = Reports pages ∷ told_by actions
@@ -48,7 +50,8 @@ told_by (Stops ∷ actions) = Restores (calls_of (closed_read (owed actions))) �
 -- by the gateway: what a tick confirms on the calling leg, and then what it reports
 abbrev pub confirms : Option (List ℕ) → ℕ → Option ConfirmedPage → List BookEntry → List BookEntry
 confirms given number None before = before
-confirms given number (Some c) before = Confirms given (record { call = number; page = c.page }) c.closes ∷ before
+confirms given number (Some c) before =
+    Confirms given (record { call = number; page = c.page }) c.closes ∷ before
 
 abbrev pub confirms_on : Option CallingLeg → ℕ → Option (List ℕ) → List BookEntry → List BookEntry
 confirms_on None now given before = before
@@ -65,7 +68,8 @@ told_in setup (Ring at number ∷ earlier) before = told_in setup earlier before
 told_in setup (FromCalling octets at decided read ∷ earlier) before = told_in setup earlier before
 told_in setup (FromCalled octets at decided ∷ earlier) before = told_in setup earlier before
 told_in setup (Tick at given ∷ earlier) before =
-    reports given.report (confirms_on (calling_leg setup earlier) (clock (Tick at given ∷ earlier)) given.on_calling (told_in setup earlier before))
+    reports given.report (confirms_on (calling_leg setup earlier)
+    (clock (Tick at given ∷ earlier)) given.on_calling (told_in setup earlier before))
 told_in setup (Placed at connected ∷ earlier) before = told_in setup earlier before
 
 abbrev pub told_over : List Life → List BookEntry
@@ -78,7 +82,8 @@ AreTraces writes (life ∷ earlier) = IsTrace life.setup writes life.trace × Ar
 
 -- THE ACTIONS ARE THOSE OF THESE LIVES: both tell the same. So each page that a tick confirms is put or refused, each job that is
 -- reported ends with as many pages, and each life begins with what is owed.
-pub record AreOfLives (writes : Writing) (actions : List PageAction) (lives : List Life) : Type 0 where
+pub record AreOfLives (writes : Writing) (actions : List PageAction) (lives : List Life) :
+    Type 0 where
   pub traces : AreTraces writes lives
   pub same : told_by actions ≡ told_over lives
 
@@ -87,7 +92,8 @@ pub record AreOfLives (writes : Writing) (actions : List PageAction) (lives : Li
 -- THE LIVES OF A SERVER ARE LIVES OF A GATEWAY, whatever was put and noted: each begins with some of the pages that the one before
 -- it had, in their order.
 abbrev pub ServersAreLives : Type 0
-ServersAreLives = (writes : Writing) (actions : List PageAction) (lives : List Life) → AreOfLives writes actions lives → AreLives writes lives
+ServersAreLives = (writes : Writing) (actions : List PageAction) (lives : List Life)
+    → AreOfLives writes actions lives → AreLives writes lives
 
 -- each page that was confirmed is on the disk, and so is the end of each job, whatever was answered
 abbrev pub AllIsPut : List PageAction → Type 0
@@ -104,15 +110,16 @@ AllIsPut (Stops ∷ actions) = AllIsPut actions
 
 -- the pages that are owed are those that the gateway's book has left, each life was restored with just these, and over all lives
 -- the pages of the jobs that ended, and after them those that are owed, are the pages that were confirmed, in their order
-pub record NoneIsLostOf (writes : Writing) (actions : List PageAction) (lives : List Life) : Type 0 where
+pub record NoneIsLostOf (writes : Writing) (actions : List PageAction) (lives : List Life) :
+    Type 0 where
   pub owed_are : map page_of (owed actions) ≡ pages_left writes lives
   pub kept : AreStored writes lives
   pub none_is_lost : all_confirmed lives ≡ all_ended writes lives ++ map page_of (owed actions)
 
 -- NONE IS LOST where all is put: none is added, none comes twice.
 abbrev pub ServersLoseNone : Type 0
-ServersLoseNone =
-    (writes : Writing) (actions : List PageAction) (lives : List Life) → AreOfLives writes actions lives → AllIsPut actions → NoneIsLostOf writes actions lives
+ServersLoseNone = (writes : Writing) (actions : List PageAction) (lives : List Life)
+    → AreOfLives writes actions lives → AllIsPut actions → NoneIsLostOf writes actions lives
 
 -- ---- where something was not put, or not noted
 
@@ -154,13 +161,14 @@ pub record IsQueued (writes : Writing) (actions : List PageAction) (life : Life)
   pub ended : (past_of (both_legs life.setup writes life.trace)).ended ≡ gone ++ stay
   pub are_noted : sizes gone ≡ noted actions
   pub are_unnoted : sizes stay ≡ unnoted actions
-  pub queued : map page_of (map (λ e. e.page) (queue_of actions)) ≡ pages_of_jobs stay ++ pages_left_in (book_of (both_legs life.setup writes life.trace))
+  pub queued : map page_of (map (λ e. e.page) (queue_of actions))
+      ≡ pages_of_jobs stay ++ pages_left_in (book_of (both_legs life.setup writes life.trace))
 
 -- THE QUEUE IS WHAT THE BOOK HAD LEFT, after any actions.
 abbrev pub QueueIsLeft : Type 0
-QueueIsLeft =
-    (line : List ℕ) (state : State) (writes : Writing) (actions : List PageAction) (life : Life) (earlier : List Life) → WasDone line actions state → AreOfLives writes actions (life ∷ earlier)
-    → IsQueued writes actions life
+QueueIsLeft = (line : List ℕ) (state : State) (writes : Writing)
+    (actions : List PageAction) (life : Life) (earlier : List Life) → WasDone line actions state
+    → AreOfLives writes actions (life ∷ earlier) → IsQueued writes actions life
 
 -- the pages that were put, over all lives: each put was answered Ok
 abbrev pub pages_put : List PageAction → List CallPage
@@ -182,23 +190,28 @@ pages_gone (Turns given ∷ actions) = pages_gone actions
 pages_gone (Begins ∷ actions) = pages_gone actions
 pages_gone (Stores given page ∷ actions) = pages_gone actions
 pages_gone (Refuses given page is_there ∷ actions) = pages_gone actions
-pages_gone (Ends pages ∷ actions) = pages_gone actions ++ map page_of (map (λ e. e.page) (take pages (queue_of actions)))
+pages_gone (Ends pages ∷ actions) =
+    pages_gone actions ++ map page_of (map (λ e. e.page) (take pages (queue_of actions)))
 pages_gone (Leaves pages ∷ actions) = pages_gone actions
-pages_gone (Lets pages ∷ actions) = pages_gone actions ++ map page_of (map (λ e. e.page) (take pages (queue_of actions)))
+pages_gone (Lets pages ∷ actions) =
+    pages_gone actions ++ map page_of (map (λ e. e.page) (take pages (queue_of actions)))
 pages_gone (Beside ∷ actions) = pages_gone actions
 pages_gone (Stops ∷ actions) = pages_gone actions
 
 -- Each page that was put is gone with a job that ended, or is owed; what is gone ended in some life; and what is gone or owed was
 -- confirmed, over all lives: in one order, and none twice.
-pub record NoneThatWasPutIsLost (writes : Writing) (actions : List PageAction) (lives : List Life) : Type 0 where
-  pub none_is_lost : AreSomeOf (pages_put actions) (pages_gone actions ++ map page_of (owed actions))
+pub record NoneThatWasPutIsLost (writes : Writing) (actions : List PageAction) (lives : List Life) :
+    Type 0 where
+  pub none_is_lost :
+      AreSomeOf (pages_put actions) (pages_gone actions ++ map page_of (owed actions))
   pub ended : AreSomeOf (pages_gone actions) (all_ended writes lives)
-  pub none_is_added : AreSomeOf (pages_gone actions ++ map page_of (owed actions)) (all_confirmed lives)
+  pub none_is_added :
+      AreSomeOf (pages_gone actions ++ map page_of (owed actions)) (all_confirmed lives)
 
 -- NONE THAT WAS PUT IS LOST, whatever else was not put or not noted.
 abbrev pub ServersLoseNoneThatWasPut : Type 0
-ServersLoseNoneThatWasPut =
-    (writes : Writing) (actions : List PageAction) (lives : List Life) → AreOfLives writes actions lives → NoneThatWasPutIsLost writes actions lives
+ServersLoseNoneThatWasPut = (writes : Writing) (actions : List PageAction) (lives : List Life)
+    → AreOfLives writes actions lives → NoneThatWasPutIsLost writes actions lives
 
 -- ---- there are such actions
 
@@ -217,19 +230,21 @@ NothingIsPut (Stops ∷ actions) = NothingIsPut actions
 
 -- the actions go on to be those of these lives, where all is put from now on, and where nothing is
 pub record GoOn (writes : Writing) (actions : List PageAction) (lives : List Life) : Type 0 where
-  pub where_all : (more : List PageAction) × AllIsPut more × AreOfLives writes (more ++ actions) lives
-  pub where_nothing : (more : List PageAction) × NothingIsPut more × AreOfLives writes (more ++ actions) lives
+  pub where_all : (more : List PageAction)
+      × AllIsPut more × AreOfLives writes (more ++ actions) lives
+  pub where_nothing : (more : List PageAction)
+      × NothingIsPut more × AreOfLives writes (more ++ actions) lives
 
 -- A SERVER GOES ON, whatever comes to its gateway. So no law over actions and lives speaks of nothing.
 abbrev pub ServersGoOn : Type 0
-ServersGoOn =
-    (writes : Writing) (actions : List PageAction) (life : Life) (earlier : List Life) (event : Event) → AreOfLives writes actions (life ∷ earlier) → IsTrace life.setup writes (event ∷ life.trace)
+ServersGoOn = (writes : Writing)
+    (actions : List PageAction) (life : Life) (earlier : List Life) (event : Event)
+    → AreOfLives writes actions (life ∷ earlier) → IsTrace life.setup writes (event ∷ life.trace)
     → GoOn writes actions (record { setup = life.setup; trace = event ∷ life.trace } ∷ earlier)
 
 -- And it begins again, where its gateway is set up with what is owed: at first with nothing.
 abbrev pub ServersBegin : Type 0
-ServersBegin =
-    (writes : Writing)
-    → AreOfLives writes [] []
-    × ((actions : List PageAction) (lives : List Life) (setup : Setup) → AreOfLives writes actions lives → setup.restored ≡ calls_of (closed_read (owed actions))
+ServersBegin = (writes : Writing)
+    → AreOfLives writes [] [] × ((actions : List PageAction) (lives : List Life) (setup : Setup)
+    → AreOfLives writes actions lives → setup.restored ≡ calls_of (closed_read (owed actions))
     → AreOfLives writes (Stops ∷ actions) (record { setup = setup; trace = [] } ∷ lives))

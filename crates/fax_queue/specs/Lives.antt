@@ -56,8 +56,10 @@ abbrev pub queue_of : List PageAction → List Entry
 queue_of [] = []
 queue_of (Turns given ∷ actions) = queue_of actions
 queue_of (Begins ∷ actions) = queue_of actions
-queue_of (Stores given page ∷ actions) = queue_of actions ++ record { page = page; is_there = true } ∷ []
-queue_of (Refuses given page is_there ∷ actions) = queue_of actions ++ record { page = page; is_there = is_there } ∷ []
+queue_of (Stores given page ∷ actions) =
+    queue_of actions ++ record { page = page; is_there = true } ∷ []
+queue_of (Refuses given page is_there ∷ actions) =
+    queue_of actions ++ record { page = page; is_there = is_there } ∷ []
 queue_of (Ends pages ∷ actions) = drop pages (queue_of actions)
 queue_of (Leaves pages ∷ actions) = queue_of actions
 queue_of (Lets pages ∷ actions) = drop pages (queue_of actions)
@@ -71,8 +73,11 @@ owed actions = map (λ e. e.page) (are_there (queue_of actions))
 -- As a life begins, the last page of each call closes its job.
 abbrev pub closed_read : List ReadPage → List ReadPage
 closed_read [] = []
-closed_read (r ∷ read) =
-    record { waits = closing (r.waits.closes || not (list_any (same_call r.waits) (map (λ s. s.waits) read))) r.waits; page = r.page } ∷ closed_read read
+closed_read (r ∷ read) = record {
+  waits = closing (r.waits.closes || not (list_any
+      (same_call r.waits) (map (λ s. s.waits) read))) r.waits;
+  page = r.page;
+} ∷ closed_read read
 
 -- ---- what is known and what is there
 
@@ -84,14 +89,20 @@ pub record State : Type 0 where
   pub pages : List spool.PageValue
 
 abbrev pub placed : ReadPage → Bool → QueuedPage
-placed r is_stored = record { life = r.waits.life; call = r.waits.call; number = r.waits.number; is_stored = is_stored }
+placed r is_stored = record {
+  life = r.waits.life;
+  call = r.waits.call;
+  number = r.waits.number;
+  is_stored = is_stored;
+}
 
 -- a page is put under the name of the line, and is on its queue
 pub record Puts (line : List ℕ) (page : ReadPage) (is_there : Bool) (old new : State) : Type 0 where
   pub line_is : page.waits.line ≡ line
   pub means : Means page.waits page.page
   pub there : new.pages ≡ (if is_there then old.pages ++ page.waits ∷ [] else old.pages)
-  pub queued : new.notes ≡ true → (old.notes ≡ true) × (new.waits ≡ old.waits ++ placed page is_there ∷ [])
+  pub queued : new.notes ≡ true
+      → (old.notes ≡ true) × (new.waits ≡ old.waits ++ placed page is_there ∷ [])
 
 -- the record of the end of a job is put, which leaves just the pages of the queue after the job's
 pub record Notes (line : List ℕ) (pages : ℕ) (old new : State) : Type 0 where
@@ -125,7 +136,8 @@ abbrev pub Goes : List ℕ → PageAction → State → State → Type 0
 Goes line (Turns given) old new = new ≡ old
 Goes line Begins old new = new ≡ old
 Goes line (Stores given page) old new = Puts line page true old new
-Goes line (Refuses given page is_there) old new = Puts line page is_there old new × (is_there ≡ true → new.notes ≡ false)
+Goes line (Refuses given page is_there) old new =
+    Puts line page is_there old new × (is_there ≡ true → new.notes ≡ false)
 Goes line (Ends pages) old new = Notes line pages old new
 Goes line (Leaves pages) old new = (new.pages ≡ old.pages) × (new.notes ≡ false)
 Goes line (Lets pages) old new = LeavesQueue pages old new
@@ -135,18 +147,21 @@ Goes line Stops old new = Restarts line old new
 -- THESE ACTIONS WERE DONE, from where none of the line's pages was known or there.
 abbrev pub WasDone : List ℕ → List PageAction → State → Type 0
 WasDone line [] new = (new.waits ≡ []) × (own_pages line new.pages ≡ [])
-WasDone line (action ∷ actions) new = (old : State) × WasDone line actions old × Goes line action old new
+WasDone line (action ∷ actions) new =
+    (old : State) × WasDone line actions old × Goes line action old new
 
 -- ---- laws
 
 -- WHAT WAITS ON THE DISK IS WHAT IS OWED: of the line's own pages just these, in the order of their confirmations.
 abbrev pub WaitsAreOwed : Type 0
-WaitsAreOwed = (line : List ℕ) (actions : List PageAction) (state : State) → WasDone line actions state → own_pages line state.pages ≡ map (λ r. r.waits) (owed actions)
+WaitsAreOwed = (line : List ℕ) (actions : List PageAction) (state : State)
+    → WasDone line actions state → own_pages line state.pages ≡ map (λ r. r.waits) (owed actions)
 
 -- WHAT IS OWED IS RESTORED: after any actions a life begins with just these pages, in the calls that they came in.
 abbrev pub OwedIsRestored : Type 0
 OwedIsRestored =
-    (line : List ℕ) (actions : List PageAction) (state : State) (restored : RestoredLine) → WasDone line actions state → Restores line (closed state.pages) restored
+    (line : List ℕ) (actions : List PageAction) (state : State) (restored : RestoredLine)
+    → WasDone line actions state → Restores line (closed state.pages) restored
     → map call_shown restored.calls.items ≡ calls_of (closed_read (owed actions))
 
 -- no job's end is on the disk, nor did one end none of whose pages is there
@@ -164,7 +179,8 @@ EndsNone (Stops ∷ actions) = EndsNone actions
 
 -- Only the end of a job takes a page away: after other actions, crashes among them, each page that was owed is, and in front.
 abbrev pub OwedStays : Type 0
-OwedStays = (later actions : List PageAction) → EndsNone later → (more : List ReadPage) × (owed (later ++ actions) ≡ owed actions ++ more)
+OwedStays = (later actions : List PageAction)
+    → EndsNone later → (more : List ReadPage) × (owed (later ++ actions) ≡ owed actions ++ more)
 
 -- ---- the calling leg
 
@@ -183,9 +199,9 @@ on_leg (Stops ∷ actions) = hold.Begins ∷ on_leg actions
 
 -- NO MCF BEFORE THE DISK HAS THE PAGE: where something goes out in a turn that confirms a page, the page is owed.
 abbrev pub PutFirst : Type 0
-PutFirst =
-    (given : Option (List ℕ)) (page : ReadPage) (is_there : Bool) (actions : List PageAction)
-    → (went_out (on_leg (Refuses given page is_there ∷ actions)) ≡ went_out (on_leg actions)) × (owed (Stores given page ∷ actions) ≡ owed actions ++ page ∷ [])
+PutFirst = (given : Option (List ℕ)) (page : ReadPage) (is_there : Bool) (actions : List PageAction)
+    → (went_out (on_leg (Refuses given page is_there ∷ actions)) ≡ went_out (on_leg actions))
+    × (owed (Stores given page ∷ actions) ≡ owed actions ++ page ∷ [])
 
 -- ---- the calls are actions
 
@@ -199,13 +215,15 @@ NotesStill before after queue = after ≡ true → (before ≡ true) × (queue.i
 
 -- a page is put, and is on the queue: what `Storage::store_all` answers by an `Ok`, of each page (`SlotsArePuts`)
 abbrev pub PutsAreActions : Type 0
-PutsAreActions =
-    (given : Option (List ℕ)) (page : ReadPage) (old new : QueueValue) (before after : Bool) (pages : List spool.PageValue) → page.waits.line ≡ old.line → Means page.waits page.page
-    → IsQueued (placed_as page.waits true) old new → NotesStill before after new
-    → Goes old.line (Stores given page) (state_of old before pages) (state_of new after (pages ++ page.waits ∷ []))
+PutsAreActions = (given : Option (List ℕ)) (page : ReadPage) (old new : QueueValue)
+    (before after : Bool) (pages : List spool.PageValue) → page.waits.line ≡ old.line
+    → Means page.waits page.page → IsQueued (placed_as page.waits true) old new
+    → NotesStill before after new → Goes old.line (Stores given page)
+    (state_of old before pages) (state_of new after (pages ++ page.waits ∷ []))
 
 -- each is on its line's queue, by what that was before all of them and is after them
-pub record IsPlacedOf (is_there : Bool) (page : PageToStore) (value : spool.PageValue) (olds news : List QueueValue) : Type 0 where
+pub record IsPlacedOf (is_there : Bool)
+    (page : PageToStore) (value : spool.PageValue) (olds news : List QueueValue) : Type 0 where
   pub old : QueueValue
   pub new : QueueValue
   pub was : slice_get olds page.line ≡ Some old
@@ -214,51 +232,60 @@ pub record IsPlacedOf (is_there : Bool) (page : PageToStore) (value : spool.Page
   pub line_is : value.line ≡ old.line
   pub queued : IsQueued (placed_as value is_there) old new
 
-abbrev pub EachIsPlaced : Bool → List PageToStore → List spool.PageValue → List QueueValue → List QueueValue → Type 0
+abbrev pub EachIsPlaced : Bool
+    → List PageToStore → List spool.PageValue → List QueueValue → List QueueValue → Type 0
 EachIsPlaced is_there [] [] olds news = Unit {0}
-EachIsPlaced is_there (page ∷ pages) (value ∷ values) olds news = IsPlacedOf is_there page value olds news × EachIsPlaced is_there pages values olds news
+EachIsPlaced is_there (page ∷ pages) (value ∷ values) olds news =
+    IsPlacedOf is_there page value olds news × EachIsPlaced is_there pages values olds news
 EachIsPlaced is_there pages values olds news = ⊥
 
 abbrev pub IsQueuedOf : PageToStore → spool.PageValue → List QueueValue → List QueueValue → Type 0
 IsQueuedOf page value olds news = IsPlacedOf true page value olds news
 
-abbrev pub EachIsQueued : List PageToStore → List spool.PageValue → List QueueValue → List QueueValue → Type 0
+abbrev pub EachIsQueued : List PageToStore
+    → List spool.PageValue → List QueueValue → List QueueValue → Type 0
 EachIsQueued pages values olds news = EachIsPlaced true pages values olds news
 
 -- Pages of lines one each, as a slot's turn hands them over (`ArePagesOf`): each is put as if it were alone, and no other queue changes.
 abbrev pub SlotsArePuts : Type 0
 SlotsArePuts =
-    (pages : List PageToStore) (values : List spool.PageValue) (olds news : List QueueValue) → AllArePut pages values olds news
+    (pages : List PageToStore) (values : List spool.PageValue) (olds news : List QueueValue)
+    → AllArePut pages values olds news
     → (AllPairs (λ page after. page.line < after.line) pages → EachIsQueued pages values olds news)
-    × ((place : ℕ) → All (λ page. page.line ≢ place) pages → slice_get news place ≡ slice_get olds place)
+    × ((place : ℕ)
+    → All (λ page. page.line ≢ place) pages → slice_get news place ≡ slice_get olds place)
 
 -- the end of a job is noted: what `Storage::end` answers by an `Ok`
 abbrev pub EndsAreActions : Type 0
-EndsAreActions =
-    (count : ℕ) (ended : spool.EndedValue) (old new : QueueValue) (after : Bool) (pages : List spool.PageValue) → ended.line ≡ old.line → new.waits ≡ drop count old.waits
-    → left_by ended old.line old.waits ≡ new.waits → Goes old.line (Ends count) (state_of old true pages) (state_of new after (without ended pages))
+EndsAreActions = (count : ℕ) (ended : spool.EndedValue) (old new : QueueValue) (after : Bool)
+    (pages : List spool.PageValue) → ended.line ≡ old.line → new.waits ≡ drop count old.waits
+    → left_by ended old.line old.waits ≡ new.waits → Goes old.line (Ends count)
+    (state_of old true pages) (state_of new after (without ended pages))
 
 -- the same of another line
 abbrev pub OthersAreBeside : Type 0
-OthersAreBeside =
-    (line : List ℕ) (queue : QueueValue) (notes : Bool) (pages : List spool.PageValue)
-    → ((page : spool.PageValue) → page.line ≢ line → Goes line Beside (state_of queue notes pages) (state_of queue notes (pages ++ page ∷ [])))
-    × ((ended : spool.EndedValue) → ended.line ≢ line → Goes line Beside (state_of queue notes pages) (state_of queue notes (without ended pages)))
+OthersAreBeside = (line : List ℕ) (queue : QueueValue) (notes : Bool) (pages : List spool.PageValue)
+    → ((page : spool.PageValue) → page.line ≢ line
+    → Goes line Beside (state_of queue notes pages) (state_of queue notes (pages ++ page ∷ [])))
+    × ((ended : spool.EndedValue) → ended.line ≢ line
+    → Goes line Beside (state_of queue notes pages) (state_of queue notes (without ended pages)))
 
 -- a life begins: what `restore_line` answers by an `Ok`, over the pages that `open_spool` tells
 abbrev pub RestartsAreActions : Type 0
-RestartsAreActions =
-    (line : List ℕ) (restored : RestoredLine) (old : State) (after : Bool) → Restores line (closed old.pages) restored → Goes line Stops old (state_of restored.queue after old.pages)
+RestartsAreActions = (line : List ℕ) (restored : RestoredLine) (old : State) (after : Bool)
+    → Restores line (closed old.pages) restored
+    → Goes line Stops old (state_of restored.queue after old.pages)
 
 -- A page that a turn hands over is read back: the text of its record means it.
 abbrev pub StoredPagesAreRead : Type 0
 StoredPagesAreRead =
-    (kept : Kept) (page : PageValue) (to_store : PageToStore) (value : spool.PageValue) → IsPage page → kept.format ≡ page.format → IsStoredAs kept (Some page) to_store
-    → IsRecordOf to_store (Page value) → Means value page
+    (kept : Kept) (page : PageValue) (to_store : PageToStore) (value : spool.PageValue)
+    → IsPage page → kept.format ≡ page.format
+    → IsStoredAs kept (Some page) to_store → IsRecordOf to_store (Page value) → Means value page
 
 -- A line that is restored has no page on its queue but those that wait on the disk: so the queues and the disk agree as a life
 -- begins.
 abbrev pub RestoredQueuesAgree : Type 0
-RestoredQueuesAgree =
-    (line : List ℕ) (pages : List spool.PageValue) (restored : RestoredLine) → Restores line (closed pages) restored
+RestoredQueuesAgree = (line : List ℕ) (pages : List spool.PageValue) (restored : RestoredLine)
+    → Restores line (closed pages) restored
     → AreAmong restored.queue.line restored.queue.waits (map name_of pages)

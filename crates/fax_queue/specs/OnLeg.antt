@@ -30,28 +30,38 @@ page_at (Some l) now = page_if l.number (confirmed_at (Some l) now)
 
 -- The action of a tick: it confirms no page; or it confirms this one, which was put with an Ok and is the last of those that were, or was
 -- not put. What went before is told by `rest`.
-abbrev pub IsTurnOnLeg : (rest : List LegAction → List CallPage → Type 0) → (gave : Option (List ℕ)) → Option CallPage → List LegAction → (kept : List CallPage) → Type 0
+abbrev pub IsTurnOnLeg : (rest : List LegAction → List CallPage → Type 0)
+    → (gave : Option (List ℕ)) → Option CallPage → List LegAction → (kept : List CallPage) → Type 0
 IsTurnOnLeg rest gave None actions kept =
-    (handed : Option (List ℕ)) × (is_stored : Bool) × (before : List LegAction) × IsHandedOver gave handed × (actions ≡ Turn handed false is_stored ∷ before) × rest before kept
+    (handed : Option (List ℕ)) × (is_stored : Bool) × (before : List LegAction)
+    × IsHandedOver gave handed × (actions ≡ Turn handed false is_stored ∷ before) × rest before kept
 IsTurnOnLeg rest gave (Some page) actions kept =
-    (handed : Option (List ℕ)) × (before : List LegAction) × IsHandedOver gave handed
-    × (((actions ≡ Turn handed true true ∷ before) × ((pages : List CallPage) × (kept ≡ pages ++ page ∷ []) × rest before pages)) ⊎ ((actions ≡ Turn handed true false ∷ before) × rest before kept))
+    (handed : Option (List ℕ)) × (before : List LegAction)
+    × IsHandedOver gave handed × (((actions ≡ Turn handed true true ∷ before)
+    × ((pages : List CallPage) × (kept ≡ pages ++ page ∷ []) × rest before pages))
+    ⊎ ((actions ≡ Turn handed true false ∷ before) × rest before kept))
 
 -- THE ACTIONS OF A WIRE ARE THOSE OF THIS TRACE: each tick is a turn, which hands over what the tick gave on the calling leg, and confirms a
 -- page where the tick does, which is stored where it was put with an Ok; these are the pages that were. Each ring begins a call. Nothing
 -- else is done: a call that is placed is one of the called leg.
 abbrev pub AreOnLeg : Setup → List LegAction → List Event → List CallPage → Type 0
 AreOnLeg setup actions [] kept = (actions ≡ []) × (kept ≡ [])
-AreOnLeg setup actions (Ring at number ∷ earlier) kept = (before : List LegAction) × (actions ≡ Begins ∷ before) × AreOnLeg setup before earlier kept
-AreOnLeg setup actions (FromCalling octets at decided read ∷ earlier) kept = AreOnLeg setup actions earlier kept
-AreOnLeg setup actions (FromCalled octets at decided ∷ earlier) kept = AreOnLeg setup actions earlier kept
+AreOnLeg setup actions (Ring at number ∷ earlier) kept =
+    (before : List LegAction) × (actions ≡ Begins ∷ before) × AreOnLeg setup before earlier kept
+AreOnLeg setup actions (FromCalling octets at decided read ∷ earlier) kept =
+    AreOnLeg setup actions earlier kept
+AreOnLeg setup actions (FromCalled octets at decided ∷ earlier) kept =
+    AreOnLeg setup actions earlier kept
 AreOnLeg setup actions (Tick at given ∷ earlier) kept =
-    IsTurnOnLeg (λ before pages. AreOnLeg setup before earlier pages) given.on_calling (page_at (calling_leg setup earlier) (clock (Tick at given ∷ earlier))) actions kept
+    IsTurnOnLeg (λ before pages. AreOnLeg setup before earlier pages) given.on_calling
+    (page_at (calling_leg setup earlier) (clock (Tick at given ∷ earlier))) actions kept
 AreOnLeg setup actions (Placed at connected ∷ earlier) kept = AreOnLeg setup actions earlier kept
 
 -- WHERE A PAGE WAS NOT PUT WITH AN OK, NOTHING GOES OUT in the tick that confirms it: by the actions of a wire that are those of a trace.
 abbrev pub UnputPagesLetNothingOut : Type 0
-UnputPagesLetNothingOut =
-    (setup : Setup) (at : ℕ) (given : Given) (earlier : List Event) (actions : List LegAction) (kept : List CallPage) (page : CallPage)
-    → page_at (calling_leg setup earlier) (clock (Tick at given ∷ earlier)) ≡ Some page → AreOnLeg setup actions (Tick at given ∷ earlier) kept
-    → ((pages : List CallPage) × (kept ≡ pages ++ page ∷ [])) ⊎ ((before : List LegAction) × AreOnLeg setup before earlier kept × (went_out actions ≡ went_out before))
+UnputPagesLetNothingOut = (setup : Setup) (at : ℕ) (given : Given)
+    (earlier : List Event) (actions : List LegAction) (kept : List CallPage) (page : CallPage)
+    → page_at (calling_leg setup earlier) (clock (Tick at given ∷ earlier)) ≡ Some page
+    → AreOnLeg setup actions (Tick at given ∷ earlier) kept
+    → ((pages : List CallPage) × (kept ≡ pages ++ page ∷ [])) ⊎ ((before : List LegAction)
+    × AreOnLeg setup before earlier kept × (went_out actions ≡ went_out before))

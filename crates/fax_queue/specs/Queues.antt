@@ -28,12 +28,14 @@ pub record QueueValue : Type 0 where
 -- same life, and else 1. (There are 2 ^ 32 - 1 at most.)
 abbrev pub next_number : Option QueuedPage → ℕ → ℕ → ℕ
 next_number None life call = 1
-next_number (Some page) life call = if nat_eq page.life life && nat_eq page.call call then min (page.number + 1) (2 ^ 32 - 1) else 1
+next_number (Some page) life call =
+    if nat_eq page.life life && nat_eq page.call call then min (page.number + 1) (2 ^ 32 - 1) else 1
 
 -- the tag of a call, where one of these is
 abbrev pub tag_in : List TagValue → ℕ → ℕ → Option (List ℕ)
 tag_in [] life call = None
-tag_in (t ∷ tags) life call = if nat_eq t.life life && nat_eq t.call call then Some t.tag else tag_in tags life call
+tag_in (t ∷ tags) life call =
+    if nat_eq t.life life && nat_eq t.call call then Some t.tag else tag_in tags life call
 
 -- the tag of the job that is first in turn, where its call has one
 abbrev pub first_tag_of : List TagValue → List QueuedPage → Option (List ℕ)
@@ -62,7 +64,8 @@ name_in line page = record { life = page.life; call = page.call; number = page.n
 
 -- A page came after another: in a later life, in a later call of one life, or as a later page of one call.
 abbrev pub IsAfter : QueuedPage → QueuedPage → Type 0
-IsAfter page other = (other.life < page.life) ⊎ ((other.life ≡ page.life) × ((other.call < page.call) ⊎ ((other.call ≡ page.call) × (other.number < page.number))))
+IsAfter page other = (other.life < page.life) ⊎ ((other.life ≡ page.life)
+    × ((other.call < page.call) ⊎ ((other.call ≡ page.call) × (other.number < page.number))))
 
 -- each of these came after that one
 abbrev pub AreAfter : List QueuedPage → QueuedPage → Type 0
@@ -80,7 +83,8 @@ pub record IsQueued (page : QueuedPage) (old new : QueueValue) : Type 0 where
   pub line : new.line ≡ old.line
   pub whole : new.is_whole ≡ true → (old.is_whole ≡ true) × (new.waits ≡ old.waits ++ page ∷ [])
   pub waits : (new.waits ≡ old.waits ++ page ∷ []) ⊎ (new.waits ≡ old.waits)
-  pub stays : old.is_whole ≡ true → AreInOrder (old.waits ++ page ∷ []) → (new.is_whole ≡ true) ⊎ (new.waits ≡ old.waits)
+  pub stays : old.is_whole ≡ true
+      → AreInOrder (old.waits ++ page ∷ []) → (new.is_whole ≡ true) ⊎ (new.waits ≡ old.waits)
   pub tags : new.tags ≡ old.tags
   pub aside : new.aside ≡ old.aside
   pub newest : new.newest ≡ Some page
@@ -113,7 +117,8 @@ left_by ended line pages = filter (λ page. not (ends ended (name_in line page))
 pub record NamesFirst (pages : ℕ) (ended : EndedJob) (waits : List QueuedPage) : Type 0 where
   pub as_many : pages ≤ length waits
   pub kept : ended.stored ≡ count_by (λ page. page.is_stored) (take pages waits)
-  pub leaves : (line : List ℕ) (kept : EndedValue) → IsEndOf ended line kept → left_by kept line waits ≡ drop pages waits
+  pub leaves : (line : List ℕ) (kept : EndedValue)
+      → IsEndOf ended line kept → left_by kept line waits ≡ drop pages waits
 
 -- the record of pages names the first of these
 pub record BeginsAt (ended : EndedJob) (waits : List QueuedPage) : Type 0 where
@@ -128,9 +133,11 @@ abbrev pub not_delivered : (pages delivered : ℕ) → List QueuedPage → List 
 not_delivered pages delivered waits = take (pages - delivered) (drop delivered waits)
 
 -- THE RECORD OF THE PAGES OF A JOB THAT WERE NOT DELIVERED names none before them, and of those from them on just the job's.
-pub record NamesLeft (pages delivered : ℕ) (left : EndedJob) (waits : List QueuedPage) : Type 0 where
+pub record NamesLeft (pages delivered : ℕ) (left : EndedJob) (waits : List QueuedPage) :
+    Type 0 where
   pub names : NamesFirst (pages - delivered) left (drop delivered waits)
-  pub before : (line : List ℕ) (kept : EndedValue) → IsEndOf left line kept → left_by kept line (take delivered waits) ≡ take delivered waits
+  pub before : (line : List ℕ) (kept : EndedValue)
+      → IsEndOf left line kept → left_by kept line (take delivered waits) ≡ take delivered waits
 
 -- ---- what of it is on the disk
 
@@ -141,10 +148,12 @@ IsAmong name (other ∷ names) = (other ≡ name) ⊎ IsAmong name names
 -- each of these pages that is said to be on the disk is one of those that wait there
 abbrev pub AreAmong : List ℕ → List QueuedPage → List PageName → Type 0
 AreAmong line [] names = Unit {0}
-AreAmong line (page ∷ pages) names = (page.is_stored ≡ true → IsAmong (name_in line page) names) × AreAmong line pages names
+AreAmong line (page ∷ pages) names =
+    (page.is_stored ≡ true → IsAmong (name_in line page) names) × AreAmong line pages names
 
 -- THE END OF A JOB FORGETS NO OTHER PAGE: each page that stays on the queue waits on the disk as it did.
 abbrev pub NoneIsForgotten : Type 0
 NoneIsForgotten =
-    (ended : EndedValue) (line : List ℕ) (pages : List QueuedPage) (waits : List PageValue) → AreAmong line pages (map name_of waits)
+    (ended : EndedValue) (line : List ℕ) (pages : List QueuedPage) (waits : List PageValue)
+    → AreAmong line pages (map name_of waits)
     → AreAmong line (left_by ended line pages) (map name_of (without ended waits))

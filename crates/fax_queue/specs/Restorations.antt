@@ -39,7 +39,8 @@ pub record ReadPage : Type 0 where
 abbrev pub AreRead : List spool.PageValue → List ReadPage → Type 0
 AreRead [] read = read ≡ []
 AreRead (w ∷ waits) [] = MeansNone w × AreRead waits []
-AreRead (w ∷ waits) (r ∷ read) = ((r.waits ≡ w) × Means w r.page × AreRead waits read) ⊎ (MeansNone w × AreRead waits (r ∷ read))
+AreRead (w ∷ waits) (r ∷ read) =
+    ((r.waits ≡ w) × Means w r.page × AreRead waits read) ⊎ (MeansNone w × AreRead waits (r ∷ read))
 
 abbrev pub confirmation_of : ReadPage → Confirmation
 confirmation_of r = record { page = r.page; closes = r.waits.closes }
@@ -53,11 +54,13 @@ call_with r = record { number = r.waits.call; confirmed = confirmation_of r ∷ 
 
 abbrev pub before_all : ReadPage → List RestoredCall → List RestoredCall
 before_all r [] = []
-before_all r (call ∷ calls) = record { number = call.number; confirmed = confirmation_of r ∷ call.confirmed } ∷ calls
+before_all r (call ∷ calls) =
+    record { number = call.number; confirmed = confirmation_of r ∷ call.confirmed } ∷ calls
 
 abbrev pub before : ReadPage → List ReadPage → List RestoredCall → List RestoredCall
 before r [] calls = call_with r ∷ calls
-before r (next ∷ read) calls = if in_one_call r.waits next.waits then before_all r calls else call_with r ∷ calls
+before r (next ∷ read) calls =
+    if in_one_call r.waits next.waits then before_all r calls else call_with r ∷ calls
 
 abbrev pub calls_of : List ReadPage → List RestoredCall
 calls_of [] = []
@@ -65,7 +68,8 @@ calls_of (r ∷ read) = before r read (calls_of read)
 
 -- what is known of a page that waits on the disk
 abbrev pub waiting_of : ReadPage → QueuedPage
-waiting_of r = record { life = r.waits.life; call = r.waits.call; number = r.waits.number; is_stored = true }
+waiting_of r =
+    record { life = r.waits.life; call = r.waits.call; number = r.waits.number; is_stored = true }
 
 -- a page begins a call, where these wait before it
 abbrev pub begins : List QueuedPage → spool.PageValue → Bool
@@ -75,12 +79,14 @@ begins (w ∷ v ∷ waits) page = begins (v ∷ waits) page
 
 -- the tag of the call that a page came in, where it has one that is text
 abbrev pub own_tag : spool.PageValue → List TagValue
-own_tag page = if is_utf8 page.tag && not (nat_eq (length page.tag) 0) then record { life = page.life; call = page.call; tag = page.tag } ∷ [] else []
+own_tag page = if is_utf8 page.tag && not (nat_eq (length page.tag) 0)
+    then record { life = page.life; call = page.call; tag = page.tag } ∷ [] else []
 
 -- The tags of the calls of these pages, where others wait before them: that of a call is its first page's.
 abbrev pub tags_after : List QueuedPage → List ReadPage → List TagValue
 tags_after before [] = []
-tags_after before (r ∷ read) = (if begins before r.waits then own_tag r.waits else []) ++ tags_after (before ++ waiting_of r ∷ []) read
+tags_after before (r ∷ read) = (if begins before r.waits then own_tag r.waits else [])
+    ++ tags_after (before ++ waiting_of r ∷ []) read
 
 abbrev pub tags_of : List ReadPage → List TagValue
 tags_of read = tags_after [] read
@@ -92,7 +98,9 @@ aside_of w = record { life = w.life; call = w.call; number = w.number }
 abbrev pub AreAside : List spool.PageValue → List Aside → Type 0
 AreAside [] aside = aside ≡ []
 AreAside (w ∷ waits) [] = ((page : PageValue) × Means w page) × AreAside waits []
-AreAside (w ∷ waits) (a ∷ aside) = (((page : PageValue) × Means w page) × AreAside waits (a ∷ aside)) ⊎ (MeansNone w × (a ≡ aside_of w) × AreAside waits aside)
+AreAside (w ∷ waits) (a ∷ aside) =
+    (((page : PageValue) × Means w page) × AreAside waits (a ∷ aside))
+    ⊎ (MeansNone w × (a ≡ aside_of w) × AreAside waits aside)
 
 -- These pages are in the calls, and on the queue of the line, and no others. The queue is whole where they are in their order.
 pub record AreIn (line : List ℕ) (read : List ReadPage) (restored : RestoredLine) : Type 0 where
@@ -104,7 +112,8 @@ pub record AreIn (line : List ℕ) (read : List ReadPage) (restored : RestoredLi
 
 -- THE CALLS OF A LINE THAT IS RESTORED are those of its own pages that wait, and so are the pages of its queue and the tags of
 -- their calls; a page whose text means none is set aside.
-pub record Restores (line : List ℕ) (pages : List spool.PageValue) (restored : RestoredLine) : Type 0 where
+pub record Restores (line : List ℕ) (pages : List spool.PageValue) (restored : RestoredLine) :
+    Type 0 where
   pub read : List ReadPage
   pub own : AreRead (own_pages line pages) read
   pub are : AreIn line read restored
@@ -117,7 +126,9 @@ NoneIsTorn line torn pages = All (λ page. is_of_any torn page ≡ false) (own_p
 -- WHERE NONE OF A LINE'S CALLS IS TORN it is restored with all of its pages, whatever became of other lines.
 abbrev pub WholeLinesAreRestored : Type 0
 WholeLinesAreRestored =
-    (line : List ℕ) (torn : List CallName) (pages : List spool.PageValue) (restored : RestoredLine) → NoneIsTorn line torn pages → Restores line (whole_pages torn pages) restored → Restores line pages restored
+    (line : List ℕ) (torn : List CallName) (pages : List spool.PageValue) (restored : RestoredLine)
+    → NoneIsTorn line torn pages
+    → Restores line (whole_pages torn pages) restored → Restores line pages restored
 
 -- ---- one more page
 

@@ -57,9 +57,13 @@ pub(crate) fn put_pages<D: Disk>(
     pages: &[PageToStore],
     names: &Names<'_>,
 ) -> Result<(), StoreFault>
-    ensures puts { OnOk result (PutsRecords D.seen D.may_leave D.is_usable names.now.life (lines_of names.now.queues.now) pages.now names.now.numbers.now spool.old spool.new) }
-    ensures tagged { OnOk result (PutsTagged D.seen D.may_leave D.is_usable names.now.tags.now pages.now spool.old spool.new) }
-    ensures failed { OnErr result ((spool.new ≡ spool.old) ⊎ MayHavePut D.seen D.may_leave D.is_usable names.now.life (lines_of names.now.queues.now) pages.now names.now.numbers.now spool.old spool.new) }
+    ensures puts { OnOk result (PutsRecords D.seen D.may_leave D.is_usable names.now.life
+        (lines_of names.now.queues.now) pages.now names.now.numbers.now spool.old spool.new) }
+    ensures tagged { OnOk result (PutsTagged D.seen D.may_leave D.is_usable names.now.tags.now
+        pages.now spool.old spool.new) }
+    ensures failed { OnErr result ((spool.new ≡ spool.old)
+        ⊎ MayHavePut D.seen D.may_leave D.is_usable names.now.life
+        (lines_of names.now.queues.now) pages.now names.now.numbers.now spool.old spool.new) }
     ensures refuses { Refuses spool.old → IsErr result × (spool.new ≡ spool.old) }
 {
     let records = match records_of(alloc, pages, names) {
@@ -78,7 +82,8 @@ fn records_of<'a>(
     pages: &'a [PageToStore],
     names: &Names<'a>,
 ) -> Result<Vec<PageRecord<'a>>, StoreFault>
-    ensures under { IfOk result (λ records. AreRecordsUnder names.now.life (lines_of names.now.queues.now) pages.now names.now.numbers.now records.items) }
+    ensures under { IfOk result (λ records. AreRecordsUnder names.now.life
+        (lines_of names.now.queues.now) pages.now names.now.numbers.now records.items) }
     ensures tagged { IfOk result (λ records. AreTagged names.now.tags.now pages.now records.items) }
 {
     let mut records = Vec::new(alloc);

@@ -99,7 +99,14 @@ impl Model for Queue {
 
     ghost Value = { QueueValue };
 
-    ghost view = { λ s. record { line = string_bytes s.line; waits = s.waits.items; is_whole = s.is_whole; tags = s.tags.items; aside = s.aside.items; newest = s.newest } };
+    ghost view = { λ s. record {
+      line = string_bytes s.line;
+      waits = s.waits.items;
+      is_whole = s.is_whole;
+      tags = s.tags.items;
+      aside = s.aside.items;
+      newest = s.newest;
+    } };
 
     ghost invariant = { λ s. s.is_whole ≡ true → AreInOrder s.waits.items };
 }
@@ -107,7 +114,14 @@ impl Model for Queue {
 impl Queue {
     /// None of the line of this name waits.
     pub fn new(alloc: Global, line: &str) -> Result<Self, NoMemory>
-        ensures { IfOk result (λ queue. queue ≡ record { line = line.now; waits = []; is_whole = true; tags = []; aside = []; newest = None }) }
+        ensures { IfOk result (λ queue. queue ≡ record {
+          line = line.now;
+          waits = [];
+          is_whole = true;
+          tags = [];
+          aside = [];
+          newest = None;
+        }) }
     {
         Ok(Queue {
             line: String::from_str(alloc, line)?,
@@ -159,7 +173,8 @@ impl Queue {
 
     /// The tag of the job that is first in turn, where that was confirmed in an earlier life.
     pub fn restored_tag(&self) -> Option<&str>
-        ensures { MatchOption result (first_tag self.now ≡ None) (λ tag. first_tag self.now ≡ Some tag.now) }
+        ensures { MatchOption result (first_tag self.now ≡ None)
+            (λ tag. first_tag self.now ≡ Some tag.now) }
     {
         match self.waits.first() {
             Some(page) => tag_in(self.tags.as_slice(), page.life, page.call),
@@ -198,7 +213,8 @@ impl Queue {
         call: u32,
         tag: &str,
     ) -> Result<(), NoMemory>
-        ensures tags { OnOk result (self.new.tags ≡ self.old.tags ++ record { life = life; call = call; tag = tag.now } ∷ []) }
+        ensures tags { OnOk result (self.new.tags
+            ≡ self.old.tags ++ record { life = life; call = call; tag = tag.now } ∷ []) }
         ensures same { self.new ≡ record self.old { tags = self.new.tags } }
         ensures none { OnErr result (self.new ≡ self.old) }
     {
@@ -222,7 +238,8 @@ impl Queue {
         ensures line { self.new.line ≡ self.old.line }
         ensures waits { OnOk result (self.new.waits ≡ self.old.waits ++ page ∷ []) }
         ensures whole { self.new.is_whole ≡ true → self.old.is_whole ≡ true }
-        ensures stays { OnOk result (self.old.is_whole ≡ true → AreInOrder (self.old.waits ++ page ∷ []) → self.new.is_whole ≡ true) }
+        ensures stays { OnOk result (self.old.is_whole ≡ true
+            → AreInOrder (self.old.waits ++ page ∷ []) → self.new.is_whole ≡ true) }
         ensures tags { self.new.tags ≡ self.old.tags }
         ensures aside { self.new.aside ≡ self.old.aside }
         ensures newest { OnOk result (self.new.newest ≡ Some page) }
@@ -255,8 +272,10 @@ impl Queue {
         ensures names { IfSome result (λ ended. NamesFirst pages ended self.old.waits) }
         ensures left { IfSome result (λ _. self.new.waits ≡ drop pages self.old.waits) }
         ensures whole { IfSome result (λ _. self.new.is_whole ≡ true) }
-        ensures unsure { result ≡ None → (self.new.waits ≡ self.old.waits) × (self.new.is_whole ≡ false) }
-        ensures why { IfNone result ((self.old.is_whole ≡ false) ⊎ (¬ IsFirstJob pages self.old.waits)) }
+        ensures unsure { result ≡ None
+            → (self.new.waits ≡ self.old.waits) × (self.new.is_whole ≡ false) }
+        ensures why { IfNone result ((self.old.is_whole ≡ false)
+            ⊎ (¬ IsFirstJob pages self.old.waits)) }
     {
         if !self.is_whole {
             return None;
@@ -273,7 +292,8 @@ impl Queue {
     /// ones they are is not known, or there is none.
     pub fn job_left(&self, pages: u32, delivered: u32) -> Option<EndedJob>
         ensures some { IfSome result (λ left. NamesLeft pages delivered left self.now.waits) }
-        ensures none { IfNone result ((self.now.is_whole ≡ false) ⊎ (¬ IsFirstJob (pages - delivered) (drop delivered self.now.waits))) }
+        ensures none { IfNone result ((self.now.is_whole ≡ false)
+            ⊎ (¬ IsFirstJob (pages - delivered) (drop delivered self.now.waits))) }
     {
         if !self.is_whole {
             return None;
@@ -290,7 +310,8 @@ impl Queue {
 
 /// The tag of a call of an earlier life, where one of these is.
 fn tag_in(tags: &[RestoredTag], life: u32, call: u32) -> Option<&str>
-    ensures { MatchOption result (tag_in tags.now life call ≡ None) (λ tag. tag_in tags.now life call ≡ Some tag.now) }
+    ensures { MatchOption result (tag_in tags.now life call ≡ None)
+        (λ tag. tag_in tags.now life call ≡ Some tag.now) }
 {
     for it in tags {
         if it.life == life && it.call == call {

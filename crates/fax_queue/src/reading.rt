@@ -20,7 +20,9 @@ pub(crate) fn read_job<D: Disk>(
     queue: &Queue,
     report: Report,
 ) -> Result<Vec<WaitingPage>, EndFault>
-    ensures ok { IfOk result (λ pages. ReadsLeft D.seen D.may_leave D.is_usable D.is_clean report.pages report.delivered queue.now spool.old spool.new pages.items) }
+    ensures ok { IfOk result
+        (λ pages. ReadsLeft D.seen D.may_leave D.is_usable D.is_clean report.pages
+        report.delivered queue.now spool.old spool.new pages.items) }
     ensures fault { IfErr result (λ fault. fault ≡ EndFault.NotStored) }
     ensures read { IsRead D.seen D.may_leave D.is_usable spool.old spool.new }
     ensures refuses { Refuses spool.old → spool.new ≡ spool.old }
@@ -52,7 +54,9 @@ fn read_pages<D: Disk>(
     left: &EndedJob,
     report: Report,
 ) -> Result<Vec<WaitingPage>, StoreFault>
-    ensures found { IfOk result (λ pages. ReadsNamed D.seen D.may_leave D.is_usable D.is_clean left.now line.now spool.old spool.new pages.items) }
+    ensures found { IfOk result
+        (λ pages. ReadsNamed D.seen D.may_leave D.is_usable D.is_clean left.now
+        line.now spool.old spool.new pages.items) }
     ensures read { IsRead D.seen D.may_leave D.is_usable spool.old spool.new }
     ensures refuses { Refuses spool.old → spool.new ≡ spool.old }
 {
@@ -88,7 +92,8 @@ fn are_found(line: &[u8], pages: &[QueuedPage], found: &[WaitingPage]) -> bool
 
 /// Whether this page of a line was found, where it is said to be on the disk.
 fn is_there(line: &[u8], page: &QueuedPage, found: &[WaitingPage]) -> bool
-    ensures { result ≡ true → page.now.is_stored ≡ true → IsAmong (name_in line.now page.now) (map name_of found.now) }
+    ensures { result ≡ true
+        → page.now.is_stored ≡ true → IsAmong (name_in line.now page.now) (map name_of found.now) }
 {
     if !page.is_stored {
         return true;

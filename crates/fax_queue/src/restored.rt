@@ -36,7 +36,8 @@ impl RestoredLine {
     /// One more page waits, of some line. Where it is one of this line, it is restored; it is set aside where its text means none,
     /// and its record left as it is.
     fn take(&mut self, alloc: Global, line: &str, waits: &WaitingPage) -> Result<(), NoMemory>
-        ensures { OnOk result ((pages : List SpoolPage) → Restores line.now pages self.old → Restores line.now (pages ++ waits.now ∷ []) self.new) }
+        ensures { OnOk result ((pages : List SpoolPage) → Restores line.now pages self.old
+            → Restores line.now (pages ++ waits.now ∷ []) self.new) }
     {
         if !is_of_line(waits, line) {
             return Ok(());
@@ -62,7 +63,9 @@ impl RestoredLine {
         waits: &WaitingPage,
         page: Page<PackedRows>,
     ) -> Result<(), NoMemory>
-        ensures more { OnOk result ((name : List ℕ) (read : List ReadPage) → AreIn name read self.old → AreIn name (read ++ record { waits = waits.now; page = page } ∷ []) self.new) }
+        ensures more { OnOk result ((name : List ℕ) (read : List ReadPage)
+            → AreIn name read self.old
+            → AreIn name (read ++ record { waits = waits.now; page = page } ∷ []) self.new) }
         ensures aside { OnOk result (self.new.queue.aside ≡ self.old.queue.aside) }
     {
         if begins_call(self.queue.waits(), waits) {
@@ -84,9 +87,11 @@ impl RestoredLine {
 
     /// The next page is the first of its call.
     fn begin_call(&mut self, alloc: Global, waits: &WaitingPage) -> Result<(), NoMemory>
-        ensures calls { OnOk result (map call_shown self.new.calls.items ≡ map call_shown self.old.calls.items ++ begun waits.now ∷ []) }
+        ensures calls { OnOk result (map call_shown self.new.calls.items
+            ≡ map call_shown self.old.calls.items ++ begun waits.now ∷ []) }
         ensures queue { self.new.queue ≡ record self.old.queue { tags = self.new.queue.tags } }
-        ensures tags { OnOk result (self.new.queue.tags ≡ self.old.queue.tags ++ own_tag waits.now) }
+        ensures tags { OnOk result (self.new.queue.tags
+            ≡ self.old.queue.tags ++ own_tag waits.now) }
     {
         push_call(alloc, &mut self.calls, waits)?;
         set_tag(alloc, &mut self.queue, waits)
@@ -99,7 +104,8 @@ fn push_call(
     calls: &mut Vec<RestoredCall<PackedRows>>,
     page: &WaitingPage,
 ) -> Result<(), NoMemory>
-    ensures { OnOk result (map call_shown calls.new.items ≡ map call_shown calls.old.items ++ begun page.now ∷ []) }
+    ensures { OnOk result (map call_shown calls.new.items
+        ≡ map call_shown calls.old.items ++ begun page.now ∷ []) }
 {
     calls.push(RestoredCall {
         number: page.call,
@@ -122,7 +128,9 @@ fn set_tag(alloc: Global, queue: &mut Queue, page: &WaitingPage) -> Result<(), N
 /// A tag as text. `None`: it is none, or no text.
 #[tactic(auto, using(crate::proofs::Tags::text_so, crate::proofs::Tags::empty_so, crate::proofs::Tags::no_text))]
 fn text_of(tag: &[u8]) -> Option<&str>
-    ensures { MatchOption result ((is_utf8 tag.now && not (nat_eq (length tag.now) 0)) ≡ false) (λ text. (text.now ≡ tag.now) × ((is_utf8 tag.now && not (nat_eq (length tag.now) 0)) ≡ true)) }
+    ensures { MatchOption result ((is_utf8 tag.now && not (nat_eq (length tag.now) 0)) ≡ false)
+        (λ text. (text.now ≡ tag.now)
+        × ((is_utf8 tag.now && not (nat_eq (length tag.now) 0)) ≡ true)) }
 {
     match std::str::from_utf8(tag) {
         Ok(text) => { if text.is_empty() { None } else { Some(text) } }
@@ -152,7 +160,8 @@ fn confirm(
     calls: &mut Vec<RestoredCall<PackedRows>>,
     confirmed: Confirmed<PackedRows>,
 ) -> Result<(), NoMemory>
-    ensures { OnOk result (map call_shown calls.new.items ≡ onto_last (confirmation_shown confirmed) (map call_shown calls.old.items)) }
+    ensures { OnOk result (map call_shown calls.new.items
+        ≡ onto_last (confirmation_shown confirmed) (map call_shown calls.old.items)) }
 {
     let Some(mut call) = calls.pop() else {
         return Ok(());
@@ -170,7 +179,8 @@ pub fn restore_line(
     pages: &[WaitingPage],
     torn: &[CallName],
 ) -> Result<RestoredLine, NoMemory>
-    ensures { IfOk result (λ restored. Restores line.now (whole_pages torn.now pages.now) restored) }
+    ensures { IfOk result
+        (λ restored. Restores line.now (whole_pages torn.now pages.now) restored) }
 {
     let mut restored = RestoredLine::new(alloc, line)?;
     for waits in pages {

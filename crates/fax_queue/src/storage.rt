@@ -126,7 +126,8 @@ impl<D: Disk> Storage<D> {
 
     /// Whether the job of line i that is first in turn was confirmed in an earlier life.
     pub fn is_restored(&self, i: usize) -> bool
-        ensures { MatchOption (slice_get self.now.queues.items i) (result ≡ false) (λ queue. result ≡ is_of_earlier_life self.now.life queue.waits) }
+        ensures { MatchOption (slice_get self.now.queues.items i) (result ≡ false)
+            (λ queue. result ≡ is_of_earlier_life self.now.life queue.waits) }
     {
         match self.queues.get(i) {
             Some(queue) => queue.is_restored(self.life),
@@ -136,7 +137,8 @@ impl<D: Disk> Storage<D> {
 
     /// The tag of the job of line i that is first in turn, where that was confirmed in an earlier life.
     pub fn restored_tag(&self, i: usize) -> Option<&str>
-        ensures { MatchOption (slice_get self.now.queues.items i) (result ≡ None) (λ queue. MatchOption result (first_tag queue ≡ None) (λ tag. first_tag queue ≡ Some tag.now)) }
+        ensures { MatchOption (slice_get self.now.queues.items i) (result ≡ None) (λ queue.
+            MatchOption result (first_tag queue ≡ None) (λ tag. first_tag queue ≡ Some tag.now)) }
     {
         match self.queues.get(i) {
             Some(queue) => queue.restored_tag(),
@@ -169,8 +171,15 @@ impl<D: Disk> Storage<D> {
     /// A page of line i that was confirmed in this call was not handed over, as for want of memory: it waits, and is not on the disk.
     pub fn note(&mut self, i: usize, call: u32)
         ensures spool { self.new.spool ≡ self.old.spool }
-        ensures waits { AddsAt (record { life = self.old.life; call = call; number = number_at self.old.queues.items self.old.life i call; is_stored = false }) i self.old.queues.items self.new.queues.items }
-        ensures names { (names : List PageName) → AllAreAmong self.old.queues.items names → AllAreAmong self.new.queues.items names }
+        ensures waits { AddsAt (record {
+          life = self.old.life;
+          call = call;
+          number = number_at self.old.queues.items self.old.life i call;
+          is_stored = false;
+        })
+            i self.old.queues.items self.new.queues.items }
+        ensures names { (names : List PageName)
+            → AllAreAmong self.old.queues.items names → AllAreAmong self.new.queues.items names }
     {
         let number = self.next_number(i, call);
         self.wait(i, call, number, false);
@@ -190,7 +199,12 @@ impl<D: Disk> Storage<D> {
     fn wait(&mut self, i: usize, call: u32, number: u32, is_stored: bool)
         ensures spool { self.new.spool ≡ self.old.spool }
         ensures life { self.new.life ≡ self.old.life }
-        ensures queues { AddsAt (record { life = self.old.life; call = call; number = number; is_stored = is_stored }) i self.old.queues.items self.new.queues.items }
+        ensures queues { AddsAt (record {
+          life = self.old.life;
+          call = call;
+          number = number;
+          is_stored = is_stored;
+        }) i self.old.queues.items self.new.queues.items }
     {
         let life = self.life;
         if let Some(queue) = self.queues.get_mut(i) {
@@ -222,7 +236,13 @@ impl<D: Disk> Storage<D> {
     fn add(&mut self, page: &PageToStore, number: u32, is_stored: bool)
         ensures spool { self.new.spool ≡ self.old.spool }
         ensures life { self.new.life ≡ self.old.life }
-        ensures queues { AddsAt (record { life = self.old.life; call = page.now.kept.call; number = number; is_stored = is_stored }) page.now.line self.old.queues.items self.new.queues.items }
+        ensures queues { AddsAt (record {
+          life = self.old.life;
+          call = page.now.kept.call;
+          number = number;
+          is_stored = is_stored;
+        })
+            page.now.line self.old.queues.items self.new.queues.items }
     {
         self.wait(page.line, page.kept.call, number, is_stored);
         if is_stored {
@@ -235,7 +255,8 @@ impl<D: Disk> Storage<D> {
     /// The same of all that were put at once, with their numbers.
     fn add_all(&mut self, pages: &[PageToStore], numbers: &[u32], is_stored: bool)
         ensures spool { self.new.spool ≡ self.old.spool }
-        ensures queues { AddAll self.old.life is_stored pages.now numbers.now self.old.queues.items self.new.queues.items }
+        ensures queues { AddAll self.old.life
+            is_stored pages.now numbers.now self.old.queues.items self.new.queues.items }
     {
         for (k, page) in pages.iter().enumerate() {
             let number = match numbers.get(k) {
@@ -251,15 +272,24 @@ impl<D: Disk> Storage<D> {
     /// line is noted in this life; and at `DiskFailed` it is noted or not, and the spool refuses everything from then on. Where a file
     /// could not be cleared or taken into use after it, it is noted all the same.
     pub fn end(&mut self, i: usize, report: Report) -> Result<(), EndFault>
-        ensures agree { OnOk result (HaveOwnNames self.old.queues.items → Agree D.seen D.may_leave D.is_usable self.old.spool self.old.queues.items
-            → Accepts self.new.spool → Agree D.seen D.may_leave D.is_usable self.new.spool self.new.queues.items) }
-        ensures ends { OnOk result (EndsJobAt D.seen D.may_leave D.is_usable report.pages i self.old.queues.items self.new.queues.items self.old.spool self.new.spool) }
-        ensures tidy { OnOk result ((waits : List SpoolPage) → PagesWait D.seen D.may_leave D.is_usable self.old.spool waits → Accepts self.new.spool
-            → IsTidy D.seen D.may_leave D.is_usable self.new.spool) }
-        ensures sure { OnOk result ((queue : QueueValue) → slice_get self.old.queues.items i ≡ Some queue → notes_of self.old.spool queue ≡ true) }
-        ensures unnoted { IfErr result (λ fault. IsWhyAt fault report.pages i self.old.queues.items self.new.spool) }
-        ensures action { OnErr result (i < length self.old.queues.items → EndsSomehowAt D.seen D.may_leave D.is_usable report.pages i self.old.queues.items self.new.queues.items self.old.spool self.new.spool) }
-        ensures refuses { Refuses self.old.spool → IsErr result × (self.new.spool ≡ self.old.spool) }
+        ensures agree { OnOk result (HaveOwnNames self.old.queues.items
+            → Agree D.seen D.may_leave D.is_usable self.old.spool self.old.queues.items
+            → Accepts self.new.spool
+            → Agree D.seen D.may_leave D.is_usable self.new.spool self.new.queues.items) }
+        ensures ends { OnOk result (EndsJobAt D.seen D.may_leave D.is_usable report.pages
+            i self.old.queues.items self.new.queues.items self.old.spool self.new.spool) }
+        ensures tidy { OnOk result ((waits : List SpoolPage)
+            → PagesWait D.seen D.may_leave D.is_usable self.old.spool waits
+            → Accepts self.new.spool → IsTidy D.seen D.may_leave D.is_usable self.new.spool) }
+        ensures sure { OnOk result ((queue : QueueValue) → slice_get self.old.queues.items i
+            ≡ Some queue → notes_of self.old.spool queue ≡ true) }
+        ensures unnoted { IfErr result
+            (λ fault. IsWhyAt fault report.pages i self.old.queues.items self.new.spool) }
+        ensures action { OnErr result (i < length self.old.queues.items
+            → EndsSomehowAt D.seen D.may_leave D.is_usable report.pages
+            i self.old.queues.items self.new.queues.items self.old.spool self.new.spool) }
+        ensures refuses { Refuses self.old.spool
+            → IsErr result × (self.new.spool ≡ self.old.spool) }
     {
         if i >= self.queues.len() {
             return Err(EndFault::NoLine);
@@ -275,8 +305,11 @@ impl<D: Disk> Storage<D> {
     /// had, or where one of them could not be read; then none of them is lost, and the spool refuses only where it did.
     pub fn job_pages(&mut self, i: usize, report: Report) -> Result<Vec<WaitingPage>, EndFault>
         ensures ok { IfOk result (λ pages. MatchOption (slice_get self.old.queues.items i) ⊥
-            (λ queue. ReadsLeft D.seen D.may_leave D.is_usable D.is_clean report.pages report.delivered queue self.old.spool self.new.spool pages.items)) }
-        ensures fault { IfErr result (λ fault. MatchOption (slice_get self.old.queues.items i) (fault ≡ EndFault.NoLine) (λ queue. fault ≡ EndFault.NotStored)) }
+            (λ queue. ReadsLeft D.seen D.may_leave D.is_usable D.is_clean report.pages
+            report.delivered queue self.old.spool self.new.spool pages.items)) }
+        ensures fault { IfErr result
+            (λ fault. MatchOption (slice_get self.old.queues.items i) (fault ≡ EndFault.NoLine)
+            (λ queue. fault ≡ EndFault.NotStored)) }
         ensures read { IsRead D.seen D.may_leave D.is_usable self.old.spool self.new.spool }
         ensures refuses { Refuses self.old.spool → self.new.spool ≡ self.old.spool }
         ensures queues { self.new.queues.items ≡ self.old.queues.items }
@@ -295,9 +328,12 @@ impl<D: Disk> Storage<D> {
     pub fn leave(&mut self, i: usize)
         ensures spool { self.new.spool ≡ self.old.spool }
         ensures life { self.new.life ≡ self.old.life }
-        ensures unsure { MatchOption (slice_get self.old.queues.items i) (self.new.queues.items ≡ self.old.queues.items)
-            (λ queue. self.new.queues.items ≡ slice_set self.old.queues.items i (record queue { is_whole = false })) }
-        ensures left { (pages : ℕ) → i < length self.old.queues.items → EndsSomehowAt D.seen D.may_leave D.is_usable pages i self.old.queues.items self.new.queues.items self.old.spool self.new.spool }
+        ensures unsure { MatchOption (slice_get self.old.queues.items i) (self.new.queues.items
+            ≡ self.old.queues.items) (λ queue. self.new.queues.items
+            ≡ slice_set self.old.queues.items i (record queue { is_whole = false })) }
+        ensures left { (pages : ℕ)
+            → i < length self.old.queues.items → EndsSomehowAt D.seen D.may_leave D.is_usable pages
+            i self.old.queues.items self.new.queues.items self.old.spool self.new.spool }
     {
         if i >= self.queues.len() {
             return;
@@ -314,10 +350,12 @@ fn put_end<D: Disk>(
     queue: &mut Queue,
     report: Report,
 ) -> Result<u64, EndFault>
-    ensures ends { OnOk result (EndsJob D.seen D.may_leave D.is_usable report.pages queue.old queue.new spool.old spool.new) }
+    ensures ends { OnOk result (EndsJob D.seen D.may_leave D.is_usable report.pages
+        queue.old queue.new spool.old spool.new) }
     ensures sure { OnOk result (notes_of spool.old queue.old ≡ true) }
     ensures unnoted { IfErr result (λ fault. IsWhy fault report.pages queue.old spool.new) }
-    ensures action { OnErr result (EndsSomehow D.seen D.may_leave D.is_usable report.pages queue.old queue.new spool.old spool.new) }
+    ensures action { OnErr result (EndsSomehow D.seen D.may_leave D.is_usable report.pages
+        queue.old queue.new spool.old spool.new) }
     ensures refuses { Refuses spool.old → IsErr result × (spool.new ≡ spool.old) }
 {
     let Some(ended) = queue.end(report.pages) else {
@@ -359,7 +397,8 @@ fn put_ended<D: Disk>(
     report: Report,
 ) -> Result<(), StoreFault>
     requires { length line.now < 256 }
-    ensures { PutsEnd D.seen D.may_leave D.is_usable ended.now line.now (is_ok result) spool.old spool.new }
+    ensures { PutsEnd D.seen D.may_leave D.is_usable ended.now
+        line.now (is_ok result) spool.old spool.new }
 {
     let record = EndedRecord {
         life: ended.life,
@@ -382,9 +421,12 @@ fn put_ended<D: Disk>(
 /// waits is copied forward, where that has at most a quarter of those octets. It answers how many count from then on. What fails is
 /// tried again after the next end of a job.
 pub fn change_files<D: Disk>(alloc: Global, spool: &mut Spool<D>, octets: usize) -> usize
-    ensures told { (waits : List SpoolPage) → PagesWait D.seen D.may_leave D.is_usable spool.old waits
+    ensures told { (waits : List SpoolPage)
+        → PagesWait D.seen D.may_leave D.is_usable spool.old waits
         → WaitSo D.seen D.may_leave D.is_usable spool.new (λ told. told ≡ waits) }
-    ensures tidy { (waits : List SpoolPage) → PagesWait D.seen D.may_leave D.is_usable spool.old waits → Accepts spool.new → IsTidy D.seen D.may_leave D.is_usable spool.new }
+    ensures tidy { (waits : List SpoolPage)
+        → PagesWait D.seen D.may_leave D.is_usable spool.old waits
+        → Accepts spool.new → IsTidy D.seen D.may_leave D.is_usable spool.new }
     ensures refuses { Refuses spool.old → spool.new ≡ spool.old }
 {
     let Ok(is_empty) = clear_older(spool) else {
@@ -402,9 +444,12 @@ pub fn change_files<D: Disk>(alloc: Global, spool: &mut Spool<D>, octets: usize)
 /// The other file is taken into use where it is empty, and the one before cleared where nothing in it waits. It answers how many of so
 /// many octets count from then on.
 fn take_other<D: Disk>(alloc: Global, spool: &mut Spool<D>, octets: usize) -> usize
-    ensures told { (waits : List SpoolPage) → PagesWait D.seen D.may_leave D.is_usable spool.old waits
+    ensures told { (waits : List SpoolPage)
+        → PagesWait D.seen D.may_leave D.is_usable spool.old waits
         → WaitSo D.seen D.may_leave D.is_usable spool.new (λ told. told ≡ waits) }
-    ensures tidy { (waits : List SpoolPage) → PagesWait D.seen D.may_leave D.is_usable spool.old waits → IsTidy D.seen D.may_leave D.is_usable spool.old
+    ensures tidy { (waits : List SpoolPage)
+        → PagesWait D.seen D.may_leave D.is_usable spool.old waits
+        → IsTidy D.seen D.may_leave D.is_usable spool.old
         → Accepts spool.new → IsTidy D.seen D.may_leave D.is_usable spool.new }
     ensures refuses { Refuses spool.old → spool.new ≡ spool.old }
 {
@@ -421,9 +466,12 @@ fn take_other<D: Disk>(alloc: Global, spool: &mut Spool<D>, octets: usize) -> us
 /// All that waits is put again into the newer file, where that has at most a quarter of so many octets, so that the older one is cleared and
 /// taken into use; and once more into that, so that the one before is cleared too. It answers how many of these octets count from then on.
 fn copy_forward<D: Disk>(alloc: Global, spool: &mut Spool<D>, octets: usize) -> usize
-    ensures told { (waits : List SpoolPage) → PagesWait D.seen D.may_leave D.is_usable spool.old waits
+    ensures told { (waits : List SpoolPage)
+        → PagesWait D.seen D.may_leave D.is_usable spool.old waits
         → WaitSo D.seen D.may_leave D.is_usable spool.new (λ told. told ≡ waits) }
-    ensures tidy { (waits : List SpoolPage) → PagesWait D.seen D.may_leave D.is_usable spool.old waits → IsTidy D.seen D.may_leave D.is_usable spool.old
+    ensures tidy { (waits : List SpoolPage)
+        → PagesWait D.seen D.may_leave D.is_usable spool.old waits
+        → IsTidy D.seen D.may_leave D.is_usable spool.old
         → Accepts spool.new → IsTidy D.seen D.may_leave D.is_usable spool.new }
     ensures refuses { Refuses spool.old → spool.new ≡ spool.old }
 {
@@ -444,11 +492,16 @@ fn copy_forward<D: Disk>(alloc: Global, spool: &mut Spool<D>, octets: usize) -> 
 
 /// The older file is cleared where nothing in it waits.
 fn clear_older<D: Disk>(spool: &mut Spool<D>) -> Result<bool, StoreFault>
-    ensures tidy { OnOk result ((waits : List SpoolPage) → PagesWait D.seen D.may_leave D.is_usable spool.old waits → IsTidy D.seen D.may_leave D.is_usable spool.new) }
-    ensures failed { OnErr result ((waits : List SpoolPage) → PagesWait D.seen D.may_leave D.is_usable spool.old waits → Refuses spool.new) }
-    ensures stays { OnOk result ((waits : List SpoolPage) → PagesWait D.seen D.may_leave D.is_usable spool.old waits
+    ensures tidy { OnOk result ((waits : List SpoolPage)
+        → PagesWait D.seen D.may_leave D.is_usable spool.old waits
+        → IsTidy D.seen D.may_leave D.is_usable spool.new) }
+    ensures failed { OnErr result ((waits : List SpoolPage)
+        → PagesWait D.seen D.may_leave D.is_usable spool.old waits → Refuses spool.new) }
+    ensures stays { OnOk result ((waits : List SpoolPage)
+        → PagesWait D.seen D.may_leave D.is_usable spool.old waits
         → PagesWait D.seen D.may_leave D.is_usable spool.new waits) }
-    ensures told { OnErr result ((waits : List SpoolPage) → PagesWait D.seen D.may_leave D.is_usable spool.old waits
+    ensures told { OnErr result ((waits : List SpoolPage)
+        → PagesWait D.seen D.may_leave D.is_usable spool.old waits
         → WaitSo D.seen D.may_leave D.is_usable spool.new (λ told. told ≡ waits)) }
     ensures refuses { Refuses spool.old → IsErr result × (spool.new ≡ spool.old) }
 {
@@ -461,11 +514,15 @@ fn clear_older<D: Disk>(spool: &mut Spool<D>) -> Result<bool, StoreFault>
 
 /// The other file is taken into use where it is empty.
 fn change<D: Disk>(alloc: Global, spool: &mut Spool<D>) -> Result<bool, StoreFault>
-    ensures same { IfOk result (λ was. was ≡ false → IsTidy D.seen D.may_leave D.is_usable spool.old → IsTidy D.seen D.may_leave D.is_usable spool.new) }
-    ensures failed { OnErr result (IsTidy D.seen D.may_leave D.is_usable spool.old → Accepts spool.new → IsTidy D.seen D.may_leave D.is_usable spool.new) }
-    ensures stays { OnOk result ((waits : List SpoolPage) → PagesWait D.seen D.may_leave D.is_usable spool.old waits
+    ensures same { IfOk result (λ was. was ≡ false → IsTidy D.seen D.may_leave D.is_usable spool.old
+        → IsTidy D.seen D.may_leave D.is_usable spool.new) }
+    ensures failed { OnErr result (IsTidy D.seen D.may_leave D.is_usable spool.old
+        → Accepts spool.new → IsTidy D.seen D.may_leave D.is_usable spool.new) }
+    ensures stays { OnOk result ((waits : List SpoolPage)
+        → PagesWait D.seen D.may_leave D.is_usable spool.old waits
         → PagesWait D.seen D.may_leave D.is_usable spool.new waits) }
-    ensures told { OnErr result ((waits : List SpoolPage) → PagesWait D.seen D.may_leave D.is_usable spool.old waits
+    ensures told { OnErr result ((waits : List SpoolPage)
+        → PagesWait D.seen D.may_leave D.is_usable spool.old waits
         → WaitSo D.seen D.may_leave D.is_usable spool.new (λ told. told ≡ waits)) }
     ensures refuses { Refuses spool.old → IsErr result × (spool.new ≡ spool.old) }
 {
@@ -477,11 +534,15 @@ fn change<D: Disk>(alloc: Global, spool: &mut Spool<D>) -> Result<bool, StoreFau
 
 /// All that waits is put again into the newer file, where it has at most so many octets, and is kept in memory.
 fn put_again<D: Disk>(alloc: Global, spool: &mut Spool<D>, most: usize) -> Result<bool, StoreFault>
-    ensures same { IfOk result (λ was. was ≡ false → IsTidy D.seen D.may_leave D.is_usable spool.old → IsTidy D.seen D.may_leave D.is_usable spool.new) }
-    ensures failed { OnErr result (IsTidy D.seen D.may_leave D.is_usable spool.old → Accepts spool.new → IsTidy D.seen D.may_leave D.is_usable spool.new) }
-    ensures stays { OnOk result ((waits : List SpoolPage) → PagesWait D.seen D.may_leave D.is_usable spool.old waits
+    ensures same { IfOk result (λ was. was ≡ false → IsTidy D.seen D.may_leave D.is_usable spool.old
+        → IsTidy D.seen D.may_leave D.is_usable spool.new) }
+    ensures failed { OnErr result (IsTidy D.seen D.may_leave D.is_usable spool.old
+        → Accepts spool.new → IsTidy D.seen D.may_leave D.is_usable spool.new) }
+    ensures stays { OnOk result ((waits : List SpoolPage)
+        → PagesWait D.seen D.may_leave D.is_usable spool.old waits
         → PagesWait D.seen D.may_leave D.is_usable spool.new waits) }
-    ensures told { OnErr result ((waits : List SpoolPage) → PagesWait D.seen D.may_leave D.is_usable spool.old waits
+    ensures told { OnErr result ((waits : List SpoolPage)
+        → PagesWait D.seen D.may_leave D.is_usable spool.old waits
         → WaitSo D.seen D.may_leave D.is_usable spool.new (λ told. told ≡ waits)) }
     ensures refuses { Refuses spool.old → IsErr result × (spool.new ≡ spool.old) }
 {
@@ -495,18 +556,30 @@ fn put_again<D: Disk>(alloc: Global, spool: &mut Spool<D>, most: usize) -> Resul
 impl<D: Disk> PageStore<PageToStore> for Storage<D> {
     ghost use Rattle.fax_queue.specs.Storing.{StoresPages};
 
-    ghost keeps = { λ storage pages. StoresPages D.seen D.may_leave D.is_usable storage.spool pages };
+    ghost keeps = { λ storage pages.
+        StoresPages D.seen D.may_leave D.is_usable storage.spool pages };
 
     fn store_all(&mut self, pages: &[PageToStore]) -> Result<(), StoreFault>
-        ensures kept { OnOk result ((before : List ToStore) → StoresPages D.seen D.may_leave D.is_usable self.old.spool before
+        ensures kept { OnOk result ((before : List ToStore)
+            → StoresPages D.seen D.may_leave D.is_usable self.old.spool before
             → StoresPages D.seen D.may_leave D.is_usable self.new.spool (before ++ pages.now)) }
-        ensures tagged { OnOk result (PutsTagged D.seen D.may_leave D.is_usable self.old.tags.items pages.now self.old.spool self.new.spool) }
-        ensures numbered { OnOk result (PutsNumbered D.seen D.may_leave D.is_usable self.old.queues.items self.old.life pages.now self.old.spool self.new.spool) }
-        ensures put { OnOk result (ArePut D.seen D.may_leave D.is_usable pages.now self.old.queues.items self.new.queues.items self.old.spool self.new.spool) }
-        ensures agree { OnOk result (Agree D.seen D.may_leave D.is_usable self.old.spool self.old.queues.items → Agree D.seen D.may_leave D.is_usable self.new.spool self.new.queues.items) }
-        ensures names { OnErr result ((names : List PageName) → AllAreAmong self.old.queues.items names → AllAreAmong self.new.queues.items names) }
-        ensures refused { OnErr result (All (λ page. page.line < length self.old.queues.items) pages.now → AreRefused D.seen D.may_leave D.is_usable pages.now self.old.queues.items self.new.queues.items self.old.spool self.new.spool) }
-        ensures refuses { Refuses self.old.spool → IsErr result × (self.new.spool ≡ self.old.spool) }
+        ensures tagged { OnOk result (PutsTagged D.seen D.may_leave D.is_usable self.old.tags.items
+            pages.now self.old.spool self.new.spool) }
+        ensures numbered { OnOk result (PutsNumbered D.seen D.may_leave D.is_usable
+            self.old.queues.items self.old.life pages.now self.old.spool self.new.spool) }
+        ensures put { OnOk result (ArePut D.seen D.may_leave D.is_usable pages.now
+            self.old.queues.items self.new.queues.items self.old.spool self.new.spool) }
+        ensures agree { OnOk result
+            (Agree D.seen D.may_leave D.is_usable self.old.spool self.old.queues.items
+            → Agree D.seen D.may_leave D.is_usable self.new.spool self.new.queues.items) }
+        ensures names { OnErr result ((names : List PageName)
+            → AllAreAmong self.old.queues.items names → AllAreAmong self.new.queues.items names) }
+        ensures refused { OnErr result (All
+            (λ page. page.line < length self.old.queues.items) pages.now
+            → AreRefused D.seen D.may_leave D.is_usable pages.now
+            self.old.queues.items self.new.queues.items self.old.spool self.new.spool) }
+        ensures refuses { Refuses self.old.spool
+            → IsErr result × (self.new.spool ≡ self.old.spool) }
     {
         let numbers = self.numbers_of(pages);
         let names = Names {

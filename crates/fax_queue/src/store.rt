@@ -25,7 +25,8 @@ impl<D: Disk> SpoolStore<D> {
     /// The pages of another turn of a slot are put next.
     pub fn begin_slot(&mut self)
         ensures tags { self.new.storage.tags.items ≡ [] }
-        ensures unchanged { IsUnchanged self.old.storage.queues.items self.new.storage.queues.items self.old.storage.spool self.new.storage.spool }
+        ensures unchanged { IsUnchanged self.old.storage.queues.items
+            self.new.storage.queues.items self.old.storage.spool self.new.storage.spool }
     {
         self.storage.begin_slot();
     }
@@ -33,7 +34,8 @@ impl<D: Disk> SpoolStore<D> {
     /// One of them came in a call of line i that has this tag.
     pub fn set_tag(&mut self, i: usize, tag: &str)
         ensures tags { NotesTag i tag.now self.old.storage.tags.items self.new.storage.tags.items }
-        ensures unchanged { IsUnchanged self.old.storage.queues.items self.new.storage.queues.items self.old.storage.spool self.new.storage.spool }
+        ensures unchanged { IsUnchanged self.old.storage.queues.items
+            self.new.storage.queues.items self.old.storage.spool self.new.storage.spool }
     {
         self.storage.set_tag(i, tag);
     }
@@ -44,9 +46,12 @@ impl<D: Disk> PageStore<PageToStore> for SpoolStore<D> {
     ghost use Rattle.fax_queue.specs.Storing.{StoresPages};
     ghost use Rattle.fax_queue.specs.SpoolStorage.{PutsPages};
 
-    ghost keeps = { λ store pages. StoresPages D.seen D.may_leave D.is_usable store.storage.spool pages };
+    ghost keeps = { λ store pages.
+        StoresPages D.seen D.may_leave D.is_usable store.storage.spool pages };
 
-    ghost puts = { λ pages is_stored old new. PutsPages D.seen D.may_leave D.is_usable pages is_stored old.storage.queues.items new.storage.queues.items old.storage.spool new.storage.spool };
+    ghost puts = { λ pages is_stored old new.
+        PutsPages D.seen D.may_leave D.is_usable pages is_stored
+        old.storage.queues.items new.storage.queues.items old.storage.spool new.storage.spool };
 
     fn store_all(&mut self, pages: &[PageToStore]) -> Result<(), StoreFault> {
         self.storage.store_all(pages)
@@ -56,11 +61,14 @@ impl<D: Disk> PageStore<PageToStore> for SpoolStore<D> {
 impl<D: Disk> RunStore for SpoolStore<D> {
     ghost use Rattle.fax_queue.specs.SpoolStorage.{EndsJobIf, IsUnchanged, NotesPage};
 
-    ghost is_same = { λ old new. IsUnchanged old.storage.queues.items new.storage.queues.items old.storage.spool new.storage.spool };
+    ghost is_same = { λ old new. IsUnchanged old.storage.queues.items
+        new.storage.queues.items old.storage.spool new.storage.spool };
 
-    ghost notes = { λ line call old new. NotesPage line call old.storage.queues.items new.storage.queues.items old.storage.spool new.storage.spool };
+    ghost notes = { λ line call old new. NotesPage line call
+        old.storage.queues.items new.storage.queues.items old.storage.spool new.storage.spool };
 
-    ghost ends = { λ line report old new. EndsJobIf D.seen D.may_leave D.is_usable line report old.storage.queues.items new.storage.queues.items old.storage.spool new.storage.spool };
+    ghost ends = { λ line report old new. EndsJobIf D.seen D.may_leave D.is_usable line report
+        old.storage.queues.items new.storage.queues.items old.storage.spool new.storage.spool };
 
     fn note(&mut self, line: usize, call: u32) {
         self.storage.note(line, call);

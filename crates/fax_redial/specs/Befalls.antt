@@ -20,7 +20,8 @@ Tries = List (Option TryValue)
 
 -- no two are of one job
 abbrev pub AreApart : Tries → Type 0
-AreApart tries = (i k : ℕ) (one other : TryValue) → slice_get tries i ≡ Some (Some one) → slice_get tries k ≡ Some (Some other) → one.job.name ≡ other.job.name → i ≡ k
+AreApart tries = (i k : ℕ) (one other : TryValue) → slice_get tries i ≡ Some (Some one)
+    → slice_get tries k ≡ Some (Some other) → one.job.name ≡ other.job.name → i ≡ k
 
 -- a job is tried on one of them
 abbrev pub is_under_way : CallName → Tries → Bool
@@ -39,14 +40,16 @@ fault_of_job true is_owed_now waiting = Some faults.UnderWay
 fault_of_job false true waiting = Some faults.Owed
 fault_of_job false false waiting = if nat_eq waiting 0 then Some faults.NoPage else None
 
-abbrev pub fault_at : Option (Option TryValue) → (is_tried is_owed_now : Bool) → (waiting : ℕ) → Option BeginFault
+abbrev pub fault_at : Option (Option TryValue)
+    → (is_tried is_owed_now : Bool) → (waiting : ℕ) → Option BeginFault
 fault_at None is_tried is_owed_now waiting = Some faults.NoLine
 fault_at (Some (Some held)) is_tried is_owed_now waiting = Some faults.Busy
 fault_at (Some None) is_tried is_owed_now waiting = fault_of_job is_tried is_owed_now waiting
 
 -- NONE BEGINS of a job that is tried already, or that its own line owes, or on a line that has a try, or without a page.
 abbrev pub fault_of : Tries → ℕ → List QueueValue → RetryJob → LineValue → Option BeginFault
-fault_of tries i queues job line = fault_at (slice_get tries i) (is_under_way job.name tries) (is_owed queues job.name) (length line.gateway.book.waiting)
+fault_of tries i queues job line = fault_at (slice_get tries i)
+    (is_under_way job.name tries) (is_owed queues job.name) (length line.gateway.book.waiting)
 
 -- else it begins, but for want of memory
 abbrev pub BeginsUnless : Option BeginFault → Result (Unit {0}) BeginFault → Type 0
@@ -56,7 +59,8 @@ BeginsUnless None (Err fault) = fault ≡ faults.NoMemory
 
 -- ---- what befalls the try of one line: all others stay as they were
 
-pub record BeginsAt (i : ℕ) (queues : List QueueValue) (job : RetryJob) (line : LineValue) (old new : Tries) : Type 0 where
+pub record BeginsAt (i : ℕ)
+    (queues : List QueueValue) (job : RetryJob) (line : LineValue) (old new : Tries) : Type 0 where
   pub free : slice_get old i ≡ Some None
   pub other : is_under_way job.name old ≡ false
   pub not_owed : is_owed queues job.name ≡ false
@@ -71,7 +75,8 @@ pub record TurnsAt (i now : ℕ) (cause : Option Cause) (old new : Tries) : Type
   pub turns : Turns now cause held next
   pub tries : new ≡ slice_set old i (Some next)
 
-pub record IsAskedAt (i now : ℕ) (what : LineRequest) (answer : Option LineAnswer) (old new : Tries) : Type 0 where
+pub record IsAskedAt (i now : ℕ)
+    (what : LineRequest) (answer : Option LineAnswer) (old new : Tries) : Type 0 where
   pub held : TryValue
   pub there : slice_get old i ≡ Some (Some held)
   pub next : TryValue
@@ -100,7 +105,8 @@ IsBefallen (Ended i end) old new = EndsAt i end old new
 -- one after the other, and nothing else
 abbrev pub Befell : List Befall → Tries → Tries → Type 0
 Befell [] old new = new ≡ old
-Befell (befall ∷ earlier) old new = (between : Tries) × Befell earlier old between × IsBefallen befall between new
+Befell (befall ∷ earlier) old new =
+    (between : Tries) × Befell earlier old between × IsBefallen befall between new
 
 abbrev pub is_over_if : Option TryValue → Bool
 is_over_if None = false

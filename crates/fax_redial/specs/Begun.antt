@@ -17,7 +17,8 @@ use Rattle.fax_undelivered.specs.Dropped.{IsIn}
 
 -- A TRY SENDS WHAT WAITS OF ITS JOB, from the first page on that was not delivered: its line is restored with all of these pages, and with
 -- nothing else, but for so many that were delivered by tries before; none is set aside.
-pub record BeginsWithLeft (name : List ℕ) (pages : List PageValue) (delivered : ℕ) (line : LineValue) : Type 0 where
+pub record BeginsWithLeft (name : List ℕ)
+    (pages : List PageValue) (delivered : ℕ) (line : LineValue) : Type 0 where
   pub restored : RestoredLine
   pub restores : Restores name (drop delivered pages) restored
   pub none_aside : restored.queue.aside ≡ []
@@ -39,13 +40,15 @@ pub record RestoredValue : Type 0 where
 
 -- ---- the try of a call of which these pages wait
 
-pub record IsJobOf (call : CallValue) (tag : Option Tag) (pages : List PageValue) (job : RetryJob) : Type 0 where
+pub record IsJobOf (call : CallValue) (tag : Option Tag) (pages : List PageValue) (job : RetryJob) :
+    Type 0 where
   pub name : job.name ≡ name_of call
   pub tag_is : job.tag ≡ tag
   pub tries : job.tries ≡ call.card.tries
   pub numbers : job.numbers.items ≡ map number_of pages
 
-pub record IsTryOf (call : CallValue) (tag : Option Tag) (pages : List PageValue) (restored : RestoredValue) : Type 0 where
+pub record IsTryOf (call : CallValue)
+    (tag : Option Tag) (pages : List PageValue) (restored : RestoredValue) : Type 0 where
   pub job : IsJobOf call tag pages restored.job
   pub begins : BeginsWithLeft call.line pages call.card.delivered restored.line
 
@@ -62,7 +65,8 @@ abbrev pub IsFaultOf : (left : List PageValue) → BeginFault → Type 0
 IsFaultOf left fault = (fault ≡ faults.NoMemory) ⊎ ((fault ≡ faults.NoPage) × LacksOne left)
 
 -- Else there is no try; nor where it would lack one of the pages that are left, or for want of memory.
-abbrev pub RestoresUnless : {T : Type 0} → (may : Bool) → (left : List PageValue) → Result T BeginFault → Type 0
+abbrev pub RestoresUnless : {T : Type 0}
+    → (may : Bool) → (left : List PageValue) → Result T BeginFault → Type 0
 RestoresUnless may left (Ok restored) = may ≡ true
 RestoresUnless true left (Err fault) = IsFaultOf left fault
 RestoresUnless false left (Err fault) = fault ≡ faults.NoPage

@@ -10,7 +10,8 @@ abbrev pub is_queued : (life call : ℕ) → QueuedPage → Bool
 is_queued life call page = nat_eq page.life life && nat_eq page.call call
 
 abbrev pub is_owed_on : CallName → QueueValue → Bool
-is_owed_on name queue = bytes_eq queue.line name.line && list_any (is_queued name.life name.call) queue.waits
+is_owed_on name queue =
+    bytes_eq queue.line name.line && list_any (is_queued name.life name.call) queue.waits
 
 -- A JOB IS OWED while a page of its call waits on the queue of its line, which will send it.
 abbrev pub is_owed : List QueueValue → CallName → Bool

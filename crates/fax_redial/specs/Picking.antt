@@ -22,4 +22,5 @@ is_left left call = list_any (λ name. is_named name call) left
 -- IT IS TO BE TRIED BY NOW where its time has come too, and it does not wait for a word.
 abbrev pub is_next : List CallName → List QueueValue → Tries → (now : ℕ) → List ℕ → CallValue → Bool
 is_next left queues tries now spans call =
-    is_due call.card.outcome call.card.tries call.card.at now spans && not (is_left left call) && may_try queues tries (name_of call)
+    is_due call.card.outcome call.card.tries call.card.at now spans
+    && not (is_left left call) && may_try queues tries (name_of call)

@@ -26,4 +26,5 @@ has_come (Some span) ended_at now = nat_le (ended_at + span) now
 
 -- A JOB IS TRIED AGAIN that long after its last end, where another try may mend it, and there is a span for it.
 abbrev pub is_due : Outcome → (tries ended_at now : ℕ) → List ℕ → Bool
-is_due outcome tries ended_at now spans = may_mend outcome && has_come (span_after tries spans) ended_at now
+is_due outcome tries ended_at now spans =
+    may_mend outcome && has_come (span_after tries spans) ended_at now

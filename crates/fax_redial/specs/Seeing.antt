@@ -28,7 +28,17 @@ first_of job = record { is_restored = true; tag = job.tag }
 
 -- a redial line without a try
 abbrev pub idle_seen : LineView
-idle_seen = record { call = None; sending = None; asked = None; first = record { is_restored = true; tag = None }; calling = no_leg; called = no_leg }
+idle_seen = record {
+  call = None;
+  sending = None;
+  asked = None;
+  first = record {
+    is_restored = true;
+    tag = None;
+  };
+  calling = no_leg;
+  called = no_leg;
+}
 
 abbrev pub job_seen : JobValue → AskedView
 job_seen job = record { call = job.call; pages = length job.pages }

@@ -33,16 +33,25 @@ cause_on cards i = cause_if (slice_get cards i)
 
 -- a turn of a try's line: it confirms no page, and no word hangs its calling leg up
 abbrev pub turn_of : RetryJob → TurnReport → Turn
-turn_of job turned = record { turned = turned; first = first_of job; is_stored = true; is_silenced = false; is_hung_up = false }
+turn_of job turned = record {
+  turned = turned;
+  first = first_of job;
+  is_stored = true;
+  is_silenced = false;
+  is_hung_up = false;
+}
 
 -- ---- THE TURN OF LINE i is told under its own name, by what its line told; and no more is noted at the desk
 
-pub record Notes {L : Type 0} (tells : List ℕ → ℕ → LineEvent → L → L → Type 0) (i now : ℕ) (turn : Turn) (old new : Desk) (before after : L) : Type 0 where
-  pub told : TellsAt tells (name_at old.names.items i) (told_at old.cards.items i turn) now before after
+pub record Notes {L : Type 0} (tells : List ℕ → ℕ → LineEvent → L → L → Type 0)
+    (i now : ℕ) (turn : Turn) (old new : Desk) (before after : L) : Type 0 where
+  pub told :
+      TellsAt tells (name_at old.names.items i) (told_at old.cards.items i turn) now before after
   pub cards : new.cards.items ≡ turned_at old.cards.items i turn
   pub desk : new ≡ record old { cards = new.cards }
 
-abbrev pub NotesIf : {L : Type 0} → (List ℕ → ℕ → LineEvent → L → L → Type 0) → (i now : ℕ) → Option Turn → Desk → Desk → L → L → Type 0
+abbrev pub NotesIf : {L : Type 0} → (List ℕ → ℕ → LineEvent → L → L → Type 0)
+    → (i now : ℕ) → Option Turn → Desk → Desk → L → L → Type 0
 NotesIf tells i now None old new before after = (new ≡ old) × (after ≡ before)
 NotesIf tells i now (Some turn) old new before after = Notes tells i now turn old new before after
 
@@ -70,4 +79,5 @@ TurnsIf i now cause (Some (Some held)) old new = TurnsAt i now cause old new
 -- of a try, where there is one
 abbrev pub TurnsOne : (now : ℕ) → Option Cause → Option TryValue → Option TryValue → Type 0
 TurnsOne now cause None new = new ≡ None
-TurnsOne now cause (Some held) new = (next : TryValue) × (new ≡ Some next) × Turns now cause held next
+TurnsOne now cause (Some held) new =
+    (next : TryValue) × (new ≡ Some next) × Turns now cause held next

@@ -27,7 +27,11 @@ failed_by NotPlaced cause = Some (record { outcome = NotPlaced; cause = cause })
 -- Reports count up to the first job that was not delivered, with the pages of it that were.
 abbrev pub total_unless : Option FailedTry → Report → Option Cause → TryTotal → TryTotal
 total_unless (Some failed) report cause before = before
-total_unless None report cause before = record { delivered = min (before.delivered + report.delivered) (2 ^ 32 - 1); failed = failed_by report.outcome cause }
+total_unless None report cause before =
+    record {
+      delivered = min (before.delivered + report.delivered) (2 ^ 32 - 1);
+      failed = failed_by report.outcome cause;
+    }
 
 abbrev pub total_after : Report → Option Cause → TryTotal → TryTotal
 total_after report cause before = total_unless before.failed report cause before
@@ -38,5 +42,17 @@ total_if (Some report) cause before = total_after report cause before
 
 -- HOW A TRY OF A JOB ENDED, by what its reports came to
 abbrev pub end_if : RetryJob → ℕ → Option FailedTry → RetryEnd
-end_if job delivered None = record { name = job.name; numbers = job.numbers; delivered = delivered; outcome = Delivered; cause = None }
-end_if job delivered (Some failed) = record { name = job.name; numbers = job.numbers; delivered = delivered; outcome = failed.outcome; cause = failed.cause }
+end_if job delivered None = record {
+  name = job.name;
+  numbers = job.numbers;
+  delivered = delivered;
+  outcome = Delivered;
+  cause = None;
+}
+end_if job delivered (Some failed) = record {
+  name = job.name;
+  numbers = job.numbers;
+  delivered = delivered;
+  outcome = failed.outcome;
+  cause = failed.cause;
+}

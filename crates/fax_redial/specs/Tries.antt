@@ -28,7 +28,8 @@ pub record TryValue : Type 0 where
 
 -- WHAT A TRY SENDS. Its line began with these calls, no event had come to it, and by itself it went through this since, and through nothing
 -- else; what its turns gave went out at once. So each law of a line that is restored holds of it, and of a run without a store.
-pub record IsTried (calls : List RestoredCall) (done : List DoneOrder) (held : TryValue) : Type 0 where
+pub record IsTried (calls : List RestoredCall) (done : List DoneOrder) (held : TryValue) :
+    Type 0 where
   pub place : PlaceValue
   pub begins : BeginsWith calls place.line
   pub went : LinesWent (operations_of 0 done) (place ∷ []) held.lines.lines
@@ -38,7 +39,8 @@ pub record IsTried (calls : List RestoredCall) (done : List DoneOrder) (held : T
 
 -- it went on by this, whatever it was restored with and went through before
 pub record GoesOn (more : List DoneOrder) (old new : TryValue) : Type 0 where
-  pub goes : (calls : List RestoredCall) (done : List DoneOrder) → IsTried calls done old → IsTried calls (more ++ done) new
+  pub goes : (calls : List RestoredCall) (done : List DoneOrder)
+      → IsTried calls done old → IsTried calls (more ++ done) new
 
 -- ---- a try begins
 
@@ -74,7 +76,8 @@ pub record Turns (now : ℕ) (cause : Option Cause) (old new : TryValue) : Type 
 
 -- ---- something is asked of its line
 
-pub record IsAsked (now : ℕ) (what : LineRequest) (answer : Option LineAnswer) (old new : TryValue) : Type 0 where
+pub record IsAsked (now : ℕ)
+    (what : LineRequest) (answer : Option LineAnswer) (old new : TryValue) : Type 0 where
   pub job : new.job ≡ old.job
   pub goes : GoesOn (AskedOf 0 now what answer ∷ []) old new
   pub total : new.total ≡ old.total
@@ -97,7 +100,8 @@ end_of held = end_if held.job held.total.delivered held.total.failed
 -- ---- which job it is of
 
 abbrev pub same_name : CallName → CallName → Bool
-same_name one other = nat_eq one.life other.life && nat_eq one.call other.call && bytes_eq one.line other.line
+same_name one other =
+    nat_eq one.life other.life && nat_eq one.call other.call && bytes_eq one.line other.line
 
 abbrev pub is_of : CallName → Option TryValue → Bool
 is_of name None = false

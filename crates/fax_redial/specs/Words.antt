@@ -79,11 +79,14 @@ own_reply word.Stop = Some (refused refusal.NoLine)
 
 -- ---- something is asked of the line of a try, where there is one
 
-abbrev pub AsksOne : (now : ℕ) → LineRequest → Option TryValue → Option LineAnswer → Option TryValue → Type 0
+abbrev pub AsksOne : (now : ℕ)
+    → LineRequest → Option TryValue → Option LineAnswer → Option TryValue → Type 0
 AsksOne now what None answer new = (answer ≡ None) × (new ≡ None)
-AsksOne now what (Some held) answer new = (after : TryValue) × (new ≡ Some after) × IsAsked now what answer held after
+AsksOne now what (Some held) answer new =
+    (after : TryValue) × (new ≡ Some after) × IsAsked now what answer held after
 
-abbrev pub AsksAt : (i now : ℕ) → LineRequest → Option LineAnswer → Option (Option TryValue) → Tries → Tries → Type 0
+abbrev pub AsksAt : (i now : ℕ)
+    → LineRequest → Option LineAnswer → Option (Option TryValue) → Tries → Tries → Type 0
 AsksAt i now what answer None old new = (answer ≡ None) × (new ≡ old)
 AsksAt i now what answer (Some None) old new = (answer ≡ None) × (new ≡ old)
 AsksAt i now what answer (Some (Some held)) old new = IsAskedAt i now what answer old new
@@ -91,7 +94,8 @@ AsksAt i now what answer (Some (Some held)) old new = IsAskedAt i now what answe
 -- ---- AN ORDER OF THE DESK IS DONE AT ONCE, on the line that it names: that is asked, the desk is told its answer, which is the reply, and what
 -- happened by it is told. No order waits after it.
 
-abbrev pub TellsIf : {L : Type 0} → (List ℕ → ℕ → LineEvent → L → L → Type 0) → Option (List ℕ) → Option LineEvent → ℕ → L → L → Type 0
+abbrev pub TellsIf : {L : Type 0} → (List ℕ → ℕ → LineEvent → L → L → Type 0)
+    → Option (List ℕ) → Option LineEvent → ℕ → L → L → Type 0
 TellsIf tells name None now before after = after ≡ before
 TellsIf tells name (Some happens) now before after = TellsOf tells name happens now before after
 
@@ -101,17 +105,24 @@ abbrev pub reply_in : Option OrderEnd → Reply
 reply_in None = reply.Done
 reply_in (Some end) = end.reply
 
-abbrev pub TellsEnd : {L : Type 0} → (List ℕ → ℕ → LineEvent → L → L → Type 0) → List (String Global) → Option OrderEnd → ℕ → L → L → Type 0
+abbrev pub TellsEnd : {L : Type 0} → (List ℕ → ℕ → LineEvent → L → L → Type 0)
+    → List (String Global) → Option OrderEnd → ℕ → L → L → Type 0
 TellsEnd tells names None now before after = after ≡ before
-TellsEnd tells names (Some end) now before after = TellsIf tells (name_at names end.line) end.happened now before after
+TellsEnd tells names (Some end) now before after =
+    TellsIf tells (name_at names end.line) end.happened now before after
 
-pub record EndsOrder {L : Type 0} (tells : List ℕ → ℕ → LineEvent → L → L → Type 0) (now : ℕ) (answer : Option LineAnswer) (reply : Reply) (desk desk_after : Desk) (before after : L) : Type 0 where
+pub record EndsOrder {L : Type 0} (tells : List ℕ → ℕ → LineEvent → L → L → Type 0) (now : ℕ)
+    (answer : Option LineAnswer) (reply : Reply) (desk desk_after : Desk) (before after : L) :
+    Type 0 where
   pub reply_is : reply ≡ reply_in (done_of desk.cards.items desk.waits answer)
   pub cards : desk_after.cards.items ≡ noted desk.cards.items desk.waits answer
   pub desk_is : desk_after ≡ record desk { waits = None; cards = desk_after.cards }
-  pub told : TellsEnd tells desk.names.items (done_of desk.cards.items desk.waits answer) now before after
+  pub told :
+      TellsEnd tells desk.names.items (done_of desk.cards.items desk.waits answer) now before after
 
-pub record Obeys {L : Type 0} (tells : List ℕ → ℕ → LineEvent → L → L → Type 0) (now : ℕ) (order : Order) (reply : Reply) (desk desk_after : Desk) (old new : Tries) (before after : L) : Type 0 where
+pub record Obeys {L : Type 0} (tells : List ℕ → ℕ → LineEvent → L → L → Type 0) (now : ℕ)
+    (order : Order) (reply : Reply) (desk desk_after : Desk) (old new : Tries) (before after : L) :
+    Type 0 where
   pub answer : Option LineAnswer
   pub asks : AsksAt order.line now order.what answer (slice_get old order.line) old new
   pub ends : EndsOrder tells now answer reply desk desk_after before after
@@ -120,9 +131,12 @@ abbrev pub order_in : Option Waits → Option Order
 order_in waits = option_map (λ it. it.order) waits
 
 -- where one waits
-abbrev pub ObeysIf : {L : Type 0} → (List ℕ → ℕ → LineEvent → L → L → Type 0) → (now : ℕ) → Option Order → Reply → (desk desk_after : Desk) → Tries → Tries → L → L → Type 0
-ObeysIf tells now None said desk desk_after old new before after = (desk_after ≡ desk) × (new ≡ old) × (after ≡ before)
-ObeysIf tells now (Some order) said desk desk_after old new before after = Obeys tells now order said desk desk_after old new before after
+abbrev pub ObeysIf : {L : Type 0} → (List ℕ → ℕ → LineEvent → L → L → Type 0)
+    → (now : ℕ) → Option Order → Reply → (desk desk_after : Desk) → Tries → Tries → L → L → Type 0
+ObeysIf tells now None said desk desk_after old new before after =
+    (desk_after ≡ desk) × (new ≡ old) × (after ≡ before)
+ObeysIf tells now (Some order) said desk desk_after old new before after =
+    Obeys tells now order said desk desk_after old new before after
 
 -- ---- WHAT A WORD COMES TO: that of the called leg of a redial line, as at the desk of any line
 
@@ -140,23 +154,34 @@ reply_by next.Events came = came
 reply_by (next.Frames i) came = came
 reply_by next.Reloads came = came
 
-pub record Steps {L : Type 0} (tells : List ℕ → ℕ → LineEvent → L → L → Type 0) (asker now : ℕ) (said : Word) (reply : Reply) (old new : RedialsValue) (before after : L) : Type 0 where
+pub record Steps {L : Type 0} (tells : List ℕ → ℕ → LineEvent → L → L → Type 0) (asker now : ℕ)
+    (said : Word) (reply : Reply) (old new : RedialsValue) (before after : L) : Type 0 where
   pub desk : Desk
   pub waits : desk.waits ≡ waits_if asker (step_of old.desk (seen_at old.tries) false said)
-  pub desk_is : desk ≡ record old.desk { waits = desk.waits; stop = stop_then said now old.desk.stop_ms old.desk.stop; any_from = any_after old.desk.any_from (step_of old.desk (seen_at old.tries) false said) }
+  pub desk_is : desk ≡ record old.desk {
+    waits = desk.waits;
+    stop = stop_then said now old.desk.stop_ms old.desk.stop;
+    any_from = any_after old.desk.any_from (step_of old.desk (seen_at old.tries) false said);
+  }
   pub done : Reply
-  pub obeys : ObeysIf tells now (order_in desk.waits) done desk new.desk old.tries new.tries before after
+  pub obeys :
+      ObeysIf tells now (order_in desk.waits) done desk new.desk old.tries new.tries before after
   pub reply_is : reply ≡ reply_by (step_of old.desk (seen_at old.tries) false said) done
 
-abbrev pub StepsUnless : {L : Type 0} → (List ℕ → ℕ → LineEvent → L → L → Type 0) → (asker now : ℕ) → Word → (is_named : Bool) → Option Reply → Reply → RedialsValue → RedialsValue → L → L → Type 0
-StepsUnless tells asker now said false own reply old new before after = (reply ≡ refused refusal.NoLine) × (new ≡ old) × (after ≡ before)
-StepsUnless tells asker now said true (Some own) reply old new before after = (reply ≡ own) × (new ≡ old) × (after ≡ before)
-StepsUnless tells asker now said true None reply old new before after = Steps tells asker now said reply old new before after
+abbrev pub StepsUnless : {L : Type 0} → (List ℕ → ℕ → LineEvent → L → L → Type 0) → (asker now : ℕ)
+    → Word → (is_named : Bool) → Option Reply → Reply → RedialsValue → RedialsValue → L → L → Type 0
+StepsUnless tells asker now said false own reply old new before after =
+    (reply ≡ refused refusal.NoLine) × (new ≡ old) × (after ≡ before)
+StepsUnless tells asker now said true (Some own) reply old new before after =
+    (reply ≡ own) × (new ≡ old) × (after ≡ before)
+StepsUnless tells asker now said true None reply old new before after =
+    Steps tells asker now said reply old new before after
 
 -- ---- A QUESTION IS TOLD WITH ITS TRY: one more than those that were before
 
 abbrev pub with_try : ℕ → LineEvent → LineEvent
-with_try tries (happened.Asked job tag) = happened.Asked (record job { tries = min (tries + 1) (2 ^ 32 - 1) }) tag
+with_try tries (happened.Asked job tag) =
+    happened.Asked (record job { tries = min (tries + 1) (2 ^ 32 - 1) }) tag
 with_try tries (happened.Rung tagged) = happened.Rung tagged
 with_try tries (happened.NotStored tagged) = happened.NotStored tagged
 with_try tries (happened.Page page tag) = happened.Page page tag
@@ -172,19 +197,25 @@ asked_in tries (looked.Asks asks) = Some (with_try tries asks)
 asked_in tries (looked.Orders order) = None
 
 -- the question of redial line i is looked at, where it has a try
-pub record Looks {L : Type 0} (tells : List ℕ → ℕ → LineEvent → L → L → Type 0) (i now : ℕ) (held : TryValue) (came : LookOutcome) (old new : RedialsValue) (before after : L) : Type 0 where
+pub record Looks {L : Type 0} (tells : List ℕ → ℕ → LineEvent → L → L → Type 0)
+    (i now : ℕ) (held : TryValue) (came : LookOutcome) (old new : RedialsValue) (before after : L) :
+    Type 0 where
   pub desk : Desk
   pub cards : desk.cards.items ≡ looked_cards old.desk i (try_seen (Some held))
   pub desk_is : desk ≡ record old.desk { cards = desk.cards; waits = unasked_if came }
   pub told : L
-  pub tells_so : TellsIf tells (name_at old.desk.names.items i) (asked_in held.job.tries came) now before told
+  pub tells_so :
+      TellsIf tells (name_at old.desk.names.items i) (asked_in held.job.tries came) now before told
   pub reply : Reply
-  pub obeys : ObeysIf tells now (order_in desk.waits) reply desk new.desk old.tries new.tries told after
+  pub obeys :
+      ObeysIf tells now (order_in desk.waits) reply desk new.desk old.tries new.tries told after
 
-abbrev pub LooksIf : {L : Type 0} → (List ℕ → ℕ → LineEvent → L → L → Type 0) → (i now : ℕ) → Option (Option TryValue) → RedialsValue → RedialsValue → L → L → Type 0
+abbrev pub LooksIf : {L : Type 0} → (List ℕ → ℕ → LineEvent → L → L → Type 0)
+    → (i now : ℕ) → Option (Option TryValue) → RedialsValue → RedialsValue → L → L → Type 0
 LooksIf tells i now None old new before after = (new ≡ old) × (after ≡ before)
 LooksIf tells i now (Some None) old new before after = (new ≡ old) × (after ≡ before)
-LooksIf tells i now (Some (Some held)) old new before after = Looks tells i now held (looked_at old.desk i (try_seen (Some held))) old new before after
+LooksIf tells i now (Some (Some held)) old new before after =
+    Looks tells i now held (looked_at old.desk i (try_seen (Some held))) old new before after
 
 -- ---- what is on on redial line i, as a client is told it first
 
@@ -198,7 +229,8 @@ state_with tries state = record { rung = state.rung; job = option_map (with_try 
 
 abbrev pub state_if : RedialsValue → ℕ → Option LineView → Option LineState
 state_if redials i None = None
-state_if redials i (Some line) = option_map (state_with (tries_of (slice_get redials.tries i))) (state_at redials.desk.cards.items redials.desk.time.heard i line)
+state_if redials i (Some line) = option_map (state_with (tries_of (slice_get redials.tries i)))
+    (state_at redials.desk.cards.items redials.desk.time.heard i line)
 
 abbrev pub state_on : RedialsValue → ℕ → Option LineState
 state_on redials i = state_if redials i (seen_at redials.tries i)
@@ -208,4 +240,5 @@ state_on redials i = state_if redials i (seen_at redials.tries i)
 abbrev pub AsksFrom : ℕ → Option LineView → RedialsValue → RedialsValue → Type 0
 AsksFrom i None old new = new ≡ old
 AsksFrom i (Some line) old new =
-    (new.desk.cards.items ≡ asked_cards old.desk.cards.items old.desk.time.heard i line) × (new ≡ record old { desk = record old.desk { cards = new.desk.cards } })
+    (new.desk.cards.items ≡ asked_cards old.desk.cards.items old.desk.time.heard i line)
+    × (new ≡ record old { desk = record old.desk { cards = new.desk.cards } })

@@ -66,7 +66,8 @@ pub fn restore_try<W: TimedWire + Drop>(
     wire: HoldingWire<W>,
 ) -> Result<RestoredTry<W>, BeginFault>
     requires { AreAllowed settings }
-    ensures answer { RestoresUnless (may_restore call.now pages.now) (drop call.now.card.delivered pages.now) result }
+    ensures answer { RestoresUnless (may_restore call.now pages.now)
+        (drop call.now.card.delivered pages.now) result }
     ensures restored { IfOk result (λ restored. IsTryOf call.now tag pages.now restored) }
     ensures settings { IfOk result (λ restored. restored.line.gateway.settings ≡ settings) }
 {
@@ -82,7 +83,8 @@ pub fn restore_try<W: TimedWire + Drop>(
 /// The name of the line of a call, where that is text, and these pages are of that call.
 #[tactic(auto, using(crate::proofs::Restoring::name_so, crate::proofs::Restoring::no_name, crate::proofs::Restoring::not_own))]
 fn line_name<'a>(call: &'a UndeliveredCall, pages: &[WaitingPage]) -> Option<&'a str>
-    ensures { MatchOption result (may_restore call.now pages.now ≡ false) (λ name. (name.now ≡ call.now.line) × (may_restore call.now pages.now ≡ true)) }
+    ensures { MatchOption result (may_restore call.now pages.now ≡ false)
+        (λ name. (name.now ≡ call.now.line) × (may_restore call.now pages.now ≡ true)) }
 {
     if !are_of(call, pages) {
         return None;

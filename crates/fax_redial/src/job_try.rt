@@ -44,7 +44,8 @@ impl<W: TimedWire + Drop> Model for JobTry<W> {
 
     ghost Value = { TryValue };
 
-    ghost view = { λ t. record { job = t.job; lines = t.lines; moment = t.moment; total = t.total } };
+    ghost view = { λ t.
+        record { job = t.job; lines = t.lines; moment = t.moment; total = t.total } };
 }
 
 impl<W: TimedWire + Drop> JobTry<W> {
@@ -72,7 +73,8 @@ impl<W: TimedWire + Drop> JobTry<W> {
 
     /// The line.
     pub fn line(&self) -> Option<&Line<HoldingWire<W>>>
-        ensures { MatchOption result (length self.now.lines.lines ≤ 0) (λ line. IsLineAt 0 self.now.lines.lines line.now) }
+        ensures { MatchOption result (length self.now.lines.lines ≤ 0)
+            (λ line. IsLineAt 0 self.now.lines.lines line.now) }
     {
         self.lines.line(0)
     }
@@ -80,7 +82,8 @@ impl<W: TimedWire + Drop> JobTry<W> {
     /// The next slot of its lines has its turn, and what that gave goes out. In the turn of slot 0, of which it answers what the line told,
     /// that is turned, whatever came for it.
     pub fn turn(&mut self, now: u64) -> Option<TurnReport>
-        ensures goes { (rests : ℕ → Bool) × GoesOn (Turned now rests ∷ Woken 0 ∷ []) self.old self.new }
+        ensures goes { (rests : ℕ → Bool)
+            × GoesOn (Turned now rests ∷ Woken 0 ∷ []) self.old self.new }
         ensures told { result ≡ told_by self.old self.new }
         ensures job { self.new.job ≡ self.old.job }
         ensures total { self.new.total ≡ self.old.total }
@@ -137,7 +140,8 @@ impl<W: TimedWire + Drop> JobTry<W> {
 
     /// The same, by the name of its line, its life and its number.
     pub fn is_named(&self, line: &[u8], life: u32, call: u32) -> bool
-        ensures { result ≡ same_name self.now.job.name (record { life = life; call = call; line = line.now }) }
+        ensures { result
+            ≡ same_name self.now.job.name (record { life = life; call = call; line = line.now }) }
     {
         let own = &self.job.name;
         own.life == life && own.call == call && own.line.as_slice() == line

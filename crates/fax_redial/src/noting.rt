@@ -24,10 +24,15 @@ pub fn note_end<D: Disk>(
     end: &RetryEnd,
     at: u64,
 ) -> io::Result<bool>
-    ensures delivered { IfOk result (λ was. end.now.outcome ≡ outcomes.Delivered → NotesDelivered D.seen D.may_leave D.is_usable end.now was kept.old kept.new) }
-    ensures failed { IfOk result (λ was. ¬ (end.now.outcome ≡ outcomes.Delivered) → NotesFailed D.seen D.may_leave D.is_usable end.now at was kept.old kept.new) }
-    ensures not_gone { OnErr result (end.now.outcome ≡ outcomes.Delivered → MayEndCall D.seen D.may_leave D.is_usable end.now kept.old.calls.items kept.old.spool kept.new.spool) }
-    ensures not_told { OnErr result (¬ (end.now.outcome ≡ outcomes.Delivered) → MayPutCard D.seen D.may_leave D.is_usable end.now.name kept.old.spool kept.new.spool) }
+    ensures delivered { IfOk result (λ was. end.now.outcome ≡ outcomes.Delivered
+        → NotesDelivered D.seen D.may_leave D.is_usable end.now was kept.old kept.new) }
+    ensures failed { IfOk result (λ was. ¬ (end.now.outcome ≡ outcomes.Delivered)
+        → NotesFailed D.seen D.may_leave D.is_usable end.now at was kept.old kept.new) }
+    ensures not_gone { OnErr result (end.now.outcome ≡ outcomes.Delivered
+        → MayEndCall D.seen D.may_leave D.is_usable end.now
+        kept.old.calls.items kept.old.spool kept.new.spool) }
+    ensures not_told { OnErr result (¬ (end.now.outcome ≡ outcomes.Delivered)
+        → MayPutCard D.seen D.may_leave D.is_usable end.now.name kept.old.spool kept.new.spool) }
     ensures same { OnErr result (kept.new.calls.items ≡ kept.old.calls.items) }
 {
     match end.outcome {
@@ -42,8 +47,10 @@ fn note_delivered<D: Disk>(
     kept: &mut Undelivered<D>,
     end: &RetryEnd,
 ) -> io::Result<bool>
-    ensures noted { IfOk result (λ was. NotesDelivered D.seen D.may_leave D.is_usable end.now was kept.old kept.new) }
-    ensures not_gone { OnErr result (MayEndCall D.seen D.may_leave D.is_usable end.now kept.old.calls.items kept.old.spool kept.new.spool) }
+    ensures noted { IfOk result
+        (λ was. NotesDelivered D.seen D.may_leave D.is_usable end.now was kept.old kept.new) }
+    ensures not_gone { OnErr result (MayEndCall D.seen D.may_leave D.is_usable end.now
+        kept.old.calls.items kept.old.spool kept.new.spool) }
     ensures same { OnErr result (kept.new.calls.items ≡ kept.old.calls.items) }
 {
     let name = &end.name;
@@ -60,8 +67,10 @@ fn note_failed<D: Disk>(
     end: &RetryEnd,
     at: u64,
 ) -> io::Result<bool>
-    ensures noted { IfOk result (λ was. NotesFailed D.seen D.may_leave D.is_usable end.now at was kept.old kept.new) }
-    ensures not_told { OnErr result (MayPutCard D.seen D.may_leave D.is_usable end.now.name kept.old.spool kept.new.spool) }
+    ensures noted { IfOk result
+        (λ was. NotesFailed D.seen D.may_leave D.is_usable end.now at was kept.old kept.new) }
+    ensures not_told { OnErr result
+        (MayPutCard D.seen D.may_leave D.is_usable end.now.name kept.old.spool kept.new.spool) }
     ensures same { OnErr result (kept.new.calls.items ≡ kept.old.calls.items) }
 {
     let name = &end.name;
@@ -79,8 +88,10 @@ fn count_delivered<D: Disk>(
     name: &CallName,
     pages: usize,
 ) -> io::Result<bool>
-    ensures noted { IfOk result (λ was. PutsCardIf D.seen D.may_leave D.is_usable name.now (λ before card. card ≡ counted pages before) was kept.old kept.new) }
-    ensures not_told { OnErr result (MayPutCard D.seen D.may_leave D.is_usable name.now kept.old.spool kept.new.spool) }
+    ensures noted { IfOk result (λ was. PutsCardIf D.seen D.may_leave D.is_usable name.now
+        (λ before card. card ≡ counted pages before) was kept.old kept.new) }
+    ensures not_told { OnErr result
+        (MayPutCard D.seen D.may_leave D.is_usable name.now kept.old.spool kept.new.spool) }
     ensures same { OnErr result (kept.new.calls.items ≡ kept.old.calls.items) }
 {
     let Some(before) = card_of(alloc, kept.calls(), name)? else {
@@ -129,7 +140,8 @@ fn card_of(
     calls: &[UndeliveredCall],
     name: &CallName,
 ) -> Result<Option<Card>, AllocError>
-    ensures { IfOk result (λ card. MatchOption card (list_any (is_named name.now) calls.now ≡ false) (λ card. card_named name.now calls.now ≡ Some card)) }
+    ensures { IfOk result (λ card. MatchOption card (list_any (is_named name.now) calls.now ≡ false)
+        (λ card. card_named name.now calls.now ≡ Some card)) }
 {
     for call in calls {
         if is_named(call, name) {

@@ -22,7 +22,8 @@ pub fn first_due<W: TimedWire + Drop>(
     now: u64,
     after_seconds: &[u32],
 ) -> Option<usize>
-    ensures { result ≡ position (is_next left.now queues.now redials.now.tries now after_seconds.now) calls.now }
+    ensures { result ≡ position
+        (is_next left.now queues.now redials.now.tries now after_seconds.now) calls.now }
 {
     calls.iter().position(|call| is_next(call, left, queues, redials, now, after_seconds))
 }
@@ -36,7 +37,8 @@ fn is_next<W: TimedWire + Drop>(
     now: u64,
     after_seconds: &[u32],
 ) -> bool
-    ensures { result ≡ is_next left.now queues.now redials.now.tries now after_seconds.now call.now }
+    ensures { result
+        ≡ is_next left.now queues.now redials.now.tries now after_seconds.now call.now }
 {
     let card = &call.card;
     is_due(card.outcome, card.tries, card.at, now, after_seconds)

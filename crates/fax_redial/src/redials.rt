@@ -52,8 +52,11 @@ impl<W: TimedWire + Drop> Redials<W> {
     /// Redial lines of these names, without a try, whose questions are open for so many seconds.
     pub fn new(alloc: Global, names: Vec<String>, dial_seconds: u32) -> Result<Self, NoMemory>
         ensures names { IfOk result (λ redials. redials.desk.names ≡ names) }
-        ensures cards { IfOk result (λ redials. (length redials.desk.cards.items ≡ length names.items) × All (λ card. card ≡ card_new dial_seconds) redials.desk.cards.items) }
-        ensures tries { IfOk result (λ redials. (length redials.tries ≡ length names.items) × All (λ held. held ≡ None) redials.tries) }
+        ensures cards { IfOk result
+            (λ redials. (length redials.desk.cards.items ≡ length names.items)
+            × All (λ card. card ≡ card_new dial_seconds) redials.desk.cards.items) }
+        ensures tries { IfOk result (λ redials. (length redials.tries ≡ length names.items)
+            × All (λ held. held ≡ None) redials.tries) }
     {
         let cards = new_cards(alloc, names.len(), dial_seconds)?;
         let tries = no_tries(alloc, names.len())?;
@@ -98,7 +101,8 @@ impl<W: TimedWire + Drop> Redials<W> {
 
     /// Whether the job is tried on a redial line whose pages came in this call of this life of the line of this name.
     pub fn is_under_way(&self, line: &[u8], life: u32, call: u32) -> bool
-        ensures { result ≡ is_under_way (record { life = life; call = call; line = line.now }) self.now.tries }
+        ensures { result
+            ≡ is_under_way (record { life = life; call = call; line = line.now }) self.now.tries }
     {
         is_under_way(line, life, call, self.tries.as_slice())
     }
@@ -118,8 +122,10 @@ impl<W: TimedWire + Drop> Redials<W> {
         restored: RestoredTry<W>,
         queues: &[Queue],
     ) -> Result<(), BeginFault>
-        ensures answer { BeginsUnless (fault_of self.old.tries i queues.now restored.job restored.line) result }
-        ensures begun { OnOk result (BeginsAt i queues.now restored.job restored.line self.old.tries self.new.tries) }
+        ensures answer { BeginsUnless (fault_of
+            self.old.tries i queues.now restored.job restored.line) result }
+        ensures begun { OnOk result
+            (BeginsAt i queues.now restored.job restored.line self.old.tries self.new.tries) }
         ensures desk { self.new.desk ≡ self.old.desk }
         ensures err { OnErr result (self.new ≡ self.old) }
     {
@@ -151,8 +157,10 @@ impl<W: TimedWire + Drop> Redials<W> {
     /// Redial line i has the turn of its next slot, where it has a try, at this moment; one before another that came reads as the latest.
     /// Forty turns are a round, in one of which the line itself is turned. What that comes to is told, under the redial line's name.
     pub fn turn<L: Listener>(&mut self, i: usize, now: u64, listener: &mut L)
-        ensures tries { TurnsIf i now (cause_on self.old.desk.cards.items i) (slice_get self.old.tries i) self.old.tries self.new.tries }
-        ensures notes { NotesIf L.tells i now (told_on (slice_get self.old.tries i) (slice_get self.new.tries i)) self.old.desk self.new.desk listener.old listener.new }
+        ensures tries { TurnsIf i now (cause_on self.old.desk.cards.items i)
+            (slice_get self.old.tries i) self.old.tries self.new.tries }
+        ensures notes { NotesIf L.tells i now (told_on (slice_get self.old.tries i)
+            (slice_get self.new.tries i)) self.old.desk self.new.desk listener.old listener.new }
     {
         let cause = cause_on(self.desk.cards.as_slice(), i);
         if let Some(turn) = turn_at(self.tries.as_mut_slice(), i, now, cause) {
@@ -162,7 +170,8 @@ impl<W: TimedWire + Drop> Redials<W> {
 
     /// Takes a try that is over away from its redial line, which is free again, and answers how it ended. `None`: none is over.
     pub fn take_end(&mut self) -> Option<RetryEnd>
-        ensures ended { IfSome result (λ end. (i : ℕ) × EndsAt i end self.old.tries self.new.tries) }
+        ensures ended { IfSome result
+            (λ end. (i : ℕ) × EndsAt i end self.old.tries self.new.tries) }
         ensures none { IfNone result (position is_over_if self.old.tries ≡ None) }
         ensures same { IfNone result (self.new ≡ self.old) }
         ensures desk { self.new.desk ≡ self.old.desk }
@@ -258,7 +267,8 @@ fn report_of(turned: Option<TurnReport>) -> Option<Report>
 
 /// What a desk knows of so many lines to which nothing happened.
 fn new_cards(alloc: Global, count: usize, dial_seconds: u32) -> Result<Vec<Card>, NoMemory>
-    ensures { IfOk result (λ cards. (length cards.items ≡ count) × All (λ card. card ≡ card_new dial_seconds) cards.items) }
+    ensures { IfOk result (λ cards. (length cards.items ≡ count)
+        × All (λ card. card ≡ card_new dial_seconds) cards.items) }
 {
     let mut cards = Vec::new(alloc);
     for _ in 0..count {
@@ -272,7 +282,8 @@ fn no_tries<W: TimedWire + Drop>(
     alloc: Global,
     count: usize,
 ) -> Result<Vec<Option<JobTry<W>>>, NoMemory>
-    ensures { IfOk result (λ tries. (length tries.items ≡ count) × All (λ held. held ≡ None) tries.items) }
+    ensures { IfOk result
+        (λ tries. (length tries.items ≡ count) × All (λ held. held ≡ None) tries.items) }
 {
     let mut tries = Vec::new(alloc);
     for _ in 0..count {
@@ -301,7 +312,8 @@ fn is_under_way<W: TimedWire + Drop>(
     call: u32,
     tries: &[Option<JobTry<W>>],
 ) -> bool
-    ensures { result ≡ is_under_way (record { life = life; call = call; line = line.now }) tries.now }
+    ensures { result
+        ≡ is_under_way (record { life = life; call = call; line = line.now }) tries.now }
 {
     tries.iter().any(|held| is_of(line, life, call, held))
 }

@@ -121,7 +121,8 @@ fn sending<W: LineWire + Drop>(line: &Line<W>) -> Option<u32>
 
 /// The job whose call is asked for.
 fn asked<W: LineWire + Drop>(line: &Line<W>) -> Option<AskedView>
-    ensures { result ≡ option_map job_seen (job_asked line.now.gateway.settings.asks line.now.gateway.book) }
+    ensures { result
+        ≡ option_map job_seen (job_asked line.now.gateway.settings.asks line.now.gateway.book) }
 {
     match line.job_asked() {
         Some(job) => Some(AskedView {

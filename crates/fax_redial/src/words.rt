@@ -39,7 +39,9 @@ impl<W: TimedWire + Drop> Redials<W> {
         now: u64,
         listener: &mut L,
     ) -> Reply
-        ensures { StepsUnless L.tells asker now word.entry (names_one self.old.desk (named_in word.entry)) (own_reply word.entry) result self.old self.new listener.old listener.new }
+        ensures { StepsUnless L.tells asker
+            now word.entry (names_one self.old.desk (named_in word.entry))
+            (own_reply word.entry) result self.old self.new listener.old listener.new }
     {
         if !self.says_of(word) {
             return refused(Refusal::NoLine);
@@ -58,7 +60,8 @@ impl<W: TimedWire + Drop> Redials<W> {
         now: u64,
         listener: &mut L,
     ) -> Reply
-        ensures { Steps L.tells asker now word.entry result self.old self.new listener.old listener.new }
+        ensures { Steps L.tells asker
+            now word.entry result self.old self.new listener.old listener.new }
     {
         let seen = Seen {
             tries: self.tries.as_slice(),
@@ -70,7 +73,12 @@ impl<W: TimedWire + Drop> Redials<W> {
 
     /// Time goes on to this moment, and a client hears events meanwhile, or none does.
     pub fn go_on(&mut self, now: u64, is_heard: bool)
-        ensures { self.new ≡ record self.old { desk = record self.old.desk { time = heard_until now is_heard self.old.desk.time; is_heard = is_heard } } }
+        ensures { self.new ≡ record self.old {
+          desk = record self.old.desk {
+            time = heard_until now is_heard self.old.desk.time;
+            is_heard = is_heard;
+          };
+        } }
     {
         self.desk.go_on(now, is_heard);
     }
@@ -78,7 +86,8 @@ impl<W: TimedWire + Drop> Redials<W> {
     /// The question of redial line i is looked at, where it has a try: clients are asked where one hears events, with the number of the
     /// try; and a question whose time is over is refused.
     pub fn look<L: Listener>(&mut self, i: usize, now: u64, listener: &mut L)
-        ensures { LooksIf L.tells i now (slice_get self.old.tries i) self.old self.new listener.old listener.new }
+        ensures { LooksIf L.tells i
+            now (slice_get self.old.tries i) self.old self.new listener.old listener.new }
     {
         let (tries, line) = match self.tries.get(i) {
             Some(Some(held)) => (held.job().tries, held.view()),
@@ -122,7 +131,8 @@ impl<W: TimedWire + Drop> Redials<W> {
 
     /// The redial line that a word names.
     pub fn named(&self, word: Word<'_>) -> Option<usize>
-        ensures { result ≡ option_and_then (line_named self.now.desk.names.items) (named_in word.entry) }
+        ensures { result
+            ≡ option_and_then (line_named self.now.desk.names.items) (named_in word.entry) }
     {
         let name = named_in(word)?;
         self.desk.find(name)
@@ -226,7 +236,8 @@ fn obey<W: TimedWire + Drop, L: Listener>(
     now: u64,
     listener: &mut L,
 ) -> Reply
-    ensures { ObeysIf L.tells now (order_in desk.old.waits) result desk.old desk.new tries.old tries.new listener.old listener.new }
+    ensures { ObeysIf L.tells now (order_in desk.old.waits)
+        result desk.old desk.new tries.old tries.new listener.old listener.new }
 {
     let Some(order) = waiting(desk) else {
         return Reply::Done;

@@ -60,8 +60,10 @@ pub record IsFormatOf (given : List Row) (format : Format) : Type 0 where
 
 -- the settings of both legs: a job's call begins by itself, and what is held is not bounded
 pub record AreSettingsOf (given : List Row) (settings : Settings) : Type 0 where
-  pub redundancy : IsNumberOf (one_of (codes "redundancy") given) 0 most_redundancy 3 settings.redundancy
-  pub preamble : IsNumberOf (one_of (codes "preamble") given) pace longest_pause 40 settings.preamble_ms
+  pub redundancy :
+      IsNumberOf (one_of (codes "redundancy") given) 0 most_redundancy 3 settings.redundancy
+  pub preamble :
+      IsNumberOf (one_of (codes "preamble") given) pace longest_pause 40 settings.preamble_ms
   pub asks : settings.asks ≡ false
   pub memory : settings.memory ≡ 18446744073709551615
 

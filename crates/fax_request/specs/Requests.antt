@@ -33,8 +33,10 @@ use Rattle.fax_request.specs.Given.{IsNumberOf, IsFlagOf, IsFormatOf, AreSetting
 -- what is made of the input: --back, --pbm
 abbrev pub IsOutputOf : List Row → Output → Type 0
 IsOutputOf given Octets = IsFlagOf (one_of (codes "back") given) true
-IsOutputOf given Picture = IsFlagOf (one_of (codes "back") given) false × IsFlagOf (one_of (codes "pbm") given) true
-IsOutputOf given Runs = IsFlagOf (one_of (codes "back") given) false × IsFlagOf (one_of (codes "pbm") given) false
+IsOutputOf given Picture =
+    IsFlagOf (one_of (codes "back") given) false × IsFlagOf (one_of (codes "pbm") given) true
+IsOutputOf given Runs =
+    IsFlagOf (one_of (codes "back") given) false × IsFlagOf (one_of (codes "pbm") given) false
 
 pub record ArePageOptionsOf (given : List Row) (options : PageOptions) : Type 0 where
   pub format : IsFormatOf given options.format
@@ -55,12 +57,14 @@ HasOctets address octets = ⊥
 -- An address of IPv6 that stands for one of IPv4 (::ffff:192.0.2.10) means that one.
 abbrev pub IsHostOf : IpAddr → Host → Type 0
 IsHostOf (ip.V4 address) octets = HasOctets (ip.V4 address) octets
-IsHostOf (ip.V6 address) octets = (meant : IpAddr) × IsCanonicalOf address meant × HasOctets meant octets
+IsHostOf (ip.V6 address) octets =
+    (meant : IpAddr) × IsCanonicalOf address meant × HasOctets meant octets
 
 -- A text says a host alone, or a host and a port.
 abbrev pub SaysHost : Text → Option ℕ → Host → Type 0
 SaysHost text None octets = (said : IpAddr) × (IsIpText text said × IsHostOf said octets)
-SaysHost text (Some port) octets = (said : SocketAddr) × (IsSocketText text said × IsHostOf (socket_ip said) octets × (port ≡ socket_port said))
+SaysHost text (Some port) octets = (said : SocketAddr)
+    × (IsSocketText text said × IsHostOf (socket_ip said) octets × (port ≡ socket_port said))
 
 abbrev pub SaysAddress : Text → Address → Type 0
 SaysAddress text address = SaysHost text address.port address.host
@@ -72,11 +76,13 @@ text_given option given = unwrap_or (first_of option given) []
 -- The call that is asked for has a number from 1 on; where none is said, each call is.
 abbrev pub IsCallOf : List Row → Option ℕ → Type 0
 IsCallOf given None = IsNumberOf (one_of (codes "call") given) 0 (2 ^ 64 - 1) 0 0
-IsCallOf given (Some call) = IsNumberOf (one_of (codes "call") given) 0 (2 ^ 64 - 1) 0 call × (0 < call)
+IsCallOf given (Some call) =
+    IsNumberOf (one_of (codes "call") given) 0 (2 ^ 64 - 1) 0 call × (0 < call)
 
 -- the machines at the addresses that two texts say, which are apart: no endpoint is at both
 abbrev pub AreMachinesAt : Text → Text → Machines → Type 0
-AreMachinesAt caller called (Known one other) = SaysAddress caller one × SaysAddress called other × AreApart one other
+AreMachinesAt caller called (Known one other) =
+    SaysAddress caller one × SaysAddress called other × AreApart one other
 AreMachinesAt caller called machines = ⊥
 
 -- Both addresses are given, or neither is: then the machines are to be found.
@@ -86,7 +92,8 @@ AreMachinesBy None None machines = machines ≡ Unknown
 AreMachinesBy caller called machines = ⊥
 
 abbrev pub AreMachinesOf : List Row → Machines → Type 0
-AreMachinesOf given machines = AreMachinesBy (first_of (codes "caller") given) (first_of (codes "called") given) machines
+AreMachinesOf given machines =
+    AreMachinesBy (first_of (codes "caller") given) (first_of (codes "called") given) machines
 
 pub record AreCaptureOptionsOf (given : List Row) (options : CaptureOptions) : Type 0 where
   pub machines : AreMachinesOf given options.machines
@@ -124,17 +131,22 @@ pub record AreReceiveOptionsOf (given : List Row) (options : ReceiveOptions) : T
 abbrev pub Asks : Text → List Row → Request → Type 0
 Asks command given (Page options) = (command ≡ codes "page") × ArePageOptionsOf given options
 Asks command given (Trace settings) = (command ≡ codes "trace") × AreScriptSettingsOf given settings
-Asks command given (Explain options) = (command ≡ codes "explain") × AreExplainOptionsOf given options
-Asks command given (Capture options) = (command ≡ codes "capture") × AreCaptureOptionsOf given options
+Asks command given (Explain options) =
+    (command ≡ codes "explain") × AreExplainOptionsOf given options
+Asks command given (Capture options) =
+    (command ≡ codes "capture") × AreCaptureOptionsOf given options
 Asks command given (Loop settings) = (command ≡ codes "loop") × AreSettingsOf given settings
-Asks command given (Serve path) = (command ≡ codes "serve") × (path.now ≡ text_given (codes "config") given)
-Asks command given (Check path) = (command ≡ codes "check") × (path.now ≡ text_given (codes "config") given)
-Asks command given (Say socket saying) =
-    (command ≡ codes "say") × (socket.now ≡ text_given (codes "socket") given) × (saying ≡ words_said given)
+Asks command given (Serve path) =
+    (command ≡ codes "serve") × (path.now ≡ text_given (codes "config") given)
+Asks command given (Check path) =
+    (command ≡ codes "check") × (path.now ≡ text_given (codes "config") given)
+Asks command given (Say socket saying) = (command ≡ codes "say")
+    × (socket.now ≡ text_given (codes "socket") given) × (saying ≡ words_said given)
 Asks command given (Spool options) = (command ≡ codes "spool") × AreSpoolOptionsOf given options
-Asks command given (Send options files) =
-    (command ≡ codes "send") × AreSendOptionsOf given options × (map (λ file. file.now) files.items ≡ unwrap_or (all_of (codes "file") given) [])
-Asks command given (Receive options) = (command ≡ codes "receive") × AreReceiveOptionsOf given options
+Asks command given (Send options files) = (command ≡ codes "send") × AreSendOptionsOf given options
+    × (map (λ file. file.now) files.items ≡ unwrap_or (all_of (codes "file") given) [])
+Asks command given (Receive options) =
+    (command ≡ codes "receive") × AreReceiveOptionsOf given options
 
 -- the same of the command that was found, if one was
 abbrev pub IsAskedBy : Option (Text × List Row) → Request → Type 0

@@ -15,13 +15,16 @@ most_number = 4294967295
 abbrev pub IsChoiceOf : List Row → Option Choice → Type 0
 IsChoiceOf given None = first_of (codes "line") given ≡ None
 IsChoiceOf given (Some choice) = (first_of (codes "line") given ≡ Some choice.line.now)
-    × IsNumberOf (one_of (codes "life") given) 0 most_number 0 choice.life × IsNumberOf (one_of (codes "call") given) 0 most_number 0 choice.call
+    × IsNumberOf (one_of (codes "life") given) 0 most_number 0 choice.life
+    × IsNumberOf (one_of (codes "call") given) 0 most_number 0 choice.call
 
 -- what is made of pages: a TIFF where its file is given, else pictures where what their names begin with is
 abbrev pub IsWantedOf : List Row → WantedFiles → Type 0
 IsWantedOf given (Tiff name) = first_of (codes "tiff") given ≡ Some name.now
-IsWantedOf given (Pictures prefix) = (first_of (codes "tiff") given ≡ None) × (first_of (codes "pages") given ≡ Some prefix.now)
-IsWantedOf given Nothing = (first_of (codes "tiff") given ≡ None) × (first_of (codes "pages") given ≡ None)
+IsWantedOf given (Pictures prefix) =
+    (first_of (codes "tiff") given ≡ None) × (first_of (codes "pages") given ≡ Some prefix.now)
+IsWantedOf given Nothing =
+    (first_of (codes "tiff") given ≡ None) × (first_of (codes "pages") given ≡ None)
 
 pub record AreSpoolOptionsOf (given : List Row) (options : SpoolOptions) : Type 0 where
   pub folder : options.folder.now ≡ unwrap_or (first_of (codes "folder") given) []

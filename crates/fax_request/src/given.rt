@@ -12,7 +12,8 @@ use fax_wires::repeat::RepeatPolicy;
 
 /// The text that was given with an option, or its default.
 pub(crate) fn text_of<'a>(given: &ArgMatches<'a>, option: &str) -> Option<&'a str>
-    ensures { option_map (λ text. text.now) result ≡ first_of option.now (rows_of (found_of given.now)) }
+    ensures { option_map
+        (λ text. text.now) result ≡ first_of option.now (rows_of (found_of given.now)) }
 {
     given.get_str(option)
 }
@@ -34,7 +35,8 @@ pub(crate) fn number_of(
 ) -> u64
     requires least { least ≤ usual }
     requires most { usual ≤ most }
-    ensures { IsNumberOf (one_of option.now (rows_of (found_of given.now))) least most usual result }
+    ensures { IsNumberOf (one_of option.now (rows_of (found_of given.now)))
+        least most usual result }
 {
     let Some(number) = given.get_one::<u64>(option) else {
         return usual;

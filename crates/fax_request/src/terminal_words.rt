@@ -27,7 +27,8 @@ pub(crate) fn send_files_of<'a>(
     alloc: Global,
     given: &ArgMatches<'a>,
 ) -> Result<Vec<&'a str>, AllocError>
-    ensures { IfOk result (λ files. map (λ file. file.now) files.items ≡ unwrap_or (all_of (codes "file") (rows_of (found_of given.now))) []) }
+    ensures { IfOk result (λ files. map (λ file. file.now) files.items
+        ≡ unwrap_or (all_of (codes "file") (rows_of (found_of given.now))) []) }
 {
     match given.get_strs("file") {
         Some(files) => Vec::from_slice(alloc, files),

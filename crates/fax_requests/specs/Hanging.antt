@@ -27,13 +27,15 @@ abbrev pub route_lines : MessageText → List (Name × List ℕ)
 route_lines invite = map (λ value. (Route, value)) (values_of Route invite.lines)
 
 -- A request of this method hangs on an INVITE, with this `To` and these header lines: it has the INVITE's Request-URI, first hop, `From`, Call-ID and number, and no body.
-pub record HangsWith (invite : MessageText) (method to : List ℕ) (fields : List (Name × List ℕ)) (request : Request) : Type 0 where
+pub record HangsWith (invite : MessageText)
+    (method to : List ℕ) (fields : List (Name × List ℕ)) (request : Request) : Type 0 where
   pub method_is : request.method.now ≡ method
   pub uri_is : request.uri.now ≡ uri_asked invite.start
   pub branch_is : request.branch.now ≡ (hop_of invite).branch
   pub sender_is : request.sent_by.now ≡ (hop_of invite).sent_by
   pub from_uri : request.from.uri.now ≡ uri_of invite.from
-  pub from_tag : option_map (λ tag. tag.now) request.from.tag ≡ parameter_of (codes "tag") invite.from
+  pub from_tag :
+      option_map (λ tag. tag.now) request.from.tag ≡ parameter_of (codes "tag") invite.from
   pub to_uri : request.to.uri.now ≡ uri_of to
   pub to_tag : option_map (λ tag. tag.now) request.to.tag ≡ parameter_of (codes "tag") to
   pub call_is : request.call_id.now ≡ invite.call_id
@@ -46,8 +48,10 @@ HangsOn invite method to request = HangsWith invite method to (route_lines invit
 
 -- the octets of such a request, which has no fault
 abbrev pub IsHanging : MessageText → List ℕ → List ℕ → List ℕ → Type 0
-IsHanging invite method to octets = (request : Request) × HangsOn invite method to request × (request_fault request ≡ None) × (octets ≡ request_octets request)
+IsHanging invite method to octets = (request : Request) × HangsOn invite method to request
+    × (request_fault request ≡ None) × (octets ≡ request_octets request)
 
 -- why it is not written
 abbrev pub HasFault : MessageText → List ℕ → List ℕ → WriteFault → Type 0
-HasFault invite method to fault = (fault ≡ NoMemory) ⊎ ((request : Request) × HangsOn invite method to request × (request_fault request ≡ Some fault))
+HasFault invite method to fault = (fault ≡ NoMemory) ⊎ ((request : Request)
+    × HangsOn invite method to request × (request_fault request ≡ Some fault))

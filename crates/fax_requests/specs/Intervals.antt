@@ -5,5 +5,7 @@ use Rattle.fax_sip.specs.declared.name.Name.TheVariants.{MinSe, SessionExpires, 
 use Rattle.fax_requests.specs.declared.interval.Interval.{Interval}
 
 abbrev pub interval_lines : Interval → List (Name × List ℕ)
-interval_lines interval =
-    (Supported, codes "timer") ∷ (SessionExpires, decimal (max interval.current interval.least)) ∷ (MinSe, decimal interval.least) ∷ []
+interval_lines interval = (Supported, codes "timer") ∷ (
+  SessionExpires,
+  decimal (max interval.current interval.least),
+) ∷ (MinSe, decimal interval.least) ∷ []

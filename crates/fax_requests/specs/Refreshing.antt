@@ -7,7 +7,8 @@ use Rattle.fax_sip.specs.Parameters.{parameter_of}
 use Rattle.fax_sip.specs.Texts.{is_word}
 
 abbrev pub agent_named : List ℕ → Option Agent
-agent_named word = if is_word word (codes "uac") then Some Uac else if is_word word (codes "uas") then Some Uas else None
+agent_named word = if is_word word (codes "uac")
+    then Some Uac else if is_word word (codes "uas") then Some Uas else None
 
 abbrev pub refresher_in : List ℕ → Option Agent
 refresher_in value = option_and_then agent_named (parameter_of (codes "refresher") value)

@@ -21,18 +21,19 @@ opaque_part (Some text) = quoted (codes ", opaque=") text
 -- who answers, and what
 abbrev pub who_part : Credentials → List ℕ
 who_part asked =
-    quoted (codes "Digest username=") asked.user.now
-    ++ (quoted (codes ", realm=") asked.realm.now ++ (quoted (codes ", nonce=") asked.nonce.now ++ quoted (codes ", uri=") asked.uri.now))
+    quoted (codes "Digest username=") asked.user.now ++ (quoted (codes ", realm=") asked.realm.now
+    ++ (quoted (codes ", nonce=") asked.nonce.now ++ quoted (codes ", uri=") asked.uri.now))
 
 -- the answer, and what it was made of
 abbrev pub answer_part : Challenge → Credentials → List ℕ
-answer_part challenge asked =
-    quoted (codes ", response=") (response_of challenge.algorithm asked)
-    ++ (quoted (codes ", cnonce=") asked.client_nonce.now ++ opaque_part (option_map (λ text. text.now) challenge.opaque))
+answer_part challenge asked = quoted (codes ", response=") (response_of challenge.algorithm asked)
+    ++ (quoted (codes ", cnonce=") asked.client_nonce.now
+    ++ opaque_part (option_map (λ text. text.now) challenge.opaque))
 
 abbrev pub rest_part : Challenge → Credentials → List ℕ
-rest_part challenge asked =
-    (codes ", nc=" ++ asked.count.now) ++ (codes ", qop=auth, algorithm=" ++ word_of challenge.algorithm)
+rest_part challenge asked = (codes ", nc=" ++ asked.count.now)
+    ++ (codes ", qop=auth, algorithm=" ++ word_of challenge.algorithm)
 
 abbrev pub credentials_value : Challenge → Credentials → List ℕ
-credentials_value challenge asked = who_part asked ++ (answer_part challenge asked ++ rest_part challenge asked)
+credentials_value challenge asked =
+    who_part asked ++ (answer_part challenge asked ++ rest_part challenge asked)

@@ -30,7 +30,8 @@ pub struct OurMedia {
 
 /// An offer of our media.
 pub fn describe_ours(alloc: Global, ours: OurMedia) -> Result<String, AllocError>
-    ensures { IfOk result (λ text. string_bytes text ≡ text_of (description_lines (origin_by ours) (section_by ours AudioFormats.Both ∷ []))) }
+    ensures { IfOk result (λ text. string_bytes text
+        ≡ text_of (description_lines (origin_by ours) (section_by ours AudioFormats.Both ∷ []))) }
 {
     let section = section_of(ours, AudioFormats::Both);
     write_sdp(alloc, &origin_of(ours), &[section])

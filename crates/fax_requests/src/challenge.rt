@@ -102,7 +102,8 @@ fn put_answer(
     challenge: &Challenge<'_>,
     asked: &Credentials<'_>,
 ) -> Result<(), AllocError>
-    ensures { OnOk result (value.new.items ≡ value.old.items ++ answer_part challenge.now asked.now) }
+    ensures { OnOk result (value.new.items
+        ≡ value.old.items ++ answer_part challenge.now asked.now) }
 {
     let digits = response(alloc, challenge.algorithm, asked)?;
     put_quoted(value, b", response=", digits.as_bytes())?;
@@ -113,7 +114,8 @@ fn put_answer(
 
 /// Writes what is to be told again, where there is something.
 fn put_opaque(value: &mut Vec<u8>, opaque: Option<&[u8]>) -> Result<(), AllocError>
-    ensures { OnOk result (value.new.items ≡ value.old.items ++ opaque_part (option_map (λ text. text.now) opaque.entry)) }
+    ensures { OnOk result (value.new.items
+        ≡ value.old.items ++ opaque_part (option_map (λ text. text.now) opaque.entry)) }
 {
     if let Some(text) = opaque {
         put_quoted(value, b", opaque=", text)?;

@@ -19,16 +19,20 @@ pub fn write_ack(
     invite: &Message<'_>,
     refusal: &Message<'_>,
 ) -> Result<Vec<u8>, WriteFault>
-    ensures ok { IfOk result (λ octets. IsHanging (message_text invite.now) (codes "ACK") refusal.now.to.now octets.items) }
-    ensures fails { IfErr result (λ fault. HasFault (message_text invite.now) (codes "ACK") refusal.now.to.now fault) }
+    ensures ok { IfOk result (λ octets.
+        IsHanging (message_text invite.now) (codes "ACK") refusal.now.to.now octets.items) }
+    ensures fails { IfErr result
+        (λ fault. HasFault (message_text invite.now) (codes "ACK") refusal.now.to.now fault) }
 {
     write_after(alloc, invite, b"ACK", refusal.to)
 }
 
 /// The CANCEL of an INVITE of ours (9.1): the same, with the INVITE's `To`.
 pub fn write_cancel(alloc: Global, invite: &Message<'_>) -> Result<Vec<u8>, WriteFault>
-    ensures ok { IfOk result (λ octets. IsHanging (message_text invite.now) (codes "CANCEL") invite.now.to.now octets.items) }
-    ensures fails { IfErr result (λ fault. HasFault (message_text invite.now) (codes "CANCEL") invite.now.to.now fault) }
+    ensures ok { IfOk result (λ octets.
+        IsHanging (message_text invite.now) (codes "CANCEL") invite.now.to.now octets.items) }
+    ensures fails { IfErr result
+        (λ fault. HasFault (message_text invite.now) (codes "CANCEL") invite.now.to.now fault) }
 {
     write_after(alloc, invite, b"CANCEL", invite.to)
 }
@@ -40,8 +44,10 @@ fn write_after(
     method: &[u8],
     to: &[u8],
 ) -> Result<Vec<u8>, WriteFault>
-    ensures ok { IfOk result (λ octets. IsHanging (message_text invite.now) method.now to.now octets.items) }
-    ensures fails { IfErr result (λ fault. HasFault (message_text invite.now) method.now to.now fault) }
+    ensures ok { IfOk result
+        (λ octets. IsHanging (message_text invite.now) method.now to.now octets.items) }
+    ensures fails { IfErr result
+        (λ fault. HasFault (message_text invite.now) method.now to.now fault) }
 {
     let fields = routes_of(alloc, invite)?;
     let request = request_after(invite, method, to, fields.as_slice());
@@ -55,7 +61,8 @@ fn request_after<'a>(
     to: &'a [u8],
     fields: &'a [Field<'a>],
 ) -> Request<'a>
-    ensures { HangsWith (message_text invite.now) method.now to.now (map field_text fields.now) result }
+    ensures { HangsWith (message_text invite.now)
+        method.now to.now (map field_text fields.now) result }
 {
     let hop = first_hop(invite);
     Request {
@@ -109,7 +116,8 @@ fn party(value: &[u8]) -> Party<'_>
 
 /// The lines of `Route`, as they are.
 fn routes_of<'a>(alloc: Global, invite: &Message<'a>) -> Result<Vec<Field<'a>>, AllocError>
-    ensures { IfOk result (λ fields. map field_text fields.items ≡ route_lines (message_text invite.now)) }
+    ensures { IfOk result
+        (λ fields. map field_text fields.items ≡ route_lines (message_text invite.now)) }
 {
     let mut fields = Vec::new(alloc);
     for value in invite.values(Name::Route) {

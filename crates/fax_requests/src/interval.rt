@@ -99,7 +99,8 @@ impl IntervalText {
 
     /// Puts the lines of an INVITE that ask for the interval.
     pub fn put<'a>(&'a self, fields: &mut Vec<Field<'a>>) -> Result<(), AllocError>
-        ensures { OnOk result (map field_text fields.new.items ≡ map field_text fields.old.items ++ interval_lines self.now.interval) }
+        ensures { OnOk result (map field_text fields.new.items
+            ≡ map field_text fields.old.items ++ interval_lines self.now.interval) }
     {
         fields.push(Field {
             name: Name::Supported,

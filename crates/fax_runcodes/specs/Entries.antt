@@ -14,11 +14,14 @@ use Rattle.fax_runcodes.specs.Spelling.{SpellsRun}
 -- The word that begins the bits; or none, as the bits begin with eight zeros. (The words of a colour
 -- and eight zeros together are a complete prefix code.)
 abbrev pub IsEntryAt : Colour → List Bool → CodeWord → Type 0
-IsEntryAt colour bits found = ((found.run ≡ no_run) × (rest : List Bool) × (bits ≡ replicate 8 false ++ rest)) ⊎ IsFoundAt colour bits found
+IsEntryAt colour bits found =
+    ((found.run ≡ no_run) × (rest : List Bool) × (bits ≡ replicate 8 false ++ rest))
+    ⊎ IsFoundAt colour bits found
 
 -- from old to new one word of the colour was passed, which stands for this run
 abbrev pub PassesWord : Colour → Place → Place → ℕ → Type 0
-PassesWord colour old new run = (w : Word) × Contains (words colour) w × (w.run ≡ run) × Passes old new w.word
+PassesWord colour old new run =
+    (w : Word) × Contains (words colour) w × (w.run ≡ run) × Passes old new w.word
 
 -- an entry of a table for writing holds these bits, of which there are no more than the longest word has
 pub record IsWrittenAs (text : List Bool) (entry : WrittenWord) : Type 0 where

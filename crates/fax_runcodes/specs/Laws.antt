@@ -19,8 +19,10 @@ RunsAreUnique = (colour : Colour) (s t : List Bool) (m n : ℕ) (x y : List Bool
 -- of any bits a run is read, or reading one meets a fault
 abbrev pub RunsAreReadOrFail : Type 0
 RunsAreReadOrFail = (colour : Colour) (bits : List Bool)
-    → ((run : ℕ) × (rest : List Bool) × ReadsRun colour bits run rest) ⊎ ((fault : RunFault) × FailsRun colour bits fault)
+    → ((run : ℕ) × (rest : List Bool) × ReadsRun colour bits run rest)
+    ⊎ ((fault : RunFault) × FailsRun colour bits fault)
 
 -- the bits in which a run is written spell it
 abbrev pub WrittenRunsAreSpelt : Type 0
-WrittenRunsAreSpelt = (colour : Colour) (run : ℕ) → run < 2624 → SpellsRun colour (written_run colour run) run
+WrittenRunsAreSpelt = (colour : Colour) (run : ℕ)
+    → run < 2624 → SpellsRun colour (written_run colour run) run

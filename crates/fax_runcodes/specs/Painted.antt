@@ -7,7 +7,8 @@ use Rattle.fax_runcodes.specs.Rows.{Elements, other}
 -- the elements from a place to an end, which begin in this colour and change it at these places
 unfoldable pub painted : Colour → ℕ → List ℕ → ℕ → Elements
 painted colour from [] end = replicate (end - from) colour
-painted colour from (place ∷ places) end = replicate (place - from) colour ++ painted (other colour) place places end
+painted colour from (place ∷ places) end =
+    replicate (place - from) colour ++ painted (other colour) place places end
 
 -- where runs of these lengths end, but for the last run, from a place on
 unfoldable pub changes_between : ℕ → List ℕ → List ℕ

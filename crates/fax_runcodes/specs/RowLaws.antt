@@ -4,4 +4,5 @@ use Rattle.fax_runcodes.specs.Rows.{Elements, AreRuns}
 
 -- a row has one list of runs
 abbrev pub RunsOfRowsAreUnique : Type 0
-RunsOfRowsAreUnique = (a b : List ℕ) (row : Elements) → 0 < length row → AreRuns a row → AreRuns b row → a ≡ b
+RunsOfRowsAreUnique = (a b : List ℕ) (row : Elements)
+    → 0 < length row → AreRuns a row → AreRuns b row → a ≡ b

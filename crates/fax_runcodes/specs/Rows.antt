@@ -56,7 +56,8 @@ is_changing row place = differ (colour_at row place) (colour_before row place)
 -- the changing places of a row, rising
 pub record AreChanges (changes : List ℕ) (row : Elements) : Type 0 where
   pub rising : IsStrictlyIncreasing changes
-  pub all : (place : ℕ) → Contains changes place ↔ ((place < length row) × IsTrue (is_changing row place))
+  pub all : (place : ℕ)
+      → Contains changes place ↔ ((place < length row) × IsTrue (is_changing row place))
 
 -- the first place from one on, and before an end, that passes the test; the end where none does
 abbrev pub first_place : (ℕ → Bool) → ℕ → ℕ → ℕ

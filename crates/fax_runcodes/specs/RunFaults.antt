@@ -16,11 +16,13 @@ BeginsWith colour bits w = Contains (words colour) w × (rest : List Bool) × (b
 
 -- bits end inside a word of the colour: they are a proper prefix of it
 abbrev pub EndsInside : Colour → List Bool → Type 0
-EndsInside colour bits = (w : Word) × Contains (words colour) w × (more : List Bool) × (more ≢ []) × (w.word ≡ bits ++ more)
+EndsInside colour bits = (w : Word)
+    × Contains (words colour) w × (more : List Bool) × (more ≢ []) × (w.word ≡ bits ++ more)
 
 -- why no further word of a run is taken, where the words so far add to this run length
 abbrev pub Stops : Colour → ℕ → List Bool → RunFault → Type 0
-Stops colour run bits NoWord = ((w : Word) → BeginsWith colour bits w → ⊥) × (EndsInside colour bits → ⊥)
+Stops colour run bits NoWord =
+    ((w : Word) → BeginsWith colour bits w → ⊥) × (EndsInside colour bits → ⊥)
 Stops colour run bits TooLong = (w : Word) × BeginsWith colour bits w × (longest_run < run + w.run)
 Stops colour run bits End = EndsInside colour bits
 

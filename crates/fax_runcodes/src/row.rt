@@ -79,7 +79,8 @@ impl Row {
     /// row is made in one allocation of just its size.
     pub fn from_runs(alloc: Global, runs: &[u16]) -> Result<Row, RowFault>
         ensures ok { IfOk result (λ row. AreRunsOfRow runs.now × (row ≡ stretches White runs.now)) }
-        ensures made { AreRunsOfRow runs.now → (result ≡ Ok (stretches White runs.now)) ⊎ (result ≡ Err RowFault.NoMemory) }
+        ensures made { AreRunsOfRow runs.now
+            → (result ≡ Ok (stretches White runs.now)) ⊎ (result ≡ Err RowFault.NoMemory) }
         ensures refused { (AreRunsOfRow runs.now → ⊥) → result ≡ Err RowFault.BadRuns }
     {
         let width = width_of(runs).ok_or(RowFault::BadRuns)?;
@@ -216,10 +217,12 @@ impl<'a> RowRef<'a> {
     /// Puts the lengths of its runs, white first, at the start of a slice, and answers how many they are;
     /// `None` where the slice has no room for them. It takes no memory.
     pub fn put_runs(&self, runs: &mut [u16]) -> Option<usize>
-        ensures some { IfSome result (λ count. AreRuns (take count runs.new) self.now × (count ≤ length runs.old)) }
+        ensures some { IfSome result
+            (λ count. AreRuns (take count runs.new) self.now × (count ≤ length runs.old)) }
         ensures after { IfSome result (λ count. drop count runs.new ≡ drop count runs.old) }
         ensures same_room { length runs.new ≡ length runs.old }
-        ensures none { IfNone result ((list : List ℕ) × AreRuns list self.now × (length runs.old < length list)) }
+        ensures none { IfNone result ((list : List ℕ)
+            × AreRuns list self.now × (length runs.old < length list)) }
         ensures untouched { IsNone result → runs.new ≡ runs.old }
     {
         let places = self.places;
@@ -264,7 +267,8 @@ impl Model for RowBuilder {
     ghost view = { λ r. painted White 0 r.changes.items r.len };
 
     // There is room for a change at each element.
-    ghost invariant = { λ r. AreRising 0 r.changes.items r.len × (r.len ≤ 2432) × (2432 ≤ vec_capacity r.changes) };
+    ghost invariant = { λ r. AreRising 0 r.changes.items r.len
+        × (r.len ≤ 2432) × (2432 ≤ vec_capacity r.changes) };
 }
 
 impl RowBuilder {

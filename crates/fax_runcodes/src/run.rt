@@ -26,14 +26,17 @@ const LONGEST_RUN: u16 = 2432;
 /// reader where it stood.
 #[inline(always)]
 pub fn read_run(reader: &mut BitReader, colour: Colour) -> Result<u16, RunFault>
-    ensures ok { IfOk result (λ run. (text : List Bool) × SpellsRun colour text run × Passes reader.old reader.new text) }
+    ensures ok { IfOk result (λ run. (text : List Bool)
+        × SpellsRun colour text run × Passes reader.old reader.new text) }
     ensures short { IfOk result (λ run. run ≤ longest_run) }
     ensures fault { IfErr result (λ fault. FailsRun colour reader.old.left fault) }
     ensures err { OnErr result (reader.new ≡ reader.old) }
 
     // What can be read is read, and a fault comes only where it is met.
-    ensures reads { (run : ℕ) (rest : List Bool) → ReadsRun colour reader.old.left run rest → result ≡ Ok run }
-    ensures fails { (fault : RunFault) → FailsRun colour reader.old.left fault → result ≡ Err fault }
+    ensures reads { (run : ℕ) (rest : List Bool)
+        → ReadsRun colour reader.old.left run rest → result ≡ Ok run }
+    ensures fails { (fault : RunFault)
+        → FailsRun colour reader.old.left fault → result ≡ Err fault }
 {
     match run_at(colour, reader.window()) {
         Some(run) if reader.has(run.bits) => {
@@ -106,14 +109,17 @@ fn run_at(colour: Colour, window: u64) -> Option<FoundRun>
 /// Reads a run word by word. An `Err` leaves the reader where it stood.
 #[inline]
 fn read_long_run(reader: &mut BitReader, colour: Colour) -> Result<u16, RunFault>
-    ensures ok { IfOk result (λ run. (text : List Bool) × SpellsRun colour text run × Passes reader.old reader.new text) }
+    ensures ok { IfOk result (λ run. (text : List Bool)
+        × SpellsRun colour text run × Passes reader.old reader.new text) }
     ensures short { IfOk result (λ run. run ≤ longest_run) }
     ensures fault { IfErr result (λ fault. FailsRun colour reader.old.left fault) }
     ensures err { OnErr result (reader.new ≡ reader.old) }
 
     // What can be read is read, and a fault comes only where it is met.
-    ensures reads { (run : ℕ) (rest : List Bool) → ReadsRun colour reader.old.left run rest → result ≡ Ok run }
-    ensures fails { (fault : RunFault) → FailsRun colour reader.old.left fault → result ≡ Err fault }
+    ensures reads { (run : ℕ) (rest : List Bool)
+        → ReadsRun colour reader.old.left run rest → result ≡ Ok run }
+    ensures fails { (fault : RunFault)
+        → FailsRun colour reader.old.left fault → result ≡ Err fault }
 {
     let mut ahead = reader.copy();
     let run = read_words(&mut ahead, colour)?;
@@ -124,7 +130,8 @@ fn read_long_run(reader: &mut BitReader, colour: Colour) -> Result<u16, RunFault
 /// Reads the words of a run. After an `Err` the reader stands anywhere.
 #[inline(never)]
 fn read_words(reader: &mut BitReader, colour: Colour) -> Result<u16, RunFault>
-    ensures ok { IfOk result (λ run. (text : List Bool) × SpellsRun colour text run × Passes reader.old reader.new text) }
+    ensures ok { IfOk result (λ run. (text : List Bool)
+        × SpellsRun colour text run × Passes reader.old reader.new text) }
     ensures short { IfOk result (λ run. run ≤ longest_run) }
     ensures fault { IfErr result (λ fault. FailsRun colour reader.old.left fault) }
 {

@@ -25,7 +25,8 @@ pub fn put_two_runs(
     requires first { first ≤ LONGEST_WRITTEN_RUN }
     requires second { second ≤ LONGEST_WRITTEN_RUN }
     requires room { 57 ≤ writer.old.room }
-    ensures bits { writer.new.bits ≡ writer.old.bits ++ (word_bits n word ++ (written_run colour first ++ written_run (other colour) second)) }
+    ensures bits { writer.new.bits ≡ writer.old.bits
+        ++ (word_bits n word ++ (written_run colour first ++ written_run (other colour) second)) }
     ensures room { writer.old.room ≤ writer.new.room + 57 }
 {
     let before = WrittenWord { word, bits: n };

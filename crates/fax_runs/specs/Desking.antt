@@ -30,7 +30,8 @@ ordered passed = map asked_by (orders_of passed)
 abbrev pub lines_asked : List DoneOrder → List LineAsked
 lines_asked [] = []
 lines_asked (Turned now rests ∷ earlier) = lines_asked earlier
-lines_asked (AskedOf line now what answer ∷ earlier) = record { line = line; what = what } ∷ lines_asked earlier
+lines_asked (AskedOf line now what answer ∷ earlier) =
+    record { line = line; what = what } ∷ lines_asked earlier
 lines_asked (Woken line ∷ earlier) = lines_asked earlier
 
 abbrev pub lines_answered : List DoneOrder → List (Option LineAnswer)
@@ -48,15 +49,18 @@ given_by (Some (order.Ask line now what)) = record { line = line; what = what } 
 given_by (Some (order.Wake line)) = []
 
 -- This passed at the desk, at which nothing waited, after all that had passed there; and it gave these orders.
-pub record PassesDesk (given : List LineAsked) (told : List (Option LineAnswer)) (old new : PaceValue) : Type 0 where
+pub record PassesDesk (given : List LineAsked)
+    (told : List (Option LineAnswer)) (old new : PaceValue) : Type 0 where
   pub passed : List DeskEvent
-  pub passes : (earlier : List DeskEvent) → Passes earlier old.waits → Passes (passed ++ earlier) new.waits
+  pub passes : (earlier : List DeskEvent)
+      → Passes earlier old.waits → Passes (passed ++ earlier) new.waits
   pub orders : ordered passed ≡ given
   pub told_is : told_of passed ≡ told
 
 -- What the loop is ordered is what the desk gave; and while it gives no order of a line, nothing waits there.
 abbrev pub GivesOrder : Option LoopOrder → PaceValue → PaceValue → Type 0
-GivesOrder given old new = old.waits ≡ None → PassesDesk (given_by given) [] old new × (given_by given ≡ [] → new.waits ≡ None)
+GivesOrder given old new = old.waits ≡ None
+    → PassesDesk (given_by given) [] old new × (given_by given ≡ [] → new.waits ≡ None)
 
 -- what the line answered is told at the desk
 abbrev pub Hears : Option LineAnswer → PaceValue → PaceValue → Type 0

@@ -20,7 +20,9 @@ use Rattle.fax_opening.specs.Openings.{AreRestored}
 -- A run went on from these lines and this store, with slot 0 first: after each turn of a slot, before anything else was done, the pages
 -- that its lines confirmed were put at once, and what confirms them went out where the answer was Ok (`IsSettled`). What lines were asked
 -- is what words ordered.
-pub record RunIsStored {K : Type 0} (same : K → K → Type 0) (puts : List PageToStore → Bool → K → K → Type 0) (notes : ℕ → ℕ → K → K → Type 0) (ends : ℕ → Report → K → K → Type 0) (begun : List PlaceValue) (before : K) : Type 0 where
+pub record RunIsStored {K : Type 0} (same : K → K → Type 0)
+    (puts : List PageToStore → Bool → K → K → Type 0) (notes : ℕ → ℕ → K → K → Type 0)
+    (ends : ℕ → Report → K → K → Type 0) (begun : List PlaceValue) (before : K) : Type 0 where
   pub left : List PlaceValue
   pub after : K
   pub done : List DoneOrder
@@ -32,21 +34,33 @@ pub record RunIsStored {K : Type 0} (same : K → K → Type 0) (puts : List Pag
 
 -- A SERVER WITH A SPOOL RAN: the spool was opened, each line began with the pages of its own that waited in it, but for calls that lack a
 -- page, and its queue with just these; and so they went on.
-pub record ServedStored {D K : Type 0} (same : K → K → Type 0) (puts : List PageToStore → Bool → K → K → Type 0) (notes : ℕ → ℕ → K → K → Type 0) (ends : ℕ → Report → K → K → Type 0) (spool_of : K → Spool D) (queues_of : K → List QueueValue) (configs : List LineConfig) : Type 0 where
+pub record ServedStored {D K : Type 0} (same : K → K → Type 0)
+    (puts : List PageToStore → Bool → K → K → Type 0)
+    (notes : ℕ → ℕ → K → K → Type 0) (ends : ℕ → Report → K → K → Type 0) (spool_of : K → Spool D)
+    (queues_of : K → List QueueValue) (configs : List LineConfig) : Type 0 where
   pub opened : OpenedSpool D
   pub begun : List PlaceValue
   pub store : K
   pub spool_is : spool_of store ≡ opened.spool
-  pub restored : AreRestored (whole_pages opened.torn.items opened.pages.items) configs begun (queues_of store)
+  pub restored :
+      AreRestored (whole_pages opened.torn.items opened.pages.items) configs begun (queues_of store)
   pub run : RunIsStored same puts notes ends begun store
 
 -- the same, and this was its spool as it was opened
-pub record ServedWith {D K : Type 0} (same : K → K → Type 0) (puts : List PageToStore → Bool → K → K → Type 0) (notes : ℕ → ℕ → K → K → Type 0) (ends : ℕ → Report → K → K → Type 0) (spool_of : K → Spool D) (queues_of : K → List QueueValue) (configs : List LineConfig) (opened : OpenedSpool D) : Type 0 where
+pub record ServedWith {D K : Type 0} (same : K → K → Type 0)
+    (puts : List PageToStore → Bool → K → K → Type 0) (notes : ℕ → ℕ → K → K → Type 0)
+    (ends : ℕ → Report → K → K → Type 0) (spool_of : K → Spool D) (queues_of : K → List QueueValue)
+    (configs : List LineConfig) (opened : OpenedSpool D) : Type 0 where
   pub served : ServedStored same puts notes ends spool_of queues_of configs
   pub is : served.opened ≡ opened
 
 -- A SERVER RAN OVER THESE FILES: it ran, and the spool that it opened was opened over two files that held this, where no wrong answer of
 -- either was taken as true.
-pub record ServedOver {D K : Type 0} (seen : D → List ℕ) (may_leave : D → List ℕ → Type 0) (is_usable is_clean : D → Bool) (same : K → K → Type 0) (puts : List PageToStore → Bool → K → K → Type 0) (notes : ℕ → ℕ → K → K → Type 0) (ends : ℕ → Report → K → K → Type 0) (spool_of : K → Spool D) (queues_of : K → List QueueValue) (one other : List ℕ) (configs : List LineConfig) : Type 0 where
+pub record ServedOver {D K : Type 0} (seen : D → List ℕ)
+    (may_leave : D → List ℕ → Type 0) (is_usable is_clean : D → Bool) (same : K → K → Type 0)
+    (puts : List PageToStore → Bool → K → K → Type 0) (notes : ℕ → ℕ → K → K → Type 0)
+    (ends : ℕ → Report → K → K → Type 0) (spool_of : K → Spool D) (queues_of : K → List QueueValue)
+    (one other : List ℕ) (configs : List LineConfig) : Type 0 where
   pub served : ServedStored same puts notes ends spool_of queues_of configs
-  pub over : AreClean is_clean (files_of served.opened.spool) → IsOpened seen may_leave is_usable one other served.opened
+  pub over : AreClean is_clean (files_of served.opened.spool)
+      → IsOpened seen may_leave is_usable one other served.opened

@@ -10,11 +10,13 @@ use Rattle.fax_say.specs.Sayings.{ended}
 
 -- the line ends an answer that says that the word was done
 abbrev pub is_done : List ℕ → Bool
-is_done line = bytes_eq line (codes "ok") || bytes_eq line (codes "# EOF") || starts_with nat_eq line (codes "ok ")
+is_done line = bytes_eq line (codes "ok")
+    || bytes_eq line (codes "# EOF") || starts_with nat_eq line (codes "ok ")
 
 -- what a line says that is the last one of an answer; none of any other
 abbrev pub said_by : List ℕ → Option Last
-said_by line = if is_done line then Some Done else if starts_with nat_eq line (codes "refused ") then Some Refused else None
+said_by line = if is_done line
+    then Some Done else if starts_with nat_eq line (codes "refused ") then Some Refused else None
 
 -- the same of a line as it was heard: one that was too long is the last of no answer
 abbrev pub said_by_heard : Option (List ℕ) → Option Last

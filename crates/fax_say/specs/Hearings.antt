@@ -66,12 +66,14 @@ over stays (Some last) = if waits stays last then None else Some last
 
 -- Octets of one stream were printed on another, and those after them were dropped: what was to come and what was held, before and
 -- after, where that is known.
-pub record HasPassed (coming comes held holds : Option (List ℕ)) (octets dropped : List ℕ) : Type 0 where
+pub record HasPassed (coming comes held holds : Option (List ℕ)) (octets dropped : List ℕ) :
+    Type 0 where
   pub came : Consumes coming comes (octets ++ dropped)
   pub printed : Appends held holds octets
 
 -- A word was answered so: the answer was printed, and where more is waited for after it all that came until the stream ended.
-pub record HasPrinted (stays : Bool) (last : Last) (coming comes held holds : Option (List ℕ)) : Type 0 where
+pub record HasPrinted (stays : Bool) (last : Last) (coming comes held holds : Option (List ℕ)) :
+    Type 0 where
   pub octets : List ℕ
   pub dropped : List ℕ
   pub told : IsTold stays last octets

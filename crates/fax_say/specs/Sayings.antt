@@ -21,7 +21,8 @@ ended line = line ++ 10 ∷ []
 
 -- after these words events come: `events`, and with what happens in the calls of a line
 abbrev pub wants_events : List ℕ → Bool
-wants_events text = bytes_eq text (codes "events") || starts_with nat_eq text (codes "events frames ")
+wants_events text =
+    bytes_eq text (codes "events") || starts_with nat_eq text (codes "events frames ")
 
 -- after the answers to these words more is waited for: after `stop` that the server is gone, after the others events
 abbrev pub waits_after : List ℕ → Bool

@@ -23,18 +23,21 @@ pub fn say<I: Source, S: Sink, O: Sink>(
     saying: &Saying,
 ) -> Ending
     // The word is said, once.
-    ensures said { result ≢ Ending.Unsaid → Appends (S.contents server.old) (S.contents server.new) (ended saying.now) }
+    ensures said { result ≢ Ending.Unsaid
+        → Appends (S.contents server.old) (S.contents server.new) (ended saying.now) }
     ensures handed_on { result ≢ Ending.Unsaid → S.held_back server.new ≡ false }
 
     // What is printed is its answer.
-    ensures answered { (last : Last) → result ≡ Ending.Answered last → HasPrinted (waits_after saying.now) last
-        (I.remaining source.old) (I.remaining source.new) (O.contents output.old) (O.contents output.new) }
-    ensures unanswered { result ≡ Ending.Unanswered
-        → HasPrintedAll (I.remaining source.old) (I.remaining source.new) (O.contents output.old) (O.contents output.new) }
+    ensures answered { (last : Last) → result ≡ Ending.Answered last
+        → HasPrinted (waits_after saying.now) last (I.remaining source.old)
+        (I.remaining source.new) (O.contents output.old) (O.contents output.new) }
+    ensures unanswered { result ≡ Ending.Unanswered → HasPrintedAll (I.remaining source.old)
+        (I.remaining source.new) (O.contents output.old) (O.contents output.new) }
 
     // Each failure is that of a stream.
     ensures unsaid { result ≡ Ending.Unsaid → S.failed server.new ≡ true }
-    ensures unread { result ≡ Ending.Unread → (I.failed source.new ≡ true) ⊎ (greatest_count ≤ I.reads source.new) }
+    ensures unread { result ≡ Ending.Unread
+        → (I.failed source.new ≡ true) ⊎ (greatest_count ≤ I.reads source.new) }
     ensures unprinted { result ≡ Ending.Unprinted → O.failed output.new ≡ true }
 {
     match send(server, saying) {
@@ -45,7 +48,8 @@ pub fn say<I: Source, S: Sink, O: Sink>(
 
 /// Writes the line of a word, and hands it on.
 fn send<S: Sink>(server: &mut S, saying: &Saying) -> Result<(), WriteFault>
-    ensures said { OnOk result (Appends (S.contents server.old) (S.contents server.new) (ended saying.now)) }
+    ensures said { OnOk result (Appends (S.contents server.old)
+        (S.contents server.new) (ended saying.now)) }
     ensures handed_on { OnOk result (S.held_back server.new ≡ false) }
     ensures failed { S.failed server.new ≡ failed_after_write (S.failed server.old) result }
 {
@@ -55,12 +59,14 @@ fn send<S: Sink>(server: &mut S, saying: &Saying) -> Result<(), WriteFault>
 
 /// Prints an answer as it comes.
 fn hear<I: Source, O: Sink>(source: &mut I, output: &mut O, stays: bool) -> Ending
-    ensures answered { (last : Last) → result ≡ Ending.Answered last → HasPrinted stays last
-        (I.remaining source.old) (I.remaining source.new) (O.contents output.old) (O.contents output.new) }
-    ensures unanswered { result ≡ Ending.Unanswered
-        → HasPrintedAll (I.remaining source.old) (I.remaining source.new) (O.contents output.old) (O.contents output.new) }
+    ensures answered { (last : Last)
+        → result ≡ Ending.Answered last → HasPrinted stays last (I.remaining source.old)
+        (I.remaining source.new) (O.contents output.old) (O.contents output.new) }
+    ensures unanswered { result ≡ Ending.Unanswered → HasPrintedAll (I.remaining source.old)
+        (I.remaining source.new) (O.contents output.old) (O.contents output.new) }
     ensures said { result ≢ Ending.Unsaid }
-    ensures unread { result ≡ Ending.Unread → (I.failed source.new ≡ true) ⊎ (greatest_count ≤ I.reads source.new) }
+    ensures unread { result ≡ Ending.Unread
+        → (I.failed source.new ≡ true) ⊎ (greatest_count ≤ I.reads source.new) }
     ensures unprinted { result ≡ Ending.Unprinted → O.failed output.new ≡ true }
 {
     let mut room = [0; ROOM];

@@ -35,9 +35,10 @@ version (Some n) = Version n
 abbrev pub bound : List ℕ → Option ℕ → Attribute
 bound name None = Other
 bound name (Some n) =
-    if is_word name (codes "T38FaxMaxDatagram") || is_word name (codes "T38MaxDatagram") then MaxDatagram n else
-    if is_word name (codes "T38FaxMaxBuffer") then MaxBuffer n else
-    if is_word name (codes "T38MaxBitRate") || is_word name (codes "T38FaxMaxRate") then BitRate n else Other
+    if is_word name (codes "T38FaxMaxDatagram") || is_word name (codes "T38MaxDatagram")
+    then MaxDatagram n else if is_word name (codes "T38FaxMaxBuffer") then MaxBuffer n
+    else if is_word name (codes "T38MaxBitRate") || is_word name (codes "T38FaxMaxRate")
+    then BitRate n else Other
 
 -- what a name and a value say
 abbrev pub valued : List ℕ → List ℕ → Attribute

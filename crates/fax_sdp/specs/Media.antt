@@ -15,13 +15,13 @@ is_open medium = not (medium.port == 0)
 
 -- an image over UDPTL in the format T.38
 abbrev pub is_t38 : MediumText → Bool
-is_t38 medium =
-    is_open medium && is_word medium.name (codes "image") && is_word medium.transport (codes "udptl") && has_word medium.formats (codes "t38")
+is_t38 medium = is_open medium && is_word medium.name (codes "image")
+    && is_word medium.transport (codes "udptl") && has_word medium.formats (codes "t38")
 
 -- audio over RTP in the format of this number
 abbrev pub is_audio : MediumText → List ℕ → Bool
-is_audio medium payload =
-    is_open medium && is_word medium.name (codes "audio") && is_word medium.transport (codes "RTP/AVP") && has_word medium.formats payload
+is_audio medium payload = is_open medium && is_word medium.name (codes "audio")
+    && is_word medium.transport (codes "RTP/AVP") && has_word medium.formats payload
 
 -- The text of a host and a port are this address.
 pub record IsAt (host : List ℕ) (port : ℕ) (address : SocketAddr) : Type 0 where

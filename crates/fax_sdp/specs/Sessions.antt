@@ -46,7 +46,14 @@ nothing_said = record { host = None; direction = SendReceive; whole = []; curren
 
 -- terms of which nothing is said
 abbrev pub no_terms : Terms
-no_terms = record { version = None; bit_rate = None; rate_management = None; error_correction = None; max_buffer = None; max_datagram = None }
+no_terms = record {
+  version = None;
+  bit_rate = None;
+  rate_management = None;
+  error_correction = None;
+  max_buffer = None;
+  max_datagram = None;
+}
 
 -- the part of a word before a slash
 abbrev pub before_slash : List ℕ → Option (List ℕ × List ℕ) → List ℕ
@@ -64,8 +71,8 @@ port_of word = short (number (before_slash word (cut_at 47 word)))
 
 -- a medium as its line says it: a name, a port, a transport and formats, with one space between
 abbrev pub medium_of : Option (List ℕ) → Direction → List ℕ → Option MediumText
-medium_of host direction text =
-    option_and_then (λ name. option_and_then (λ port. option_and_then (λ transport. option_map (λ number. record {
+medium_of host direction text = option_and_then
+    (λ name. option_and_then (λ port. option_and_then (λ transport. option_map (λ number. record {
       name = name.0;
       port = number;
       transport = transport.0;
@@ -73,23 +80,25 @@ medium_of host direction text =
       host = host;
       direction = direction;
       terms = no_terms;
-    }) (port_of port.0)) (cut_at 32 port.1)) (cut_at 32 name.1)) (cut_at 32 text)
+    }) (port_of port.0)) (cut_at 32 port.1))
+    (cut_at 32 name.1)) (cut_at 32 text)
 
 -- the host of a connection: `IN`, `IP4` or `IP6`, and an address, which a slash ends
 abbrev pub host_of : List ℕ → Option (List ℕ)
-host_of text =
-    option_and_then (λ net. option_and_then (λ kind.
-    if is_word net.0 (codes "IN") then
-    (if is_word kind.0 (codes "IP4") || is_word kind.0 (codes "IP6") then Some (before_slash kind.1 (cut_at 47 kind.1)) else None)
+host_of text = option_and_then (λ net. option_and_then (λ kind. if is_word net.0 (codes "IN")
+    then (if is_word kind.0 (codes "IP4") || is_word kind.0 (codes "IP6")
+    then Some (before_slash kind.1 (cut_at 47 kind.1)) else None)
     else None) (cut_at 32 net.1)) (cut_at 32 text)
 
 -- the media with one more after them, of which there are eight at most
 abbrev pub kept : List MediumText → Option MediumText → Result (List MediumText) SdpFault
 kept whole None = Ok whole
-kept whole (Some medium) = if nat_lt (length whole) 8 then Ok (whole ++ medium ∷ []) else Err TooManyMedia
+kept whole (Some medium) =
+    if nat_lt (length whole) 8 then Ok (whole ++ medium ∷ []) else Err TooManyMedia
 
 -- a new medium is on
-abbrev pub begun : Reading → MediumText → Result (List MediumText) SdpFault → Result Reading SdpFault
+abbrev pub begun : Reading
+    → MediumText → Result (List MediumText) SdpFault → Result Reading SdpFault
 begun reading medium (Ok whole) = Ok (record reading { whole = whole; current = Some medium })
 begun reading medium (Err fault) = Err fault
 
@@ -100,7 +109,8 @@ with_medium reading (Some medium) = begun reading medium (kept reading.whole rea
 -- a host is that of the medium that is on, or of the session before the first medium
 abbrev pub hosted : Reading → List ℕ → Option MediumText → Reading
 hosted reading host None = record reading { host = Some host }
-hosted reading host (Some medium) = record reading { current = Some (record medium { host = Some host }) }
+hosted reading host (Some medium) =
+    record reading { current = Some (record medium { host = Some host }) }
 
 abbrev pub with_host : Reading → Option (List ℕ) → Result Reading SdpFault
 with_host reading None = Err BadConnection
@@ -131,16 +141,21 @@ turned direction says.Other = direction
 -- an attribute is of the medium that is on; one of the session tells which way its media go
 abbrev pub with_attribute : Reading → Attribute → Option MediumText → Reading
 with_attribute reading said None = record reading { direction = turned reading.direction said }
-with_attribute reading said (Some medium) =
-    record reading { current = Some (record medium { direction = turned medium.direction said; terms = with_term medium.terms said }) }
+with_attribute reading said (Some medium) = record reading {
+  current = Some (record medium {
+    direction = turned medium.direction said;
+    terms = with_term medium.terms said;
+  });
+}
 
 -- what a line says, by its letter; a line of another letter, or of none, says nothing
 abbrev pub said : Reading → Option (List ℕ × List ℕ) → Result Reading SdpFault
 said reading None = Ok reading
-said reading (Some parts) =
-    if bytes_eq parts.0 (codes "m") then with_medium reading (medium_of reading.host reading.direction parts.1) else
-    if bytes_eq parts.0 (codes "c") then with_host reading (host_of parts.1) else
-    if bytes_eq parts.0 (codes "a") then Ok (with_attribute reading (attribute parts.1) reading.current) else Ok reading
+said reading (Some parts) = if bytes_eq parts.0 (codes "m")
+    then with_medium reading (medium_of reading.host reading.direction parts.1)
+    else if bytes_eq parts.0 (codes "c")
+    then with_host reading (host_of parts.1) else if bytes_eq parts.0 (codes "a")
+    then Ok (with_attribute reading (attribute parts.1) reading.current) else Ok reading
 
 abbrev pub with_line : Reading → List ℕ → Result Reading SdpFault
 with_line reading line = said reading (cut_at 61 line)
@@ -163,12 +178,14 @@ read_on reading (line ∷ lines) = with_line reading line >>= (λ next. read_on 
 
 -- the media of which the lines after the first tell
 abbrev pub media_of_lines : List (List ℕ) → Result (List MediumText) SdpFault
-media_of_lines lines = read_on nothing_said lines >>= (λ reading. kept reading.whole reading.current)
+media_of_lines lines =
+    read_on nothing_said lines >>= (λ reading. kept reading.whole reading.current)
 
 -- the first line tells the version, which is 0
 abbrev pub described : List (List ℕ) → Result (List MediumText) SdpFault
 described [] = Err NoVersion
-described (line ∷ lines) = if bytes_eq line (codes "v=0") then media_of_lines lines else Err NoVersion
+described (line ∷ lines) =
+    if bytes_eq line (codes "v=0") then media_of_lines lines else Err NoVersion
 
 -- The media that octets describe, or why they describe none.
 abbrev pub media_of : List ℕ → Result (List MediumText) SdpFault

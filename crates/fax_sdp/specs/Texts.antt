@@ -12,7 +12,8 @@ onto_front octet parts = (octet ∷ parts.0, parts.1)
 -- what stands before the first such octet, and what after it; none where there is no such octet
 unfoldable pub cut_at : ℕ → List ℕ → Option (List ℕ × List ℕ)
 cut_at mark [] = None
-cut_at mark (octet ∷ text) = if octet == mark then Some ([], text) else option_map (onto_front octet) (cut_at mark text)
+cut_at mark (octet ∷ text) =
+    if octet == mark then Some ([], text) else option_map (onto_front octet) (cut_at mark text)
 
 -- a line without the carriage return at its end
 unfoldable pub without_return : List ℕ → List ℕ
@@ -23,7 +24,8 @@ without_return (octet ∷ next ∷ line) = octet ∷ without_return (next ∷ li
 -- the pieces of a text, each up to a line feed, or to the end of the text where that is not empty
 unfoldable pub pieces_of : List ℕ → List (List ℕ)
 pieces_of [] = []
-pieces_of (octet ∷ text) = if octet == 10 then [] ∷ pieces_of text else onto_first octet (pieces_of text)
+pieces_of (octet ∷ text) =
+    if octet == 10 then [] ∷ pieces_of text else onto_first octet (pieces_of text)
 
 -- the lines of a text: each ends with CR LF, or with LF alone; the last may lack that
 unfoldable pub lines_of : List ℕ → List (List ℕ)
@@ -35,8 +37,8 @@ is_word text word = bytes_eq (map to_ascii_lowercase text) (map to_ascii_lowerca
 
 -- the number that digits write, where it is below 2 ^ 32
 unfoldable pub number : List ℕ → Option ℕ
-number text =
-    if list_all is_ascii_digit text && (nat_lt 0 (length text) && nat_lt (digits_value 10 text) (2 ^ 32)) then Some (digits_value 10 text) else None
+number text = if list_all is_ascii_digit text && (nat_lt 0 (length text)
+    && nat_lt (digits_value 10 text) (2 ^ 32)) then Some (digits_value 10 text) else None
 
 -- a text without the white space at its start
 unfoldable pub without_space : List ℕ → List ℕ

@@ -37,7 +37,8 @@ address_kind (V6 ip) = codes "IP6"
 
 -- whose session it is, by its number and version
 abbrev pub origin_line : Origin → List ℕ
-origin_line origin = spaced (codes "o=-" ∷ decimal origin.session ∷ decimal origin.version ∷ codes "IN" ∷ address_kind origin.host ∷ ip_text origin.host ∷ [])
+origin_line origin = spaced (codes "o=-" ∷ decimal origin.session
+    ∷ decimal origin.version ∷ codes "IN" ∷ address_kind origin.host ∷ ip_text origin.host ∷ [])
 
 -- where it is heard
 abbrev pub connection_line : IpAddr → List ℕ
@@ -45,11 +46,13 @@ connection_line host = spaced (codes "c=IN" ∷ address_kind host ∷ ip_text ho
 
 -- the lines before the media: the version, whose session it is, its name, which is none, where it is heard, and no time
 abbrev pub session_lines : Origin → List (List ℕ)
-session_lines origin = codes "v=0" ∷ origin_line origin ∷ codes "s=-" ∷ connection_line origin.host ∷ codes "t=0 0" ∷ []
+session_lines origin = codes "v=0"
+    ∷ origin_line origin ∷ codes "s=-" ∷ connection_line origin.host ∷ codes "t=0 0" ∷ []
 
 -- a medium: its name, port, transport and formats
 abbrev pub medium_line : List ℕ → ℕ → List ℕ → List ℕ → List ℕ
-medium_line name port transport formats = spaced ((codes "m=" ++ name) ∷ decimal port ∷ transport ∷ formats ∷ [])
+medium_line name port transport formats =
+    spaced ((codes "m=" ++ name) ∷ decimal port ∷ transport ∷ formats ∷ [])
 
 -- T.38 over UDPTL: version 0, 14,400 bits a second, the TCF transferred, redundancy, and two bounds
 abbrev pub fax_lines : FaxSection → List (List ℕ)
@@ -77,7 +80,9 @@ format_lines Both = codes "a=rtpmap:0 PCMU/8000" ∷ codes "a=rtpmap:8 PCMA/8000
 
 -- audio over RTP
 abbrev pub audio_lines : AudioSection → List (List ℕ)
-audio_lines audio = medium_line (codes "audio") audio.port (codes "RTP/AVP") (numbers_of audio.formats) ∷ format_lines audio.formats
+audio_lines audio =
+    medium_line (codes "audio") audio.port (codes "RTP/AVP") (numbers_of audio.formats)
+    ∷ format_lines audio.formats
 
 -- a medium that is refused: at the port 0, what it was offered as
 abbrev pub refused_lines : Medium → List (List ℕ)
@@ -149,7 +154,8 @@ IsInWord text = IsInLine text × All (λ octet. octet ≢ 32) text
 abbrev pub FitsLines : Section → Type 0
 FitsLines (Fax fax) = (fax.port < 2 ^ 16) × (fax.max_buffer < 2 ^ 32) × (fax.max_datagram < 2 ^ 32)
 FitsLines (Audio audio) = audio.port < 2 ^ 16
-FitsLines (Refused medium) = IsInWord medium.name.now × IsInWord medium.transport.now × IsInLine medium.formats.now
+FitsLines (Refused medium) =
+    IsInWord medium.name.now × IsInWord medium.transport.now × IsInLine medium.formats.now
 
 -- A description can be told: it has eight media and 65,535 octets at most, and what each medium tells fits its lines.
 pub record CanBeTold (origin : Origin) (sections : List Section) : Type 0 where

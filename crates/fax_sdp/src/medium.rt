@@ -114,8 +114,10 @@ impl Medium<'_> {
 
     /// Where it is heard; none where it is not open, or its host is no address.
     pub fn address(&self) -> Option<SocketAddr>
-        ensures some { IfSome result (λ address. IsHeardAt (medium_text self.now).host self.now.port address) }
-        ensures none { IfNone result ((address : SocketAddr) → IsHeardAt (medium_text self.now).host self.now.port address → ⊥) }
+        ensures some { IfSome result
+            (λ address. IsHeardAt (medium_text self.now).host self.now.port address) }
+        ensures none { IfNone result ((address : SocketAddr)
+            → IsHeardAt (medium_text self.now).host self.now.port address → ⊥) }
     {
         match self.host {
             Some(host) => address_of(host, self.port),

@@ -39,7 +39,8 @@ impl Session<'_> {
 
     /// The place of the first medium that is audio over RTP in the format of this number, and open.
     pub fn first_audio(&self, payload: &str) -> Option<usize>
-        ensures { result ≡ position (λ medium. is_audio (medium_text medium) payload.now) self.now.media.items }
+        ensures { result ≡ position
+            (λ medium. is_audio (medium_text medium) payload.now) self.now.media.items }
     {
         self.media
             .as_slice()
@@ -60,7 +61,8 @@ struct Reader<'a> {
 /// The media that octets describe (RFC 8866, 5), as many as `m=` lines; or why they describe none.
 pub fn read_sdp(octets: &[u8]) -> Result<Session<'_>, SdpFault>
     ensures media { seen media_text result ≡ media_of octets.now }
-    ensures counted { IfOk result (λ session. array_vec_len session.media ≡ media_lines (lines_of octets.now)) }
+    ensures counted { IfOk result
+        (λ session. array_vec_len session.media ≡ media_lines (lines_of octets.now)) }
 {
     session_of(octets)
 }
@@ -107,7 +109,8 @@ fn media_in(text: &str) -> Result<Session<'_>, SdpFault>
 
 /// The session once all is read.
 fn session_read(reader: Reader<'_>) -> Result<Session<'_>, SdpFault>
-    ensures { seen media_text result ≡ kept (reading_of reader.entry).whole (reading_of reader.entry).current }
+    ensures { seen media_text result
+        ≡ kept (reading_of reader.entry).whole (reading_of reader.entry).current }
 {
     match with_last(reader.whole, reader.current) {
         Ok(media) => Ok(Session { media }),
@@ -141,7 +144,8 @@ fn with_last<'a>(
     media: ArrayVec<Medium<'a>, MOST_MEDIA>,
     last: Option<Medium<'a>>,
 ) -> Result<ArrayVec<Medium<'a>, MOST_MEDIA>, SdpFault>
-    ensures { seen (λ media. map medium_text media.items) result ≡ kept (map medium_text media.entry.items) (option_map medium_text last.entry) }
+    ensures { seen (λ media. map medium_text media.items) result
+        ≡ kept (map medium_text media.entry.items) (option_map medium_text last.entry) }
 {
     let mut media = media;
     let Some(medium) = last else {
@@ -169,7 +173,8 @@ fn after_value<'a>(
     letter: &'a str,
     value: &'a str,
 ) -> Result<Reader<'a>, SdpFault>
-    ensures { seen reading_of result ≡ said (reading_of reader.entry) (Some (letter.now, value.now)) }
+    ensures { seen reading_of result
+        ≡ said (reading_of reader.entry) (Some (letter.now, value.now)) }
 {
     if letter == "m" {
         begin_medium(reader, value)
@@ -184,7 +189,8 @@ fn after_value<'a>(
 
 /// A medium begins.
 fn begin_medium<'a>(reader: Reader<'a>, text: &'a str) -> Result<Reader<'a>, SdpFault>
-    ensures { seen reading_of result ≡ with_medium (reading_of reader.entry) (medium_of (reading_of reader.entry).host reader.entry.direction text.now) }
+    ensures { seen reading_of result ≡ with_medium (reading_of reader.entry)
+        (medium_of (reading_of reader.entry).host reader.entry.direction text.now) }
 {
     match medium_in(reader.host, reader.direction, text) {
         Some(medium) => with_current(reader, medium),
@@ -194,7 +200,8 @@ fn begin_medium<'a>(reader: Reader<'a>, text: &'a str) -> Result<Reader<'a>, Sdp
 
 /// The medium that was on is whole, and this one is on.
 fn with_current<'a>(reader: Reader<'a>, medium: Medium<'a>) -> Result<Reader<'a>, SdpFault>
-    ensures { seen reading_of result ≡ begun (reading_of reader.entry) (medium_text medium.entry) (kept (reading_of reader.entry).whole (reading_of reader.entry).current) }
+    ensures { seen reading_of result ≡ begun (reading_of reader.entry) (medium_text medium.entry)
+        (kept (reading_of reader.entry).whole (reading_of reader.entry).current) }
 {
     let (host, direction) = (reader.host, reader.direction);
     match with_last(reader.whole, reader.current) {
@@ -220,7 +227,8 @@ fn after_connection<'a>(reader: Reader<'a>, text: &'a str) -> Result<Reader<'a>,
 
 /// A host is that of the medium that is on, or of the session.
 fn with_host<'a>(reader: Reader<'a>, text: &'a str) -> Reader<'a>
-    ensures { reading_of result ≡ hosted (reading_of reader.entry) text.now (reading_of reader.entry).current }
+    ensures { reading_of result
+        ≡ hosted (reading_of reader.entry) text.now (reading_of reader.entry).current }
 {
     let Reader {
         host,
@@ -249,7 +257,8 @@ fn with_host<'a>(reader: Reader<'a>, text: &'a str) -> Reader<'a>
 
 /// An attribute is of the medium that is on, or of the session.
 fn with_attribute(reader: Reader<'_>, said: Attribute) -> Reader<'_>
-    ensures { reading_of result ≡ told (reading_of reader.entry) said (reading_of reader.entry).current }
+    ensures { reading_of result
+        ≡ told (reading_of reader.entry) said (reading_of reader.entry).current }
 {
     let Reader {
         host,
@@ -306,7 +315,8 @@ fn with_term(terms: Terms, said: Attribute) -> Terms
 
 /// The medium of an `m=` line.
 fn medium_in<'a>(host: Option<&'a str>, direction: Direction, text: &'a str) -> Option<Medium<'a>>
-    ensures { option_map medium_text result ≡ medium_of (option_map (λ host. host.now) host.entry) direction text.now }
+    ensures { option_map medium_text result
+        ≡ medium_of (option_map (λ host. host.now) host.entry) direction text.now }
 {
     let (name, rest) = cut(text, ' ')?;
     let (port, rest) = cut(rest, ' ')?;

@@ -76,7 +76,8 @@ pub fn answer_sections<'a>(
     place: usize,
     taken: Section<'a>,
 ) -> ArrayVec<Section<'a>, MOST_MEDIA>
-    ensures { result.items ≡ slice_set (map Section.Refused offer.now.media.items) place taken.entry }
+    ensures { result.items
+        ≡ slice_set (map Section.Refused offer.now.media.items) place taken.entry }
 {
     let mut sections = ArrayVec::new();
     for medium in offer.media.as_slice() {
@@ -94,9 +95,11 @@ pub fn write_sdp(
     origin: &Origin,
     sections: &[Section<'_>],
 ) -> Result<String, AllocError>
-    ensures text { IfOk result (λ text. string_bytes text ≡ text_of (description_lines origin.now sections.now)) }
+    ensures text { IfOk result
+        (λ text. string_bytes text ≡ text_of (description_lines origin.now sections.now)) }
     // What is written is read back.
-    ensures read_back { IfOk result (λ text. CanBeTold origin.now sections.now → media_of (string_bytes text) ≡ Ok (told_media origin.now sections.now)) }
+    ensures read_back { IfOk result (λ text. CanBeTold origin.now sections.now
+        → media_of (string_bytes text) ≡ Ok (told_media origin.now sections.now)) }
 {
     description_text(alloc, origin, sections)
 }
@@ -107,7 +110,8 @@ fn description_text(
     origin: &Origin,
     sections: &[Section<'_>],
 ) -> Result<String, AllocError>
-    ensures { IfOk result (λ text. string_bytes text ≡ text_of (description_lines origin.now sections.now)) }
+    ensures { IfOk result
+        (λ text. string_bytes text ≡ text_of (description_lines origin.now sections.now)) }
 {
     let mut text = String::new(alloc);
     put_session(&mut text, origin)?;
@@ -126,7 +130,8 @@ fn put_line(text: &mut String, line: &str) -> Result<(), AllocError>
 
 /// Writes the line of an attribute whose value is a number.
 fn put_number(text: &mut String, name: &str, number: u32) -> Result<(), AllocError>
-    ensures { OnOk result (string_bytes text.new ≡ string_bytes text.old ++ ended (name.now ++ decimal number)) }
+    ensures { OnOk result (string_bytes text.new
+        ≡ string_bytes text.old ++ ended (name.now ++ decimal number)) }
 {
     write!(text, "{name}{number}\r\n")
 }
@@ -139,14 +144,16 @@ fn put_medium(
     transport: &str,
     formats: &str,
 ) -> Result<(), AllocError>
-    ensures { OnOk result (string_bytes text.new ≡ string_bytes text.old ++ ended (medium_line name.now port transport.now formats.now)) }
+    ensures { OnOk result (string_bytes text.new
+        ≡ string_bytes text.old ++ ended (medium_line name.now port transport.now formats.now)) }
 {
     write!(text, "m={name} {port} {transport} {formats}\r\n")
 }
 
 /// Writes the `o=` line.
 fn put_origin(text: &mut String, origin: &Origin) -> Result<(), AllocError>
-    ensures { OnOk result (string_bytes text.new ≡ string_bytes text.old ++ ended (origin_line origin.now)) }
+    ensures { OnOk result (string_bytes text.new
+        ≡ string_bytes text.old ++ ended (origin_line origin.now)) }
 {
     let session = origin.session;
     let version = origin.version;
@@ -158,7 +165,8 @@ fn put_origin(text: &mut String, origin: &Origin) -> Result<(), AllocError>
 
 /// Writes the `c=` line.
 fn put_connection(text: &mut String, host: IpAddr) -> Result<(), AllocError>
-    ensures { OnOk result (string_bytes text.new ≡ string_bytes text.old ++ ended (connection_line host)) }
+    ensures { OnOk result (string_bytes text.new
+        ≡ string_bytes text.old ++ ended (connection_line host)) }
 {
     match host {
         IpAddr::V4(ip) => write!(text, "c=IN IP4 {ip}\r\n"),
@@ -168,7 +176,8 @@ fn put_connection(text: &mut String, host: IpAddr) -> Result<(), AllocError>
 
 /// Writes the lines before the media.
 fn put_session(text: &mut String, origin: &Origin) -> Result<(), AllocError>
-    ensures { OnOk result (string_bytes text.new ≡ string_bytes text.old ++ text_of (session_lines origin.now)) }
+    ensures { OnOk result (string_bytes text.new
+        ≡ string_bytes text.old ++ text_of (session_lines origin.now)) }
 {
     put_line(text, "v=0")?;
     put_origin(text, origin)?;
@@ -179,7 +188,8 @@ fn put_session(text: &mut String, origin: &Origin) -> Result<(), AllocError>
 
 /// Writes the lines of a medium.
 fn put_section(text: &mut String, section: &Section<'_>) -> Result<(), AllocError>
-    ensures { OnOk result (string_bytes text.new ≡ string_bytes text.old ++ text_of (section_lines section.now)) }
+    ensures { OnOk result (string_bytes text.new
+        ≡ string_bytes text.old ++ text_of (section_lines section.now)) }
 {
     match section {
         Section::Fax(fax) => put_fax(text, *fax),
@@ -190,7 +200,8 @@ fn put_section(text: &mut String, section: &Section<'_>) -> Result<(), AllocErro
 
 /// Writes the lines of T.38.
 fn put_fax(text: &mut String, fax: FaxSection) -> Result<(), AllocError>
-    ensures { OnOk result (string_bytes text.new ≡ string_bytes text.old ++ text_of (fax_lines fax)) }
+    ensures { OnOk result (string_bytes text.new
+        ≡ string_bytes text.old ++ text_of (fax_lines fax)) }
 {
     put_medium(text, "image", fax.port, "udptl", "t38")?;
     put_line(text, "a=T38FaxVersion:0")?;
@@ -203,7 +214,8 @@ fn put_fax(text: &mut String, fax: FaxSection) -> Result<(), AllocError>
 
 /// Writes the lines of audio.
 fn put_audio(text: &mut String, audio: AudioSection) -> Result<(), AllocError>
-    ensures { OnOk result (string_bytes text.new ≡ string_bytes text.old ++ text_of (audio_lines audio)) }
+    ensures { OnOk result (string_bytes text.new
+        ≡ string_bytes text.old ++ text_of (audio_lines audio)) }
 {
     put_medium(
         text,
@@ -228,7 +240,8 @@ fn numbers_of(formats: AudioFormats) -> &'static str
 
 /// Writes what each number stands for.
 fn put_formats(text: &mut String, formats: AudioFormats) -> Result<(), AllocError>
-    ensures { OnOk result (string_bytes text.new ≡ string_bytes text.old ++ text_of (format_lines formats)) }
+    ensures { OnOk result (string_bytes text.new
+        ≡ string_bytes text.old ++ text_of (format_lines formats)) }
 {
     match formats {
         AudioFormats::Pcmu => put_line(text, "a=rtpmap:0 PCMU/8000"),
@@ -242,7 +255,8 @@ fn put_formats(text: &mut String, formats: AudioFormats) -> Result<(), AllocErro
 
 /// Writes the line of a medium that is refused.
 fn put_refused(text: &mut String, medium: &Medium<'_>) -> Result<(), AllocError>
-    ensures { OnOk result (string_bytes text.new ≡ string_bytes text.old ++ text_of (refused_lines medium.now)) }
+    ensures { OnOk result (string_bytes text.new
+        ≡ string_bytes text.old ++ text_of (refused_lines medium.now)) }
 {
     put_medium(text, medium.name, 0, medium.transport, medium.formats)
 }

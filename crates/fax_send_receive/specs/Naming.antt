@@ -21,7 +21,8 @@ ending_of Tiff = codes ".tif"
 
 -- the name of the file of a page: the second page of call 0 is in `PREFIX-0-2.pbm`, or in `PREFIX-0-2.tif`
 abbrev pub name_of_page : Naming → (call number : ℕ) → List ℕ
-name_of_page naming call number = naming.prefix ++ codes "-" ++ decimal call ++ codes "-" ++ decimal number ++ ending_of naming.form
+name_of_page naming call number = naming.prefix
+    ++ codes "-" ++ decimal call ++ codes "-" ++ decimal number ++ ending_of naming.form
 
 -- octets are a picture of a page, or a TIFF of it alone
 abbrev pub HoldPage : PageForm → (octets : List ℕ) → PageValue → Type 0

@@ -27,17 +27,20 @@ pub record TellsJob (pause : ℕ) (job : JobValue) (report : Report) : Type 0 wh
   pub call : report.call ≡ job.call
   pub format : report.format ≡ job.format
   pub pages : report.pages ≡ length job.pages
-  pub ended : TellsCall pause job (record { outcome = report.outcome; delivered = report.delivered })
+  pub ended :
+      TellsCall pause job (record { outcome = report.outcome; delivered = report.delivered })
 
 -- A job of call 0 whose pages are those of the files of these names, in their order; there is one at least, and they are few enough.
-pub record IsJobOfFiles (holds : List ℕ → Option (List ℕ)) (format : Format) (coding : Coding) (names : List (List ℕ)) (job : JobValue) : Type 0 where
+pub record IsJobOfFiles (holds : List ℕ → Option (List ℕ))
+    (format : Format) (coding : Coding) (names : List (List ℕ)) (job : JobValue) : Type 0 where
   pub call : job.call ≡ 0
   pub some : 0 < length job.pages
   pub few : length job.pages ≤ most_pages
   pub pages : ArePagesOfFiles holds format coding names job.pages
 
 -- A run with files of these names tells how the call of such a job ended.
-pub record TellsRun (holds : List ℕ → Option (List ℕ)) (options : SendOptions) (names : List (List ℕ)) (report : Report) : Type 0 where
+pub record TellsRun (holds : List ℕ → Option (List ℕ))
+    (options : SendOptions) (names : List (List ℕ)) (report : Report) : Type 0 where
   pub job : JobValue
   pub of_files : IsJobOfFiles holds options.format options.coding names job
   pub tells : TellsJob options.settings.preamble_ms job report

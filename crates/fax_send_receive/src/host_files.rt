@@ -42,7 +42,8 @@ impl<H: Files> NamedFiles for HostFiles<'_, H> {
     }
 
     fn close(&mut self, file: NewFile<H::File>) -> io::Result<()>
-        ensures ok { OnOk result (IsAdded None None (string_bytes file.name) (H.File.contents file.writer)) }
+        ensures ok { OnOk result (IsAdded None None (string_bytes file.name)
+            (H.File.contents file.writer)) }
         ensures err { OnErr result (let none : Option (List FileValue) = None in none ≡ none) }
     {
         let NewFile { .. } = file;

@@ -40,8 +40,10 @@ pub(crate) fn read_job<'a, F: NamedFiles>(
     reading: Reading,
     names: &[&'a str],
 ) -> Result<Job<PackedRows>, RunFault<'a>>
-    ensures ok { IfOk result (IsJobOfFiles (F.holds files.now) reading.format reading.coding (map (λ name. name.now) names.now)) }
-    ensures fault { IfErr result (IsJobFault (F.holds files.now) reading.format reading.coding (map (λ name. name.now) names.now)) }
+    ensures ok { IfOk result (IsJobOfFiles (F.holds files.now) reading.format reading.coding (map
+        (λ name. name.now) names.now)) }
+    ensures fault { IfErr result (IsJobFault (F.holds files.now) reading.format reading.coding (map
+        (λ name. name.now) names.now)) }
 {
     let mut job = None;
     for name in names {
@@ -63,7 +65,8 @@ fn add_pages<'a>(
     requires { IsBegun job }
     ensures begun { IfOk result IsBegun }
     ensures ok { IfOk result (λ longer. pages_of longer ≡ pages_of job ++ pages.items) }
-    ensures fault { IfErr result (λ fault. (fault ≡ faults.NoMemory) ⊎ ((fault ≡ faults.PageCount) × (most_pages < length (pages_of job ++ pages.items)))) }
+    ensures fault { IfErr result (λ fault. (fault ≡ faults.NoMemory)
+        ⊎ ((fault ≡ faults.PageCount) × (most_pages < length (pages_of job ++ pages.items)))) }
 {
     let mut longer = job;
     for page in pages {
@@ -81,7 +84,8 @@ fn add_page<'a>(
     requires { IsBegun job }
     ensures begun { IfOk result (λ longer. IsBegun (Some longer)) }
     ensures ok { IfOk result (λ longer. longer.pages ≡ pages_of job ++ page ∷ []) }
-    ensures fault { IfErr result (λ fault. (fault ≡ faults.NoMemory) ⊎ ((fault ≡ faults.PageCount) × (most_pages ≤ length (pages_of job)))) }
+    ensures fault { IfErr result (λ fault. (fault ≡ faults.NoMemory)
+        ⊎ ((fault ≡ faults.PageCount) × (most_pages ≤ length (pages_of job)))) }
 {
     let Some(mut job) = job else {
         return match Job::of_page(alloc, 0, page) {
@@ -105,8 +109,10 @@ fn read_file<'a, F: NamedFiles>(
     reading: Reading,
     name: &'a str,
 ) -> Result<Vec<Page<PackedRows>>, RunFault<'a>>
-    ensures ok { IfOk result (λ pages. ArePagesOfFile reading.format reading.coding (F.holds files.now name.entry.now) pages.items) }
-    ensures fault { IfErr result (IsFileFault (F.holds files.now name.entry.now) reading.format reading.coding name.entry.now) }
+    ensures ok { IfOk result (λ pages. ArePagesOfFile reading.format
+        reading.coding (F.holds files.now name.entry.now) pages.items) }
+    ensures fault { IfErr result (IsFileFault (F.holds files.now name.entry.now)
+        reading.format reading.coding name.entry.now) }
 {
     let file = match files.open(name) {
         Ok(file) => file,
@@ -126,7 +132,8 @@ fn pages_in<'a>(
     name: &'a str,
     octets: Vec<u8>,
 ) -> Result<Vec<Page<PackedRows>>, RunFault<'a>>
-    ensures ok { IfOk result (λ pages. HasPages reading.format reading.coding octets.items pages.items) }
+    ensures ok { IfOk result
+        (λ pages. HasPages reading.format reading.coding octets.items pages.items) }
     ensures file { (known : Option (List ℕ)) → AreOctetsOf known octets.items
         → IfErr result (IsFileFault known reading.format reading.coding name.entry.now) }
 {
@@ -151,7 +158,8 @@ fn tiff_pages_in<'a>(
 ) -> Result<Vec<Page<PackedRows>>, RunFault<'a>>
     requires { begins_as_tiff octets.now ≡ true }
     ensures ok { IfOk result (λ pages. MeansTiff octets.now pages.items) }
-    ensures file { (format : Format) (coding : Coding) (known : Option (List ℕ)) → AreOctetsOf known octets.now
+    ensures file { (format : Format) (coding : Coding) (known : Option (List ℕ))
+        → AreOctetsOf known octets.now
         → IfErr result (IsFileFault known format coding name.entry.now) }
 {
     match read_tiff(alloc, octets) {
@@ -169,7 +177,8 @@ fn one_page_in<'a>(
     octets: Vec<u8>,
 ) -> Result<Vec<Page<PackedRows>>, RunFault<'a>>
     requires { begins_as_tiff octets.items ≡ false }
-    ensures ok { IfOk result (λ pages. HasPages reading.format reading.coding octets.items pages.items) }
+    ensures ok { IfOk result
+        (λ pages. HasPages reading.format reading.coding octets.items pages.items) }
     ensures file { (known : Option (List ℕ)) → AreOctetsOf known octets.items
         → IfErr result (IsFileFault known reading.format reading.coding name.entry.now) }
 {

@@ -32,17 +32,20 @@ pub trait NamedFiles {
 
     /// Opens the file of this name, to be read from its first octet on.
     fn open(&self, name: &str) -> io::Result<Self::File>
-        ensures { IfOk result (λ file. IfSome (holds self.now name.now) (λ octets. Self.File.remaining file ≡ Some octets)) };
+        ensures { IfOk result (λ file.
+            IfSome (holds self.now name.now) (λ octets. Self.File.remaining file ≡ Some octets)) };
 
     /// Makes a file of this name, of no octets, where there is none.
     fn create(&mut self, name: String) -> io::Result<NewFile<Self::File>>
         ensures named { IfOk result (λ file. string_bytes file.name ≡ string_bytes name) }
-        ensures empty { IfOk result (λ file. IfSome (made self.old) (λ before. Self.File.contents file.writer ≡ Some [])) }
+        ensures empty { IfOk result
+            (λ file. IfSome (made self.old) (λ before. Self.File.contents file.writer ≡ Some [])) }
         ensures same { made self.new ≡ made self.old };
 
     /// What was written to a file that was made is all of it.
     fn close(&mut self, file: NewFile<Self::File>) -> io::Result<()>
-        ensures ok { OnOk result (IsAdded (made self.old) (made self.new) (string_bytes file.name) (Self.File.contents file.writer)) }
+        ensures ok { OnOk result (IsAdded (made self.old)
+            (made self.new) (string_bytes file.name) (Self.File.contents file.writer)) }
         ensures err { OnErr result (made self.new ≡ made self.old) };
 }
 
@@ -52,7 +55,8 @@ pub(crate) fn write_file<F: NamedFiles>(
     name: String,
     octets: &[u8],
 ) -> io::Result<()>
-    ensures ok { OnOk result (IsAdded (F.made files.old) (F.made files.new) (string_bytes name) (Some octets.now)) }
+    ensures ok { OnOk result (IsAdded (F.made files.old)
+        (F.made files.new) (string_bytes name) (Some octets.now)) }
     ensures err { OnErr result (F.made files.new ≡ F.made files.old) }
 {
     let mut file = files.create(name)?;

@@ -48,7 +48,12 @@ impl<'a, F: NamedFiles + Drop> Model for PageFiles<'a, F> {
 
     ghost Value = { FilingValue };
 
-    ghost view = { λ p. record { naming = naming_of p.naming; call = p.call; pages = p.pages; made = F.made p.files } };
+    ghost view = { λ p. record {
+      naming = naming_of p.naming;
+      call = p.call;
+      pages = p.pages;
+      made = F.made p.files;
+    } };
 }
 
 impl<'a, F: NamedFiles + Drop> PageFiles<'a, F> {
@@ -134,7 +139,8 @@ fn write_page<F: NamedFiles>(
     number: u32,
     page: &Page<PackedRows>,
 ) -> Result<(), Option<io::Error>>
-    ensures ok { OnOk result (IsPageAdded (naming_of naming.entry) call number page.now (F.made files.old) (F.made files.new)) }
+    ensures ok { OnOk result (IsPageAdded (naming_of naming.entry)
+        call number page.now (F.made files.old) (F.made files.new)) }
     ensures err { OnErr result (F.made files.new ≡ F.made files.old) }
 {
     let octets = match octets_of(alloc, naming.form, page) {
@@ -176,7 +182,8 @@ fn path_of(
     call: u32,
     page: u32,
 ) -> Result<String, AllocError>
-    ensures { IfOk result (λ path. string_bytes path ≡ name_of_page (naming_of naming.entry) call page) }
+    ensures { IfOk result
+        (λ path. string_bytes path ≡ name_of_page (naming_of naming.entry) call page) }
 {
     let (prefix, ending) = (naming.prefix, naming.form.ending());
     format!(in alloc; "{prefix}-{call}-{page}{ending}")

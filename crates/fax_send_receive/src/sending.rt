@@ -47,8 +47,10 @@ pub fn run_send<'a, H: Net + Clock + Files>(
     files: &[&'a str],
 ) -> Result<Report, RunFault<'a>>
     requires { AreAllowed options.settings }
-    ensures ok { IfOk result (TellsRun (λ path. None) options.entry (map (λ path. path.now) files.now)) }
-    ensures fault { IfErr result (IsSendFault (λ path. None) options.entry (map (λ path. path.now) files.now)) }
+    ensures ok { IfOk result (TellsRun
+        (λ path. None) options.entry (map (λ path. path.now) files.now)) }
+    ensures fault { IfErr result (IsSendFault
+        (λ path. None) options.entry (map (λ path. path.now) files.now)) }
 {
     send_files(host, watch, alloc, options, &HostFiles::new(host), files)
 }
@@ -65,8 +67,10 @@ pub fn send_files<'a, H: Net + Clock, F: NamedFiles>(
     names: &[&'a str],
 ) -> Result<Report, RunFault<'a>>
     requires { AreAllowed options.settings }
-    ensures ok { IfOk result (TellsRun (F.holds files.now) options.entry (map (λ name. name.now) names.now)) }
-    ensures fault { IfErr result (IsSendFault (F.holds files.now) options.entry (map (λ name. name.now) names.now)) }
+    ensures ok { IfOk result (TellsRun (F.holds files.now) options.entry (map
+        (λ name. name.now) names.now)) }
+    ensures fault { IfErr result (IsSendFault (F.holds files.now) options.entry (map
+        (λ name. name.now) names.now)) }
 {
     let reading = Reading {
         format: options.format,

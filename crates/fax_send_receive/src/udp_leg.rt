@@ -245,7 +245,8 @@ fn is_peer_of<W: TimedWire + Drop>(last: &Option<LastCall<W>>, peer: SocketAddr)
 
 /// Whether a datagram is numbered as the first of a call (ITU-T T.38, annex C: the number is its first two octets).
 fn is_numbered_first(octets: &[u8]) -> bool
-    ensures { IsTrue result ↔ ((slice_get octets.now 0 ≡ Some 0) × (slice_get octets.now 1 ≡ Some 0)) }
+    ensures { IsTrue result
+        ↔ ((slice_get octets.now 0 ≡ Some 0) × (slice_get octets.now 1 ≡ Some 0)) }
 {
     octets.first() == Some(&0) && octets.get(1) == Some(&0)
 }

@@ -13,4 +13,8 @@ passed_over_in opened = opened.older_passed_over + opened.newer_passed_over
 
 -- THE DAMAGE THAT IS TOLD is that of both pairs together, up to the greatest count.
 abbrev pub damage_found : {D U : Type 0} → OpenedSpool D → OpenedSpool U → Damage
-damage_found opened kept = record { records = min (damaged_in opened + damaged_in kept) (2 ^ 64 - 1); octets = min (passed_over_in opened + passed_over_in kept) (2 ^ 64 - 1) }
+damage_found opened kept =
+    record {
+      records = min (damaged_in opened + damaged_in kept) (2 ^ 64 - 1);
+      octets = min (passed_over_in opened + passed_over_in kept) (2 ^ 64 - 1);
+    }

@@ -20,5 +20,12 @@ pub trait ServedStore {
 impl<S: Start, T: Start> ServedStore for PairedStore<SpoolFolderFile<S>, SpoolFolderFile<T>> {
     ghost use Rattle.fax_runs.specs.StoredRuns.{ServedOver};
 
-    ghost ran = { λ lines. ServedOver ⟦<SpoolFolderFile<S> as Disk>⟧.seen ⟦<SpoolFolderFile<S> as Disk>⟧.may_leave ⟦<SpoolFolderFile<S> as Disk>⟧.is_usable ⟦<SpoolFolderFile<S> as Disk>⟧.is_clean ⟦<PairedStore<SpoolFolderFile<S>, SpoolFolderFile<T>> as RunStore>⟧.is_same ⟦<PairedStore<SpoolFolderFile<S>, SpoolFolderFile<T>> as PageStore<PageToStore>>⟧.puts ⟦<PairedStore<SpoolFolderFile<S>, SpoolFolderFile<T>> as RunStore>⟧.notes ⟦<PairedStore<SpoolFolderFile<S>, SpoolFolderFile<T>> as RunStore>⟧.ends (λ store. store.storage.spool) (λ store. store.storage.queues.items) S.db S.log lines };
+    ghost ran = { λ lines.
+        ServedOver ⟦<SpoolFolderFile<S> as Disk>⟧.seen ⟦<SpoolFolderFile<S> as Disk>⟧.may_leave
+        ⟦<SpoolFolderFile<S> as Disk>⟧.is_usable ⟦<SpoolFolderFile<S> as Disk>⟧.is_clean
+        ⟦<PairedStore<SpoolFolderFile<S>, SpoolFolderFile<T>> as RunStore>⟧.is_same
+        ⟦<PairedStore<SpoolFolderFile<S>, SpoolFolderFile<T>> as PageStore<PageToStore>>⟧.puts
+        ⟦<PairedStore<SpoolFolderFile<S>, SpoolFolderFile<T>> as RunStore>⟧.notes
+        ⟦<PairedStore<SpoolFolderFile<S>, SpoolFolderFile<T>> as RunStore>⟧.ends
+        (λ store. store.storage.spool) (λ store. store.storage.queues.items) S.db S.log lines };
 }

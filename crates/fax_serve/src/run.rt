@@ -72,9 +72,12 @@ pub fn run_serve<M: Supervisor + Drop, N: Net + Files + Clock + Folders, S: Star
     start: S,
     undelivered: T,
 ) -> Result<RunEnd, ServeFault>
-    ensures alone { OnOk result (ServedAlone (length config.now.lines.items) (is_some config.now.spool)) }
-    ensures kept { OnOk result (is_some config.now.spool ≡ true → ⟦<FolderStore<S, T> as ServedStore>⟧.ran config.now.lines.items) }
-    ensures ready { OnOk result (M.told manager.new ≡ ready_after (length config.now.lines.items) (M.told manager.old)) }
+    ensures alone { OnOk result (ServedAlone (length config.now.lines.items)
+        (is_some config.now.spool)) }
+    ensures kept { OnOk result (is_some config.now.spool ≡ true
+        → ⟦<FolderStore<S, T> as ServedStore>⟧.ran config.now.lines.items) }
+    ensures ready { OnOk result (M.told manager.new
+        ≡ ready_after (length config.now.lines.items) (M.told manager.old)) }
     ensures untold { OnErr result (M.told manager.new ≡ M.told manager.old) }
 {
     match &config.control {
@@ -122,9 +125,12 @@ fn serve_with_sip<M: Supervisor + Drop, N: Net + Files + Clock + Folders, S: Sta
     start: S,
     undelivered: T,
 ) -> Result<RunEnd, ServeFault>
-    ensures alone { OnOk result (ServedAlone (length config.now.lines.items) (is_some config.now.spool)) }
-    ensures kept { OnOk result (is_some config.now.spool ≡ true → ⟦<FolderStore<S, T> as ServedStore>⟧.ran config.now.lines.items) }
-    ensures ready { OnOk result (M.told manager.new ≡ ready_after (length config.now.lines.items) (M.told manager.old)) }
+    ensures alone { OnOk result (ServedAlone (length config.now.lines.items)
+        (is_some config.now.spool)) }
+    ensures kept { OnOk result (is_some config.now.spool ≡ true
+        → ⟦<FolderStore<S, T> as ServedStore>⟧.ran config.now.lines.items) }
+    ensures ready { OnOk result (M.told manager.new
+        ≡ ready_after (length config.now.lines.items) (M.told manager.old)) }
     ensures untold { OnErr result (M.told manager.new ≡ M.told manager.old) }
 {
     let sip = open_sip(system, alloc, config)?;
@@ -170,9 +176,12 @@ fn serve_beside<
     start: S,
     undelivered: T,
 ) -> Result<RunEnd, ServeFault>
-    ensures alone { OnOk result (ServedAlone (length config.now.lines.items) (is_some config.now.spool)) }
-    ensures kept { OnOk result (is_some config.now.spool ≡ true → ⟦<FolderStore<S, T> as ServedStore>⟧.ran config.now.lines.items) }
-    ensures ready { OnOk result (M.told manager.new ≡ ready_after (length config.now.lines.items) (M.told manager.old)) }
+    ensures alone { OnOk result (ServedAlone (length config.now.lines.items)
+        (is_some config.now.spool)) }
+    ensures kept { OnOk result (is_some config.now.spool ≡ true
+        → ⟦<FolderStore<S, T> as ServedStore>⟧.ran config.now.lines.items) }
+    ensures ready { OnOk result (M.told manager.new
+        ≡ ready_after (length config.now.lines.items) (M.told manager.old)) }
     ensures untold { OnErr result (M.told manager.new ≡ M.told manager.old) }
 {
     match &config.spool {
@@ -210,7 +219,8 @@ fn serve_in_memory<
     manager: &mut M,
 ) -> Result<RunEnd, ServeFault>
     ensures alone { OnOk result (ServedAlone (length config.now.lines.items) false) }
-    ensures ready { OnOk result (M.told manager.new ≡ ready_after (length config.now.lines.items) (M.told manager.old)) }
+    ensures ready { OnOk result (M.told manager.new
+        ≡ ready_after (length config.now.lines.items) (M.told manager.old)) }
     ensures untold { OnErr result (M.told manager.new ≡ M.told manager.old) }
 {
     let lines: Lines<HoldingWire<W>> = open_lines(system, alloc, config.lines.as_slice())?;
@@ -248,7 +258,8 @@ fn serve_spooled<
 ) -> Result<RunEnd, ServeFault>
     ensures alone { OnOk result (ServedAlone (length config.now.lines.items) true) }
     ensures kept { OnOk result (⟦<FolderStore<S, T> as ServedStore>⟧.ran config.now.lines.items) }
-    ensures ready { OnOk result (M.told manager.new ≡ ready_after (length config.now.lines.items) (M.told manager.old)) }
+    ensures ready { OnOk result (M.told manager.new
+        ≡ ready_after (length config.now.lines.items) (M.told manager.old)) }
     ensures untold { OnErr result (M.told manager.new ≡ M.told manager.old) }
 {
     let opened = system.open_spool(folder, start)?;
@@ -285,8 +296,12 @@ fn serve_opened<
     manager: &mut M,
 ) -> Result<RunEnd, ServeFault>
     ensures alone { OnOk result (ServedAlone (length config.now.lines.items) true) }
-    ensures kept { OnOk result (ServedWith ⟦<PairedStore<D, U> as RunStore>⟧.is_same ⟦<PairedStore<D, U> as PageStore<PageToStore>>⟧.puts ⟦<PairedStore<D, U> as RunStore>⟧.notes ⟦<PairedStore<D, U> as RunStore>⟧.ends (λ store. store.storage.spool) (λ store. store.storage.queues.items) config.now.lines.items opened) }
-    ensures ready { OnOk result (M.told manager.new ≡ ready_after (length config.now.lines.items) (M.told manager.old)) }
+    ensures kept { OnOk result (ServedWith ⟦<PairedStore<D, U> as RunStore>⟧.is_same
+        ⟦<PairedStore<D, U> as PageStore<PageToStore>>⟧.puts ⟦<PairedStore<D, U> as RunStore>⟧.notes
+        ⟦<PairedStore<D, U> as RunStore>⟧.ends (λ store. store.storage.spool)
+        (λ store. store.storage.queues.items) config.now.lines.items opened) }
+    ensures ready { OnOk result (M.told manager.new
+        ≡ ready_after (length config.now.lines.items) (M.told manager.old)) }
     ensures untold { OnErr result (M.told manager.new ≡ M.told manager.old) }
 {
     let damage = damage_of(&opened, &kept);
@@ -577,7 +592,9 @@ fn serve_restored<
     requires first { lines.slot ≡ 0 }
     requires idle { pace.old.waits ≡ None }
     ensures alone { ServedAlone (length lines.lines) true }
-    ensures kept { RunIsStored ⟦<PairedStore<D, U> as RunStore>⟧.is_same ⟦<PairedStore<D, U> as PageStore<PageToStore>>⟧.puts ⟦<PairedStore<D, U> as RunStore>⟧.notes ⟦<PairedStore<D, U> as RunStore>⟧.ends lines.lines store }
+    ensures kept { RunIsStored ⟦<PairedStore<D, U> as RunStore>⟧.is_same
+        ⟦<PairedStore<D, U> as PageStore<PageToStore>>⟧.puts ⟦<PairedStore<D, U> as RunStore>⟧.notes
+        ⟦<PairedStore<D, U> as RunStore>⟧.ends lines.lines store }
 {
     let mut store = Some(store);
     serve(&mut lines, &mut store, pace);

@@ -18,14 +18,14 @@ copied name lines = flat_map (header name) (values_of name lines)
 
 -- `To`, with our tag where it has none
 abbrev pub to_header : List ℕ → List ℕ → List ℕ
-to_header to tag =
-    if is_some (parameter_of (codes "tag") to) then header name.To to else codes "To: " ++ (to ++ (codes ";tag=" ++ (tag ++ codes "\r\n")))
+to_header to tag = if is_some (parameter_of (codes "tag") to)
+    then header name.To to else codes "To: " ++ (to ++ (codes ";tag=" ++ (tag ++ codes "\r\n")))
 
 -- what each answer has of its request
 abbrev pub kept_fields : MessageText → List ℕ → List ℕ
 kept_fields request tag =
-    copied name.Via request.lines
-    ++ (header name.From request.from ++ (to_header request.to tag ++ (header name.CallId request.call_id ++ copied name.CSeq request.lines)))
+    copied name.Via request.lines ++ (header name.From request.from ++ (to_header request.to tag
+    ++ (header name.CallId request.call_id ++ copied name.CSeq request.lines)))
 
 -- `Record-Route`, as it came, where an answer may begin a dialog
 abbrev pub routes : ℕ → List (List ℕ) → List ℕ
@@ -33,7 +33,8 @@ routes status lines = if nat_lt status 300 then copied name.RecordRoute lines el
 
 -- the first line: the version, the status and its reason
 abbrev pub status_line : ℕ → List ℕ → List ℕ
-status_line status reason = codes "SIP/2.0 " ++ (decimal status ++ (codes " " ++ (reason ++ codes "\r\n")))
+status_line status reason =
+    codes "SIP/2.0 " ++ (decimal status ++ (codes " " ++ (reason ++ codes "\r\n")))
 
 -- An answer: its first line, what it has of the request, further header lines, the length of its body, an empty line, and the body.
 abbrev pub answer_octets : MessageText → Reply → List ℕ

@@ -11,7 +11,8 @@ use Rattle.fax_sip.specs.Texts.{cut, trimmed}
 
 -- an octet of a token
 abbrev pub is_token_octet : ℕ → Bool
-is_token_octet octet = is_ascii_alphanumeric octet || list_any (λ mark. mark == octet) (codes "-.!%*_+`'~")
+is_token_octet octet =
+    is_ascii_alphanumeric octet || list_any (λ mark. mark == octet) (codes "-.!%*_+`'~")
 
 -- a token: one octet or more
 unfoldable pub is_token : List ℕ → Bool
@@ -27,7 +28,8 @@ is_field line = has_name (cut (Octet 58) line)
 
 abbrev pub value_named : Name → Option (List ℕ × List ℕ) → Option (List ℕ)
 value_named name None = None
-value_named name (Some parts) = if is_named name (trimmed parts.0) then Some (trimmed parts.1) else None
+value_named name (Some parts) =
+    if is_named name (trimmed parts.0) then Some (trimmed parts.1) else None
 
 -- the value of a line, white space at its ends aside, where the line has this name
 unfoldable pub value_of : Name → List ℕ → Option (List ℕ)

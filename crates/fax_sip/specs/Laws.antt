@@ -8,10 +8,11 @@ use Rattle.fax_sip.specs.Written.{header}
 
 -- A text in one line stays in its line: what follows is as it was.
 abbrev pub LinesAreCut : Type 0
-LinesAreCut = (text rest : List ℕ) → is_text text ≡ true → goes_on rest ≡ false → lines_of (text ++ 13 ∷ 10 ∷ rest) ≡ text ∷ lines_of rest
+LinesAreCut = (text rest : List ℕ) → is_text text ≡ true
+    → goes_on rest ≡ false → lines_of (text ++ 13 ∷ 10 ∷ rest) ≡ text ∷ lines_of rest
 
 -- A header line that is told is one line, which has its name and its value.
 abbrev pub HeadersAreReadBack : Type 0
-HeadersAreReadBack =
-    (name : Name) (value rest : List ℕ) → is_text value ≡ true → goes_on rest ≡ false
-    → values_of name (lines_of (header name value ++ rest)) ≡ trimmed value ∷ values_of name (lines_of rest)
+HeadersAreReadBack = (name : Name) (value rest : List ℕ) → is_text value ≡ true
+    → goes_on rest ≡ false → values_of name (lines_of (header name value ++ rest))
+    ≡ trimmed value ∷ values_of name (lines_of rest)

@@ -17,5 +17,5 @@ values_left values = values_of values.name (lines_of values.lines.now)
 
 -- those of what is left of a line, and of the lines that are left
 abbrev pub elements_left : Elements → List (List ℕ)
-elements_left left =
-    map trimmed (parts_left 44 (option_map (λ text. text.now) left.line) ++ flat_map (parts_of 44) (values_of left.name (lines_of left.lines.now)))
+elements_left left = map trimmed (parts_left 44 (option_map (λ text. text.now) left.line)
+    ++ flat_map (parts_of 44) (values_of left.name (lines_of left.lines.now)))

@@ -17,17 +17,22 @@ pub record KeyText : Type 0 where
   pub method : List ℕ
 
 abbrev pub key_text : Key → KeyText
-key_text key = record { branch = key.branch.now; sent_by = key.sent_by.now; method = key.method.now }
+key_text key =
+    record { branch = key.branch.now; sent_by = key.sent_by.now; method = key.method.now }
 
 -- the branch and the sender of the first hop, and the method of `CSeq`
 abbrev pub key_of : MessageText → Option KeyText
-key_of message =
-    option_and_then (λ hop. option_and_then (λ branch. option_map (λ via. record { branch = branch; sent_by = via.sent_by; method = message.sequence.method })
-    (via_of hop)) (parameter_of (codes "branch") hop)) (first_of (elements_of name.Via message.lines))
+key_of message = option_and_then (λ hop. option_and_then (λ branch. option_map (λ via. record {
+  branch = branch;
+  sent_by = via.sent_by;
+  method = message.sequence.method;
+}) (via_of hop))
+    (parameter_of (codes "branch") hop)) (first_of (elements_of name.Via message.lines))
 
 -- an answer to a request: tokens are the same in either case of their letters (7.3.1), methods are not (7.1)
 abbrev pub is_answer_to : KeyText → KeyText → Bool
-is_answer_to request answer = is_word answer.branch request.branch && bytes_eq answer.method request.method
+is_answer_to request answer =
+    is_word answer.branch request.branch && bytes_eq answer.method request.method
 
 -- a branch of RFC 3261
 abbrev pub has_cookie : List ℕ → Bool
@@ -35,6 +40,6 @@ has_cookie branch = nat_le 7 (length branch) && is_word (slice_range branch 0 7)
 
 -- the request that began a transaction comes again, or the ACK of an INVITE comes
 abbrev pub is_for : KeyText → KeyText → Bool
-is_for first request =
-    has_cookie request.branch && (is_word request.branch first.branch && (is_word request.sent_by first.sent_by
-    && (bytes_eq request.method first.method || (bytes_eq request.method (codes "ACK") && bytes_eq first.method (codes "INVITE")))))
+is_for first request = has_cookie request.branch && (is_word request.branch first.branch
+    && (is_word request.sent_by first.sent_by && (bytes_eq request.method first.method
+    || (bytes_eq request.method (codes "ACK") && bytes_eq first.method (codes "INVITE")))))

@@ -50,9 +50,9 @@ abbrev pub ◌>>=◌ : {A B : Type 0} → Result A SipFault → (A → Result B 
 
 -- the value of `CSeq`: a number below 2 ^ 31, white space, and a method
 abbrev pub sequence_of : List ℕ → Option SequenceText
-sequence_of value =
-    option_and_then (λ parts. option_and_then (λ n. let method = trimmed parts.1 in
-    if nat_lt n (2 ^ 31) && is_token method then Some (record { number = n; method = method }) else None) (number parts.0)) (cut Blank value)
+sequence_of value = option_and_then (λ parts. option_and_then (λ n. let method = trimmed parts.1
+    in if nat_lt n (2 ^ 31) && is_token method then Some (record { number = n; method = method })
+    else None) (number parts.0)) (cut Blank value)
 
 -- a request has the method of its `CSeq`; an answer may have any
 abbrev pub agrees : StartText → List ℕ → Bool
@@ -91,7 +91,8 @@ fielded start lines after = do
 
 -- each line after the first is a header line
 abbrev pub checked : StartText → List (List ℕ) → List ℕ → Result MessageText SipFault
-checked start lines after = if list_all is_field lines then fielded start lines after else Err BadField
+checked start lines after =
+    if list_all is_field lines then fielded start lines after else Err BadField
 
 abbrev pub started : List (List ℕ) → List ℕ → Option StartText → Result MessageText SipFault
 started lines after None = Err BadStart
@@ -108,4 +109,5 @@ headed (Some parts) = begun (lines_of parts.0) parts.1
 
 -- The message that octets are, or why they are none.
 abbrev pub message_of : List ℕ → Result MessageText SipFault
-message_of octets = if nat_lt 65535 (length octets) then Err TooLong else headed (cut HeadEnd octets)
+message_of octets =
+    if nat_lt 65535 (length octets) then Err TooLong else headed (cut HeadEnd octets)

@@ -17,14 +17,16 @@ is_text text = list_all is_text_octet text
 
 -- a visible octet of ASCII that parts no values and no parameters: neither a comma, a semicolon, a quotation mark nor an angle bracket
 abbrev pub is_visible_octet : ℕ → Bool
-is_visible_octet octet = nat_lt 32 octet && nat_lt octet 127 && not (list_any (λ mark. mark == octet) (codes ",;\"<>"))
+is_visible_octet octet =
+    nat_lt 32 octet && nat_lt octet 127 && not (list_any (λ mark. mark == octet) (codes ",;\"<>"))
 
 abbrev pub is_visible : List ℕ → Bool
 is_visible text = nat_lt 0 (length text) && list_all is_visible_octet text
 
 -- a visible octet of ASCII that may stand in an address between angle brackets
 abbrev pub is_address_octet : ℕ → Bool
-is_address_octet octet = nat_lt 32 octet && nat_lt octet 127 && not (list_any (λ mark. mark == octet) (codes "\"<>"))
+is_address_octet octet =
+    nat_lt 32 octet && nat_lt octet 127 && not (list_any (λ mark. mark == octet) (codes "\"<>"))
 
 abbrev pub is_address : List ℕ → Bool
 is_address text = nat_lt 0 (length text) && list_all is_address_octet text
@@ -43,7 +45,8 @@ is_own other = false
 
 -- why a header line is not told
 abbrev pub field_fault : Field → Option WriteFault
-field_fault field = if is_own field.name || not (is_text field.value.now) then Some (BadField field.name) else None
+field_fault field =
+    if is_own field.name || not (is_text field.value.now) then Some (BadField field.name) else None
 
 -- why the first that is not told is not
 abbrev pub fields_fault : List Field → Option WriteFault

@@ -31,15 +31,18 @@ tag_octets (Some tag) = codes ";tag=" ++ tag
 
 -- `From` or `To`: the address between angle brackets, and the tag where there is one (8.1.1.2, 8.1.1.3)
 abbrev pub party_line : Name → Party → List ℕ
-party_line name party = long name ++ (codes ": <" ++ (party.uri.now ++ (codes ">" ++ (tag_octets (option_map (λ tag. tag.now) party.tag) ++ codes "\r\n"))))
+party_line name party = long name ++ (codes ": <" ++ (party.uri.now
+    ++ (codes ">" ++ (tag_octets (option_map (λ tag. tag.now) party.tag) ++ codes "\r\n"))))
 
 -- the number and the method (8.1.1.5)
 abbrev pub number_line : ℕ → List ℕ → List ℕ
-number_line number method = codes "CSeq: " ++ (decimal number ++ (codes " " ++ (method ++ codes "\r\n")))
+number_line number method =
+    codes "CSeq: " ++ (decimal number ++ (codes " " ++ (method ++ codes "\r\n")))
 
 -- the first line, the hop, and how often the request may be forwarded (8.1.1.6)
 abbrev pub front : Request → List ℕ
-front request = request_line request.method.now request.uri.now ++ (via_line request.sent_by.now request.branch.now ++ codes "Max-Forwards: 70\r\n")
+front request = request_line request.method.now request.uri.now
+    ++ (via_line request.sent_by.now request.branch.now ++ codes "Max-Forwards: 70\r\n")
 
 -- A request: its first lines, its ends, its call and its number, further header lines, the length of its body, an empty line, and the body.
 abbrev pub request_octets : Request → List ℕ
@@ -65,16 +68,17 @@ is_tag_or_none (Some tag) = is_token tag
 
 -- of its ends, its call, its number and the further header lines
 abbrev pub ends_fault : Request → Option WriteFault
-ends_fault request =
-    if not (is_address request.from.uri.now) || not (is_address request.to.uri.now) then Some BadAddress else
-    if not (has_tag (option_map (λ tag. tag.now) request.from.tag)) || not (is_tag_or_none (option_map (λ tag. tag.now) request.to.tag)) then Some BadTag else
-    if not (is_visible request.call_id.now) then Some BadCallId else
-    if nat_le (2 ^ 31) request.number then Some BadNumber else fields_fault request.fields.now
+ends_fault request = if not (is_address request.from.uri.now) || not (is_address request.to.uri.now)
+    then Some BadAddress else if not (has_tag (option_map (λ tag. tag.now) request.from.tag))
+    || not (is_tag_or_none (option_map (λ tag. tag.now) request.to.tag))
+    then Some BadTag else if not (is_visible request.call_id.now) then Some BadCallId
+    else if nat_le (2 ^ 31) request.number then Some BadNumber else fields_fault request.fields.now
 
 -- Why a request is not written: the first fault of these, in this order.
 abbrev pub request_fault : Request → Option WriteFault
-request_fault request =
-    if not (is_token request.method.now) then Some BadMethod else
-    if not (is_address request.uri.now) then Some BadAddress else
-    if not (is_visible request.sent_by.now) then Some BadSender else
-    if not (is_token request.branch.now) || not (starts_with nat_eq request.branch.now (codes "z9hG4bK")) then Some BadBranch else ends_fault request
+request_fault request = if not (is_token request.method.now)
+    then Some BadMethod else if not (is_address request.uri.now)
+    then Some BadAddress else if not (is_visible request.sent_by.now)
+    then Some BadSender else if not (is_token request.branch.now)
+    || not (starts_with nat_eq request.branch.now (codes "z9hG4bK"))
+    then Some BadBranch else ends_fault request

@@ -21,22 +21,24 @@ start_text (start.Answer status) = Answer status
 
 -- a status: three digits, 100 to 699
 abbrev pub status_of : List ℕ → Option ℕ
-status_of digits =
-    if length digits == 3 then option_and_then (λ status. if nat_le 100 status && nat_lt status 700 then Some status else None) (number digits) else None
+status_of digits = if length digits == 3 then option_and_then (λ status.
+    if nat_le 100 status && nat_lt status 700 then Some status else None) (number digits) else None
 
 -- an answer: a status, a space and a reason
 abbrev pub answer_of : List ℕ → Option StartText
-answer_of rest = option_and_then (λ parts. option_map Answer (status_of parts.0)) (cut (Octet 32) rest)
+answer_of rest =
+    option_and_then (λ parts. option_map Answer (status_of parts.0)) (cut (Octet 32) rest)
 
 -- a request: its method is a token, and after its Request-URI stands the version
 abbrev pub request_of : List ℕ → List ℕ → Option StartText
-request_of word rest =
-    option_and_then (λ parts. if is_token word && nat_lt 0 (length parts.0) && is_word parts.1 (codes "SIP/2.0") then Some (Request word parts.0) else None) (cut (Octet 32) rest)
+request_of word rest = option_and_then
+    (λ parts. if is_token word && nat_lt 0 (length parts.0) && is_word parts.1 (codes "SIP/2.0")
+    then Some (Request word parts.0) else None) (cut (Octet 32) rest)
 
 -- What a first line says: an answer begins with the version, and a request ends with it.
 abbrev pub start_of : List ℕ → Option StartText
-start_of line =
-    option_and_then (λ parts. if is_word parts.0 (codes "SIP/2.0") then answer_of parts.1 else request_of parts.0 parts.1) (cut (Octet 32) line)
+start_of line = option_and_then (λ parts. if is_word parts.0 (codes "SIP/2.0")
+    then answer_of parts.1 else request_of parts.0 parts.1) (cut (Octet 32) line)
 
 -- the method of a word
 abbrev pub method_of : List ℕ → Method

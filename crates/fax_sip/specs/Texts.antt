@@ -42,7 +42,8 @@ ends_line text = starts_with nat_eq text (codes "\r\n") && not (goes_on (drop 2 
 -- a mark stands at the front of a text whose first octet stands so
 abbrev pub stands : Mark → Quoting → List ℕ → Bool
 stands (marks.Octet octet) quoting text = first_is (λ first. first == octet) text
-stands (marks.Outside octet) quoting text = is_outside quoting && first_is (λ first. first == octet) text
+stands (marks.Outside octet) quoting text =
+    is_outside quoting && first_is (λ first. first == octet) text
 stands marks.Blank quoting text = first_is is_ascii_whitespace text
 stands marks.LineEnd quoting text = ends_line text
 stands marks.HeadEnd quoting text = starts_with nat_eq text (codes "\r\n\r\n")
@@ -58,7 +59,8 @@ width marks.HeadEnd = 4
 -- the place of the first such mark in a text
 unfoldable pub place_of : Mark → Quoting → List ℕ → Option ℕ
 place_of mark quoting [] = None
-place_of mark quoting (octet ∷ text) = if stands mark quoting (octet ∷ text) then Some 0 else option_map suc (place_of mark (after quoting octet) text)
+place_of mark quoting (octet ∷ text) = if stands mark quoting (octet ∷ text)
+    then Some 0 else option_map suc (place_of mark (after quoting octet) text)
 
 -- what stands before a place, and what after so many octets from there
 abbrev pub parted : ℕ → List ℕ → ℕ → List ℕ × List ℕ
@@ -74,13 +76,15 @@ cut mark text = option_map (parted (width mark) text) (place_of mark Outside tex
 unfoldable pub lines_of : List ℕ → List (List ℕ)
 lines_of [] = []
 lines_of (a ∷ []) = (a ∷ []) ∷ []
-lines_of (a ∷ b ∷ text) = if ends_line (a ∷ b ∷ text) then [] ∷ lines_of text else onto_first a (lines_of (b ∷ text))
+lines_of (a ∷ b ∷ text) =
+    if ends_line (a ∷ b ∷ text) then [] ∷ lines_of text else onto_first a (lines_of (b ∷ text))
 
 -- the parts of a text between these octets, outside of quoted strings and of angle brackets; the first octet stands so
 unfoldable pub parts_from : ℕ → Quoting → List ℕ → List (List ℕ)
 parts_from separator quoting [] = [] ∷ []
 parts_from separator quoting (octet ∷ text) =
-    if stands (marks.Outside separator) quoting (octet ∷ text) then [] ∷ parts_from separator Outside text
+    if stands (marks.Outside separator) quoting (octet ∷ text)
+    then [] ∷ parts_from separator Outside text
     else onto_first octet (parts_from separator (after quoting octet) text)
 
 abbrev pub parts_of : ℕ → List ℕ → List (List ℕ)
@@ -111,5 +115,5 @@ is_word text word = bytes_eq (map to_ascii_lowercase text) (map to_ascii_lowerca
 
 -- the number that digits write, where it is below 2 ^ 32
 unfoldable pub number : List ℕ → Option ℕ
-number text =
-    if list_all is_ascii_digit text && (nat_lt 0 (length text) && nat_lt (digits_value 10 text) (2 ^ 32)) then Some (digits_value 10 text) else None
+number text = if list_all is_ascii_digit text && (nat_lt 0 (length text)
+    && nat_lt (digits_value 10 text) (2 ^ 32)) then Some (digits_value 10 text) else None

@@ -36,9 +36,11 @@ pub fn write_answer(
     request: &Message<'_>,
     reply: &Reply<'_>,
 ) -> Result<Vec<u8>, WriteFault>
-    ensures ok { IfOk result (λ octets. octets.items ≡ answer_octets (message_text request.now) reply.now) }
+    ensures ok { IfOk result
+        (λ octets. octets.items ≡ answer_octets (message_text request.now) reply.now) }
     ensures fails { IfSome (reply_fault reply.now) (λ fault. result ≡ Err fault) }
-    ensures memory { IfNone (reply_fault reply.now) (IfErr result (λ fault. fault ≡ WriteFault.NoMemory)) }
+    ensures memory { IfNone (reply_fault reply.now) (IfErr result
+        (λ fault. fault ≡ WriteFault.NoMemory)) }
 {
     if let Some(fault) = fault_of_reply(reply) {
         return Err(fault);
@@ -68,7 +70,8 @@ fn octets_of_answer(
     request: &Message<'_>,
     reply: &Reply<'_>,
 ) -> Result<Vec<u8>, AllocError>
-    ensures { IfOk result (λ octets. octets.items ≡ answer_octets (message_text request.now) reply.now) }
+    ensures { IfOk result
+        (λ octets. octets.items ≡ answer_octets (message_text request.now) reply.now) }
 {
     let mut octets = write_status_line(alloc, reply.status, reply.reason)?;
     put_kept(&mut octets, request, reply.tag)?;
@@ -89,7 +92,8 @@ fn write_status_line(alloc: Global, status: u16, reason: &str) -> Result<Vec<u8>
 
 /// Writes each header line of a name again.
 fn put_copies(octets: &mut Vec<u8>, lines: &[u8], name: Name) -> Result<(), AllocError>
-    ensures { OnOk result (octets.new.items ≡ octets.old.items ++ copied name (lines_of lines.now)) }
+    ensures { OnOk result (octets.new.items
+        ≡ octets.old.items ++ copied name (lines_of lines.now)) }
 {
     let mut rest = lines;
     while let Some((value, after)) = next_value(rest, name) {
@@ -115,7 +119,8 @@ fn put_to(octets: &mut Vec<u8>, to: &[u8], tag: &str) -> Result<(), AllocError>
 
 /// Writes the header lines that each answer has again.
 fn put_kept(octets: &mut Vec<u8>, request: &Message<'_>, tag: &str) -> Result<(), AllocError>
-    ensures { OnOk result (octets.new.items ≡ octets.old.items ++ kept_fields (message_text request.now) tag.now) }
+    ensures { OnOk result (octets.new.items
+        ≡ octets.old.items ++ kept_fields (message_text request.now) tag.now) }
 {
     put_copies(octets, request.lines, Name::Via)?;
     put_header(octets, Name::From, request.from)?;
@@ -126,7 +131,8 @@ fn put_kept(octets: &mut Vec<u8>, request: &Message<'_>, tag: &str) -> Result<()
 
 /// Writes `Record-Route` again where the answer may begin a dialog.
 fn put_routes(octets: &mut Vec<u8>, lines: &[u8], status: u16) -> Result<(), AllocError>
-    ensures { OnOk result (octets.new.items ≡ octets.old.items ++ routes status (lines_of lines.now)) }
+    ensures { OnOk result (octets.new.items
+        ≡ octets.old.items ++ routes status (lines_of lines.now)) }
 {
     if status < 300 {
         put_copies(octets, lines, Name::RecordRoute)

@@ -78,7 +78,8 @@ fn value_of(line: &[u8], name: Name) -> Option<&[u8]>
 /// The value of the first line of a name, and the lines after it.
 pub(crate) fn next_value(lines: &[u8], name: Name) -> Option<(&[u8], &[u8])>
     ensures none { IfNone result (values_of name (lines_of lines.now) ≡ []) }
-    ensures some { IfSome result (λ found. values_of name (lines_of lines.now) ≡ found.0.now ∷ values_of name (lines_of found.1.now)) }
+    ensures some { IfSome result (λ found. values_of name (lines_of lines.now)
+        ≡ found.0.now ∷ values_of name (lines_of found.1.now)) }
     ensures shorter { IfSome result (λ found. length found.1.now < length lines.now) }
 {
     let mut rest = lines;

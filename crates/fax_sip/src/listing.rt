@@ -71,7 +71,8 @@ impl<'a> Iterator for Elements<'a> {
 impl<'a> Message<'a> {
     /// The value of the first header line of a name, white space at its ends aside. A line that goes on in the next has its end in it.
     pub fn value(&self, name: Name) -> Option<&'a [u8]>
-        ensures { option_map (λ value. value.now) result ≡ first_of (values_of name (message_text self.now).lines) }
+        ensures { option_map
+            (λ value. value.now) result ≡ first_of (values_of name (message_text self.now).lines) }
     {
         match next_value(self.lines, name) {
             Some((value, _)) => Some(value),
@@ -122,7 +123,8 @@ fn with_line<'a>(left: Elements<'a>) -> Elements<'a>
 /// The next value, and what is left after it.
 fn next_element<'a>(left: Elements<'a>) -> Option<(&'a [u8], Elements<'a>)>
     ensures none { IfNone result (elements_left left.entry ≡ []) }
-    ensures some { IfSome result (λ found. elements_left left.entry ≡ found.0.now ∷ elements_left found.1) }
+    ensures some { IfSome result
+        (λ found. elements_left left.entry ≡ found.0.now ∷ elements_left found.1) }
 {
     let Elements { line, lines, name } = with_line(left);
     match line {

@@ -68,7 +68,8 @@ fn read_head<'a>(head: &'a [u8], body: &'a [u8]) -> Result<Message<'a>, SipFault
 
 /// The message of a first line, the header lines and what follows them.
 fn read_start<'a>(line: &'a [u8], lines: &'a [u8], body: &'a [u8]) -> Result<Message<'a>, SipFault>
-    ensures { Gives message_text result (started (lines_of lines.now) body.now (start_in line.now)) }
+    ensures { Gives message_text
+        result (started (lines_of lines.now) body.now (start_in line.now)) }
 {
     match start_of(line) {
         Some(start) => read_lines(start, lines, body),
@@ -82,7 +83,8 @@ fn read_lines<'a>(
     lines: &'a [u8],
     body: &'a [u8],
 ) -> Result<Message<'a>, SipFault>
-    ensures { Gives message_text result (checked (start_text start.entry) (lines_of lines.now) body.now) }
+    ensures { Gives message_text result (checked (start_text start.entry)
+        (lines_of lines.now) body.now) }
 {
     if are_fields(lines) {
         read_fields(start, lines, body)
@@ -98,7 +100,8 @@ fn read_fields<'a>(
     lines: &'a [u8],
     body: &'a [u8],
 ) -> Result<Message<'a>, SipFault>
-    ensures { Gives message_text result (fielded (start_text start.entry) (lines_of lines.now) body.now) }
+    ensures { Gives message_text result (fielded (start_text start.entry)
+        (lines_of lines.now) body.now) }
 {
     at_least_one(lines, Name::Via)?;
     let from = single(lines, Name::From)?;
@@ -159,7 +162,8 @@ fn agrees(start: Start<'_>, method: &[u8]) -> bool
 
 /// The body of what follows the header lines, and of what `Content-Length` tells.
 fn body_of<'a>(length: Option<&[u8]>, body: &'a [u8]) -> Result<&'a [u8], SipFault>
-    ensures { Gives (λ body. body.now) result (body_in (option_map (λ length. length.now) length.entry) body.now) }
+    ensures { Gives (λ body.
+        body.now) result (body_in (option_map (λ length. length.now) length.entry) body.now) }
 {
     match length {
         Some(digits) => cut_body(digits, body),

@@ -19,7 +19,8 @@ pub struct Via<'a> {
 
 /// The part of a text before the first such octet outside of quoted strings and of angle brackets, and the text after it.
 pub(crate) fn first_part(text: &[u8], separator: u8) -> (&[u8], Option<&[u8]>)
-    ensures parts { parts_of separator text.now ≡ result.0.now ∷ parts_left separator (option_map (λ rest. rest.now) result.1) }
+    ensures parts { parts_of separator text.now
+        ≡ result.0.now ∷ parts_left separator (option_map (λ rest. rest.now) result.1) }
     ensures shorter { IfSome result.1 (λ rest. length rest.now < length text.now) }
 {
     match cut(text, Mark::Outside(separator)) {
@@ -64,7 +65,8 @@ fn value_in<'a>(part: &'a [u8], name: &[u8]) -> Option<&'a [u8]>
 /// The value of the first part that is a parameter of this name.
 fn find_parameter<'a>(parts: Option<&'a [u8]>, separator: u8, name: &[u8]) -> Option<&'a [u8]>
     ensures { option_map (λ value. value.now) result
-        ≡ first_of (filter_map (parameter_value name.now) (parts_left separator (option_map (λ rest. rest.now) parts.entry))) }
+        ≡ first_of (filter_map (parameter_value name.now) (parts_left separator (option_map
+        (λ rest. rest.now) parts.entry))) }
 {
     let mut rest = parts;
     while let Some(text) = rest {

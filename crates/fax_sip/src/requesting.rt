@@ -48,7 +48,8 @@ pub struct Request<'a> {
 pub fn write_request(alloc: Global, request: &Request<'_>) -> Result<Vec<u8>, WriteFault>
     ensures ok { IfOk result (λ octets. octets.items ≡ request_octets request.now) }
     ensures fails { IfSome (request_fault request.now) (λ fault. result ≡ Err fault) }
-    ensures memory { IfNone (request_fault request.now) (IfErr result (λ fault. fault ≡ WriteFault.NoMemory)) }
+    ensures memory { IfNone (request_fault request.now) (IfErr result
+        (λ fault. fault ≡ WriteFault.NoMemory)) }
 {
     if let Some(fault) = fault_of_request(request) {
         return Err(fault);
@@ -178,7 +179,8 @@ fn put_party(octets: &mut Vec<u8>, name: Name, party: &Party<'_>) -> Result<(), 
 
 /// Writes a tag, where there is one.
 fn put_tag(octets: &mut Vec<u8>, tag: Option<&[u8]>) -> Result<(), AllocError>
-    ensures { OnOk result (octets.new.items ≡ octets.old.items ++ tag_octets (option_map (λ tag. tag.now) tag.entry)) }
+    ensures { OnOk result (octets.new.items
+        ≡ octets.old.items ++ tag_octets (option_map (λ tag. tag.now) tag.entry)) }
 {
     match tag {
         Some(tag) => {

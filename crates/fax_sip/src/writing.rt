@@ -27,7 +27,8 @@ pub(crate) fn put_header(octets: &mut Vec<u8>, name: Name, value: &[u8]) -> Resu
 
 /// Writes header lines that are told.
 pub(crate) fn put_fields(octets: &mut Vec<u8>, fields: &[Field<'_>]) -> Result<(), AllocError>
-    ensures { OnOk result (octets.new.items ≡ octets.old.items ++ flat_map field_octets fields.now) }
+    ensures { OnOk result (octets.new.items
+        ≡ octets.old.items ++ flat_map field_octets fields.now) }
 {
     for field in fields {
         put_header(octets, field.name, field.value)?;

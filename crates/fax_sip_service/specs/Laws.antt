@@ -65,8 +65,10 @@ StepsBy (Stopped now) old new = EndsAll now old new
 StepsBy Emptied old new = Empties old new
 
 abbrev pub Passes : ℕ → List Step → Service → Type 0
-Passes most [] service = (service.agent.switch ≡ begun most) × (service.agent.words ≡ []) × (service.to_say ≡ [])
-Passes most (step ∷ earlier) service = (before : Service) × Passes most earlier before × StepsBy step before service
+Passes most [] service =
+    (service.agent.switch ≡ begun most) × (service.agent.words ≡ []) × (service.to_say ≡ [])
+Passes most (step ∷ earlier) service =
+    (before : Service) × Passes most earlier before × StepsBy step before service
 
 -- what was said, oldest first
 abbrev pub said_by : Step → List Said
@@ -88,7 +90,8 @@ said_in (step ∷ earlier) = said_in earlier ++ said_by step
 -- the words of the switch to lines, oldest first, since what happened to it, newest first
 abbrev pub words_since : ℕ → List (ℕ × Event) → List LineAction
 words_since most [] = []
-words_since most (happening ∷ past) = words_since most past ++ words_of (table_after most (happening ∷ past)).entries
+words_since most (happening ∷ past) =
+    words_since most past ++ words_of (table_after most (happening ∷ past)).entries
 
 -- what orders say
 abbrev pub says : List LineOrder → List Said
@@ -98,7 +101,8 @@ says orders = flat_map (λ given. option_to_list (said_of given)) orders
 
 -- how what was said was answered
 abbrev pub AnswerBrings : Said → Reply → Event → Type 0
-AnswerBrings (said.Ring call tag) (reply.RungOn rung) event = (on : LineCall) × (line_call rung.line rung.call ≡ Some on) × (event ≡ Rung call on)
+AnswerBrings (said.Ring call tag) (reply.RungOn rung) event =
+    (on : LineCall) × (line_call rung.line rung.call ≡ Some on) × (event ≡ Rung call on)
 AnswerBrings (said.Ring call tag) (reply.Refused why) event = event ≡ NotRung call 503
 AnswerBrings (said.Ring call tag) reply.Done event = ⊥
 AnswerBrings (said.Ring call tag) (reply.Rung rung) event = ⊥
@@ -111,14 +115,18 @@ AnswerBrings (said.HangUp place) answer event = ⊥
 
 -- the call of a job of this line is asked for, its call is over, or its job
 abbrev pub LineBrings : ℕ → LineEvent → Event → Type 0
-LineBrings line (happened.Asked job tag) event = (on : LineCall) × (choice : Choice) × (line_call line job.call ≡ Some on) × (event ≡ Dialled on choice)
-LineBrings line (happened.Ended ended ending) event = (on : LineCall) × (line_call line ended.call ≡ Some on) × (event ≡ CallOver on)
-LineBrings line (happened.Job report tag cause) event = (on : LineCall) × (line_call line report.call ≡ Some on) × (event ≡ JobOver on)
+LineBrings line (happened.Asked job tag) event = (on : LineCall)
+    × (choice : Choice) × (line_call line job.call ≡ Some on) × (event ≡ Dialled on choice)
+LineBrings line (happened.Ended ended ending) event =
+    (on : LineCall) × (line_call line ended.call ≡ Some on) × (event ≡ CallOver on)
+LineBrings line (happened.Job report tag cause) event =
+    (on : LineCall) × (line_call line report.call ≡ Some on) × (event ≡ JobOver on)
 LineBrings line other event = ⊥
 
 -- a message is an event that it may be, over some routes
 abbrev pub MessageBrings : Result MessageText SipFault → Event → Type 0
-MessageBrings message event = (routes : List RouteValue) × (text : MessageText) × (message ≡ Ok text) × MayBe routes text event
+MessageBrings message event = (routes : List RouteValue)
+    × (text : MessageText) × (message ≡ Ok text) × MayBe routes text event
 
 -- What a step brings the switch, if anything: a datagram what its message may be, time one thing after the other, an answer, a line's event; and as the server
 -- ends, the end of a call.
@@ -144,7 +152,8 @@ EachOf P [] = Unit {0}
 EachOf P (heard ∷ past) = P heard × EachOf P past
 
 -- What the switch heard, each of which was brought so, and the orders of the agent, which are its words: they say what was said and what is to be said.
-pub record SaysItsWords (most : ℕ) (brought : ℕ × Event → Type 0) (told : List Said) (service : Service) : Type 0 where
+pub record SaysItsWords (most : ℕ)
+    (brought : ℕ × Event → Type 0) (told : List Said) (service : Service) : Type 0 where
   pub past : List (ℕ × Event)
   pub came : EachOf brought past
   pub orders : List LineOrder
@@ -156,4 +165,5 @@ pub record SaysItsWords (most : ℕ) (brought : ℕ × Event → Type 0) (told :
 -- own laws speak, and each thing that it heard was brought by a datagram, a moment, an answer or a line; what it has to say to lines since then is what the agent
 -- ordered; and these orders, in their order, are what was said at the desk and then what is still to be said.
 abbrev pub EachWordIsSaid : Type 0
-EachWordIsSaid = (most : ℕ) (passed : List Step) (service : Service) → Passes most passed service → service.lost ≡ 0 → SaysItsWords most (IsBrought passed) (said_in passed) service
+EachWordIsSaid = (most : ℕ) (passed : List Step) (service : Service) → Passes most passed service
+    → service.lost ≡ 0 → SaysItsWords most (IsBrought passed) (said_in passed) service

@@ -75,13 +75,16 @@ Tells now event old new = Does (Hears now event) (HearsInPart now event) old new
 
 -- a datagram, whose trunk and whose message are these
 abbrev pub HearsWhole : ℕ → Option ℕ → Result MessageText SipFault → Agent → Agent → Type 0
-HearsWhole now trunk message old new = (heard : Heard) × HearsDatagram {E = Unit {0}} now trunk message (Ok heard) old new
+HearsWhole now trunk message old new =
+    (heard : Heard) × HearsDatagram {E = Unit {0}} now trunk message (Ok heard) old new
 
 abbrev pub HearsPart : ℕ → Option ℕ → Result MessageText SipFault → Agent → Agent → Type 0
-HearsPart now trunk message old new = HearsDatagram {E = Unit {0}} now trunk message (Err tt) old new
+HearsPart now trunk message old new =
+    HearsDatagram {E = Unit {0}} now trunk message (Err tt) old new
 
 abbrev pub HearsFrom : ℕ → Option ℕ → Result MessageText SipFault → Service → Service → Type 0
-HearsFrom now trunk message old new = Does (HearsWhole now trunk message) (HearsPart now trunk message) old new
+HearsFrom now trunk message old new =
+    Does (HearsWhole now trunk message) (HearsPart now trunk message) old new
 
 -- time passed, and one thing was due
 abbrev pub GoesOnOnce : ℕ → Service → Service → Type 0
@@ -89,7 +92,8 @@ GoesOnOnce now old new = Does (HearsOne now) (MayHearInPart now) old new
 
 abbrev pub GoesOnTimes : ℕ → ℕ → Service → Service → Type 0
 GoesOnTimes now zero old new = new ≡ old
-GoesOnTimes now (suc count) old new = (mid : Service) × GoesOnTimes now count old mid × GoesOnOnce now mid new
+GoesOnTimes now (suc count) old new =
+    (mid : Service) × GoesOnTimes now count old mid × GoesOnOnce now mid new
 
 abbrev pub GoesOn : ℕ → Service → Service → Type 0
 GoesOn now old new = (count : ℕ) × GoesOnTimes now count old new
@@ -97,7 +101,8 @@ GoesOn now old new = (count : ℕ) × GoesOnTimes now count old new
 -- ---- the calls of legs
 
 abbrev pub line_call : ℕ → ℕ → Option LineCall
-line_call line call = if nat_lt line 4294967296 then Some (record { line = line; call = call }) else None
+line_call line call =
+    if nat_lt line 4294967296 then Some (record { line = line; call = call }) else None
 
 abbrev pub leg_address : Leg → SipLine → SocketAddr
 leg_address Calling line = line.calling
@@ -109,7 +114,8 @@ address_of lines place = option_map (leg_address place.leg) (slice_get lines pla
 
 -- SIP holds the call of this leg, if memory suffices
 abbrev pub Holds : Place → Service → Service → Type 0
-Holds place old new = (new ≡ record old { places = old.places ++ place ∷ [] }) ⊎ (new ≡ record old { lost = counted old.lost })
+Holds place old new = (new ≡ record old { places = old.places ++ place ∷ [] })
+    ⊎ (new ≡ record old { lost = counted old.lost })
 
 abbrev pub without : Place → List Place → List Place
 without place places = filter (λ held. not (same_place held place)) places
@@ -123,12 +129,14 @@ abbrev pub over_of : Place → Event
 over_of place = over_on place.leg (record { line = place.line; call = place.call })
 
 abbrev pub Ends : ℕ → Place → Service → Service → Type 0
-Ends now place old new = Tells now (over_of place) (record old { places = without place old.places }) new
+Ends now place old new =
+    Tells now (over_of place) (record old { places = without place old.places }) new
 
 -- the agent is told so of each of them, one after the other
 abbrev pub EndsEach : ℕ → List Place → Service → Service → Type 0
 EndsEach now [] old new = new ≡ old
-EndsEach now (place ∷ others) old new = (mid : Service) × Tells now (over_of place) old mid × EndsEach now others mid new
+EndsEach now (place ∷ others) old new =
+    (mid : Service) × Tells now (over_of place) old mid × EndsEach now others mid new
 
 -- ---- WHAT THE AGENT ORDERS IS TO BE SAID, each order once and in their order, after what was to be said before
 
@@ -141,7 +149,8 @@ Refuses now (said.HangUp place) old new = new ≡ old
 
 -- this is to be said; or memory is refused for it, and the agent is told that it was refused
 abbrev pub Keeps : ℕ → Said → Service → Service → Type 0
-Keeps now it old new = (new ≡ record old { to_say = old.to_say ++ it ∷ [] }) ⊎ Refuses now it (record old { lost = counted old.lost }) new
+Keeps now it old new = (new ≡ record old { to_say = old.to_say ++ it ∷ [] })
+    ⊎ Refuses now it (record old { lost = counted old.lost }) new
 
 abbrev pub KeepsIf : ℕ → Option Said → Service → Service → Type 0
 KeepsIf now None old new = new ≡ old
@@ -149,19 +158,23 @@ KeepsIf now (Some it) old new = Keeps now it old new
 
 -- audio begins and ends as an order says, if memory suffices; and what it says is to be said
 abbrev pub TakesOrder : ℕ → LineOrder → Service → Service → Type 0
-TakesOrder now given old new = (mid : Service) × IsNoted old mid × KeepsIf now (said_of given) mid new
+TakesOrder now given old new =
+    (mid : Service) × IsNoted old mid × KeepsIf now (said_of given) mid new
 
 abbrev pub TakesOrders : ℕ → List LineOrder → Service → Service → Type 0
 TakesOrders now [] old new = new ≡ old
-TakesOrders now (given ∷ others) old new = (mid : Service) × TakesOrder now given old mid × TakesOrders now others mid new
+TakesOrders now (given ∷ others) old new =
+    (mid : Service) × TakesOrder now given old mid × TakesOrders now others mid new
 
 -- what the agent tells is to be told, if memory suffices
 abbrev pub KeepsNews : Told → Service → Service → Type 0
-KeepsNews told old new = (new ≡ record old { news = old.news ++ told ∷ [] }) ⊎ (new ≡ record old { lost = counted old.lost })
+KeepsNews told old new = (new ≡ record old { news = old.news ++ told ∷ [] })
+    ⊎ (new ≡ record old { lost = counted old.lost })
 
 abbrev pub TakesNews : List Told → Service → Service → Type 0
 TakesNews [] old new = new ≡ old
-TakesNews (told ∷ others) old new = (mid : Service) × KeepsNews told old mid × TakesNews others mid new
+TakesNews (told ∷ others) old new =
+    (mid : Service) × KeepsNews told old mid × TakesNews others mid new
 
 abbrev pub without_words : Service → Service
 without_words service = record service { agent = record service.agent { words = [] } }
@@ -185,11 +198,13 @@ AndCollects now does old new = (mid : Service) × does old mid × Collects now m
 -- a line was rung for a call; nobody is told where there is no such line
 abbrev pub RingsOn : ℕ → ℕ → LineCall → Option SocketAddr → Service → Service → Type 0
 RingsOn now call on None old new = new ≡ old
-RingsOn now call on (Some address) old new = (mid : Service) × Holds (calling_place on) old mid × Tells now (Rung call on) mid new
+RingsOn now call on (Some address) old new =
+    (mid : Service) × Holds (calling_place on) old mid × Tells now (Rung call on) mid new
 
 abbrev pub RingsIf : ℕ → ℕ → Option LineCall → Service → Service → Type 0
 RingsIf now call None old new = new ≡ old
-RingsIf now call (Some on) old new = RingsOn now call on (address_of old.lines (calling_place on)) old new
+RingsIf now call (Some on) old new =
+    RingsOn now call on (address_of old.lines (calling_place on)) old new
 
 abbrev pub IsRung : ℕ → Said → Option LineCall → Service → Service → Type 0
 IsRung now (said.Ring call tag) on old new = RingsIf now call on old new
@@ -206,17 +221,20 @@ Answers now it (reply.Refused why) old new = Refuses now it old new
 -- what waits for the end of its order is answered; nothing where nothing waits
 abbrev pub AnswersIf : ℕ → Option Said → Reply → Service → Service → Type 0
 AnswersIf now None answer old new = new ≡ old
-AnswersIf now (Some it) answer old new = AndCollects now (Answers now it answer) (record old { waits = None }) new
+AnswersIf now (Some it) answer old new =
+    AndCollects now (Answers now it answer) (record old { waits = None }) new
 
 -- ---- WHAT HAPPENS ON LINES IS TOLD THE AGENT
 
 -- the call of a job is asked for; where memory is refused, it is refused with 500
 abbrev pub Dials : ℕ → LineCall → Service → Service → Type 0
 Dials now on old new =
-    DoesWhole (HearsDial now on) old new ⊎ ((mid : Service) × DoesPart (MayHearInPart now) old mid × TakesOrder now (order.Refuse (called_place on) 500) mid new)
+    DoesWhole (HearsDial now on) old new ⊎ ((mid : Service) × DoesPart (MayHearInPart now) old mid
+    × TakesOrder now (order.Refuse (called_place on) 500) mid new)
 
 abbrev pub HoldsAndDials : ℕ → LineCall → Service → Service → Type 0
-HoldsAndDials now on old new = (mid : Service) × Holds (called_place on) old mid × Dials now on mid new
+HoldsAndDials now on old new =
+    (mid : Service) × Holds (called_place on) old mid × Dials now on mid new
 
 -- SIP calls this number, from a leg that is heard there; it calls none that no route takes
 abbrev pub DialsFrom : ℕ → LineCall → Option SocketAddr → Service → Service → Type 0
@@ -229,7 +247,8 @@ DialsIf now on (Some number) address old new = DialsFrom now on address old new
 
 abbrev pub Asks : ℕ → Option LineCall → Option Tag → Service → Service → Type 0
 Asks now None tag old new = new ≡ old
-Asks now (Some on) tag old new = DialsIf now on (number_for old.routes tag) (address_of old.lines (called_place on)) old new
+Asks now (Some on) tag old new =
+    DialsIf now on (number_for old.routes tag) (address_of old.lines (called_place on)) old new
 
 abbrev pub EndsIf : ℕ → Option Place → Service → Service → Type 0
 EndsIf now None old new = new ≡ old
@@ -238,8 +257,10 @@ EndsIf now (Some place) old new = AndCollects now (Ends now place) old new
 -- this happened on this line, counted from 0
 abbrev pub Happens : ℕ → ℕ → LineEvent → Service → Service → Type 0
 Happens now line (happened.Asked job tag) old new = Asks now (line_call line job.call) tag old new
-Happens now line (happened.Ended ended ending) old new = EndsIf now (option_map calling_place (line_call line ended.call)) old new
-Happens now line (happened.Job report tag cause) old new = EndsIf now (option_map called_place (line_call line report.call)) old new
+Happens now line (happened.Ended ended ending) old new =
+    EndsIf now (option_map calling_place (line_call line ended.call)) old new
+Happens now line (happened.Job report tag cause) old new =
+    EndsIf now (option_map called_place (line_call line report.call)) old new
 Happens now line (happened.Rung rung) old new = new ≡ old
 Happens now line (happened.NotStored lost) old new = new ≡ old
 Happens now line (happened.Page page tag) old new = new ≡ old
@@ -252,7 +273,8 @@ Happens now line (happened.Connected connected) old new = new ≡ old
 -- the registrations are to end; once
 abbrev pub Leaves : ℕ → Bool → Service → Service → Type 0
 Leaves now true old new = new ≡ old
-Leaves now false old new = AndCollects now (Does IsQuiet IsQuiet) (record old { is_leaving = true }) new
+Leaves now false old new =
+    AndCollects now (Does IsQuiet IsQuiet) (record old { is_leaving = true }) new
 
 -- all calls end
 abbrev pub EndsAll : ℕ → Service → Service → Type 0

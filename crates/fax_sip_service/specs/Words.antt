@@ -76,10 +76,14 @@ name_of lines place = option_map (λ line. string_bytes line.name) (slice_get li
 
 -- THE WORD SAYS SO
 abbrev pub Says : Said → List SipLine → Word → Type 0
-Says (said.Ring call tag) lines (word.Ring ring) =
-    (ring.line ≡ None) × (option_map (λ text. text.now) ring.tag ≡ Some tag.items) × (ring.bounds ≡ bounds_of None)
+Says (said.Ring call tag) lines (word.Ring ring) = (ring.line ≡ None)
+    × (option_map (λ text. text.now) ring.tag ≡ Some tag.items) × (ring.bounds ≡ bounds_of None)
 Says (said.Peer place end is_moved) lines (word.Peer peer) =
-    (name_of lines place ≡ Some peer.line.now) × (peer.leg ≡ leg_of place.leg) × (peer.address ≡ Some end.address) × (peer.bounds ≡ bounds_of end.octets) × (peer.is_moved ≡ is_moved)
-Says (said.Refuse place digits) lines (word.Refuse line cause) = (name_of lines place ≡ Some line.now) × (cause.now ≡ digits)
-Says (said.HangUp place) lines (word.HangUp line leg) = (name_of lines place ≡ Some line.now) × (leg ≡ leg_of place.leg)
+    (name_of lines place ≡ Some peer.line.now)
+    × (peer.leg ≡ leg_of place.leg) × (peer.address ≡ Some end.address)
+    × (peer.bounds ≡ bounds_of end.octets) × (peer.is_moved ≡ is_moved)
+Says (said.Refuse place digits) lines (word.Refuse line cause) =
+    (name_of lines place ≡ Some line.now) × (cause.now ≡ digits)
+Says (said.HangUp place) lines (word.HangUp line leg) =
+    (name_of lines place ≡ Some line.now) × (leg ≡ leg_of place.leg)
 Says it lines other = ⊥

@@ -157,7 +157,8 @@ impl SipService {
 
     /// A datagram came, from there.
     pub fn hear(&mut self, now: u64, from: SocketAddr, octets: &[u8])
-        ensures { AndCollects now (HearsFrom now (trunk_of self.old.agent.trunks from) (message_of octets.now)) self.old self.new }
+        ensures { AndCollects now (HearsFrom now (trunk_of self.old.agent.trunks from)
+            (message_of octets.now)) self.old self.new }
     {
         self.hear_datagram(now, from, octets);
         self.collect(now);
@@ -165,7 +166,8 @@ impl SipService {
 
     /// The agent hears a datagram; one that it drops is counted.
     fn hear_datagram(&mut self, now: u64, from: SocketAddr, octets: &[u8])
-        ensures { HearsFrom now (trunk_of self.old.agent.trunks from) (message_of octets.now) self.old self.new }
+        ensures { HearsFrom now (trunk_of self.old.agent.trunks from)
+            (message_of octets.now) self.old self.new }
     {
         match self.agent.hear(now, from, octets) {
             Ok(heard) => self.count_dropped(heard),
@@ -302,7 +304,8 @@ impl SipService {
 
     /// This is to be said after what was to be said before; it comes back where memory is refused.
     fn put_said(&mut self, said: Said) -> Option<Said>
-        ensures kept { IfNone result (self.new ≡ record self.old { to_say = self.old.to_say ++ said ∷ [] }) }
+        ensures kept { IfNone result (self.new
+            ≡ record self.old { to_say = self.old.to_say ++ said ∷ [] }) }
         ensures refused { IfSome result (λ refused. (refused ≡ said) × (self.new ≡ self.old)) }
     {
         match self.to_say.push_back(said) {
@@ -331,7 +334,8 @@ impl SipService {
 
     /// This is to be told after what was to be told before.
     fn put_told(&mut self, told: Told) -> Result<(), AllocError>
-        ensures ok { OnOk result (self.new ≡ record self.old { news = self.old.news ++ told ∷ [] }) }
+        ensures ok { OnOk result (self.new
+            ≡ record self.old { news = self.old.news ++ told ∷ [] }) }
         ensures err { OnErr result (self.new ≡ self.old) }
     {
         match self.news.push_back(told) {
@@ -511,7 +515,8 @@ impl SipService {
 
     /// SIP holds the call of this leg, where memory suffices.
     fn put_place(&mut self, place: Place) -> Result<(), AllocError>
-        ensures ok { OnOk result (self.new ≡ record self.old { places = self.old.places ++ place ∷ [] }) }
+        ensures ok { OnOk result (self.new
+            ≡ record self.old { places = self.old.places ++ place ∷ [] }) }
         ensures err { OnErr result (self.new ≡ self.old) }
     {
         match self.places.push(place) {
@@ -705,7 +710,8 @@ impl SipService {
     /// What is to be sent.
     pub fn take_datagrams(&mut self) -> Vec<Datagram>
         ensures taken { result.items ≡ self.old.agent.datagrams }
-        ensures rest { self.new ≡ record self.old { agent = record self.old.agent { datagrams = [] } } }
+        ensures rest { self.new
+            ≡ record self.old { agent = record self.old.agent { datagrams = [] } } }
     {
         self.agent.take_datagrams()
     }

@@ -16,9 +16,10 @@ pub record IsListed (one other : List ℕ) (listing : Listing) : Type 0 where
   pub one_tells : Tells one ones
   pub other_tells : Tells other others
   pub pages : listing.pages.items ≡ closed (waiting (older_of ones others ++ newer_of ones others))
-  pub torn : listing.torn.items
-      ≡ torn_found (is_destroyed (if comes_first ones others then one_tells.stands.end else other_tells.stands.end))
-      (is_destroyed (if comes_first ones others then other_tells.stands.end else one_tells.stands.end)) (older_of ones others) (newer_of ones others)
+  pub torn : listing.torn.items ≡ torn_found (is_destroyed (if comes_first ones others
+      then one_tells.stands.end else other_tells.stands.end))
+      (is_destroyed (if comes_first ones others then other_tells.stands.end
+      else one_tells.stands.end)) (older_of ones others) (newer_of ones others)
   pub one_damaged : listing.one.damaged ≡ damaged ones
   pub other_damaged : listing.other.damaged ≡ damaged others
   pub one_passed_over : listing.one.passed_over ≡ passed_over one_tells.stands.end

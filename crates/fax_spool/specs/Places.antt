@@ -26,10 +26,12 @@ pub record PlacedPage : Type 0 where
 
 -- it is this page, and its record stands there in a file of these records
 abbrev pub IsReadAt : List (List ℕ) → PlacedPage → PageValue → Type 0
-IsReadAt items placed page = (placed.page ≡ page) × StandsAt items placed.place placed.item × IsReadAs placed.item (Page page)
+IsReadAt items placed page = (placed.page ≡ page)
+    × StandsAt items placed.place placed.item × IsReadAs placed.item (Page page)
 
 -- they are these pages, in this order
 abbrev pub AreReadAt : List (List ℕ) → List PlacedPage → List PageValue → Type 0
 AreReadAt items [] [] = Unit {0}
-AreReadAt items (placed ∷ more) (page ∷ pages) = IsReadAt items placed page × AreReadAt items more pages
+AreReadAt items (placed ∷ more) (page ∷ pages) =
+    IsReadAt items placed page × AreReadAt items more pages
 AreReadAt items placed pages = ⊥

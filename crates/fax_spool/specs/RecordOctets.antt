@@ -64,10 +64,9 @@ page_octets p =
     ∷ short_octets p.line ++ (short_octets p.tag ++ p.text)
 
 abbrev pub ended_octets : EndedValue → List ℕ
-ended_octets e =
-    2 ∷ to_be_bytes w32 e.life ++ to_be_bytes w32 e.call ++ to_be_bytes w32 e.pages ++ to_be_bytes w32 e.delivered
-    ++ width_octet e.format.width ∷ flag_octet e.format.fine ∷ outcome_number e.outcome
-    ∷ to_be_bytes w32 e.first ++ short_octets e.line
+ended_octets e = 2 ∷ to_be_bytes w32 e.life ++ to_be_bytes w32 e.call ++ to_be_bytes w32 e.pages
+    ++ to_be_bytes w32 e.delivered ++ width_octet e.format.width ∷ flag_octet e.format.fine
+    ∷ outcome_number e.outcome ∷ to_be_bytes w32 e.first ++ short_octets e.line
 
 -- the number of an epoch
 abbrev pub epoch_octets : ℕ → List ℕ

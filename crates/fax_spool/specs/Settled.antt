@@ -4,7 +4,8 @@ use Rattle.sqlite_disk.specs.Disk.{Only}
 use Rattle.fax_spool.specs.Records.{AreRead, is_open}
 
 -- a closed gate stands after the records, and all of it is on the disk
-pub record IsSettled {D : Type 0} (seen : D → List ℕ) (may_leave : D → List ℕ → Type 0) (is_usable : D → Bool) (disk : D) (at : ℕ) (rs : List (List ℕ)) : Type 0 where
+pub record IsSettled {D : Type 0} (seen : D → List ℕ) (may_leave : D → List ℕ → Type 0)
+    (is_usable : D → Bool) (disk : D) (at : ℕ) (rs : List (List ℕ)) : Type 0 where
   pub front : List ℕ
   pub gate : List ℕ
   pub after : List ℕ

@@ -30,7 +30,8 @@ IsReadAs octets Damaged = IsDamaged octets
 -- each of these octets, one after another, is read as the record at its place
 abbrev pub AreReadAs : List (List ℕ) → List SpoolRecord → Type 0
 AreReadAs [] [] = Unit {0}
-AreReadAs (octets ∷ items) (record_of ∷ records) = IsReadAs octets record_of × AreReadAs items records
+AreReadAs (octets ∷ items) (record_of ∷ records) =
+    IsReadAs octets record_of × AreReadAs items records
 AreReadAs items records = ⊥
 
 -- a page's record, as one of the three kinds

@@ -44,15 +44,18 @@ pub record Tells (file : List ℕ) (records : List SpoolRecord) : Type 0 where
 
 -- A FILE TELLS ONE LIST OF RECORDS: each is read back with the numbers that it was put with.
 abbrev pub TellsOneList : Type 0
-TellsOneList = (file : List ℕ) (records others : List SpoolRecord) → Tells file records → Tells file others → records ≡ others
+TellsOneList = (file : List ℕ) (records others : List SpoolRecord)
+    → Tells file records → Tells file others → records ≡ others
 
 -- What a crash may leave: any of what it may leave of one file, with any of what it may leave of the other.
 abbrev pub MayLeaveBoth : {D : Type 0} → (D → List ℕ → Type 0) → Spool D → List ℕ → List ℕ → Type 0
-MayLeaveBoth may_leave spool older newer = may_leave spool.older.disk older × may_leave spool.newer.disk newer
+MayLeaveBoth may_leave spool older newer =
+    may_leave spool.older.disk older × may_leave spool.newer.disk newer
 
 -- A SPOOL KEEPS RECORDS: its older file those before the newer one's. Both files are settled, and it knows the pages that wait: which they
 -- are, and where the record of each is, in memory or in its file.
-pub record Stores {D : Type 0} (seen : D → List ℕ) (may_leave : D → List ℕ → Type 0) (is_usable : D → Bool) (spool : Spool D) (olds news : List SpoolRecord) : Type 0 where
+pub record Stores {D : Type 0} (seen : D → List ℕ) (may_leave : D → List ℕ → Type 0)
+    (is_usable : D → Bool) (spool : Spool D) (olds news : List SpoolRecord) : Type 0 where
   pub older_items : List (List ℕ)
   pub newer_items : List (List ℕ)
   pub older : IsSettled seen may_leave is_usable spool.older.disk spool.older.end older_items

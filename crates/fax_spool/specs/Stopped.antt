@@ -18,21 +18,27 @@ pub record IsLeftByOpening (one other older newer : List ℕ) : Type 0 where
   pub number : ℕ
   pub older_epochs : greatest_epoch (older_of ones others) < number
   pub newer_epochs : greatest_epoch (newer_of ones others) < number
-  pub left : TellBoth older newer (older_of ones others) (newer_of ones others) ⊎ TellBoth older newer (older_of ones others) (newer_of ones others ++ epoch_records number)
+  pub left : TellBoth older newer (older_of ones others) (newer_of ones others)
+      ⊎ TellBoth older newer (older_of ones others) (newer_of ones others ++ epoch_records number)
 
 -- So many openings stopped, one after another, each over what the one before it left, whichever of both files it was handed first.
 abbrev pub StopOpening : ℕ → List ℕ → List ℕ → List ℕ → List ℕ → Type 0
 StopOpening zero older newer last_older last_newer = (last_older ≡ older) × (last_newer ≡ newer)
-StopOpening (suc times) older newer last_older last_newer =
-    (old : List ℕ) × (new : List ℕ) × (one : List ℕ) × (other : List ℕ) × StopOpening times older newer old new × AreBoth old new one other × IsLeftByOpening one other last_older last_newer
+StopOpening (suc times) older newer last_older last_newer = (old : List ℕ)
+    × (new : List ℕ) × (one : List ℕ) × (other : List ℕ) × StopOpening times older newer old new
+    × AreBoth old new one other × IsLeftByOpening one other last_older last_newer
 
 -- OPENINGS THAT STOP LEAVE WHAT WAITS, however many of them.
 abbrev pub StoppedOpeningsLeaveWhatWaits : Type 0
 StoppedOpeningsLeaveWhatWaits =
-    (times : ℕ) (older newer last_older last_newer : List ℕ) (pages : List PageValue) → TellWaits older newer pages → StopOpening times older newer last_older last_newer → TellWaits last_older last_newer pages
+    (times : ℕ) (older newer last_older last_newer : List ℕ) (pages : List PageValue)
+    → TellWaits older newer pages
+    → StopOpening times older newer last_older last_newer → TellWaits last_older last_newer pages
 
 -- One that was through leaves both files so too, whatever crash comes before anything is done with its spool.
-abbrev pub OpeningsLeaveTheirEpoch : {D : Type 0} → (D → List ℕ) → (D → List ℕ → Type 0) → (D → Bool) → Type 0
+abbrev pub OpeningsLeaveTheirEpoch : {D : Type 0}
+    → (D → List ℕ) → (D → List ℕ → Type 0) → (D → Bool) → Type 0
 OpeningsLeaveTheirEpoch {D} seen may_leave is_usable =
-    (one other older newer : List ℕ) (opened : OpenedSpool D) → IsOpened seen may_leave is_usable one other opened → MayLeaveBoth may_leave opened.spool older newer
-    → IsLeftByOpening one other older newer
+    (one other older newer : List ℕ) (opened : OpenedSpool D)
+    → IsOpened seen may_leave is_usable one other opened
+    → MayLeaveBoth may_leave opened.spool older newer → IsLeftByOpening one other older newer

@@ -15,7 +15,8 @@ use Rattle.fax_spool.specs.declared.spool_record.SpoolRecord.TheVariants.{Page, 
 -- The record of this page is there: its octets are in memory, or they stand at a place in a file of these records.
 abbrev pub IsRecordOf : List (List ℕ) → RecordSource → PageValue → Type 0
 IsRecordOf items (Memory octets) page = IsReadAs octets.items (Page page)
-IsRecordOf items (File place) page = (item : List ℕ) × StandsAt items place item × IsReadAs item (Page page)
+IsRecordOf items (File place) page =
+    (item : List ℕ) × StandsAt items place item × IsReadAs item (Page page)
 
 -- it is this page that is known: its name, and where its record is
 abbrev pub IsKnownAs : List (List ℕ) → StoredPage → PageValue → Type 0
@@ -39,7 +40,17 @@ is_in_memory kept = memory_has kept.source
 
 -- an end of this page alone: of it no report tells
 abbrev pub end_alone : PageName → EndedValue
-end_alone page = record { life = page.life; call = page.call; first = page.number; pages = 1; delivered = 0; format = record { width = W1728; fine = false }; outcome = NotPlaced; line = page.line }
+end_alone page =
+    record {
+      life = page.life;
+      call = page.call;
+      first = page.number;
+      pages = 1;
+      delivered = 0;
+      format = record { width = W1728; fine = false };
+      outcome = NotPlaced;
+      line = page.line;
+    }
 
 abbrev pub ended_alone : PageValue → SpoolRecord
 ended_alone page = Ended (end_alone (name_of page))

@@ -16,7 +16,8 @@ damaged records = count_by is_damaged records
 
 -- two pages came in one call
 abbrev pub same_call : PageValue → PageValue → Bool
-same_call page other = nat_eq page.life other.life && nat_eq page.call other.call && bytes_eq page.line other.line
+same_call page other =
+    nat_eq page.life other.life && nat_eq page.call other.call && bytes_eq page.line other.line
 
 -- which call of all: in which life, under which number, on which line
 pub record CallName : Type 0 where
@@ -29,7 +30,8 @@ call_of page = record { life = page.life; call = page.call; line = page.line }
 
 -- a page came in this call
 abbrev pub is_of : PageValue → CallName → Bool
-is_of page name = nat_eq name.life page.life && nat_eq name.call page.call && bytes_eq name.line page.line
+is_of page name =
+    nat_eq name.life page.life && nat_eq name.call page.call && bytes_eq name.line page.line
 
 -- or in one of these
 abbrev pub is_of_any : List CallName → PageValue → Bool
@@ -54,15 +56,18 @@ has_damage records = list_any is_damaged records
 
 -- After these records the page before this one lacks in its call: it is not the first one, and a damaged record may be that page's.
 abbrev pub lacks_before : List SpoolRecord → PageValue → Bool
-lacks_before before page = nat_lt 1 page.number && (not (list_any (is_previous page) before) && has_damage before)
+lacks_before before page =
+    nat_lt 1 page.number && (not (list_any (is_previous page) before) && has_damage before)
 
 -- Before these records the page after this one lacks: its job goes on, and a damaged record may be that page's.
 abbrev pub lacks_after : PageValue → List SpoolRecord → Bool
-lacks_after page after = not page.closes && (not (list_any (is_next page) after) && has_damage after)
+lacks_after page after =
+    not page.closes && (not (list_any (is_next page) after) && has_damage after)
 
 -- the call of a record's page, where a page lacks beside it
 abbrev pub torn_by : List SpoolRecord → SpoolRecord → List SpoolRecord → List CallName
-torn_by before (Page page) after = if lacks_before before page || lacks_after page after then call_of page ∷ [] else []
+torn_by before (Page page) after =
+    if lacks_before before page || lacks_after page after then call_of page ∷ [] else []
 torn_by before (Ended ended) after = []
 torn_by before (Epoch number) after = []
 torn_by before Damaged after = []
@@ -70,7 +75,8 @@ torn_by before Damaged after = []
 -- of records that stand before and after others
 abbrev pub torn_among : List SpoolRecord → List SpoolRecord → List SpoolRecord → List CallName
 torn_among before [] after = []
-torn_among before (r ∷ records) after = torn_by before r (records ++ after) ++ torn_among (before ++ r ∷ []) records after
+torn_among before (r ∷ records) after =
+    torn_by before r (records ++ after) ++ torn_among (before ++ r ∷ []) records after
 
 -- THE TORN CALLS of these records: those of a page of which a neighbour in its call lacks, where a damaged record may be that page's. A
 -- call may be named more than once.
@@ -83,4 +89,5 @@ with_destroyed is_destroyed records = if is_destroyed then records ++ Damaged �
 
 -- WHERE NO RECORD IS DAMAGED, NO CALL IS TORN.
 abbrev pub NothingIsTornWithoutDamage : Type 0
-NothingIsTornWithoutDamage = (records : List SpoolRecord) → damaged records ≡ 0 → torn_calls records ≡ []
+NothingIsTornWithoutDamage = (records : List SpoolRecord)
+    → damaged records ≡ 0 → torn_calls records ≡ []

@@ -18,8 +18,8 @@ name_of page = record { life = page.life; call = page.call; number = page.number
 -- the job that ended had this page
 abbrev pub ends : EndedValue → PageName → Bool
 ends ended page =
-    nat_eq ended.life page.life && nat_eq ended.call page.call && bytes_eq ended.line page.line && nat_le ended.first page.number
-    && nat_lt page.number (ended.first + ended.pages)
+    nat_eq ended.life page.life && nat_eq ended.call page.call && bytes_eq ended.line page.line
+    && nat_le ended.first page.number && nat_lt page.number (ended.first + ended.pages)
 
 -- of these pages, those that the job that ended had not
 abbrev pub without : EndedValue → List PageValue → List PageValue
@@ -58,4 +58,5 @@ waiting records = waiting_after [] records
 
 -- what waits by records, and by others after them
 abbrev pub SharesWhatWaits : Type 0
-SharesWhatWaits = (olds news : List SpoolRecord) → waiting (olds ++ news) ≡ left_after (waiting olds) news ++ waiting news
+SharesWhatWaits = (olds news : List SpoolRecord)
+    → waiting (olds ++ news) ≡ left_after (waiting olds) news ++ waiting news

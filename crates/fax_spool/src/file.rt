@@ -53,7 +53,8 @@ fn push_body(octets: &mut Vec<u8>, item: &[u8]) -> io::Result<()>
 /// and the gate of the next one, shut.
 fn bodies_of(alloc: Global, first: &[u8], others: &[Vec<u8>]) -> io::Result<Vec<u8>>
     ensures short { OnOk result (All IsShort (first.now ∷ map (λ v. v.items) others.now)) }
-    ensures octets { IfOk result (λ v. v.items ≡ body first.now ++ blocks (map (λ v. v.items) others.now) ++ shut) }
+    ensures octets { IfOk result
+        (λ v. v.items ≡ body first.now ++ blocks (map (λ v. v.items) others.now) ++ shut) }
 {
     let mut octets = Vec::new(alloc);
     push_body(&mut octets, first)?;
@@ -77,12 +78,15 @@ impl<D: Disk> RecordFile<D> {
         ensures usable { OnOk result (IsTrue (D.is_usable self.new.disk)) }
         ensures clean { IsTrue (D.is_clean self.new.disk) → IsTrue (D.is_clean self.old.disk) }
 
-        ensures acknowledged { OnOk result ((rs : List (List ℕ)) → IsSettled D.seen D.may_leave D.is_usable self.old.disk self.old.end rs
-            → IsSettled D.seen D.may_leave D.is_usable self.new.disk self.new.end (rs ++ item.now ∷ [])) }
+        ensures acknowledged { OnOk result ((rs : List (List ℕ))
+            → IsSettled D.seen D.may_leave D.is_usable self.old.disk self.old.end rs
+            → IsSettled D.seen D.may_leave D.is_usable self.new.disk self.new.end (rs
+            ++ item.now ∷ [])) }
 
         // Whenever the machine stops, the file stands for the records from before, with the new one or without.
-        ensures crash { (rs : List (List ℕ)) → IsSettled D.seen D.may_leave D.is_usable self.old.disk self.old.end rs
-            → (c : List ℕ) → D.may_leave self.new.disk c → Stands c rs ⊎ Stands c (rs ++ item.now ∷ []) }
+        ensures crash { (rs : List (List ℕ))
+            → IsSettled D.seen D.may_leave D.is_usable self.old.disk self.old.end rs → (c : List ℕ)
+            → D.may_leave self.new.disk c → Stands c rs ⊎ Stands c (rs ++ item.now ∷ []) }
     {
         let octets = bodies_of(alloc, item, &[])?;
         self.write(octets.as_slice())?;
@@ -97,12 +101,16 @@ impl<D: Disk> RecordFile<D> {
         ensures usable { OnOk result (IsTrue (D.is_usable self.new.disk)) }
         ensures clean { IsTrue (D.is_clean self.new.disk) → IsTrue (D.is_clean self.old.disk) }
 
-        ensures acknowledged { OnOk result ((rs : List (List ℕ)) → IsSettled D.seen D.may_leave D.is_usable self.old.disk self.old.end rs
-            → IsSettled D.seen D.may_leave D.is_usable self.new.disk self.new.end (rs ++ map (λ v. v.items) items.now)) }
+        ensures acknowledged { OnOk result ((rs : List (List ℕ))
+            → IsSettled D.seen D.may_leave D.is_usable self.old.disk self.old.end rs
+            → IsSettled D.seen D.may_leave D.is_usable self.new.disk self.new.end (rs ++ map
+            (λ v. v.items) items.now)) }
 
         // Whenever the machine stops, the file stands for the records from before, with all of the new ones or with none.
-        ensures crash { (rs : List (List ℕ)) → IsSettled D.seen D.may_leave D.is_usable self.old.disk self.old.end rs
-            → (c : List ℕ) → D.may_leave self.new.disk c → Stands c rs ⊎ Stands c (rs ++ map (λ v. v.items) items.now) }
+        ensures crash { (rs : List (List ℕ))
+            → IsSettled D.seen D.may_leave D.is_usable self.old.disk self.old.end rs
+            → (c : List ℕ) → D.may_leave self.new.disk c
+            → Stands c rs ⊎ Stands c (rs ++ map (λ v. v.items) items.now) }
     {
         let Some((first, others)) = items.split_first() else {
             return Ok(());
@@ -120,13 +128,16 @@ impl<D: Disk> RecordFile<D> {
         ensures usable { OnOk result (IsTrue (D.is_usable self.new.disk)) }
         ensures clean { IsTrue (D.is_clean self.new.disk) → IsTrue (D.is_clean self.old.disk) }
 
-        ensures acknowledged { OnOk result ((rs others : List (List ℕ)) (r : List ℕ) → octets.now ≡ body r ++ blocks others ++ shut → All IsShort (r ∷ others)
+        ensures acknowledged { OnOk result ((rs others : List (List ℕ)) (r : List ℕ)
+            → octets.now ≡ body r ++ blocks others ++ shut → All IsShort (r ∷ others)
             → IsSettled D.seen D.may_leave D.is_usable self.old.disk self.old.end rs
-            → IsSettled D.seen D.may_leave D.is_usable self.new.disk self.new.end (rs ++ r ∷ others)) }
+            → IsSettled D.seen D.may_leave D.is_usable self.new.disk self.new.end (rs
+            ++ r ∷ others)) }
 
-        ensures crash { (rs others : List (List ℕ)) (r : List ℕ) → octets.now ≡ body r ++ blocks others ++ shut → All IsShort (r ∷ others)
-            → IsSettled D.seen D.may_leave D.is_usable self.old.disk self.old.end rs
-            → (c : List ℕ) → D.may_leave self.new.disk c → Stands c rs ⊎ Stands c (rs ++ r ∷ others) }
+        ensures crash { (rs others : List (List ℕ)) (r : List ℕ)
+            → octets.now ≡ body r ++ blocks others ++ shut → All IsShort (r ∷ others)
+            → IsSettled D.seen D.may_leave D.is_usable self.old.disk self.old.end rs → (c : List ℕ)
+            → D.may_leave self.new.disk c → Stands c rs ⊎ Stands c (rs ++ r ∷ others) }
     {
         if self.end > MOST {
             return Err(io::ErrorKind::StorageFull.into());
@@ -146,11 +157,13 @@ impl<D: Disk> RecordFile<D> {
 
         ensures usable { OnOk result (IsTrue (D.is_usable self.new.disk)) }
 
-        ensures acknowledged { OnOk result ((rs : List (List ℕ)) → IsSettled D.seen D.may_leave D.is_usable self.old.disk self.old.end rs
+        ensures acknowledged { OnOk result ((rs : List (List ℕ))
+            → IsSettled D.seen D.may_leave D.is_usable self.old.disk self.old.end rs
             → IsSettled D.seen D.may_leave D.is_usable self.new.disk self.new.end []) }
 
         // Whenever the machine stops, the file stands for all of the records or for none.
-        ensures crash { (rs : List (List ℕ)) → IsSettled D.seen D.may_leave D.is_usable self.old.disk self.old.end rs
+        ensures crash { (rs : List (List ℕ))
+            → IsSettled D.seen D.may_leave D.is_usable self.old.disk self.old.end rs
             → (c : List ℕ) → D.may_leave self.new.disk c → Stands c rs ⊎ Stands c [] }
     {
         if self.end == 0 {
@@ -295,7 +308,8 @@ pub(crate) fn read_all<D: Disk>(alloc: Global, disk: &mut D) -> io::Result<Vec<u
 /// Whether a shut gate stands at a place.
 fn is_shut(octets: &[u8], at: usize) -> bool
     requires { at ≤ length octets.now }
-    ensures { IsTrue result ↔ ((3 ≤ length (drop at octets.now)) × (is_open (drop at octets.now) ≡ false)) }
+    ensures { IsTrue result
+        ↔ ((3 ≤ length (drop at octets.now)) × (is_open (drop at octets.now) ≡ false)) }
 {
     let after = &octets[at..];
     after.len() >= GATE && !is_open(after)
@@ -322,10 +336,13 @@ pub fn recover<D: Disk>(alloc: Global, disk: &mut D) -> io::Result<FileContents>
     // After a restart, what is read is what is on the disk.
     requires durable { Only (D.seen disk.old) (D.may_leave disk.old) }
     ensures usable { OnOk result (IsTrue (D.is_usable disk.new)) }
-    ensures found { IfOk result (λ f. IsTrue (D.is_clean disk.new) → IsFoundOf (D.seen disk.old) f) }
-    ensures settled { IfOk result (λ f. IsTrue (D.is_clean disk.new) → IsSettled D.seen D.may_leave D.is_usable disk.new f.end (items_of f)) }
+    ensures found { IfOk result
+        (λ f. IsTrue (D.is_clean disk.new) → IsFoundOf (D.seen disk.old) f) }
+    ensures settled { IfOk result (λ f. IsTrue (D.is_clean disk.new)
+        → IsSettled D.seen D.may_leave D.is_usable disk.new f.end (items_of f)) }
     // Whenever the machine stops, the file stands for the same records.
-    ensures crash { IsTrue (D.is_clean disk.new) → (rs : List (List ℕ)) → Stands (D.seen disk.old) rs → (c : List ℕ) → D.may_leave disk.new c → Stands c rs }
+    ensures crash { IsTrue (D.is_clean disk.new) → (rs : List (List ℕ))
+        → Stands (D.seen disk.old) rs → (c : List ℕ) → D.may_leave disk.new c → Stands c rs }
 {
     let octets = read_all(alloc, disk)?;
     let found = records_of(alloc, octets.as_slice())?;

@@ -72,8 +72,10 @@ fn list(
     one: Harm,
     other: Harm,
 ) -> Result<Listing, AllocError>
-    ensures pages { IfOk result (λ listing. listing.pages.items ≡ closed (waiting (olds.entry.items ++ news.entry.items))) }
-    ensures torn { IfOk result (λ listing. listing.torn.items ≡ torn_found destroyed.0 destroyed.1 olds.entry.items news.entry.items) }
+    ensures pages { IfOk result (λ listing.
+        listing.pages.items ≡ closed (waiting (olds.entry.items ++ news.entry.items))) }
+    ensures torn { IfOk result (λ listing. listing.torn.items
+        ≡ torn_found destroyed.0 destroyed.1 olds.entry.items news.entry.items) }
     ensures one { IfOk result (λ listing. listing.one ≡ one) }
     ensures other { IfOk result (λ listing. listing.other ≡ other) }
 {

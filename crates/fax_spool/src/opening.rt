@@ -52,7 +52,8 @@ pub fn open_spool<D: Disk + Drop>(alloc: Global, one: D, other: D) -> io::Result
     // After a restart, what is read is what is on the disk.
     requires one_durable { Only (D.seen one) (D.may_leave one) }
     requires other_durable { Only (D.seen other) (D.may_leave other) }
-    ensures opened { IfOk result (λ opened. AreClean D.is_clean (files_of opened.spool) → IsOpened D.seen D.may_leave D.is_usable (D.seen one) (D.seen other) opened) }
+    ensures opened { IfOk result (λ opened. AreClean D.is_clean (files_of opened.spool)
+        → IsOpened D.seen D.may_leave D.is_usable (D.seen one) (D.seen other) opened) }
     ensures accepts { IfOk result (λ opened. Accepts opened.spool) }
 {
     let mut one = one;
@@ -86,18 +87,31 @@ fn begin<D: Disk + Drop>(
     news: Vec<SpoolRecord<'_>>,
 ) -> io::Result<OpenedSpool<D>>
     ensures begun { IfOk result (λ opened.
-        IsSettled D.seen D.may_leave D.is_usable older.disk older.end (items_of older_found.now) → AreReadAs (items_of older_found.now) olds.entry.items
-        → IsSettled D.seen D.may_leave D.is_usable newer.disk newer.end (items_of newer_found.now) → AreReadAs (items_of newer_found.now) news.entry.items
-        → Stores D.seen D.may_leave D.is_usable opened.spool olds.entry.items (news.entry.items ++ epoch_records (epoch_now opened.spool))) }
-    ensures clean { IfOk result (λ opened. AreClean D.is_clean (files_of opened.spool) → AreClean D.is_clean (older, newer)) }
-    ensures older_epochs { IfOk result (λ opened. greatest_epoch olds.entry.items < epoch_now opened.spool) }
-    ensures newer_epochs { IfOk result (λ opened. greatest_epoch news.entry.items < epoch_now opened.spool) }
-    ensures pages { IfOk result (λ opened. opened.pages.items ≡ closed (waiting (olds.entry.items ++ news.entry.items))) }
-    ensures torn { IfOk result (λ opened. opened.torn.items ≡ torn_found older_found.now.is_destroyed newer_found.now.is_destroyed olds.entry.items news.entry.items) }
-    ensures older_damaged { IfOk result (λ opened. opened.older_damaged ≡ damaged olds.entry.items) }
-    ensures newer_damaged { IfOk result (λ opened. opened.newer_damaged ≡ damaged news.entry.items) }
-    ensures older_passed_over { IfOk result (λ opened. opened.older_passed_over ≡ older_found.now.passed_over) }
-    ensures newer_passed_over { IfOk result (λ opened. opened.newer_passed_over ≡ newer_found.now.passed_over) }
+        IsSettled D.seen D.may_leave D.is_usable older.disk older.end (items_of older_found.now)
+        → AreReadAs (items_of older_found.now) olds.entry.items
+        → IsSettled D.seen D.may_leave D.is_usable newer.disk newer.end (items_of newer_found.now)
+        → AreReadAs (items_of newer_found.now) news.entry.items
+        → Stores D.seen D.may_leave D.is_usable opened.spool olds.entry.items (news.entry.items
+        ++ epoch_records (epoch_now opened.spool))) }
+    ensures clean { IfOk result (λ opened. AreClean D.is_clean (files_of opened.spool)
+        → AreClean D.is_clean (older, newer)) }
+    ensures older_epochs { IfOk result
+        (λ opened. greatest_epoch olds.entry.items < epoch_now opened.spool) }
+    ensures newer_epochs { IfOk result
+        (λ opened. greatest_epoch news.entry.items < epoch_now opened.spool) }
+    ensures pages { IfOk result
+        (λ opened. opened.pages.items ≡ closed (waiting (olds.entry.items ++ news.entry.items))) }
+    ensures torn { IfOk result
+        (λ opened. opened.torn.items ≡ torn_found older_found.now.is_destroyed
+        newer_found.now.is_destroyed olds.entry.items news.entry.items) }
+    ensures older_damaged { IfOk result
+        (λ opened. opened.older_damaged ≡ damaged olds.entry.items) }
+    ensures newer_damaged { IfOk result
+        (λ opened. opened.newer_damaged ≡ damaged news.entry.items) }
+    ensures older_passed_over { IfOk result
+        (λ opened. opened.older_passed_over ≡ older_found.now.passed_over) }
+    ensures newer_passed_over { IfOk result
+        (λ opened. opened.newer_passed_over ≡ newer_found.now.passed_over) }
     ensures accepts { IfOk result (λ opened. Accepts opened.spool) }
 {
     let pages = pages_of(alloc, olds.as_slice(), news.as_slice())?;
@@ -129,7 +143,8 @@ pub(crate) fn torn_with(
     news: Vec<SpoolRecord<'_>>,
     destroyed: (bool, bool),
 ) -> Result<Vec<CallName>, AllocError>
-    ensures { IfOk result (λ torn. torn.items ≡ torn_found destroyed.0 destroyed.1 olds.entry.items news.entry.items) }
+    ensures { IfOk result (λ torn.
+        torn.items ≡ torn_found destroyed.0 destroyed.1 olds.entry.items news.entry.items) }
 {
     let hides_last = destroyed.1 || (destroyed.0 && first_epoch(olds.as_slice()) == 0);
     let olds = with_destroyed(olds, destroyed.0)?;

@@ -30,7 +30,8 @@ impl Model for PageName {
 
     ghost Value = { PageNameValue };
 
-    ghost view = { λ p. record { life = p.life; call = p.call; number = p.number; line = p.line.items } };
+    ghost view = { λ p.
+        record { life = p.life; call = p.call; number = p.number; line = p.line.items } };
 }
 
 impl PageName {

@@ -59,7 +59,8 @@ pub(crate) fn placed_pages<'a>(
     items: &'a [Vec<u8>],
     records: &[SpoolRecord<'a>],
 ) -> io::Result<Vec<PlacedPage<'a>>>
-    ensures { IfOk result (λ pages. AreReadAs (map (λ v. v.items) items.now) records.now → AreReadAt (map (λ v. v.items) items.now) pages.items (waiting records.now)) }
+    ensures { IfOk result (λ pages. AreReadAs (map (λ v. v.items) items.now) records.now
+        → AreReadAt (map (λ v. v.items) items.now) pages.items (waiting records.now)) }
 {
     let mut pages = Vec::new(alloc);
     let mut end = 0;
@@ -83,8 +84,9 @@ fn follow<'a>(
     item: &'a [u8],
     place: RecordPlace,
 ) -> Result<(), AllocError>
-    ensures { OnOk result ((items : List (List ℕ)) (waits : List PageValue) → AreReadAt items pages.old.items waits → StandsAt items place item.now → IsReadAs item.now kept.now
-        → AreReadAt items pages.new.items (after waits kept.now)) }
+    ensures { OnOk result ((items : List (List ℕ)) (waits : List PageValue)
+        → AreReadAt items pages.old.items waits → StandsAt items place item.now
+        → IsReadAs item.now kept.now → AreReadAt items pages.new.items (after waits kept.now)) }
 {
     match kept {
         SpoolRecord::Page(page) => {
@@ -102,7 +104,9 @@ fn follow<'a>(
 
 /// Drops the pages whose jobs ended by these records.
 pub(crate) fn drop_ended(pages: &mut Vec<PlacedPage<'_>>, records: &[SpoolRecord<'_>])
-    ensures { (items : List (List ℕ)) (waits : List PageValue) → AreReadAt items pages.old.items waits → AreReadAt items pages.new.items (left_after waits records.now) }
+    ensures { (items : List (List ℕ)) (waits : List PageValue)
+        → AreReadAt items pages.old.items waits
+        → AreReadAt items pages.new.items (left_after waits records.now) }
 {
     for kept in records {
         drop_ended_by(pages, kept);
@@ -111,7 +115,9 @@ pub(crate) fn drop_ended(pages: &mut Vec<PlacedPage<'_>>, records: &[SpoolRecord
 
 /// Drops the pages whose jobs ended by this record.
 fn drop_ended_by(pages: &mut Vec<PlacedPage<'_>>, kept: &SpoolRecord<'_>)
-    ensures { (items : List (List ℕ)) (waits : List PageValue) → AreReadAt items pages.old.items waits → AreReadAt items pages.new.items (left_of waits kept.now) }
+    ensures { (items : List (List ℕ)) (waits : List PageValue)
+        → AreReadAt items pages.old.items waits
+        → AreReadAt items pages.new.items (left_of waits kept.now) }
 {
     match kept {
         SpoolRecord::Ended(ended) => drop_job(pages, ended),
@@ -123,7 +129,8 @@ fn drop_ended_by(pages: &mut Vec<PlacedPage<'_>>, kept: &SpoolRecord<'_>)
 
 /// Drops the pages of a job that ended.
 fn drop_job(pages: &mut Vec<PlacedPage<'_>>, ended: &EndedRecord<'_>)
-    ensures { pages.new.items ≡ filter (λ placed. not (ends ended.now (name_of placed.page))) pages.old.items }
+    ensures { pages.new.items ≡ filter
+        (λ placed. not (ends ended.now (name_of placed.page))) pages.old.items }
 {
     pages.retain(|placed| !had(ended, &placed.page));
 }

@@ -23,9 +23,13 @@ pub(crate) fn push_ended<D: Disk>(
     pages: &[StoredPage],
     ended: &EndedRecord<'_>,
 ) -> io::Result<()>
-    ensures found { OnOk result (IsTrue (D.is_clean file.new.disk) → (rs : List (List ℕ)) (waits : List PageValue) → IsSettled D.seen D.may_leave D.is_usable file.old.disk file.old.end rs → AreKnownAs rs pages.now waits
+    ensures found { OnOk result (IsTrue (D.is_clean file.new.disk)
+        → (rs : List (List ℕ)) (waits : List PageValue)
+        → IsSettled D.seen D.may_leave D.is_usable file.old.disk file.old.end rs
+        → AreKnownAs rs pages.now waits
         → found.new.items ≡ found.old.items ++ ended_by ended.now waits) }
-    ensures settled { (rs : List (List ℕ)) → IsSettled D.seen D.may_leave D.is_usable file.old.disk file.old.end rs
+    ensures settled { (rs : List (List ℕ))
+        → IsSettled D.seen D.may_leave D.is_usable file.old.disk file.old.end rs
         → IsSettled D.seen D.may_leave D.is_usable file.new.disk file.new.end rs }
     ensures crash { (c : List ℕ) → D.may_leave file.new.disk c → D.may_leave file.old.disk c }
 {
@@ -43,9 +47,13 @@ fn push_page<D: Disk>(
     kept: &StoredPage,
     ended: &EndedRecord<'_>,
 ) -> io::Result<()>
-    ensures found { OnOk result (IsTrue (D.is_clean file.new.disk) → (rs : List (List ℕ)) (page : PageValue) → IsSettled D.seen D.may_leave D.is_usable file.old.disk file.old.end rs → IsKnownAs rs kept.now page
+    ensures found { OnOk result (IsTrue (D.is_clean file.new.disk)
+        → (rs : List (List ℕ)) (page : PageValue)
+        → IsSettled D.seen D.may_leave D.is_usable file.old.disk file.old.end rs
+        → IsKnownAs rs kept.now page
         → found.new.items ≡ found.old.items ++ ended_by ended.now (page ∷ [])) }
-    ensures settled { (rs : List (List ℕ)) → IsSettled D.seen D.may_leave D.is_usable file.old.disk file.old.end rs
+    ensures settled { (rs : List (List ℕ))
+        → IsSettled D.seen D.may_leave D.is_usable file.old.disk file.old.end rs
         → IsSettled D.seen D.may_leave D.is_usable file.new.disk file.new.end rs }
     ensures crash { (c : List ℕ) → D.may_leave file.new.disk c → D.may_leave file.old.disk c }
     ensures clean { IsTrue (D.is_clean file.new.disk) → IsTrue (D.is_clean file.old.disk) }
@@ -63,9 +71,12 @@ fn read_page<D: Disk>(
     file: &mut RecordFile<D>,
     kept: &StoredPage,
 ) -> io::Result<WaitingPage>
-    ensures page { IfOk result (λ read. IsTrue (D.is_clean file.new.disk) → (rs : List (List ℕ)) (page : PageValue) → IsSettled D.seen D.may_leave D.is_usable file.old.disk file.old.end rs → IsKnownAs rs kept.now page
-        → read ≡ page) }
-    ensures settled { (rs : List (List ℕ)) → IsSettled D.seen D.may_leave D.is_usable file.old.disk file.old.end rs
+    ensures page { IfOk result
+        (λ read. IsTrue (D.is_clean file.new.disk) → (rs : List (List ℕ)) (page : PageValue)
+        → IsSettled D.seen D.may_leave D.is_usable file.old.disk file.old.end rs
+        → IsKnownAs rs kept.now page → read ≡ page) }
+    ensures settled { (rs : List (List ℕ))
+        → IsSettled D.seen D.may_leave D.is_usable file.old.disk file.old.end rs
         → IsSettled D.seen D.may_leave D.is_usable file.new.disk file.new.end rs }
     ensures crash { (c : List ℕ) → D.may_leave file.new.disk c → D.may_leave file.old.disk c }
     ensures clean { IsTrue (D.is_clean file.new.disk) → IsTrue (D.is_clean file.old.disk) }
@@ -83,9 +94,12 @@ fn read_source<D: Disk>(
     file: &mut RecordFile<D>,
     source: &RecordSource,
 ) -> io::Result<WaitingPage>
-    ensures page { IfOk result (λ read. IsTrue (D.is_clean file.new.disk) → (rs : List (List ℕ)) (page : PageValue) → IsSettled D.seen D.may_leave D.is_usable file.old.disk file.old.end rs → IsRecordOf rs source.now page
-        → read ≡ page) }
-    ensures settled { (rs : List (List ℕ)) → IsSettled D.seen D.may_leave D.is_usable file.old.disk file.old.end rs
+    ensures page { IfOk result
+        (λ read. IsTrue (D.is_clean file.new.disk) → (rs : List (List ℕ)) (page : PageValue)
+        → IsSettled D.seen D.may_leave D.is_usable file.old.disk file.old.end rs
+        → IsRecordOf rs source.now page → read ≡ page) }
+    ensures settled { (rs : List (List ℕ))
+        → IsSettled D.seen D.may_leave D.is_usable file.old.disk file.old.end rs
         → IsSettled D.seen D.may_leave D.is_usable file.new.disk file.new.end rs }
     ensures crash { (c : List ℕ) → D.may_leave file.new.disk c → D.may_leave file.old.disk c }
     ensures clean { IsTrue (D.is_clean file.new.disk) → IsTrue (D.is_clean file.old.disk) }
@@ -105,9 +119,12 @@ fn read_record<D: Disk>(
     file: &mut RecordFile<D>,
     place: RecordPlace,
 ) -> io::Result<Vec<u8>>
-    ensures octets { IfOk result (λ octets. IsTrue (D.is_clean file.new.disk) → (rs : List (List ℕ)) (item : List ℕ) → IsSettled D.seen D.may_leave D.is_usable file.old.disk file.old.end rs → StandsAt rs place item
-        → octets.items ≡ item) }
-    ensures settled { (rs : List (List ℕ)) → IsSettled D.seen D.may_leave D.is_usable file.old.disk file.old.end rs
+    ensures octets { IfOk result
+        (λ octets. IsTrue (D.is_clean file.new.disk) → (rs : List (List ℕ)) (item : List ℕ)
+        → IsSettled D.seen D.may_leave D.is_usable file.old.disk file.old.end rs
+        → StandsAt rs place item → octets.items ≡ item) }
+    ensures settled { (rs : List (List ℕ))
+        → IsSettled D.seen D.may_leave D.is_usable file.old.disk file.old.end rs
         → IsSettled D.seen D.may_leave D.is_usable file.new.disk file.new.end rs }
     ensures crash { (c : List ℕ) → D.may_leave file.new.disk c → D.may_leave file.old.disk c }
     ensures clean { IsTrue (D.is_clean file.new.disk) → IsTrue (D.is_clean file.old.disk) }
@@ -122,7 +139,8 @@ fn read_record<D: Disk>(
 
 /// The page whose record octets are. `InvalidData` where they are none's.
 fn page_of(alloc: Global, octets: &[u8]) -> io::Result<WaitingPage>
-    ensures { IfOk result (λ read. (page : PageValue) → IsReadAs octets.now (SpoolRecord.Page page) → read ≡ page) }
+    ensures { IfOk result
+        (λ read. (page : PageValue) → IsReadAs octets.now (SpoolRecord.Page page) → read ≡ page) }
 {
     match read_spool_record(octets) {
         SpoolRecord::Page(page) => Ok(copy_of(alloc, &page)?),

@@ -43,7 +43,16 @@ impl<'a> Model for PageRecord<'a> {
 
     ghost Value = { PageValue };
 
-    ghost view = { λ p. record { life = p.life; call = p.call; number = p.number; format = p.format; closes = p.closes; line = p.line.now; tag = p.tag.now; text = p.text.now } };
+    ghost view = { λ p. record {
+      life = p.life;
+      call = p.call;
+      number = p.number;
+      format = p.format;
+      closes = p.closes;
+      line = p.line.now;
+      tag = p.tag.now;
+      text = p.text.now;
+    } };
 }
 
 impl<'a> PageRecord<'a> {
@@ -90,7 +99,16 @@ impl<'a> Model for EndedRecord<'a> {
 
     ghost Value = { EndedValue };
 
-    ghost view = { λ e. record { life = e.life; call = e.call; first = e.first; pages = e.pages; delivered = e.delivered; format = e.format; outcome = e.outcome; line = e.line.now } };
+    ghost view = { λ e. record {
+      life = e.life;
+      call = e.call;
+      first = e.first;
+      pages = e.pages;
+      delivered = e.delivered;
+      format = e.format;
+      outcome = e.outcome;
+      line = e.line.now;
+    } };
 }
 
 /// The octets of a page's record.
@@ -134,7 +152,8 @@ pub fn write_ended_record(alloc: Global, ended: &EndedRecord<'_>) -> Result<Vec<
 
 /// The page's record that octets are; `None` where they are none.
 pub fn read_page_record(octets: &[u8]) -> Option<PageRecord<'_>>
-    ensures read { MatchOption result ((page : PageValue) → octets.now ≢ page_octets page) (λ page. octets.now ≡ page_octets page) }
+    ensures read { MatchOption result ((page : PageValue)
+        → octets.now ≢ page_octets page) (λ page. octets.now ≡ page_octets page) }
     ensures numbers { IfSome result PageFits }
 {
     match octets {
@@ -177,7 +196,8 @@ pub fn read_page_record(octets: &[u8]) -> Option<PageRecord<'_>>
 
 /// The record of a job that ended that octets are; `None` where they are none.
 pub fn read_ended_record(octets: &[u8]) -> Option<EndedRecord<'_>>
-    ensures read { MatchOption result ((ended : EndedValue) → octets.now ≢ ended_octets ended) (λ ended. octets.now ≡ ended_octets ended) }
+    ensures read { MatchOption result ((ended : EndedValue)
+        → octets.now ≢ ended_octets ended) (λ ended. octets.now ≡ ended_octets ended) }
     ensures numbers { IfSome result EndFits }
 {
     match octets {
@@ -234,7 +254,8 @@ fn push_short(octets: &mut Vec<u8>, name: &[u8]) -> Result<(), AllocError>
 
 /// A format's two octets.
 fn push_format(octets: &mut Vec<u8>, format: Format) -> Result<(), AllocError>
-    ensures { OnOk result (octets.new.items ≡ octets.old.items ++ width_octet format.width ∷ flag_octet format.fine ∷ []) }
+    ensures { OnOk result (octets.new.items
+        ≡ octets.old.items ++ width_octet format.width ∷ flag_octet format.fine ∷ []) }
 {
     let width = match format.width {
         Width::W1728 => 0,
@@ -254,7 +275,8 @@ fn flag_octet(flag: bool) -> u8
 
 /// A name or a tag that octets begin with after its length, and what stands after it.
 fn read_short(octets: &[u8]) -> Option<(&[u8], &[u8])>
-    ensures { MatchOption result ((name rest : List ℕ) → octets.now ≢ short_octets name ++ rest) (λ p. octets.now ≡ short_octets p.0.now ++ p.1.now) }
+    ensures { MatchOption result ((name rest : List ℕ) → octets.now ≢ short_octets name ++ rest)
+        (λ p. octets.now ≡ short_octets p.0.now ++ p.1.now) }
 {
     let (length, rest) = octets.split_first()?;
     let length = usize::from(*length);
@@ -266,7 +288,9 @@ fn read_short(octets: &[u8]) -> Option<(&[u8], &[u8])>
 
 /// A name, a tag and what stands after them.
 fn read_texts(octets: &[u8]) -> Option<(&[u8], &[u8], &[u8])>
-    ensures { MatchOption result ((line tag text : List ℕ) → octets.now ≢ short_octets line ++ (short_octets tag ++ text)) (λ t. octets.now ≡ short_octets t.0.now ++ (short_octets t.1.now ++ t.2.now)) }
+    ensures { MatchOption result ((line tag text : List ℕ)
+        → octets.now ≢ short_octets line ++ (short_octets tag ++ text))
+        (λ t. octets.now ≡ short_octets t.0.now ++ (short_octets t.1.now ++ t.2.now)) }
 {
     let (line, rest) = read_short(octets)?;
     let (tag, text) = read_short(rest)?;
@@ -275,7 +299,8 @@ fn read_texts(octets: &[u8]) -> Option<(&[u8], &[u8], &[u8])>
 
 /// A number and a name, with nothing after them.
 fn read_first_and_line(octets: &[u8]) -> Option<(u32, &[u8])>
-    ensures { MatchOption result ((first : ℕ) (name : List ℕ) → octets.now ≢ to_be_bytes w32 first ++ short_octets name) (λ p. octets.now ≡ to_be_bytes w32 p.0 ++ short_octets p.1.now) }
+    ensures { MatchOption result ((first : ℕ) (name : List ℕ) → octets.now ≢ to_be_bytes w32 first
+        ++ short_octets name) (λ p. octets.now ≡ to_be_bytes w32 p.0 ++ short_octets p.1.now) }
 {
     match octets {
         [f0, f1, f2, f3, rest @ ..] => {
@@ -288,7 +313,8 @@ fn read_first_and_line(octets: &[u8]) -> Option<(u32, &[u8])>
 
 /// A name after its length, with nothing after it.
 fn read_last_short(octets: &[u8]) -> Option<&[u8]>
-    ensures { MatchOption result ((name : List ℕ) → octets.now ≢ short_octets name) (λ name. octets.now ≡ short_octets name.now) }
+    ensures { MatchOption result ((name : List ℕ)
+        → octets.now ≢ short_octets name) (λ name. octets.now ≡ short_octets name.now) }
 {
     let (length, name) = octets.split_first()?;
     if usize::from(*length) != name.len() {
@@ -307,7 +333,9 @@ pub(crate) fn number_of(first: u8, second: u8, third: u8, fourth: u8) -> u32
 
 /// The format of two octets.
 fn format_of(width: u8, fine: u8) -> Option<Format>
-    ensures { MatchOption result ((format : FormatShown) → (width ≢ width_octet format.width) ⊎ (fine ≢ flag_octet format.fine)) (λ format. (width ≡ width_octet format.width) × (fine ≡ flag_octet format.fine)) }
+    ensures { MatchOption result ((format : FormatShown)
+        → (width ≢ width_octet format.width) ⊎ (fine ≢ flag_octet format.fine))
+        (λ format. (width ≡ width_octet format.width) × (fine ≡ flag_octet format.fine)) }
 {
     let width = match width {
         0 => Width::W1728,
@@ -320,7 +348,8 @@ fn format_of(width: u8, fine: u8) -> Option<Format>
 }
 
 fn flag_of(octet: u8) -> Option<bool>
-    ensures { MatchOption result ((flag : Bool) → octet ≢ flag_octet flag) (λ flag. octet ≡ flag_octet flag) }
+    ensures { MatchOption result ((flag : Bool)
+        → octet ≢ flag_octet flag) (λ flag. octet ≡ flag_octet flag) }
 {
     match octet {
         0 => Some(false),
@@ -331,7 +360,8 @@ fn flag_of(octet: u8) -> Option<bool>
 
 /// The outcome of this number.
 fn outcome_of(number: u8) -> Option<Outcome>
-    ensures { MatchOption result ((outcome : OutcomeShown) → number ≢ outcome_number outcome) (λ outcome. number ≡ outcome_number outcome) }
+    ensures { MatchOption result ((outcome : OutcomeShown)
+        → number ≢ outcome_number outcome) (λ outcome. number ≡ outcome_number outcome) }
 {
     match number {
         0 => Some(Outcome::Delivered),

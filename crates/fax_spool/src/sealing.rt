@@ -23,7 +23,8 @@ pub fn seal(alloc: Global, kept: &[u8]) -> Result<Vec<u8>, AllocError>
 /// The record that octets seal; `None` where they are no record after its digest.
 #[tactic(auto, using(crate::proofs::Digests::sealed_long))]
 pub fn unseal(octets: &[u8]) -> Option<&[u8]>
-    ensures { MatchOption result ((kept : List ℕ) → octets.now ≢ sealed kept) (λ kept. octets.now ≡ sealed kept.now) }
+    ensures { MatchOption result ((kept : List ℕ)
+        → octets.now ≢ sealed kept) (λ kept. octets.now ≡ sealed kept.now) }
 {
     if octets.len() < DIGEST_OCTETS {
         return None;

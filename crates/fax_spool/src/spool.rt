@@ -76,11 +76,15 @@ impl<D: Disk + Drop> Spool<D> {
         olds: &[SpoolRecord<'_>],
         news: &[SpoolRecord<'_>],
     ) -> io::Result<Self>
-        ensures begun { IfOk result (λ spool.
-            IsSettled D.seen D.may_leave D.is_usable older.disk older.end (map (λ v. v.items) older_items.now) → AreReadAs (map (λ v. v.items) older_items.now) olds.now
-            → IsSettled D.seen D.may_leave D.is_usable newer.disk newer.end (map (λ v. v.items) newer_items.now) → AreReadAs (map (λ v. v.items) newer_items.now) news.now
-            → Stores D.seen D.may_leave D.is_usable spool olds.now (news.now ++ epoch_records (epoch_now spool))) }
-        ensures clean { IfOk result (λ spool. AreClean D.is_clean (files_of spool) → AreClean D.is_clean (older, newer)) }
+        ensures begun { IfOk result
+            (λ spool. IsSettled D.seen D.may_leave D.is_usable older.disk older.end (map (λ v.
+            v.items) older_items.now) → AreReadAs (map (λ v. v.items) older_items.now) olds.now
+            → IsSettled D.seen D.may_leave D.is_usable newer.disk newer.end (map (λ v.
+            v.items) newer_items.now) → AreReadAs (map (λ v. v.items) newer_items.now) news.now
+            → Stores D.seen D.may_leave D.is_usable spool olds.now (news.now
+            ++ epoch_records (epoch_now spool))) }
+        ensures clean { IfOk result
+            (λ spool. AreClean D.is_clean (files_of spool) → AreClean D.is_clean (older, newer)) }
         ensures older_epochs { IfOk result (λ spool. greatest_epoch olds.now < epoch_now spool) }
         ensures newer_epochs { IfOk result (λ spool. greatest_epoch news.now < epoch_now spool) }
         ensures accepts { IfOk result Accepts }
@@ -147,13 +151,17 @@ impl<D: Disk> Spool<D> {
     pub fn put(&mut self, alloc: Global, page: &PageRecord<'_>) -> io::Result<()>
         requires line { length page.now.line < 256 }
         requires tag { length page.now.tag < 256 }
-        ensures acknowledged { OnOk result ((olds news : List SpoolRecordShown) → Stores D.seen D.may_leave D.is_usable self.old olds news
-            → Stores D.seen D.may_leave D.is_usable self.new olds (news ++ SpoolRecord.Page page.now ∷ [])) }
+        ensures acknowledged { OnOk result ((olds news : List SpoolRecordShown)
+            → Stores D.seen D.may_leave D.is_usable self.old olds news
+            → Stores D.seen D.may_leave D.is_usable self.new olds (news
+            ++ SpoolRecord.Page page.now ∷ [])) }
         // Whenever the machine stops, the files tell the records from before, with the new one or without.
-        ensures crash { (olds news : List SpoolRecordShown) → Stores D.seen D.may_leave D.is_usable self.old olds news
-            → (older newer : List ℕ) → MayLeaveBoth D.may_leave self.new older newer
-            → TellBoth older newer olds news ⊎ TellBoth older newer olds (news ++ SpoolRecord.Page page.now ∷ []) }
-        ensures does { Does D.seen D.may_leave D.is_usable (Puts (page.now ∷ [])) (is_ok result) self.old self.new }
+        ensures crash { (olds news : List SpoolRecordShown)
+            → Stores D.seen D.may_leave D.is_usable self.old olds news → (older newer : List ℕ)
+            → MayLeaveBoth D.may_leave self.new older newer → TellBoth older newer olds news
+            ⊎ TellBoth older newer olds (news ++ SpoolRecord.Page page.now ∷ []) }
+        ensures does { Does D.seen D.may_leave D.is_usable (Puts (page.now ∷ []))
+            (is_ok result) self.old self.new }
     {
         if self.refuses {
             return Err(io::ErrorKind::Other.into());
@@ -172,13 +180,17 @@ impl<D: Disk> Spool<D> {
     /// in this order, and each later crash leaves it. It costs two syncs, however many there are. A line or a tag of more than 255
     /// octets is `InvalidInput`, and nothing is put then.
     pub fn put_all(&mut self, alloc: Global, pages: &[PageRecord<'_>]) -> io::Result<()>
-        ensures acknowledged { OnOk result ((olds news : List SpoolRecordShown) → Stores D.seen D.may_leave D.is_usable self.old olds news
-            → Stores D.seen D.may_leave D.is_usable self.new olds (news ++ map page_record pages.now)) }
+        ensures acknowledged { OnOk result ((olds news : List SpoolRecordShown)
+            → Stores D.seen D.may_leave D.is_usable self.old olds news
+            → Stores D.seen D.may_leave D.is_usable self.new olds (news
+            ++ map page_record pages.now)) }
         // Whenever the machine stops, the files tell the records from before, with all of the new ones or with none.
-        ensures crash { (olds news : List SpoolRecordShown) → Stores D.seen D.may_leave D.is_usable self.old olds news
-            → (older newer : List ℕ) → MayLeaveBoth D.may_leave self.new older newer
-            → TellBoth older newer olds news ⊎ TellBoth older newer olds (news ++ map page_record pages.now) }
-        ensures does { Does D.seen D.may_leave D.is_usable (Puts pages.now) (is_ok result) self.old self.new }
+        ensures crash { (olds news : List SpoolRecordShown)
+            → Stores D.seen D.may_leave D.is_usable self.old olds news → (older newer : List ℕ)
+            → MayLeaveBoth D.may_leave self.new older newer → TellBoth older newer olds news
+            ⊎ TellBoth older newer olds (news ++ map page_record pages.now) }
+        ensures does { Does D.seen D.may_leave D.is_usable (Puts pages.now)
+            (is_ok result) self.old self.new }
     {
         if self.refuses {
             return Err(io::ErrorKind::Other.into());
@@ -199,13 +211,17 @@ impl<D: Disk> Spool<D> {
     /// A job ended. At `Ok` its record is on the disk, and its pages wait no more.
     pub fn end(&mut self, alloc: Global, ended: &EndedRecord<'_>) -> io::Result<()>
         requires line { length ended.now.line < 256 }
-        ensures acknowledged { OnOk result ((olds news : List SpoolRecordShown) → Stores D.seen D.may_leave D.is_usable self.old olds news
-            → Stores D.seen D.may_leave D.is_usable self.new olds (news ++ SpoolRecord.Ended ended.now ∷ [])) }
+        ensures acknowledged { OnOk result ((olds news : List SpoolRecordShown)
+            → Stores D.seen D.may_leave D.is_usable self.old olds news
+            → Stores D.seen D.may_leave D.is_usable self.new olds (news
+            ++ SpoolRecord.Ended ended.now ∷ [])) }
         // Whenever the machine stops, the files tell the records from before, with the new one or without.
-        ensures crash { (olds news : List SpoolRecordShown) → Stores D.seen D.may_leave D.is_usable self.old olds news
-            → (older newer : List ℕ) → MayLeaveBoth D.may_leave self.new older newer
-            → TellBoth older newer olds news ⊎ TellBoth older newer olds (news ++ SpoolRecord.Ended ended.now ∷ []) }
-        ensures does { Does D.seen D.may_leave D.is_usable (Ends ended.now) (is_ok result) self.old self.new }
+        ensures crash { (olds news : List SpoolRecordShown)
+            → Stores D.seen D.may_leave D.is_usable self.old olds news → (older newer : List ℕ)
+            → MayLeaveBoth D.may_leave self.new older newer → TellBoth older newer olds news
+            ⊎ TellBoth older newer olds (news ++ SpoolRecord.Ended ended.now ∷ []) }
+        ensures does { Does D.seen D.may_leave D.is_usable (Ends ended.now)
+            (is_ok result) self.old self.new }
     {
         if self.refuses {
             return Err(io::ErrorKind::Other.into());
@@ -231,7 +247,9 @@ impl<D: Disk> Spool<D> {
         alloc: Global,
         ended: &EndedRecord<'_>,
     ) -> io::Result<Vec<WaitingPage>>
-        ensures found { IfOk result (λ pages. AreClean D.is_clean (files_of self.new) → (olds news : List SpoolRecordShown) → Stores D.seen D.may_leave D.is_usable self.old olds news
+        ensures found { IfOk result
+            (λ pages. AreClean D.is_clean (files_of self.new) → (olds news : List SpoolRecordShown)
+            → Stores D.seen D.may_leave D.is_usable self.old olds news
             → pages.items ≡ ended_by ended.now (waiting (olds ++ news))) }
         ensures read { IsRead D.seen D.may_leave D.is_usable self.old self.new }
         ensures refused { Refuses self.old → IsErr result × (self.new ≡ self.old) }
@@ -249,13 +267,18 @@ impl<D: Disk> Spool<D> {
 
     /// Drops the records of the older file where none of its pages waits, and answers whether it did: not where one waits.
     pub fn clear(&mut self) -> io::Result<bool>
-        ensures cleared { IfOk result (λ was. (olds news : List SpoolRecordShown) → Stores D.seen D.may_leave D.is_usable self.old olds news
-            → MatchBool was (NoneIsLeft olds news × Stores D.seen D.may_leave D.is_usable self.new [] news) ((¬ NoneIsLeft olds news) × Stores D.seen D.may_leave D.is_usable self.new olds news)) }
-        ensures failed { OnErr result ((olds news : List SpoolRecordShown) → Stores D.seen D.may_leave D.is_usable self.old olds news → Refuses self.new) }
+        ensures cleared { IfOk result (λ was. (olds news : List SpoolRecordShown)
+            → Stores D.seen D.may_leave D.is_usable self.old olds news
+            → MatchBool was (NoneIsLeft olds news
+            × Stores D.seen D.may_leave D.is_usable self.new [] news) ((¬ NoneIsLeft olds news)
+            × Stores D.seen D.may_leave D.is_usable self.new olds news)) }
+        ensures failed { OnErr result ((olds news : List SpoolRecordShown)
+            → Stores D.seen D.may_leave D.is_usable self.old olds news → Refuses self.new) }
         // Whenever the machine stops, the files tell all records, or those of the newer one where no other page waits.
-        ensures crash { (olds news : List SpoolRecordShown) → Stores D.seen D.may_leave D.is_usable self.old olds news
-            → (older newer : List ℕ) → MayLeaveBoth D.may_leave self.new older newer
-            → TellBoth older newer olds news ⊎ (NoneIsLeft olds news × TellBoth older newer [] news) }
+        ensures crash { (olds news : List SpoolRecordShown)
+            → Stores D.seen D.may_leave D.is_usable self.old olds news → (older newer : List ℕ)
+            → MayLeaveBoth D.may_leave self.new older newer → TellBoth older newer olds news
+            ⊎ (NoneIsLeft olds news × TellBoth older newer [] news) }
         ensures does { Does D.seen D.may_leave D.is_usable Turns (is_ok result) self.old self.new }
     {
         if self.refuses {
@@ -275,12 +298,17 @@ impl<D: Disk> Spool<D> {
 
     /// Takes the other file into use where it is empty, and answers whether it did. A new epoch begins.
     pub fn change(&mut self, alloc: Global) -> io::Result<bool>
-        ensures changed { IfOk result (λ was. (olds news : List SpoolRecordShown) → Stores D.seen D.may_leave D.is_usable self.old olds news
-            → MatchBool was ((olds ≡ []) × (greatest_epoch news < epoch_now self.new) × Stores D.seen D.may_leave D.is_usable self.new news (epoch_records (epoch_now self.new))) (Stores D.seen D.may_leave D.is_usable self.new olds news)) }
+        ensures changed { IfOk result (λ was. (olds news : List SpoolRecordShown)
+            → Stores D.seen D.may_leave D.is_usable self.old olds news
+            → MatchBool was ((olds ≡ []) × (greatest_epoch news < epoch_now self.new)
+            × Stores D.seen D.may_leave D.is_usable self.new news (epoch_records
+            (epoch_now self.new))) (Stores D.seen D.may_leave D.is_usable self.new olds news)) }
         // Whenever the machine stops, the files tell the records from before, with both of the epoch's or without.
-        ensures crash { (olds news : List SpoolRecordShown) → Stores D.seen D.may_leave D.is_usable self.old olds news
+        ensures crash { (olds news : List SpoolRecordShown)
+            → Stores D.seen D.may_leave D.is_usable self.old olds news
             → (older newer : List ℕ) → MayLeaveBoth D.may_leave self.new older newer
-            → TellBoth older newer olds news ⊎ TellBoth older newer news [] ⊎ TellBoth older newer news (epoch_records (epoch_now self.new)) }
+            → TellBoth older newer olds news ⊎ TellBoth older newer news []
+            ⊎ TellBoth older newer news (epoch_records (epoch_now self.new)) }
         ensures does { Does D.seen D.may_leave D.is_usable Turns (is_ok result) self.old self.new }
     {
         if self.refuses {
@@ -304,13 +332,16 @@ impl<D: Disk> Spool<D> {
     /// them at once, whatever crash comes. It answers whether it did: not where the records of one of them are not kept in memory, nor where
     /// they have more than `most` octets. It costs two syncs, and what those octets cost.
     pub fn put_again(&mut self, alloc: Global, most: usize) -> io::Result<bool>
-        ensures put { IfOk result (λ was. (olds news : List SpoolRecordShown) → Stores D.seen D.may_leave D.is_usable self.old olds news
-            → MatchBool was (NoneIsLeft olds (news ++ put_again (waiting (olds ++ news))) × Stores D.seen D.may_leave D.is_usable self.new olds (news ++ put_again (waiting (olds ++ news))))
-            (Stores D.seen D.may_leave D.is_usable self.new olds news)) }
+        ensures put { IfOk result (λ was. (olds news : List SpoolRecordShown)
+            → Stores D.seen D.may_leave D.is_usable self.old olds news
+            → MatchBool was (NoneIsLeft olds (news ++ put_again (waiting (olds ++ news)))
+            × Stores D.seen D.may_leave D.is_usable self.new olds (news ++ put_again (waiting (olds
+            ++ news)))) (Stores D.seen D.may_leave D.is_usable self.new olds news)) }
         // Whenever the machine stops, the files tell the records from before, with those that are put again or without.
-        ensures crash { (olds news : List SpoolRecordShown) → Stores D.seen D.may_leave D.is_usable self.old olds news
-            → (older newer : List ℕ) → MayLeaveBoth D.may_leave self.new older newer
-            → TellBoth older newer olds news ⊎ TellBoth older newer olds (news ++ put_again (waiting (olds ++ news))) }
+        ensures crash { (olds news : List SpoolRecordShown)
+            → Stores D.seen D.may_leave D.is_usable self.old olds news → (older newer : List ℕ)
+            → MayLeaveBoth D.may_leave self.new older newer → TellBoth older newer olds news
+            ⊎ TellBoth older newer olds (news ++ put_again (waiting (olds ++ news))) }
         ensures does { Does D.seen D.may_leave D.is_usable Turns (is_ok result) self.old self.new }
     {
         if self.refuses {
@@ -350,10 +381,13 @@ fn append<D: Disk>(
     alloc: Global,
     item: &[u8],
 ) -> io::Result<()>
-    ensures acknowledged { OnOk result ((rs : List (List ℕ)) → IsSettled D.seen D.may_leave D.is_usable file.old.disk file.old.end rs
-        → IsSettled D.seen D.may_leave D.is_usable file.new.disk file.new.end (rs ++ item.now ∷ [])) }
-    ensures crash { (rs : List (List ℕ)) → IsSettled D.seen D.may_leave D.is_usable file.old.disk file.old.end rs
-        → (c : List ℕ) → D.may_leave file.new.disk c → Stands c rs ⊎ Stands c (rs ++ item.now ∷ []) }
+    ensures acknowledged { OnOk result ((rs : List (List ℕ))
+        → IsSettled D.seen D.may_leave D.is_usable file.old.disk file.old.end rs
+        → IsSettled D.seen D.may_leave D.is_usable file.new.disk file.new.end (rs
+        ++ item.now ∷ [])) }
+    ensures crash { (rs : List (List ℕ))
+        → IsSettled D.seen D.may_leave D.is_usable file.old.disk file.old.end rs → (c : List ℕ)
+        → D.may_leave file.new.disk c → Stands c rs ⊎ Stands c (rs ++ item.now ∷ []) }
     ensures failed { OnErr result (refuses.new ≡ true) }
 {
     *refuses = true;
@@ -372,10 +406,14 @@ fn append_all<D: Disk>(
     alloc: Global,
     items: &[Vec<u8>],
 ) -> io::Result<()>
-    ensures acknowledged { OnOk result ((rs : List (List ℕ)) → IsSettled D.seen D.may_leave D.is_usable file.old.disk file.old.end rs
-        → IsSettled D.seen D.may_leave D.is_usable file.new.disk file.new.end (rs ++ map (λ v. v.items) items.now)) }
-    ensures crash { (rs : List (List ℕ)) → IsSettled D.seen D.may_leave D.is_usable file.old.disk file.old.end rs
-        → (c : List ℕ) → D.may_leave file.new.disk c → Stands c rs ⊎ Stands c (rs ++ map (λ v. v.items) items.now) }
+    ensures acknowledged { OnOk result ((rs : List (List ℕ))
+        → IsSettled D.seen D.may_leave D.is_usable file.old.disk file.old.end rs
+        → IsSettled D.seen D.may_leave D.is_usable file.new.disk file.new.end (rs ++ map
+        (λ v. v.items) items.now)) }
+    ensures crash { (rs : List (List ℕ))
+        → IsSettled D.seen D.may_leave D.is_usable file.old.disk file.old.end rs
+        → (c : List ℕ) → D.may_leave file.new.disk c
+        → Stands c rs ⊎ Stands c (rs ++ map (λ v. v.items) items.now) }
     ensures clean { IsTrue (D.is_clean file.new.disk) → IsTrue (D.is_clean file.old.disk) }
     ensures failed { OnErr result (refuses.new ≡ true) }
     ensures goes_on { OnOk result (refuses.new ≡ false) }

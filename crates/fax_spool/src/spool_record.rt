@@ -78,7 +78,8 @@ fn seal_epoch(alloc: Global, number: u32) -> Result<Vec<u8>, AllocError>
 
 /// The records of an epoch, sealed: it is put twice.
 pub(crate) fn seal_epochs(alloc: Global, number: u32) -> Result<Vec<Vec<u8>>, AllocError>
-    ensures { IfOk result (λ items. AreReadAs (map (λ v. v.items) items.items) (epoch_records number)) }
+    ensures { IfOk result
+        (λ items. AreReadAs (map (λ v. v.items) items.items) (epoch_records number)) }
 {
     let mut items = Vec::with_capacity(alloc, 2)?;
     items.push(seal_epoch(alloc, number)?)?;
@@ -89,7 +90,8 @@ pub(crate) fn seal_epochs(alloc: Global, number: u32) -> Result<Vec<Vec<u8>>, Al
 
 /// The number of the epoch whose record octets are; `None` where they are none.
 fn read_epoch(octets: &[u8]) -> Option<u32>
-    ensures { MatchOption result ((number : ℕ) → octets.now ≢ epoch_octets number) (λ number. octets.now ≡ epoch_octets number) }
+    ensures { MatchOption result ((number : ℕ)
+        → octets.now ≢ epoch_octets number) (λ number. octets.now ≡ epoch_octets number) }
 {
     match octets {
         [EPOCH, n0, n1, n2, n3] => Some(number_of(*n0, *n1, *n2, *n3)),

@@ -69,7 +69,8 @@ impl Room {
 
 /// Where a record is that stands at a place: in memory, where there is room for it.
 pub(crate) fn source_of(octets: Vec<u8>, place: RecordPlace, room: &mut Room) -> RecordSource
-    ensures { (items : List (List ℕ)) (page : PageValue) → StandsAt items place octets.items → IsReadAs octets.items (SpoolRecord.Page page) → IsRecordOf items result page }
+    ensures { (items : List (List ℕ)) (page : PageValue) → StandsAt items place octets.items
+        → IsReadAs octets.items (SpoolRecord.Page page) → IsRecordOf items result page }
 {
     if room.take(octets.len()) {
         return RecordSource::Memory(octets);
@@ -84,7 +85,9 @@ fn source_of_copy(
     place: RecordPlace,
     room: &mut Room,
 ) -> Result<RecordSource, AllocError>
-    ensures { IfOk result (λ source. (items : List (List ℕ)) (page : PageValue) → StandsAt items place item.now → IsReadAs item.now (SpoolRecord.Page page) → IsRecordOf items source page) }
+    ensures { IfOk result
+        (λ source. (items : List (List ℕ)) (page : PageValue) → StandsAt items place item.now
+        → IsReadAs item.now (SpoolRecord.Page page) → IsRecordOf items source page) }
 {
     if room.take(item.len()) {
         return Ok(RecordSource::Memory(item.to_vec(alloc)?));
@@ -115,8 +118,11 @@ pub(crate) fn seal_pages(
     end: usize,
     room: &mut Room,
 ) -> io::Result<SealedPages>
-    ensures items { IfOk result (λ sealed. AreReadAs (map (λ v. v.items) sealed.items.items) (map page_record pages.now)) }
-    ensures kept { IfOk result (λ sealed. (before : List (List ℕ)) → octets_of before ≡ end → AreKnownAs (before ++ map (λ v. v.items) sealed.items.items) sealed.kept.items pages.now) }
+    ensures items { IfOk result
+        (λ sealed. AreReadAs (map (λ v. v.items) sealed.items.items) (map page_record pages.now)) }
+    ensures kept { IfOk result
+        (λ sealed. (before : List (List ℕ)) → octets_of before ≡ end → AreKnownAs (before ++ map
+        (λ v. v.items) sealed.items.items) sealed.kept.items pages.now) }
 {
     let mut items = Vec::with_capacity(alloc, pages.len())?;
     let mut kept = Vec::with_capacity(alloc, pages.len())?;
@@ -142,7 +148,8 @@ pub(crate) fn keep_placed_pages(
     pages: &[PlacedPage<'_>],
     room: &mut Room,
 ) -> Result<Vec<StoredPage>, AllocError>
-    ensures { IfOk result (λ kept. (items : List (List ℕ)) (waits : List PageValue) → AreReadAt items pages.now waits → AreKnownAs items kept.items waits) }
+    ensures { IfOk result (λ kept. (items : List (List ℕ)) (waits : List PageValue)
+        → AreReadAt items pages.now waits → AreKnownAs items kept.items waits) }
 {
     let mut kept = Vec::with_capacity(alloc, pages.len())?;
     for placed in pages {
@@ -195,7 +202,9 @@ pub(crate) fn records_again(
     older: &[StoredPage],
     newer: &[StoredPage],
 ) -> io::Result<Vec<Vec<u8>>>
-    ensures { IfOk result (λ items. (older_items newer_items : List (List ℕ)) (olds news : List PageValue) → AreKnownAs older_items older.now olds → AreKnownAs newer_items newer.now news
+    ensures { IfOk result
+        (λ items. (older_items newer_items : List (List ℕ)) (olds news : List PageValue)
+        → AreKnownAs older_items older.now olds → AreKnownAs newer_items newer.now news
         → AreReadAs (map (λ v. v.items) items.items) (put_again (olds ++ news))) }
 {
     let mut items = Vec::new(alloc);
@@ -208,7 +217,9 @@ pub(crate) fn records_again(
 
 /// The record of the end of each of these pages alone goes after others.
 fn push_ends(alloc: Global, items: &mut Vec<Vec<u8>>, pages: &[StoredPage]) -> io::Result<()>
-    ensures { OnOk result ((there : List (List ℕ)) (records : List SpoolRecordShown) (waits : List PageValue) → AreReadAs (map (λ v. v.items) items.old.items) records → AreKnownAs there pages.now waits
+    ensures { OnOk result ((there : List (List ℕ))
+        (records : List SpoolRecordShown) (waits : List PageValue)
+        → AreReadAs (map (λ v. v.items) items.old.items) records → AreKnownAs there pages.now waits
         → AreReadAs (map (λ v. v.items) items.new.items) (records ++ map ended_alone waits)) }
 {
     for page in pages {
@@ -219,7 +230,8 @@ fn push_ends(alloc: Global, items: &mut Vec<Vec<u8>>, pages: &[StoredPage]) -> i
 
 /// The record of the end of a page alone, sealed. It refuses the name of a line of more than 255 octets.
 fn seal_end_of(alloc: Global, page: &PageName) -> io::Result<Vec<u8>>
-    ensures { IfOk result (λ octets. IsReadAs octets.items (SpoolRecord.Ended (end_alone page.now))) }
+    ensures { IfOk result
+        (λ octets. IsReadAs octets.items (SpoolRecord.Ended (end_alone page.now))) }
 {
     let line = page.line();
     if line.len() > MOST_NAME {
@@ -240,7 +252,9 @@ fn seal_end_of(alloc: Global, page: &PageName) -> io::Result<Vec<u8>>
 
 /// The record of each of these pages goes after others.
 fn push_pages(alloc: Global, items: &mut Vec<Vec<u8>>, pages: &[StoredPage]) -> io::Result<()>
-    ensures { OnOk result ((there : List (List ℕ)) (records : List SpoolRecordShown) (waits : List PageValue) → AreReadAs (map (λ v. v.items) items.old.items) records → AreKnownAs there pages.now waits
+    ensures { OnOk result ((there : List (List ℕ))
+        (records : List SpoolRecordShown) (waits : List PageValue)
+        → AreReadAs (map (λ v. v.items) items.old.items) records → AreKnownAs there pages.now waits
         → AreReadAs (map (λ v. v.items) items.new.items) (records ++ map page_record waits)) }
 {
     for page in pages {
@@ -251,7 +265,8 @@ fn push_pages(alloc: Global, items: &mut Vec<Vec<u8>>, pages: &[StoredPage]) -> 
 
 /// The record of a page, copied from memory. It refuses where it is not there.
 fn record_of(alloc: Global, source: &RecordSource) -> io::Result<Vec<u8>>
-    ensures { IfOk result (λ item. (items : List (List ℕ)) (page : PageValue) → IsRecordOf items source.now page → IsReadAs item.items (SpoolRecord.Page page)) }
+    ensures { IfOk result (λ item. (items : List (List ℕ)) (page : PageValue)
+        → IsRecordOf items source.now page → IsReadAs item.items (SpoolRecord.Page page)) }
 {
     match source {
         RecordSource::Memory(octets) => Ok(octets.as_slice().to_vec(alloc)?),

@@ -95,7 +95,8 @@ fn push_torn(
     records: &[SpoolRecord<'_>],
     after: &[SpoolRecord<'_>],
 ) -> Result<(), AllocError>
-    ensures { OnOk result (calls.new.items ≡ calls.old.items ++ torn_among before.now records.now after.now) }
+    ensures { OnOk result (calls.new.items
+        ≡ calls.old.items ++ torn_among before.now records.now after.now) }
 {
     for (i, kept) in records.iter().enumerate() {
         push_torn_by(
@@ -121,7 +122,8 @@ fn push_torn_by(
     after: &[SpoolRecord<'_>],
     far_after: &[SpoolRecord<'_>],
 ) -> Result<(), AllocError>
-    ensures { OnOk result (calls.new.items ≡ calls.old.items ++ torn_by (far_before.now ++ before.now) kept.now (after.now ++ far_after.now)) }
+    ensures { OnOk result (calls.new.items ≡ calls.old.items
+        ++ torn_by (far_before.now ++ before.now) kept.now (after.now ++ far_after.now)) }
 {
     let SpoolRecord::Page(page) = kept else {
         return Ok(());

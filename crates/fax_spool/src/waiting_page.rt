@@ -47,7 +47,16 @@ impl Model for WaitingPage {
 
     ghost Value = { PageValue };
 
-    ghost view = { λ p. record { life = p.life; call = p.call; number = p.number; format = p.format; closes = p.closes; line = p.line.items; tag = p.tag.items; text = p.text.items } };
+    ghost view = { λ p. record {
+      life = p.life;
+      call = p.call;
+      number = p.number;
+      format = p.format;
+      closes = p.closes;
+      line = p.line.items;
+      tag = p.tag.items;
+      text = p.text.items;
+    } };
 }
 
 impl WaitingPage {

@@ -22,14 +22,17 @@ is_open octets = false
 
 -- after a gate the same four octets stand three times: the length of a record
 abbrev pub has_lengths : List ℕ → Bool
-has_lengths octets = bytes_eq (take 4 (drop 3 octets)) (take 4 (drop 7 octets)) && bytes_eq (take 4 (drop 3 octets)) (take 4 (drop 11 octets))
+has_lengths octets = bytes_eq (take 4 (drop 3 octets)) (take 4 (drop 7 octets))
+    && bytes_eq (take 4 (drop 3 octets)) (take 4 (drop 11 octets))
 
 -- A file that begins so may be something else's: it is longer than the 107 octets that a crash within the first start leaves, two records
 -- of 49 and three gates, and begins neither with a gate nor with the length of a record after one.
 abbrev pub is_foreign : List ℕ → Bool
-is_foreign octets = nat_lt 107 (length octets) && (not (has_gate octets) && not (has_lengths octets))
+is_foreign octets =
+    nat_lt 107 (length octets) && (not (has_gate octets) && not (has_lengths octets))
 
 -- TWO FILES ARE NO SPOOL'S where one of them may be something else's, and the other one has no record: once a spool was begun one of its
 -- files begins with an open gate, whatever crash comes.
 abbrev pub are_foreign : (one other : List ℕ) → Bool
-are_foreign one other = not (is_open one) && (not (is_open other) && (is_foreign one || is_foreign other))
+are_foreign one other =
+    not (is_open one) && (not (is_open other) && (is_foreign one || is_foreign other))

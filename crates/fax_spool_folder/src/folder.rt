@@ -20,8 +20,10 @@ pub fn open_folder<S: Start>(
     folder: &str,
     start: S,
 ) -> Result<OpenedSpool<FileFrom<S>>, FolderFault>
-    ensures opened { IfOk result (λ opened. AreClean ⟦<FileFrom<S> as Disk>⟧.is_clean (files_of opened.spool)
-        → IsOpened ⟦<FileFrom<S> as Disk>⟧.seen ⟦<FileFrom<S> as Disk>⟧.may_leave ⟦<FileFrom<S> as Disk>⟧.is_usable S.db S.log opened) }
+    ensures opened { IfOk result
+        (λ opened. AreClean ⟦<FileFrom<S> as Disk>⟧.is_clean (files_of opened.spool)
+        → IsOpened ⟦<FileFrom<S> as Disk>⟧.seen
+        ⟦<FileFrom<S> as Disk>⟧.may_leave ⟦<FileFrom<S> as Disk>⟧.is_usable S.db S.log opened) }
     ensures accepts { IfOk result (λ opened. Accepts opened.spool) }
 {
     let path = format!(in rt.alloc(); "{folder}/pages")?;
@@ -35,8 +37,10 @@ pub fn open_undelivered_folder<S: Start>(
     folder: &str,
     start: S,
 ) -> Result<OpenedSpool<FileFrom<S>>, FolderFault>
-    ensures opened { IfOk result (λ opened. AreClean ⟦<FileFrom<S> as Disk>⟧.is_clean (files_of opened.spool)
-        → IsOpened ⟦<FileFrom<S> as Disk>⟧.seen ⟦<FileFrom<S> as Disk>⟧.may_leave ⟦<FileFrom<S> as Disk>⟧.is_usable S.db S.log opened) }
+    ensures opened { IfOk result
+        (λ opened. AreClean ⟦<FileFrom<S> as Disk>⟧.is_clean (files_of opened.spool)
+        → IsOpened ⟦<FileFrom<S> as Disk>⟧.seen
+        ⟦<FileFrom<S> as Disk>⟧.may_leave ⟦<FileFrom<S> as Disk>⟧.is_usable S.db S.log opened) }
     ensures accepts { IfOk result (λ opened. Accepts opened.spool) }
 {
     let path = format!(in rt.alloc(); "{folder}/undelivered")?;
@@ -49,8 +53,10 @@ fn open_pair<S: Start>(
     path: &str,
     start: S,
 ) -> Result<OpenedSpool<FileFrom<S>>, FolderFault>
-    ensures opened { IfOk result (λ opened. AreClean ⟦<FileFrom<S> as Disk>⟧.is_clean (files_of opened.spool)
-        → IsOpened ⟦<FileFrom<S> as Disk>⟧.seen ⟦<FileFrom<S> as Disk>⟧.may_leave ⟦<FileFrom<S> as Disk>⟧.is_usable S.db S.log opened) }
+    ensures opened { IfOk result
+        (λ opened. AreClean ⟦<FileFrom<S> as Disk>⟧.is_clean (files_of opened.spool)
+        → IsOpened ⟦<FileFrom<S> as Disk>⟧.seen
+        ⟦<FileFrom<S> as Disk>⟧.may_leave ⟦<FileFrom<S> as Disk>⟧.is_usable S.db S.log opened) }
     ensures accepts { IfOk result (λ opened. Accepts opened.spool) }
 {
     let beside = format!(in rt.alloc(); "{path}-wal")?;
@@ -72,8 +78,10 @@ pub trait Folders {
         folder: &str,
         start: S,
     ) -> Result<OpenedSpool<FileFrom<S>>, FolderFault>
-        ensures opened { IfOk result (λ opened. AreClean ⟦<FileFrom<S> as Disk>⟧.is_clean (files_of opened.spool)
-            → IsOpened ⟦<FileFrom<S> as Disk>⟧.seen ⟦<FileFrom<S> as Disk>⟧.may_leave ⟦<FileFrom<S> as Disk>⟧.is_usable S.db S.log opened) }
+        ensures opened { IfOk result
+            (λ opened. AreClean ⟦<FileFrom<S> as Disk>⟧.is_clean (files_of opened.spool)
+            → IsOpened ⟦<FileFrom<S> as Disk>⟧.seen ⟦<FileFrom<S> as Disk>⟧.may_leave
+            ⟦<FileFrom<S> as Disk>⟧.is_usable S.db S.log opened) }
         ensures accepts { IfOk result (λ opened. Accepts opened.spool) };
 
     /// Opens the second pair of files of a folder, as `open_undelivered_folder`. `S` stands for what its files hold.
@@ -82,8 +90,10 @@ pub trait Folders {
         folder: &str,
         start: S,
     ) -> Result<OpenedSpool<FileFrom<S>>, FolderFault>
-        ensures opened { IfOk result (λ opened. AreClean ⟦<FileFrom<S> as Disk>⟧.is_clean (files_of opened.spool)
-            → IsOpened ⟦<FileFrom<S> as Disk>⟧.seen ⟦<FileFrom<S> as Disk>⟧.may_leave ⟦<FileFrom<S> as Disk>⟧.is_usable S.db S.log opened) }
+        ensures opened { IfOk result
+            (λ opened. AreClean ⟦<FileFrom<S> as Disk>⟧.is_clean (files_of opened.spool)
+            → IsOpened ⟦<FileFrom<S> as Disk>⟧.seen ⟦<FileFrom<S> as Disk>⟧.may_leave
+            ⟦<FileFrom<S> as Disk>⟧.is_usable S.db S.log opened) }
         ensures accepts { IfOk result (λ opened. Accepts opened.spool) };
 }
 

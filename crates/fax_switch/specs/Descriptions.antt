@@ -15,14 +15,16 @@ IsNowhere medium = (address : SocketAddr) → IsHeardAt medium.host medium.port 
 
 -- T.38 where a medium is heard, with the bound that it tells
 abbrev pub SaysFax : MediumText → Description → Type 0
-SaysFax medium (FaxAt end) = IsHeardAt medium.host medium.port end.address × (end.octets ≡ medium.terms.max_datagram)
+SaysFax medium (FaxAt end) =
+    IsHeardAt medium.host medium.port end.address × (end.octets ≡ medium.terms.max_datagram)
 SaysFax medium (AudioAt end) = ⊥
 SaysFax medium NothingSaid = ⊥
 SaysFax medium Unusable = IsNowhere medium
 
 abbrev pub SaysAudio : Coding → MediumText → Description → Type 0
 SaysAudio coding medium (FaxAt end) = ⊥
-SaysAudio coding medium (AudioAt end) = IsHeardAt medium.host medium.port end.address × (end.coding ≡ coding)
+SaysAudio coding medium (AudioAt end) =
+    IsHeardAt medium.host medium.port end.address × (end.coding ≡ coding)
 SaysAudio coding medium NothingSaid = ⊥
 SaysAudio coding medium Unusable = IsNowhere medium
 

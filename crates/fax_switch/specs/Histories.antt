@@ -37,8 +37,10 @@ is_dial_of on None = false
 is_dial_of on (Some dial) = dial.call == on.call
 
 abbrev pub dial_after : ℕ → ℕ → Event → Option Dial → Option Dial
-dial_after id line (Dialled on choice) before = if line == on.line then dial_by id on choice else before
-dial_after id line (JobOver on) before = if line == on.line && is_dial_of on before then None else before
+dial_after id line (Dialled on choice) before =
+    if line == on.line then dial_by id on choice else before
+dial_after id line (JobOver on) before =
+    if line == on.line && is_dial_of on before then None else before
 dial_after id line Elapsed before = before
 dial_after id line (Came route said) before = before
 dial_after id line (Rung call on) before = before
@@ -48,7 +50,8 @@ dial_after id line (Within call event) before = before
 
 abbrev pub dial_of : ℕ → List (ℕ × Event) → ℕ → Option Dial
 dial_of most [] line = None
-dial_of most (happening ∷ past) line = dial_after (table_after most past).next line happening.1 (dial_of most past line)
+dial_of most (happening ∷ past) line =
+    dial_after (table_after most past).next line happening.1 (dial_of most past line)
 
 -- ---- the calling leg: the newest ring of a line, where its call is not over
 
@@ -64,8 +67,10 @@ is_ring_of on None = false
 is_ring_of on (Some ring) = ring.call == on.call
 
 abbrev pub ring_after : ℕ → Event → Option Ring → Option Ring
-ring_after line (Rung id on) before = if line == on.line then Some (ring_with id on.call) else before
-ring_after line (CallOver on) before = if line == on.line && is_ring_of on before then None else before
+ring_after line (Rung id on) before =
+    if line == on.line then Some (ring_with id on.call) else before
+ring_after line (CallOver on) before =
+    if line == on.line && is_ring_of on before then None else before
 ring_after line Elapsed before = before
 ring_after line (Came route said) before = before
 ring_after line (NotRung call status) before = before

@@ -37,7 +37,8 @@ has_room table = nat_lt (length table.entries) table.most
 
 -- the call that an event begins; no number is given twice
 abbrev pub new_entry : Table → ℕ → Event → Option Entry
-new_entry table now event = if nat_lt table.next 18446744073709551615 then begun_by (has_room table) table.next now event else None
+new_entry table now event = if nat_lt table.next 18446744073709551615
+    then begun_by (has_room table) table.next now event else None
 
 -- each call hears each event
 abbrev pub stepped : ℕ → Event → List Entry → List Entry
@@ -49,11 +50,15 @@ stepped_first count now event entries = stepped now event (take count entries) +
 
 abbrev pub with_new : Option Entry → Table → Table
 with_new None table = table
-with_new (Some entry) table = record { next = table.next + 1; most = table.most; entries = table.entries ++ entry ∷ [] }
+with_new (Some entry) table =
+    record { next = table.next + 1; most = table.most; entries = table.entries ++ entry ∷ [] }
 
 abbrev pub heard : ℕ → Event → Table → Table
-heard now event table =
-    with_new (new_entry table now event) (record { next = table.next; most = table.most; entries = stepped now event table.entries })
+heard now event table = with_new (new_entry table now event) (record {
+  next = table.next;
+  most = table.most;
+  entries = stepped now event table.entries;
+})
 
 -- What happens at a moment.
 abbrev pub row : Table → ℕ → Event → Table

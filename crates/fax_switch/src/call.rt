@@ -138,7 +138,8 @@ impl Call {
 
 /// It is let go of by its line, or time passes.
 fn release_if(call: Call, now: u64, is_let_go: bool) -> Entry
-    ensures { result ≡ (if is_let_go then released call now call.stage else passed call now call.stage) }
+    ensures { result
+        ≡ (if is_let_go then released call now call.stage else passed call now call.stage) }
 {
     if is_let_go {
         release(call, now)
@@ -207,7 +208,8 @@ fn pass(call: Call, now: u64) -> Entry
 
 /// The answer to its INVITE is waited for still.
 fn stay_cancelled(call: Call, until: u64) -> Entry
-    ensures { result ≡ entry_of call None (Stage.Cancelling until) SipAction.Silence LineAction.NoWord }
+    ensures { result
+        ≡ entry_of call None (Stage.Cancelling until) SipAction.Silence LineAction.NoWord }
 {
     entry_with(
         call,

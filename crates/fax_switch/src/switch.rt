@@ -32,7 +32,8 @@ impl Model for Switch {
 
     ghost Value = { Table };
 
-    ghost view = { λ switch. record { next = switch.next; most = switch.most; entries = switch.entries.items } };
+    ghost view = { λ switch.
+        record { next = switch.next; most = switch.most; entries = switch.entries.items } };
 }
 
 impl Switch {
@@ -90,7 +91,8 @@ impl Switch {
     /// The same while there are numbers.
     fn add_begun(&mut self, now: u64, event: Event) -> Result<(), AllocError>
         requires { self.old.next < 18446744073709551615 }
-        ensures ok { OnOk result (self.new ≡ with_new (begun_by (has_room self.old) self.old.next now event) self.old) }
+        ensures ok { OnOk result (self.new
+            ≡ with_new (begun_by (has_room self.old) self.old.next now event) self.old) }
         ensures err { OnErr result (self.new ≡ self.old) }
     {
         let room = self.entries.len() < self.most;
@@ -107,7 +109,8 @@ impl Switch {
     /// So many of the first calls hear an event.
     fn step(&mut self, count: usize, now: u64, event: Event)
         requires { count ≤ length self.old.entries }
-        ensures { self.new ≡ record self.old { entries = stepped_first count now event self.old.entries } }
+        ensures { self.new
+            ≡ record self.old { entries = stepped_first count now event self.old.entries } }
     {
         step(&mut self.entries, count, now, event);
     }

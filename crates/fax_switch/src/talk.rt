@@ -114,7 +114,8 @@ fn go(call: Call, stage: Stage, sip: SipAction) -> Entry
 
 /// It ends, by this.
 fn end(call: Call, media: Media, now: u64, sip: SipAction) -> Entry
-    ensures { result ≡ entry_of call None (Stage.Talking (ending_from now) media) sip (hang_up_word call.place media) }
+    ensures { result ≡ entry_of
+        call None (Stage.Talking (ending_from now) media) sip (hang_up_word call.place media) }
 {
     entry_with(
         call,

@@ -21,17 +21,21 @@ use Rattle.fax_terminal.specs.declared.sending.SentJob.{SentJob}
 
 -- the caller, whose pause after a preamble is set, after these events of the call of a job
 abbrev pub core_after : Writing → (pause : ℕ) → JobValue → (start : ℕ) → List CallEvent → CallerCore
-core_after writes pause job start events = after_events writes job (started (new_calling pause job.format) job start) events
+core_after writes pause job start events =
+    after_events writes job (started (new_calling pause job.format) job start) events
 
 -- some events of the call of a job led a caller here
 pub record IsInCall (pause : ℕ) (job : JobValue) (kept : caller.Rep) : Type 0 where
-  pub after : (writes : Writing) → IsWriting writes
-      → (start : ℕ) × (heard : List Slot) × (events : List CallEvent) × caller.IsReached writes job heard (core_after writes pause job start events) kept
+  pub after : (writes : Writing)
+      → IsWriting writes → (start : ℕ) × (heard : List Slot) × (events : List CallEvent)
+      × caller.IsReached writes job heard (core_after writes pause job start events) kept
 
 -- some events of the call of a job led a caller here, of which the last one is a tick at this moment
 pub record HasTicked (pause : ℕ) (job : JobValue) (now : ℕ) (kept : caller.Rep) : Type 0 where
-  pub after : (writes : Writing) → IsWriting writes
-      → (start : ℕ) × (heard : List Slot) × (events : List CallEvent) × caller.IsReached writes job heard (core_after writes pause job start (Ticks now ∷ events)) kept
+  pub after : (writes : Writing)
+      → IsWriting writes → (start : ℕ) × (heard : List Slot) × (events : List CallEvent)
+      × caller.IsReached writes job heard (core_after writes pause job start (Ticks now
+      ∷ events)) kept
 
 -- this is so of each pause and job in whose call a caller is
 abbrev pub EachCallOut : caller.Rep → ((pause : ℕ) → JobValue → Type 0) → Type 0
@@ -46,7 +50,8 @@ abbrev pub TicksOn : JobValue → (now : ℕ) → (old new : caller.Rep) → Typ
 TicksOn job now old new = (pause : ℕ) → IsInCall pause job old → HasTicked pause job now new
 
 -- the call is over after these events, and what is told of it is what the caller tells then
-pub record TellsAfter (writes : Writing) (pause : ℕ) (job : JobValue) (sent : SentJob) (start : ℕ) (events : List CallEvent) : Type 0 where
+pub record TellsAfter (writes : Writing) (pause : ℕ)
+    (job : JobValue) (sent : SentJob) (start : ℕ) (events : List CallEvent) : Type 0 where
   pub over : (core_after writes pause job start events).state ≡ Idle
   pub outcome : (core_after writes pause job start events).outcome ≡ Some sent.outcome
   pub delivered : (core_after writes pause job start events).counts.delivered ≡ sent.delivered
@@ -54,7 +59,8 @@ pub record TellsAfter (writes : Writing) (pause : ℕ) (job : JobValue) (sent : 
 -- What is told of a call of a job is what a caller tells that some events of it led to its end: its outcome, and how many
 -- pages the called machine confirmed.
 pub record TellsCall (pause : ℕ) (job : JobValue) (sent : SentJob) : Type 0 where
-  pub after : (writes : Writing) → IsWriting writes → (start : ℕ) × (events : List CallEvent) × TellsAfter writes pause job sent start events
+  pub after : (writes : Writing) → IsWriting writes
+      → (start : ℕ) × (events : List CallEvent) × TellsAfter writes pause job sent start events
 
 -- ---- a terminal that is called
 
@@ -79,10 +85,12 @@ StaysReceiving old new =
 
 -- WHAT IS MADE OF A STORE by pages that it was given one by one, each told with the newest first: it kept all of them; or, where
 -- it did not, all but the last, after which it was given no other.
-abbrev pub AreGiven : {K : Type 0} → (keeps : PageValue → Bool → K → K → Type 0) → (all_stored : Bool) → List PageValue → (old new : K) → Type 0
+abbrev pub AreGiven : {K : Type 0} → (keeps : PageValue → Bool → K → K → Type 0)
+    → (all_stored : Bool) → List PageValue → (old new : K) → Type 0
 AreGiven keeps true [] old new = new ≡ old
 AreGiven keeps false [] old new = ⊥
-AreGiven {K} keeps all_stored (page ∷ pages) old new = (between : K) × AreGiven keeps true pages old between × keeps page all_stored between new
+AreGiven {K} keeps all_stored (page ∷ pages) old new =
+    (between : K) × AreGiven keeps true pages old between × keeps page all_stored between new
 
 -- A call was answered with all pages stored that it confirmed, or it goes no further since one was not kept.
 abbrev pub stored_all : {A : Type 0} → Result A TerminalFault → Bool
@@ -92,13 +100,15 @@ stored_all (Err faults.Clock) = true
 stored_all (Err faults.Storing) = false
 
 -- some events of a call led an answerer here, and a store from there to here: by the pages that its ticks confirmed
-pub record StoresInCall {K : Type 0} (keeps : PageValue → Bool → K → K → Type 0) (pause : ℕ) (all_stored : Bool) (first : K) (kept : answerer.Rep) (store : K) : Type 0 where
+pub record StoresInCall {K : Type 0} (keeps : PageValue → Bool → K → K → Type 0)
+    (pause : ℕ) (all_stored : Bool) (first : K) (kept : answerer.Rep) (store : K) : Type 0 where
   pub pages : List PageValue
   pub receiving : IsReceiving pause pages kept
   pub given : AreGiven keeps all_stored pages first store
 
 -- the same, where all were kept, and the last of the events is a tick at this moment
-pub record HasTurned {K : Type 0} (keeps : PageValue → Bool → K → K → Type 0) (pause : ℕ) (first : K) (now : ℕ) (kept : answerer.Rep) (store : K) : Type 0 where
+pub record HasTurned {K : Type 0} (keeps : PageValue → Bool → K → K → Type 0)
+    (pause : ℕ) (first : K) (now : ℕ) (kept : answerer.Rep) (store : K) : Type 0 where
   pub call : StoresInCall keeps pause true first kept store
   pub before : List answering.CallEvent
   pub last : call.receiving.events ≡ answering.Ticks now ∷ before
@@ -117,13 +127,16 @@ pages_in (Some confirmed) = confirmed.page ∷ []
 
 -- What a store was given in a call are the pages that the ticks of an answerer confirmed in it, each one and in their
 -- order, after some events of the call, each image of it rightly read. It kept all of them, or all but the last.
-pub record StoresConfirmed {K : Type 0} (keeps : PageValue → Bool → K → K → Type 0) (pause : ℕ) (all_stored : Bool) (old new : K) : Type 0 where
+pub record StoresConfirmed {K : Type 0} (keeps : PageValue → Bool → K → K → Type 0)
+    (pause : ℕ) (all_stored : Bool) (old new : K) : Type 0 where
   pub start : ℕ
   pub events : List answering.CallEvent
   pub right : AreRead (rung_at pause start) events
   pub given : AreGiven keeps all_stored (pages_confirmed (rung_at pause start) events) old new
 
 -- the same, of a call that is over, with all of them kept
-pub record StoresWholeCall {K : Type 0} (keeps : PageValue → Bool → K → K → Type 0) (pause : ℕ) (old new : K) : Type 0 where
+pub record StoresWholeCall {K : Type 0} (keeps : PageValue → Bool → K → K → Type 0)
+    (pause : ℕ) (old new : K) : Type 0 where
   pub kept : StoresConfirmed keeps pause true old new
-  pub over : (answering.after_events (rung_at pause kept.start) kept.events).state ≡ answerer_state.Idle
+  pub over :
+      (answering.after_events (rung_at pause kept.start) kept.events).state ≡ answerer_state.Idle

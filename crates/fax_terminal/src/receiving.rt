@@ -42,7 +42,8 @@ pub fn receive_call<S: RowStore, W: TimedWire + Drop, P: Pace, K: PageStore<S>>(
     settings: Settings,
 ) -> Result<W, TerminalFault>
     requires { AreAllowed settings }
-    ensures kept { StoresConfirmed K.keeps settings.preamble_ms (stored_all result) store.old store.new }
+    ensures kept { StoresConfirmed K.keeps settings.preamble_ms
+        (stored_all result) store.old store.new }
     ensures whole { OnOk result (StoresWholeCall K.keeps settings.preamble_ms store.old store.new) }
 {
     let Some(start) = pace.wait() else {
@@ -136,7 +137,8 @@ fn store_and_send<S: RowStore, W: TimedWire + Drop, K: PageStore<S>>(
     step: Step<S>,
 ) -> Result<(), TerminalFault>
     requires { IfSome step.packet (λ packet. length packet ≤ 16383) }
-    ensures given { AreGiven K.keeps (stored_all result) (pages_in step.confirmed) store.old store.new }
+    ensures given { AreGiven K.keeps (stored_all result)
+        (pages_in step.confirmed) store.old store.new }
     ensures unsent { stored_all result ≡ false → link.new ≡ link.old }
 {
     let Step {

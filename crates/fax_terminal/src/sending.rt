@@ -135,7 +135,8 @@ impl<W: TimedWire + Drop> SendingTerminal<W> {
 
     /// It hears what has come.
     fn hear(&mut self, now: u64) -> Result<(), NoMemory>
-        ensures job { (job : JobValue) → IsJobOfCall self.old.procedure job → IsJobOfCall self.new.procedure job }
+        ensures job { (job : JobValue)
+            → IsJobOfCall self.old.procedure job → IsJobOfCall self.new.procedure job }
         ensures call { StaysInCall self.old self.new }
     {
         let mut buffer = [0; MOST_OCTETS];
@@ -150,7 +151,8 @@ impl<W: TimedWire + Drop> SendingTerminal<W> {
 
     /// It hears a datagram.
     fn hear_one(&mut self, octets: &[u8], now: u64) -> Result<(), NoMemory>
-        ensures job { (job : JobValue) → IsJobOfCall self.old.procedure job → IsJobOfCall self.new.procedure job }
+        ensures job { (job : JobValue)
+            → IsJobOfCall self.old.procedure job → IsJobOfCall self.new.procedure job }
         ensures call { StaysInCall self.old self.new }
     {
         let Some(decided) = self.link.read(octets) else {

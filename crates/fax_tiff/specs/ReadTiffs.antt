@@ -21,7 +21,8 @@ use Rattle.fax_tiff.specs.Directories.{◌>>=◌, DirectoryValue, NumbersValue, 
 
 -- a field that has to have this value; where it is not there, it has that one
 unfoldable pub only : ByteOrder → (tag default value : ℕ) → DirectoryValue → Result Unit TiffFault
-only order tag default value directory = number_or order tag default directory >>= λ n. if n == value then Ok tt else Err (BadField tag)
+only order tag default value directory =
+    number_or order tag default directory >>= λ n. if n == value then Ok tt else Err (BadField tag)
 
 -- BitsPerSample 1, SamplesPerPixel 1, Compression 3 (ITU-T T.4), PhotometricInterpretation 0 (0 is white)
 unfoldable pub is_fax : ByteOrder → DirectoryValue → Result Unit TiffFault
@@ -33,12 +34,14 @@ is_fax order directory = do
 
 -- ImageWidth
 unfoldable pub width_of : ℕ → Result Width TiffFault
-width_of n = if n == 1728 then Ok W1728 else if n == 2048 then Ok W2048 else if n == 2432 then Ok W2432 else Err (BadField 256)
+width_of n = if n == 1728 then Ok W1728
+    else if n == 2048 then Ok W2048 else if n == 2432 then Ok W2432 else Err (BadField 256)
 
 -- Lines an inch, a fraction: fewer than 147 are the standard resolution, fewer than 294 the fine one, and more are not read (this
 -- project's profile).
 unfoldable pub is_fine : (above below : ℕ) → Result Bool TiffFault
-is_fine above below = if nat_lt above (147 * below) then Ok false else if nat_lt above (294 * below) then Ok true else Err (BadField 283)
+is_fine above below = if nat_lt above (147 * below)
+    then Ok false else if nat_lt above (294 * below) then Ok true else Err (BadField 283)
 
 -- YResolution by ResolutionUnit: 2, lines an inch, or 3, lines a centimetre, of which an inch has 2.54
 unfoldable pub fine_by : (unit : ℕ) → ℕ × ℕ → Result Bool TiffFault
@@ -59,15 +62,16 @@ format_of order octets directory = do
 -- T4Options: 1 is set where some lines are two-dimensional, 4 where EOLs end at an octet's end, which is fill; 2 would allow modes
 -- that are not compressed.
 unfoldable pub coding_by : ℕ → Result Coding TiffFault
-coding_by options =
-    if options == 0 then Ok Mh else if options == 4 then Ok Mh else if options == 1 then Ok Mr else if options == 5 then Ok Mr else Err (BadField 292)
+coding_by options = if options == 0 then Ok Mh else if options == 4 then Ok Mh
+    else if options == 1 then Ok Mr else if options == 5 then Ok Mr else Err (BadField 292)
 
 unfoldable pub coding_of : ByteOrder → DirectoryValue → Result Coding TiffFault
 coding_of order directory = number_or order 292 0 directory >>= coding_by
 
 -- FillOrder: whether the least significant bit of an octet is the first
 unfoldable pub reversed_by : ℕ → Result Bool TiffFault
-reversed_by fill_order = if fill_order == 1 then Ok false else if fill_order == 2 then Ok true else Err (BadField 266)
+reversed_by fill_order =
+    if fill_order == 1 then Ok false else if fill_order == 2 then Ok true else Err (BadField 266)
 
 unfoldable pub reversed_of : ByteOrder → DirectoryValue → Result Bool TiffFault
 reversed_of order directory = number_or order 266 1 directory >>= reversed_by
@@ -75,7 +79,8 @@ reversed_of order directory = number_or order 266 1 directory >>= reversed_by
 -- ---- strips
 
 -- strip i of a page, and what is left of the octets of the file: each strip needs its own, and four more for where it stands
-unfoldable pub strip_at : ByteOrder → List ℕ → (places counts : NumbersValue) → (i left : ℕ) → Result (List ℕ × ℕ) TiffFault
+unfoldable pub strip_at : ByteOrder
+    → List ℕ → (places counts : NumbersValue) → (i left : ℕ) → Result (List ℕ × ℕ) TiffFault
 strip_at order octets places counts i left = do
   place ← number_at order places i
   count ← number_at order counts i
@@ -84,13 +89,17 @@ strip_at order octets places counts i left = do
   Ok (strip, after)
 
 -- so many strips from strip i on, one after the other
-unfoldable pub strips_from : (n : ℕ) → ByteOrder → List ℕ → (places counts : NumbersValue) → (i left : ℕ) → Result (List ℕ × ℕ) TiffFault
+unfoldable pub strips_from : (n : ℕ) → ByteOrder
+    → List ℕ → (places counts : NumbersValue) → (i left : ℕ) → Result (List ℕ × ℕ) TiffFault
 strips_from zero order octets places counts i left = Ok ([], left)
-strips_from (suc n) order octets places counts i left = strip_at order octets places counts i left >>= λ strip.
-    strips_from n order octets places counts (i + 1) strip.1 >>= λ more. Ok (strip.0 ++ more.0, more.1)
+strips_from (suc n) order octets places counts i left =
+    strip_at order octets places counts i left >>= λ strip.
+    strips_from n order octets places counts (i + 1) strip.1 >>= λ more.
+    Ok (strip.0 ++ more.0, more.1)
 
 -- StripOffsets and StripByteCounts say as many strips
-unfoldable pub strips_of : ByteOrder → List ℕ → DirectoryValue → (left : ℕ) → Result (List ℕ × ℕ) TiffFault
+unfoldable pub strips_of : ByteOrder
+    → List ℕ → DirectoryValue → (left : ℕ) → Result (List ℕ × ℕ) TiffFault
 strips_of order octets directory left = do
   places ← numbers_of order 273 octets directory
   counts ← numbers_of order 279 octets directory
@@ -147,9 +156,11 @@ page_at order octets place left = do
   })
 
 -- the pages of the chain of directories that begins at a place, at most so many
-unfoldable pub pages_at : (most : ℕ) → ByteOrder → List ℕ → (place left : ℕ) → Result (List PageText) TiffFault
+unfoldable pub pages_at : (most : ℕ)
+    → ByteOrder → List ℕ → (place left : ℕ) → Result (List PageText) TiffFault
 pages_at zero order octets place left = if place == 0 then Ok [] else Err TooManyPages
-pages_at (suc most) order octets place left = if place == 0 then Ok [] else (page_at order octets place left >>= λ read.
+pages_at (suc most) order octets place left =
+    if place == 0 then Ok [] else (page_at order octets place left >>= λ read.
     pages_at most order octets read.next read.left >>= λ more. Ok (read.page ∷ more))
 
 -- PageNumber has 16 bits
@@ -159,9 +170,9 @@ most_pages = 65535
 -- `II` or `MM` tells the order of octets, in which 42 follows, and where the first directory stands
 unfoldable pub order_of : List ℕ → Result ByteOrder TiffFault
 order_of head =
-    if (slice_index head 0 == 73 && slice_index head 1 == 73) && number_16 Little head 2 == 42 then Ok Little
-    else if (slice_index head 0 == 77 && slice_index head 1 == 77) && number_16 Big head 2 == 42 then Ok Big
-    else Err NoTiff
+    if (slice_index head 0 == 73 && slice_index head 1 == 73) && number_16 Little head 2 == 42
+    then Ok Little else if (slice_index head 0 == 77 && slice_index head 1 == 77)
+    && number_16 Big head 2 == 42 then Ok Big else Err NoTiff
 
 unfoldable pub texts_of : List ℕ → Result (List PageText) TiffFault
 texts_of octets = do
@@ -185,14 +196,17 @@ MeanPages (text ∷ texts) [] = ⊥
 
 -- why a text means no page of so many rows
 abbrev pub FailsText : PageText → TiffFault → Type 0
-FailsText text (BadPage fault) = FailsPage (elements_of text.format.width) text.coding text.text fault
-FailsText text BadHeight = (page : PageValue) × MeansPage text.format text.coding text.text page × (length page.rows ≢ text.height)
+FailsText text (BadPage fault) =
+    FailsPage (elements_of text.format.width) text.coding text.text fault
+FailsText text BadHeight = (page : PageValue)
+    × MeansPage text.format text.coding text.text page × (length page.rows ≢ text.height)
 FailsText text fault = ⊥
 
 -- the first text that means none
 abbrev pub FailPages : List PageText → TiffFault → Type 0
 FailPages [] fault = ⊥
-FailPages (text ∷ texts) fault = FailsText text fault ⊎ ((page : PageValue) × MeansText text page × FailPages texts fault)
+FailPages (text ∷ texts) fault =
+    FailsText text fault ⊎ ((page : PageValue) × MeansText text page × FailPages texts fault)
 
 -- OCTETS MEAN THESE PAGES as a TIFF of class F.
 pub record MeansTiff (octets : List ℕ) (pages : List PageValue) : Type 0 where
@@ -202,4 +216,5 @@ pub record MeansTiff (octets : List ℕ) (pages : List PageValue) : Type 0 where
 
 -- Octets are no TIFF of class F, for this fault: one of the file, or of the text of a page.
 abbrev pub FailsTiff : List ℕ → TiffFault → Type 0
-FailsTiff octets fault = (texts_of octets ≡ Err fault) ⊎ ((texts : List PageText) × (texts_of octets ≡ Ok texts) × FailPages texts fault)
+FailsTiff octets fault = (texts_of octets ≡ Err fault)
+    ⊎ ((texts : List PageText) × (texts_of octets ≡ Ok texts) × FailPages texts fault)

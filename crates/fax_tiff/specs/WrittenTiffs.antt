@@ -13,8 +13,10 @@ use Rattle.fax_tiff.specs.Strips.{CodedPage}
 
 -- the type of a field, how many values it has, and four octets: its values, or where they stand
 unfoldable pub value_octets : FieldValue → List ℕ
-value_octets (Short n) = to_le_bytes w16 3 ++ to_le_bytes w32 1 ++ to_le_bytes w16 n ++ to_le_bytes w16 0
-value_octets (Shorts n m) = to_le_bytes w16 3 ++ to_le_bytes w32 2 ++ to_le_bytes w16 n ++ to_le_bytes w16 m
+value_octets (Short n) =
+    to_le_bytes w16 3 ++ to_le_bytes w32 1 ++ to_le_bytes w16 n ++ to_le_bytes w16 0
+value_octets (Shorts n m) =
+    to_le_bytes w16 3 ++ to_le_bytes w32 2 ++ to_le_bytes w16 n ++ to_le_bytes w16 m
 value_octets (Long n) = to_le_bytes w16 4 ++ to_le_bytes w32 1 ++ to_le_bytes w32 n
 value_octets (Rational place) = to_le_bytes w16 5 ++ to_le_bytes w32 1 ++ to_le_bytes w32 place
 
@@ -63,8 +65,8 @@ fraction n = to_le_bytes w32 n ++ to_le_bytes w32 1
 -- the octets of a page before its strip, where the next directory stands there; 0: there is none
 unfoldable pub head_octets : (place number total next : ℕ) → CodedPage → List ℕ
 head_octets place number total next page =
-    to_le_bytes w16 16 ++ flat_map field_octets (fields_of place number total page) ++ to_le_bytes w32 next
-    ++ fraction 204 ++ fraction (lines_an_inch page.format.fine)
+    to_le_bytes w16 16 ++ flat_map field_octets (fields_of place number total page)
+    ++ to_le_bytes w32 next ++ fraction 204 ++ fraction (lines_an_inch page.format.fine)
 
 -- where a page ends that stands at this place
 abbrev pub end_of_page : ℕ → CodedPage → ℕ

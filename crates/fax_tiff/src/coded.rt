@@ -34,7 +34,8 @@ impl Model for CodedPage {
 
     ghost Value = { CodedPage };
 
-    ghost view = { λ page. record { format = page.format; height = page.height; strip = page.strip.items } };
+    ghost view = { λ page.
+        record { format = page.format; height = page.height; strip = page.strip.items } };
 }
 
 impl CodedPage {

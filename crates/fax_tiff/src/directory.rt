@@ -59,7 +59,8 @@ pub(crate) fn read_directory(
 /// The first field of a tag.
 fn find_entry<'a>(order: ByteOrder, tag: u16, directory: &Directory<'a>) -> Option<&'a [u8]>
     requires { length directory.now.entries.now ≡ 12 * directory.now.count }
-    ensures found { option_map (λ entry. entry.now) result ≡ entry_of order tag directory.now.count directory.now.entries.now }
+    ensures found { option_map (λ entry. entry.now) result
+        ≡ entry_of order tag directory.now.count directory.now.entries.now }
     ensures size { IfSome result (λ entry. length entry.now ≡ 12) }
 {
     let mut rest = directory.entries;
@@ -81,7 +82,8 @@ fn find_wanted<'a>(
     directory: &Directory<'a>,
 ) -> Result<&'a [u8], TiffFault>
     requires { length directory.now.entries.now ≡ 12 * directory.now.count }
-    ensures gives { Gives (λ entry. entry.now) result (wanted order tag (directory_shown directory.now)) }
+    ensures gives { Gives
+        (λ entry. entry.now) result (wanted order tag (directory_shown directory.now)) }
     ensures size { IfOk result (λ entry. length entry.now ≡ 12) }
 {
     match find_entry(order, tag, directory) {
@@ -145,7 +147,8 @@ pub(crate) fn read_fraction(
     directory: &Directory<'_>,
 ) -> Result<(u32, u32), TiffFault>
     requires { length directory.now.entries.now ≡ 12 * directory.now.count }
-    ensures { Gives (λ n. n) result (fraction_of order tag octets.now (directory_shown directory.now)) }
+    ensures { Gives
+        (λ n. n) result (fraction_of order tag octets.now (directory_shown directory.now)) }
 {
     let entry = find_wanted(order, tag, directory)?;
     if read_32(order, entry, 4) == 1 && read_16(order, entry, 2) == RATIONAL {
@@ -208,7 +211,8 @@ pub(crate) fn read_numbers<'a>(
     directory: &Directory<'a>,
 ) -> Result<Numbers<'a>, TiffFault>
     requires { length directory.now.entries.now ≡ 12 * directory.now.count }
-    ensures { Gives numbers_shown result (numbers_of order tag octets.now (directory_shown directory.now)) }
+    ensures { Gives numbers_shown
+        result (numbers_of order tag octets.now (directory_shown directory.now)) }
 {
     let entry = find_wanted(order, tag, directory)?;
     numbers_in(order, tag, octets, entry)

@@ -76,7 +76,8 @@ const RATIONAL: u16 = 5;
 
 /// Adds fields.
 pub(crate) fn push_fields(octets: &mut Vec<u8>, fields: &[Field]) -> Result<(), NoMemory>
-    ensures { OnOk result (octets.new.items ≡ octets.old.items ++ flat_map field_octets fields.now) }
+    ensures { OnOk result (octets.new.items
+        ≡ octets.old.items ++ flat_map field_octets fields.now) }
 {
     for field in fields {
         push_field(octets, *field)?;
@@ -108,7 +109,8 @@ fn push_value(octets: &mut Vec<u8>, value: FieldValue) -> Result<(), NoMemory>
 
 /// Adds a type, one value, and these four octets of it.
 fn push_long(octets: &mut Vec<u8>, kind: u16, value: u32) -> Result<(), NoMemory>
-    ensures { OnOk result (octets.new.items ≡ octets.old.items ++ (to_le_bytes w16 kind ++ to_le_bytes w32 1 ++ to_le_bytes w32 value)) }
+    ensures { OnOk result (octets.new.items ≡ octets.old.items
+        ++ (to_le_bytes w16 kind ++ to_le_bytes w32 1 ++ to_le_bytes w32 value)) }
 {
     octets.extend_from_slice(&kind.to_le_bytes())?;
     octets.extend_from_slice(&1u32.to_le_bytes())?;
@@ -118,7 +120,8 @@ fn push_long(octets: &mut Vec<u8>, kind: u16, value: u32) -> Result<(), NoMemory
 
 /// Adds the type of numbers of 16 bits, so many values, and these two.
 fn push_shorts(octets: &mut Vec<u8>, count: u32, n: u16, m: u16) -> Result<(), NoMemory>
-    ensures { OnOk result (octets.new.items ≡ octets.old.items ++ (to_le_bytes w16 3 ++ to_le_bytes w32 count ++ to_le_bytes w16 n ++ to_le_bytes w16 m)) }
+    ensures { OnOk result (octets.new.items ≡ octets.old.items ++ (to_le_bytes w16 3
+        ++ to_le_bytes w32 count ++ to_le_bytes w16 n ++ to_le_bytes w16 m)) }
 {
     octets.extend_from_slice(&SHORT.to_le_bytes())?;
     octets.extend_from_slice(&count.to_le_bytes())?;

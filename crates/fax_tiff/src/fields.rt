@@ -25,7 +25,8 @@ fn check_only(
     directory: &Directory<'_>,
 ) -> Result<(), TiffFault>
     requires { length directory.now.entries.now ≡ 12 * directory.now.count }
-    ensures { Gives (λ done. done) result (only order tag default value (directory_shown directory.now)) }
+    ensures { Gives
+        (λ done. done) result (only order tag default value (directory_shown directory.now)) }
 {
     let n = read_number_or(order, tag, default, directory)?;
     if n == value {
@@ -96,7 +97,8 @@ pub(crate) fn read_format(
     directory: &Directory<'_>,
 ) -> Result<Format, TiffFault>
     requires { length directory.now.entries.now ≡ 12 * directory.now.count }
-    ensures { Gives (λ format. format) result (format_of order octets.now (directory_shown directory.now)) }
+    ensures { Gives
+        (λ format. format) result (format_of order octets.now (directory_shown directory.now)) }
 {
     let width = width_of(read_number(order, IMAGE_WIDTH, directory)?)?;
     let resolution = read_fraction(order, Y_RESOLUTION, octets, directory)?;
@@ -143,7 +145,8 @@ fn reversed_by(fill_order: u32) -> Result<bool, TiffFault>
 #[tactic(auto, unfolding(crate::specs::ReadTiffs::reversed_of))]
 pub(crate) fn read_reversed(order: ByteOrder, directory: &Directory<'_>) -> Result<bool, TiffFault>
     requires { length directory.now.entries.now ≡ 12 * directory.now.count }
-    ensures { Gives (λ reversed. reversed) result (reversed_of order (directory_shown directory.now)) }
+    ensures { Gives
+        (λ reversed. reversed) result (reversed_of order (directory_shown directory.now)) }
 {
     let fill_order = read_number_or(order, FILL_ORDER, 1, directory)?;
     reversed_by(fill_order)

@@ -40,7 +40,12 @@ impl Model for PageText {
 
     ghost Value = { PageText };
 
-    ghost view = { λ page. record { format = page.format; coding = page.coding; height = page.height; text = page.text.items } };
+    ghost view = { λ page. record {
+      format = page.format;
+      coding = page.coding;
+      height = page.height;
+      text = page.text.items;
+    } };
 }
 
 /// What the fields of a page say, but for its strips.
@@ -61,7 +66,8 @@ fn read_page_head(
     directory: &Directory<'_>,
 ) -> Result<PageHead, TiffFault>
     requires { length directory.now.entries.now ≡ 12 * directory.now.count }
-    ensures { Gives (λ head. head) result (head_of order octets.now (directory_shown directory.now)) }
+    ensures { Gives
+        (λ head. head) result (head_of order octets.now (directory_shown directory.now)) }
 {
     check_fax(order, directory)?;
     let format = read_format(order, octets, directory)?;
@@ -102,7 +108,8 @@ pub(crate) fn read_page_at(
     left: usize,
 ) -> Result<PageRead, TiffFault>
     ensures ok { IfOk result (λ read. page_at order octets.now place left ≡ Ok read) }
-    ensures fault { IfErr result (λ fault. fault ≢ TiffFault.NoMemory → page_at order octets.now place left ≡ Err fault) }
+    ensures fault { IfErr result
+        (λ fault. fault ≢ TiffFault.NoMemory → page_at order octets.now place left ≡ Err fault) }
 {
     let directory = read_directory(order, octets, place as usize)?;
     let after = spend(left, 12 * usize::from(directory.count))?;

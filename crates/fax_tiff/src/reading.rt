@@ -24,11 +24,14 @@ const HEAD_OCTETS: usize = 8;
 /// texts.
 pub fn read_tiff(alloc: Global, octets: &[u8]) -> Result<Vec<Page<PackedRows>>, TiffFault>
     ensures ok { IfOk result (λ pages. MeansTiff octets.now pages.items) }
-    ensures fault { IfErr result (λ fault. fault ≢ TiffFault.NoMemory → FailsTiff octets.now fault) }
+    ensures fault { IfErr result
+        (λ fault. fault ≢ TiffFault.NoMemory → FailsTiff octets.now fault) }
 
     // Memory aside, octets that mean pages are read, and a fault comes wherever it is met.
-    ensures reads { (pages : List PageValue) → MeansTiff octets.now pages → IsOkAnd result (λ read. read.items ≡ pages) ⊎ (result ≡ Err TiffFault.NoMemory) }
-    ensures fails { (fault : TiffFault) → FailsTiff octets.now fault → (result ≡ Err fault) ⊎ (result ≡ Err TiffFault.NoMemory) }
+    ensures reads { (pages : List PageValue) → MeansTiff octets.now pages
+        → IsOkAnd result (λ read. read.items ≡ pages) ⊎ (result ≡ Err TiffFault.NoMemory) }
+    ensures fails { (fault : TiffFault)
+        → FailsTiff octets.now fault → (result ≡ Err fault) ⊎ (result ≡ Err TiffFault.NoMemory) }
 {
     read_all(alloc, octets)
 }
@@ -36,7 +39,8 @@ pub fn read_tiff(alloc: Global, octets: &[u8]) -> Result<Vec<Page<PackedRows>>, 
 /// Reads the pages of a TIFF.
 fn read_all(alloc: Global, octets: &[u8]) -> Result<Vec<Page<PackedRows>>, TiffFault>
     ensures ok { IfOk result (λ pages. MeansTiff octets.now pages.items) }
-    ensures fault { IfErr result (λ fault. fault ≢ TiffFault.NoMemory → FailsTiff octets.now fault) }
+    ensures fault { IfErr result
+        (λ fault. fault ≢ TiffFault.NoMemory → FailsTiff octets.now fault) }
 {
     let texts = read_texts(alloc, octets)?;
     read_pages(alloc, texts.as_slice())
@@ -46,7 +50,8 @@ fn read_all(alloc: Global, octets: &[u8]) -> Result<Vec<Page<PackedRows>>, TiffF
 #[tactic(auto, unfolding(crate::specs::ReadTiffs::texts_of))]
 fn read_texts(alloc: Global, octets: &[u8]) -> Result<Vec<PageText>, TiffFault>
     ensures ok { IfOk result (λ texts. texts_of octets.now ≡ Ok texts.items) }
-    ensures fault { IfErr result (λ fault. fault ≢ TiffFault.NoMemory → texts_of octets.now ≡ Err fault) }
+    ensures fault { IfErr result
+        (λ fault. fault ≢ TiffFault.NoMemory → texts_of octets.now ≡ Err fault) }
 {
     let head = part(octets, 0, HEAD_OCTETS)?;
     let order = order_of(head)?;
@@ -79,8 +84,10 @@ fn read_chain(
     octets: &[u8],
     first: u32,
 ) -> Result<Vec<PageText>, TiffFault>
-    ensures ok { IfOk result (λ texts. pages_at most_pages order octets.now first (length octets.now) ≡ Ok texts.items) }
-    ensures fault { IfErr result (λ fault. fault ≢ TiffFault.NoMemory → pages_at most_pages order octets.now first (length octets.now) ≡ Err fault) }
+    ensures ok { IfOk result (λ texts.
+        pages_at most_pages order octets.now first (length octets.now) ≡ Ok texts.items) }
+    ensures fault { IfErr result (λ fault. fault ≢ TiffFault.NoMemory
+        → pages_at most_pages order octets.now first (length octets.now) ≡ Err fault) }
 {
     let mut texts = Vec::new(alloc);
     let mut place = first;

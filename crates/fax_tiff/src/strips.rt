@@ -32,8 +32,10 @@ pub(crate) fn gather_strips(
     left: usize,
 ) -> Result<(Vec<u8>, usize), TiffFault>
     requires { length directory.now.entries.now ≡ 12 * directory.now.count }
-    ensures ok { IfOk result (λ r. strips_of order octets.now (directory_shown directory.now) left ≡ Ok (r.0.items, r.1)) }
-    ensures fault { IfErr result (λ fault. fault ≢ TiffFault.NoMemory → strips_of order octets.now (directory_shown directory.now) left ≡ Err fault) }
+    ensures ok { IfOk result (λ r.
+        strips_of order octets.now (directory_shown directory.now) left ≡ Ok (r.0.items, r.1)) }
+    ensures fault { IfErr result (λ fault. fault ≢ TiffFault.NoMemory
+        → strips_of order octets.now (directory_shown directory.now) left ≡ Err fault) }
 {
     let places = read_numbers(order, STRIP_OFFSETS, octets, directory)?;
     let counts = read_numbers(order, STRIP_BYTE_COUNTS, octets, directory)?;
@@ -52,9 +54,11 @@ fn gather_from(
     counts: &Numbers<'_>,
     left: usize,
 ) -> Result<(Vec<u8>, usize), TiffFault>
-    ensures ok { IfOk result (λ r. strips_from places.now.count order octets.now (numbers_shown places.now) (numbers_shown counts.now) 0 left ≡ Ok (r.0.items, r.1)) }
+    ensures ok { IfOk result (λ r. strips_from places.now.count order octets.now
+        (numbers_shown places.now) (numbers_shown counts.now) 0 left ≡ Ok (r.0.items, r.1)) }
     ensures fault { IfErr result (λ fault. fault ≢ TiffFault.NoMemory
-        → strips_from places.now.count order octets.now (numbers_shown places.now) (numbers_shown counts.now) 0 left ≡ Err fault) }
+        → strips_from places.now.count order octets.now (numbers_shown places.now)
+        (numbers_shown counts.now) 0 left ≡ Err fault) }
 {
     let mut strips = Vec::new(alloc);
     let mut rest = left;
@@ -76,7 +80,8 @@ fn read_strip<'a>(
     i: u32,
     left: usize,
 ) -> Result<(&'a [u8], usize), TiffFault>
-    ensures { Gives (λ r. (r.0.now, r.1)) result (strip_at order octets.now (numbers_shown places.now) (numbers_shown counts.now) i left) }
+    ensures { Gives (λ r. (r.0.now, r.1)) result
+        (strip_at order octets.now (numbers_shown places.now) (numbers_shown counts.now) i left) }
 {
     let place = read_number_at(order, places, i)? as usize;
     let count = read_number_at(order, counts, i)? as usize;

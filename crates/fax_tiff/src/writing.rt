@@ -34,7 +34,8 @@ pub fn write_tiff(alloc: Global, pages: &[CodedPage]) -> Result<Vec<u8>, TiffWri
     ensures few { IfOk result (λ octets. length pages.now < 2 ^ 16) }
     ensures short { IfOk result (λ octets. length octets.items < 2 ^ 32) }
     ensures none { result ≡ Err TiffWriteFault.NoPages → pages.now ≡ [] }
-    ensures long { result ≡ Err TiffWriteFault.TooLong → (2 ^ 16 ≤ length pages.now) ⊎ (2 ^ 32 ≤ length (tiff_of pages.now)) }
+    ensures long { result ≡ Err TiffWriteFault.TooLong
+        → (2 ^ 16 ≤ length pages.now) ⊎ (2 ^ 32 ≤ length (tiff_of pages.now)) }
 {
     if pages.is_empty() {
         return Err(TiffWriteFault::NoPages);
@@ -61,10 +62,12 @@ fn push_file_head(octets: &mut Vec<u8>) -> Result<(), NoMemory>
 /// Adds pages, numbered from 0.
 fn push_pages(octets: &mut Vec<u8>, total: u16, pages: &[CodedPage]) -> Result<(), TiffWriteFault>
     requires { length pages.now ≡ total }
-    ensures ok { OnOk result (octets.new.items ≡ octets.old.items ++ pages_from (length octets.old.items) 0 total pages.now) }
+    ensures ok { OnOk result (octets.new.items
+        ≡ octets.old.items ++ pages_from (length octets.old.items) 0 total pages.now) }
     ensures short { OnOk result (0 < length pages.now → length octets.new.items < 2 ^ 32) }
     ensures none { result ≢ Err TiffWriteFault.NoPages }
-    ensures long { result ≡ Err TiffWriteFault.TooLong → 2 ^ 32 ≤ length octets.old.items + length (pages_from (length octets.old.items) 0 total pages.now) }
+    ensures long { result ≡ Err TiffWriteFault.TooLong → 2 ^ 32 ≤ length octets.old.items
+        + length (pages_from (length octets.old.items) 0 total pages.now) }
 {
     for (i, page) in pages.iter().enumerate() {
         let is_last = i + 1 == pages.len();
@@ -82,11 +85,13 @@ fn push_page(
     page: &CodedPage,
     is_last: bool,
 ) -> Result<(), TiffWriteFault>
-    ensures ok { let place = length octets.old.items in
-        OnOk result (octets.new.items ≡ octets.old.items ++ (head_octets place number total (if is_last then 0 else end_of_page place page.now) page.now ++ page.now.strip)) }
+    ensures ok { let place = length octets.old.items in OnOk result (octets.new.items
+        ≡ octets.old.items ++ (head_octets place number total (if is_last
+        then 0 else end_of_page place page.now) page.now ++ page.now.strip)) }
     ensures short { OnOk result (end_of_page (length octets.old.items) page.now < 2 ^ 32) }
     ensures none { result ≢ Err TiffWriteFault.NoPages }
-    ensures long { result ≡ Err TiffWriteFault.TooLong → 2 ^ 32 ≤ end_of_page (length octets.old.items) page.now }
+    ensures long { result ≡ Err TiffWriteFault.TooLong
+        → 2 ^ 32 ≤ end_of_page (length octets.old.items) page.now }
 {
     let after_head = octets.len().saturating_add(HEAD_OCTETS);
     let Ok(end) = u32::try_from(after_head.saturating_add(page.strip.len())) else {

@@ -10,4 +10,5 @@ DueIsTested = (timer : Option ℕ) (now : ℕ) → IsTrue (is_due timer now) ↔
 
 -- a packet is let through from that moment on
 abbrev pub IsAllowedFrom : Type 0
-IsAllowedFrom = (last : Option LastPacket) (now : ℕ) → IsTrue (pace_allows last now) ↔ (allowed_from last ≤ now)
+IsAllowedFrom = (last : Option LastPacket) (now : ℕ)
+    → IsTrue (pace_allows last now) ↔ (allowed_from last ≤ now)

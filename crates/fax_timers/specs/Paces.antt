@@ -23,10 +23,12 @@ allowed_from (Some last) = last.at + last.span
 
 -- a packet is given: after a preamble the span is the pause, at most the longest one
 abbrev pub packet_at : (is_preamble : Bool) → (pause now : ℕ) → LastPacket
-packet_at is_preamble pause now = record { at = now; span = if is_preamble then min pause longest_pause else pace }
+packet_at is_preamble pause now =
+    record { at = now; span = if is_preamble then min pause longest_pause else pace }
 
 abbrev pub pace_after : (is_preamble : Bool) → PaceValue → (now : ℕ) → PaceValue
-pace_after is_preamble p now = record { pause = p.pause; last = Some (packet_at is_preamble p.pause now) }
+pace_after is_preamble p now =
+    record { pause = p.pause; last = Some (packet_at is_preamble p.pause now) }
 
 -- a pause within its limits: no shorter than after each other packet
 abbrev pub IsPause : ℕ → Type 0

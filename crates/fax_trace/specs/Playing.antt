@@ -41,44 +41,58 @@ abbrev pub call_after : Setup → Writing → List Event → Option ℕ
 call_after setup writes trace = call_asked (asked_after setup writes trace)
 
 abbrev pub newly_asked : Setup → Writing → List Event → Event → Option ℕ
-newly_asked setup writes earlier event = call_if_new (call_after setup writes earlier) (call_after setup writes (event ∷ earlier))
+newly_asked setup writes earlier event =
+    call_if_new (call_after setup writes earlier) (call_after setup writes (event ∷ earlier))
 
 -- The gateway accepts an event: the trace goes on with it and its answer, and its lines are told, and the call that it asks for from
 -- then on.
-pub record Accepts (setup : Setup) (writes : Writing) (old : PlayedScript) (event : ScriptEvent) (new : PlayedScript) : Type 0 where
+pub record Accepts (setup : Setup) (writes : Writing)
+    (old : PlayedScript) (event : ScriptEvent) (new : PlayedScript) : Type 0 where
   pub accepted : Event
   pub event_is : scripted accepted ≡ event
   pub at : moment_of accepted ≡ moment_at event old.moment
-  pub new_is : new ≡ record {
-    trace = accepted ∷ old.trace;
-    moment = moment_of accepted;
-    lines = old.lines ++ (lines_told accepted ++ asked_lines (newly_asked setup writes old.trace accepted));
-  }
+  pub new_is :
+      new ≡ record {
+        trace = accepted ∷ old.trace;
+        moment = moment_of accepted;
+        lines = old.lines
+            ++ (lines_told accepted ++ asked_lines (newly_asked setup writes old.trace accepted));
+      }
 
 -- why a ring is refused, as its line says: a call is on; or none is, and no number is left
 abbrev pub IsRingRefusal : Setup → List Event → List ℕ → Type 0
 IsRingRefusal setup trace line =
     ((idle_after (calling_leg setup trace) ≡ false) × (line ≡ codes "ring refused 1 Busy"))
-    ⊎ ((idle_after (calling_leg setup trace) ≡ true) × (4294967296 ≤ rings trace) × (line ≡ codes "ring refused 2 NoNumber"))
+    ⊎ ((idle_after (calling_leg setup trace) ≡ true)
+    × (4294967296 ≤ rings trace) × (line ≡ codes "ring refused 2 NoNumber"))
 
 -- why an event is refused, as its line says: no call is asked for that could be placed or not
 abbrev pub IsRefusal : Setup → Writing → List Event → ScriptEvent → List ℕ → Type 0
 IsRefusal setup writes trace script.Ring line = IsRingRefusal setup trace line
-IsRefusal setup writes trace (script.Connected moment) line = (asked_after setup writes trace ≡ None) × (line ≡ codes "connect refused 1 NotAsked")
-IsRefusal setup writes trace (script.NotConnected moment) line = (asked_after setup writes trace ≡ None) × (line ≡ codes "not-connected refused 1 NotAsked")
+IsRefusal setup writes trace (script.Connected moment) line =
+    (asked_after setup writes trace ≡ None) × (line ≡ codes "connect refused 1 NotAsked")
+IsRefusal setup writes trace (script.NotConnected moment) line =
+    (asked_after setup writes trace ≡ None) × (line ≡ codes "not-connected refused 1 NotAsked")
 IsRefusal setup writes trace event line = ⊥
 
 -- It refuses an event: nothing changes on it, and the cause is told.
-pub record Refuses (setup : Setup) (writes : Writing) (old : PlayedScript) (event : ScriptEvent) (new : PlayedScript) : Type 0 where
+pub record Refuses (setup : Setup) (writes : Writing)
+    (old : PlayedScript) (event : ScriptEvent) (new : PlayedScript) : Type 0 where
   pub line : List ℕ
   pub cause : IsRefusal setup writes old.trace event line
-  pub new_is : new ≡ record { trace = old.trace; moment = moment_at event old.moment; lines = old.lines ++ line ∷ [] }
+  pub new_is : new ≡ record {
+    trace = old.trace;
+    moment = moment_at event old.moment;
+    lines = old.lines ++ line ∷ [];
+  }
 
 -- one event
 abbrev pub Plays : Setup → Writing → PlayedScript → ScriptEvent → PlayedScript → Type 0
-Plays setup writes old event new = Accepts setup writes old event new ⊎ Refuses setup writes old event new
+Plays setup writes old event new =
+    Accepts setup writes old event new ⊎ Refuses setup writes old event new
 
 -- all of them
 abbrev pub PlaysAll : Setup → Writing → PlayedScript → List ScriptEvent → PlayedScript → Type 0
 PlaysAll setup writes old [] new = new ≡ old
-PlaysAll setup writes old (event ∷ events) new = (next : PlayedScript) × Plays setup writes old event next × PlaysAll setup writes next events new
+PlaysAll setup writes old (event ∷ events) new = (next : PlayedScript)
+    × Plays setup writes old event next × PlaysAll setup writes next events new

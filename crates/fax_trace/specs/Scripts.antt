@@ -7,15 +7,18 @@ use Rattle.fax_trace.specs.declared.event.ScriptEvent.TheVariants.{Ring, FromCal
 
 -- one or more decimal digits tell a moment below 2^64
 abbrev pub TellsMoment : List ℕ → ℕ → Type 0
-TellsMoment digits moment = IsNumeral 10 digits × (digits_value 10 digits ≡ moment) × (moment < 2 ^ 64)
+TellsMoment digits moment =
+    IsNumeral 10 digits × (digits_value 10 digits ≡ moment) × (moment < 2 ^ 64)
 
 -- a letter, a space, and a moment
 abbrev pub TellsMomentAfter : List ℕ → List ℕ → ℕ → Type 0
-TellsMomentAfter letter line moment = (digits : List ℕ) × (line ≡ letter ++ digits) × TellsMoment digits moment
+TellsMomentAfter letter line moment =
+    (digits : List ℕ) × (line ≡ letter ++ digits) × TellsMoment digits moment
 
 -- a letter, a space, and hex text of these octets, in either case
 abbrev pub TellsDatagram : List ℕ → List ℕ → List ℕ → Type 0
-TellsDatagram letter line octets = (text : List ℕ) × (line ≡ letter ++ text) × (decode_of text ≡ Ok octets)
+TellsDatagram letter line octets =
+    (text : List ℕ) × (line ≡ letter ++ text) × (decode_of text ≡ Ok octets)
 
 -- a line tells an event: a ring; a datagram of either leg; that time goes on to a moment; or that at a moment the call of the job
 -- that is asked for is placed, or could not be

@@ -17,8 +17,8 @@ job_lines (Some report) = report_text report ∷ []
 
 -- what a tick gives: on the calling leg, on the called leg, and the report of the job that ended, in this order
 abbrev pub given_lines : Given → List (List ℕ)
-given_lines given =
-    datagram_lines (codes "a ") given.on_calling ++ (datagram_lines (codes "b ") given.on_called ++ job_lines given.report)
+given_lines given = datagram_lines (codes "a ") given.on_calling
+    ++ (datagram_lines (codes "b ") given.on_called ++ job_lines given.report)
 
 -- the line of a call that is asked for, where one is
 abbrev pub asked_lines : Option ℕ → List (List ℕ)

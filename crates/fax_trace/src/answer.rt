@@ -32,7 +32,8 @@ pub enum Answer {
 impl Answer {
     /// Writes the text, and hands it on. It takes no memory.
     pub fn write<O: Sink>(&self, sink: &mut O) -> Result<(), WriteFault>
-        ensures text { OnOk result (Appends (O.contents sink.old) (O.contents sink.new) (text_of_answer self.now)) }
+        ensures text { OnOk result (Appends (O.contents sink.old)
+            (O.contents sink.new) (text_of_answer self.now)) }
         ensures failed { O.failed sink.new ≡ failed_after_write (O.failed sink.old) result }
         ensures handed_on { OnOk result (O.held_back sink.new ≡ false) }
     {
@@ -67,7 +68,8 @@ pub(crate) struct PlayedScript {
 /// Plays a script.
 pub(crate) fn play(alloc: Global, script: &[u8], settings: Settings) -> PlayedScript
     requires { AreAllowed settings }
-    ensures { AnswersAfter settings script.now result.lines (status_of_answer result.answer) (text_of_answer result.answer) }
+    ensures { AnswersAfter settings script.now result.lines (status_of_answer result.answer)
+        (text_of_answer result.answer) }
 {
     let mut lines = 0;
     let Ok(mut player) = Player::new(alloc, settings) else {
@@ -103,7 +105,8 @@ fn play_lines(
 ) -> Result<(), ScriptFault>
     requires new { IsNew player.old }
     requires none { lines.old ≡ 0 }
-    ensures { HasPlayed player.old.gateway.settings script.now result lines.new player.new.text.items }
+    ensures { HasPlayed player.old.gateway.settings
+        script.now result lines.new player.new.text.items }
 {
     let mut rest = script;
     while let Some((line, after)) = first_line(rest) {
@@ -119,7 +122,8 @@ fn play_lines(
 
 /// Adds the line that tells a fault at the line of this number. An `Err` leaves the text as it was.
 pub fn push_fault(alloc: Global, text: &mut Vec<u8>, number: usize) -> Result<(), NoMemory>
-    ensures ok { OnOk result (text.new.items ≡ text.old.items ++ text_of_lines (fault_lines (Err (ScriptFault.Line number)))) }
+    ensures ok { OnOk result (text.new.items
+        ≡ text.old.items ++ text_of_lines (fault_lines (Err (ScriptFault.Line number)))) }
     ensures err { OnErr result (text.new.items ≡ text.old.items) }
 {
     let line = numbered_line(alloc, b"fault line ", number)?;

@@ -28,7 +28,8 @@ pub enum ScriptEvent {
 /// The event that a line tells. Memory is taken for the octets of a datagram alone.
 pub fn event_of_line(alloc: Global, line: &[u8]) -> Result<Option<ScriptEvent>, NoMemory>
     ensures some { IfOk result (λ found. IfSome found (λ event. TellsEvent line.now event)) }
-    ensures none { IfOk result (λ found. IfNone found ((event : ScriptEvent) → TellsEvent line.now event → ⊥)) }
+    ensures none { IfOk result
+        (λ found. IfNone found ((event : ScriptEvent) → TellsEvent line.now event → ⊥)) }
     ensures memory { OnErr result ((moment : ℕ) → TellsEvent line.now (script.Tick moment) → ⊥) }
 {
     if line == b"R".as_slice() {

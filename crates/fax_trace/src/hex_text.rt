@@ -11,7 +11,8 @@ const NO_DIGIT: u8 = 255;
 /// The octets of hex text, in either case.
 pub(crate) fn octets_of_hex(alloc: Global, text: &[u8]) -> Result<Option<Octets>, NoMemory>
     ensures some { IfOk result (λ found. IfSome found (λ octets. decode_of text.now ≡ Ok octets)) }
-    ensures none { IfOk result (λ found. IfNone found ((octets : List ℕ) → decode_of text.now ≢ Ok octets)) }
+    ensures none { IfOk result
+        (λ found. IfNone found ((octets : List ℕ) → decode_of text.now ≢ Ok octets)) }
 {
     if text.len() % 2 != 0 {
         return Ok(None);

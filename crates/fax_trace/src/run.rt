@@ -24,10 +24,19 @@ pub fn run_trace<I: Source, O: Sink>(
 
     // Where the input is known, what is written is the answer to it, unless a read or a write failed or the input went past
     // its bound.
-    ensures answers { result ≢ 4 → IfSome (I.remaining source.old) (λ input. (text : List ℕ)
-        × Answers settings input result text × Appends (O.contents sink.old) (O.contents sink.new) text) }
-    ensures run { IsRun record { remaining = I.remaining; reads = I.reads; given = I.given; failed = I.failed }
-        record { contents = O.contents; failed = O.failed; held_back = O.held_back } source.old source.new sink.old sink.new result }
+    ensures answers { result ≢ 4 → IfSome (I.remaining source.old)
+        (λ input. (text : List ℕ) × Answers settings input result text
+        × Appends (O.contents sink.old) (O.contents sink.new) text) }
+    ensures run { IsRun record {
+      remaining = I.remaining;
+      reads = I.reads;
+      given = I.given;
+      failed = I.failed;
+    } record {
+      contents = O.contents;
+      failed = O.failed;
+      held_back = O.held_back;
+    } source.old source.new sink.old sink.new result }
 {
     play_script(alloc, source, sink, settings).status.code()
 }
@@ -43,10 +52,18 @@ pub fn play_script<I: Source, O: Sink>(
 
     // Where the input is known, what is written is the answer to it, unless a read or a write failed or the input went past
     // its bound.
-    ensures answers { status_code result.status ≢ 4 → IfSome (I.remaining source.old) (λ input. (text : List ℕ)
-        × AnswersAfter settings input result.played (status_code result.status) text × Appends (O.contents sink.old) (O.contents sink.new) text) }
-    ensures run { IsRun record { remaining = I.remaining; reads = I.reads; given = I.given; failed = I.failed }
-        record { contents = O.contents; failed = O.failed; held_back = O.held_back } source.old source.new sink.old sink.new (status_code result.status) }
+    ensures answers { status_code result.status ≢ 4
+        → IfSome (I.remaining source.old) (λ input. (text : List ℕ)
+        × AnswersAfter settings input result.played (status_code result.status) text
+        × Appends (O.contents sink.old) (O.contents sink.new) text) }
+    ensures run { IsRun record {
+      remaining = I.remaining;
+      reads = I.reads;
+      given = I.given;
+      failed = I.failed;
+    }
+        record { contents = O.contents; failed = O.failed; held_back = O.held_back }
+        source.old source.new sink.old sink.new (status_code result.status) }
 {
     let played = match read_input(alloc, source) {
         Ok(script) => play(alloc, script.as_slice(), settings),

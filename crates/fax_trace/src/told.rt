@@ -35,7 +35,8 @@ pub(crate) fn push_asked(
     was_asked: Option<u32>,
     is_asked: Option<u32>,
 ) -> Result<(), NoMemory>
-    ensures told { OnOk result (text.new.items ≡ text.old.items ++ text_of_lines (asked_lines (call_if_new was_asked is_asked))) }
+    ensures told { OnOk result (text.new.items
+        ≡ text.old.items ++ text_of_lines (asked_lines (call_if_new was_asked is_asked))) }
     ensures memory { call_if_new was_asked is_asked ≡ None → IsOk result }
 {
     let (None, Some(call)) = (was_asked, is_asked) else {
@@ -48,7 +49,8 @@ pub(crate) fn push_asked(
 
 /// The lines of what a tick gives. Where it gives nothing they take no memory.
 pub(crate) fn lines_of_given(alloc: Global, given: &Given) -> Result<Vec<u8>, NoMemory>
-    ensures told { IfOk result (λ text. text.items ≡ text_of_lines (given_lines (given_shown given.now))) }
+    ensures told { IfOk result
+        (λ text. text.items ≡ text_of_lines (given_lines (given_shown given.now))) }
     ensures memory { given.now ≡ nothing_given → IsOk result }
 {
     let mut text = Vec::new(alloc);
@@ -64,7 +66,8 @@ fn push_datagram(
     letter: &[u8],
     datagram: &Option<Octets>,
 ) -> Result<(), NoMemory>
-    ensures told { OnOk result (text.new.items ≡ text.old.items ++ text_of_lines (datagram_lines letter.now datagram.now)) }
+    ensures told { OnOk result (text.new.items
+        ≡ text.old.items ++ text_of_lines (datagram_lines letter.now datagram.now)) }
     ensures memory { datagram.now ≡ None → IsOk result }
 {
     if let Some(octets) = datagram {
@@ -79,7 +82,8 @@ fn push_datagram(
 
 /// Adds the line of a job that ended, where one did.
 fn push_job(alloc: Global, text: &mut Vec<u8>, report: &Option<Report>) -> Result<(), NoMemory>
-    ensures told { OnOk result (text.new.items ≡ text.old.items ++ text_of_lines (job_lines report.now)) }
+    ensures told { OnOk result (text.new.items
+        ≡ text.old.items ++ text_of_lines (job_lines report.now)) }
     ensures memory { report.now ≡ None → IsOk result }
 {
     if let Some(report) = report {

@@ -19,24 +19,25 @@ is_waiting Terminated = false
 -- It ends: whatever happened, after Timer F and Timer K nothing leaves it on.
 -- Ruled out: Timer F that begins anew at a provisional answer; Timer K that begins anew at each repeat; no Timer F after a provisional answer.
 abbrev pub RequestEnds : Type 0
-RequestEnds =
-    (sent now : ℕ) (happened : List (ℕ × ClientEvent)) (event : ClientEvent)
-    → sent + 32000 + 5000 ≤ now → (row (state_after row (begun sent) happened) now event).0 ≡ Terminated
+RequestEnds = (sent now : ℕ) (happened : List (ℕ × ClientEvent)) (event : ClientEvent)
+    → sent + 32000 + 5000 ≤ now
+    → (row (state_after row (begun sent) happened) now event).0 ≡ Terminated
 
 -- One outcome is told, or is waited for.
 -- Ruled out: a machine that tells of each repeat of a final answer; one that tells of a timeout at Timer K; one that fails untold.
 abbrev pub RequestTellsOnce : Type 0
-RequestTellsOnce =
-    (sent : ℕ) (happened : List (ℕ × ClientEvent))
-    → count_of tells_outcome (actions_of row (begun sent) happened) + one_if (is_waiting (state_after row (begun sent) happened)) ≡ 1
+RequestTellsOnce = (sent : ℕ) (happened : List (ℕ × ClientEvent))
+    → count_of tells_outcome (actions_of row (begun sent) happened)
+    + one_if (is_waiting (state_after row (begun sent) happened)) ≡ 1
 
 -- It is sent again at least T1, 2 T1, 4 T1 and so on after the time before, up to T2.
 -- Ruled out: a pause that stays T1; a sending at each provisional answer; a pause that begins anew with T1 after one.
 abbrev pub RequestIsSentApart : Type 0
-RequestIsSentApart =
-    (sent : ℕ) (happened : List (ℕ × ClientEvent)) → ApartGrowing sent 500 (moments_of is_sent_again (actions_of row (begun sent) happened))
+RequestIsSentApart = (sent : ℕ) (happened : List (ℕ × ClientEvent))
+    → ApartGrowing sent 500 (moments_of is_sent_again (actions_of row (begun sent) happened))
 
 -- Before what is due next, time changes nothing.
 -- Ruled out: a sending a millisecond early; an end after a final answer before Timer K; a pause that grows while nothing is sent.
 abbrev pub RequestRests : Type 0
-RequestRests = (state : ClientRequest) (now due : ℕ) → next_due state ≡ Some due → now < due → row state now TimePassed ≡ (state, Nothing)
+RequestRests = (state : ClientRequest) (now due : ℕ)
+    → next_due state ≡ Some due → now < due → row state now TimePassed ≡ (state, Nothing)

@@ -15,8 +15,8 @@ begun limit = Proceeding limit
 -- The user answers, and that is sent. A 2xx ends the transaction; after a refusal Timer G begins, with T1, and Timer H, with 64 T1.
 abbrev pub answered_row : ℕ → ℕ → ℕ → ServerInvite × ServerAction
 answered_row until now status =
-    if nat_lt status 200 then (Proceeding until, Send) else
-    if nat_lt status 300 then (Terminated, Send) else (Completed (later now t1) t1 (later now timeout), Send)
+    if nat_lt status 200 then (Proceeding until, Send) else if nat_lt status 300
+    then (Terminated, Send) else (Completed (later now t1) t1 (later now timeout), Send)
 
 -- Proceeding. A repeat of the INVITE gets the last provisional answer again. What cannot be sent ends it (17.2.4).
 abbrev pub proceeding_row : ℕ → ℕ → ServerEvent → ServerInvite × ServerAction
@@ -30,7 +30,8 @@ proceeding_row until now Acknowledged = (Proceeding until, Nothing)
 -- What else the user answers is passed over.
 abbrev pub completed_row : ℕ → ℕ → ℕ → ℕ → ServerEvent → ServerInvite × ServerAction
 completed_row again pause until now TimePassed =
-    if nat_lt now again then (Completed again pause until, Nothing) else (Completed (later now (longer pause)) (longer pause) until, SendAgain)
+    if nat_lt now again then (Completed again pause until, Nothing)
+    else (Completed (later now (longer pause)) (longer pause) until, SendAgain)
 completed_row again pause until now Repeated = (Completed again pause until, SendAgain)
 completed_row again pause until now (Answered status) = (Completed again pause until, Nothing)
 completed_row again pause until now Acknowledged = (Confirmed (later now t4), Nothing)
@@ -39,9 +40,12 @@ completed_row again pause until now NotSent = (Terminated, Failed)
 -- What happens at a moment: the next state, and what is to be done. What is due comes first: the limit, and Timer H, of which the user is told; Timer I. Confirmed:
 -- repeats of the INVITE and of its ACK are passed over.
 abbrev pub row : ServerInvite → ℕ → ServerEvent → ServerInvite × ServerAction
-row (Proceeding until) now event = if nat_le until now then (Terminated, TimedOut) else proceeding_row until now event
-row (Completed again pause until) now event = if nat_le until now then (Terminated, Unacknowledged) else completed_row again pause until now event
-row (Confirmed until) now event = if nat_le until now then (Terminated, Nothing) else (Confirmed until, Nothing)
+row (Proceeding until) now event =
+    if nat_le until now then (Terminated, TimedOut) else proceeding_row until now event
+row (Completed again pause until) now event = if nat_le until now
+    then (Terminated, Unacknowledged) else completed_row again pause until now event
+row (Confirmed until) now event =
+    if nat_le until now then (Terminated, Nothing) else (Confirmed until, Nothing)
 row Terminated now event = (Terminated, Nothing)
 
 -- the moment from which something is due although nothing else happens

@@ -33,39 +33,46 @@ RequestHasAnswer request.Terminated now = ⊥
 -- It ends: whatever happened, after the limit and Timers H and I, or J, nothing leaves it on.
 -- Ruled out: Timer H or J that begins anew at each repeat of the request; a user who never answers; Timer I that begins anew at each ACK.
 abbrev pub InviteEnds : Type 0
-InviteEnds =
-    (limit now : ℕ) (happened : List (ℕ × ServerEvent)) (event : ServerEvent)
-    → limit + 32000 + 5000 ≤ now → (invites.row (state_after invites.row (invites.begun limit) happened) now event).0 ≡ invite.Terminated
+InviteEnds = (limit now : ℕ) (happened : List (ℕ × ServerEvent)) (event : ServerEvent)
+    → limit + 32000 + 5000 ≤ now
+    → (invites.row (state_after invites.row (invites.begun limit) happened) now event).0
+    ≡ invite.Terminated
 
 abbrev pub RequestEnds : Type 0
-RequestEnds =
-    (limit now : ℕ) (happened : List (ℕ × ServerEvent)) (event : ServerEvent)
-    → limit + 32000 ≤ now → (requests.row (state_after requests.row (requests.begun limit) happened) now event).0 ≡ request.Terminated
+RequestEnds = (limit now : ℕ) (happened : List (ℕ × ServerEvent)) (event : ServerEvent)
+    → limit + 32000 ≤ now
+    → (requests.row (state_after requests.row (requests.begun limit) happened) now event).0
+    ≡ request.Terminated
 
 -- It is answered once: after a final answer that was sent the user's answers are passed over, whatever happens.
 -- Ruled out: a 2xx after a refusal; a provisional answer after a final one; a second refusal in place of the first.
 abbrev pub InviteIsAnsweredOnce : Type 0
-InviteIsAnsweredOnce =
-    (state : ServerInvite) (now status : ℕ) (happened : List (ℕ × ServerEvent)) → 200 ≤ status → (invites.row state now (Answered status)).1 ≡ Send
-    → count_of is_new (actions_of invites.row (invites.row state now (Answered status)).0 happened) ≡ 0
+InviteIsAnsweredOnce = (state : ServerInvite) (now status : ℕ) (happened : List (ℕ × ServerEvent))
+    → 200 ≤ status → (invites.row state now (Answered status)).1 ≡ Send
+    → count_of is_new (actions_of invites.row (invites.row state now (Answered status)).0 happened)
+    ≡ 0
 
 abbrev pub RequestIsAnsweredOnce : Type 0
-RequestIsAnsweredOnce =
-    (state : ServerRequest) (now status : ℕ) (happened : List (ℕ × ServerEvent)) → 200 ≤ status → (requests.row state now (Answered status)).1 ≡ Send
-    → count_of is_new (actions_of requests.row (requests.row state now (Answered status)).0 happened) ≡ 0
+RequestIsAnsweredOnce = (state : ServerRequest) (now status : ℕ) (happened : List (ℕ × ServerEvent))
+    → 200 ≤ status → (requests.row state now (Answered status)).1 ≡ Send → count_of
+    is_new (actions_of requests.row (requests.row state now (Answered status)).0 happened) ≡ 0
 
 -- A repeat of the request gets the last answer again.
 -- Ruled out: a machine that passes repeats over after a final answer; one that does before it; one that tells the user of them anew.
 abbrev pub InviteRepeatsAreAnswered : Type 0
-InviteRepeatsAreAnswered = (state : ServerInvite) (now : ℕ) → InviteHasAnswer state now → (invites.row state now Repeated).1 ≡ SendAgain
+InviteRepeatsAreAnswered = (state : ServerInvite) (now : ℕ)
+    → InviteHasAnswer state now → (invites.row state now Repeated).1 ≡ SendAgain
 
 abbrev pub RequestRepeatsAreAnswered : Type 0
-RequestRepeatsAreAnswered = (state : ServerRequest) (now : ℕ) → RequestHasAnswer state now → (requests.row state now Repeated).1 ≡ SendAgain
+RequestRepeatsAreAnswered = (state : ServerRequest) (now : ℕ)
+    → RequestHasAnswer state now → (requests.row state now Repeated).1 ≡ SendAgain
 
 -- Before what is due next, time changes nothing.
 -- Ruled out: a refusal that is sent a millisecond early; an end before Timer I or J; a limit that comes nearer.
 abbrev pub InviteRests : Type 0
-InviteRests = (state : ServerInvite) (now due : ℕ) → invites.next_due state ≡ Some due → now < due → invites.row state now TimePassed ≡ (state, Nothing)
+InviteRests = (state : ServerInvite) (now due : ℕ) → invites.next_due state ≡ Some due
+    → now < due → invites.row state now TimePassed ≡ (state, Nothing)
 
 abbrev pub RequestRests : Type 0
-RequestRests = (state : ServerRequest) (now due : ℕ) → requests.next_due state ≡ Some due → now < due → requests.row state now TimePassed ≡ (state, Nothing)
+RequestRests = (state : ServerRequest) (now due : ℕ) → requests.next_due state ≡ Some due
+    → now < due → requests.row state now TimePassed ≡ (state, Nothing)

@@ -14,7 +14,8 @@ begun limit = Trying limit
 
 -- The user answers, and that is sent. After a final answer Timer J begins, with 64 T1.
 abbrev pub answered_row : ℕ → ℕ → ℕ → ServerRequest × ServerAction
-answered_row until now status = if nat_lt status 200 then (Proceeding until, Send) else (Completed (later now timeout), Send)
+answered_row until now status =
+    if nat_lt status 200 then (Proceeding until, Send) else (Completed (later now timeout), Send)
 
 -- Trying. A repeat of the request is passed over.
 abbrev pub trying_row : ℕ → ℕ → ServerEvent → ServerRequest × ServerAction
@@ -42,9 +43,12 @@ completed_row until Acknowledged = (Completed until, Nothing)
 
 -- What happens at a moment: the next state, and what is to be done. What is due comes first: the limit, of which the user is told; Timer J.
 abbrev pub row : ServerRequest → ℕ → ServerEvent → ServerRequest × ServerAction
-row (Trying until) now event = if nat_le until now then (Terminated, TimedOut) else trying_row until now event
-row (Proceeding until) now event = if nat_le until now then (Terminated, TimedOut) else proceeding_row until now event
-row (Completed until) now event = if nat_le until now then (Terminated, Nothing) else completed_row until event
+row (Trying until) now event =
+    if nat_le until now then (Terminated, TimedOut) else trying_row until now event
+row (Proceeding until) now event =
+    if nat_le until now then (Terminated, TimedOut) else proceeding_row until now event
+row (Completed until) now event =
+    if nat_le until now then (Terminated, Nothing) else completed_row until event
 row Terminated now event = (Terminated, Nothing)
 
 -- the moment from which something is due although nothing else happens

@@ -19,8 +19,10 @@ begun_by_request limit = Request (requests.begun limit)
 
 -- what happens at a moment: the next state, and what is to be done
 abbrev pub served : Server → ℕ → ServerEvent → Server × ServerAction
-served (Invite state) now event = (Invite (invites.row state now event).0, (invites.row state now event).1)
-served (Request state) now event = (Request (requests.row state now event).0, (requests.row state now event).1)
+served (Invite state) now event =
+    (Invite (invites.row state now event).0, (invites.row state now event).1)
+served (Request state) now event =
+    (Request (requests.row state now event).0, (requests.row state now event).1)
 
 abbrev pub due_of : Server → Option ℕ
 due_of (Invite state) = invites.next_due state

@@ -84,7 +84,8 @@ impl Serving {
     /// The user answers with this status and these octets. They are the last answer from now on where they are to be sent, and are let
     /// go of where they are not.
     pub fn answer(&mut self, now: u64, status: u16, octets: Vec<u8>) -> ServerAction
-        ensures server { self.new.server ≡ (served self.old.server now (ServerEvent.Answered status)).0 }
+        ensures server { self.new.server
+            ≡ (served self.old.server now (ServerEvent.Answered status)).0 }
         ensures action { result ≡ (served self.old.server now (ServerEvent.Answered status)).1 }
         ensures sent { result ≡ ServerAction.Send → self.new.answer ≡ octets.items }
         ensures stays { result ≢ ServerAction.Send → self.new.answer ≡ self.old.answer }

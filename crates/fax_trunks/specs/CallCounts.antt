@@ -7,7 +7,8 @@ pub record CallCount : Type 0 where
 
 -- one more, where there is room
 abbrev pub after_take : CallCount → CallCount
-after_take calls = if nat_lt calls.on calls.most then record { on = calls.on + 1; most = calls.most } else calls
+after_take calls =
+    if nat_lt calls.on calls.most then record { on = calls.on + 1; most = calls.most } else calls
 
 -- one fewer, where there is one
 abbrev pub after_release : CallCount → CallCount

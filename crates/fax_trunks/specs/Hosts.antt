@@ -18,7 +18,8 @@ bits_of (V6 address) = ipv6_bits address
 
 -- an IPv4-mapped address has 80 bits 0 and 16 bits 1 before those of the IPv4 one (RFC 4291, 2.5.5.2)
 abbrev pub of_six : ℕ → Host
-of_six bits = if bits / 2 ^ 32 == 0xffff then record { family = Four; bits = bits % 2 ^ 32 } else record { family = Six; bits = bits }
+of_six bits = if bits / 2 ^ 32 == 0xffff
+    then record { family = Four; bits = bits % 2 ^ 32 } else record { family = Six; bits = bits }
 
 abbrev pub host_of : IpAddr → Host
 host_of (V4 address) = record { family = Four; bits = ipv4_bits address }

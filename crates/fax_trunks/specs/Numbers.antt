@@ -12,11 +12,13 @@ digits_of (octet ∷ octets) = if octet == 43 then octets else octet ∷ octets
 
 -- an optional `+` and digits, one at least; 32 octets at most
 abbrev pub is_number : List ℕ → Bool
-is_number octets = nat_lt 0 (length (digits_of octets)) && list_all is_ascii_digit (digits_of octets) && nat_le (length octets) 32
+is_number octets = nat_lt 0 (length (digits_of octets))
+    && list_all is_ascii_digit (digits_of octets) && nat_le (length octets) 32
 
 -- why octets are no number: the first of these that holds
 abbrev pub fault_of : List ℕ → NumberFault
-fault_of octets = if nat_lt 32 (length octets) then TooLong else if nat_lt 0 (length (digits_of octets)) then NotADigit else NoDigits
+fault_of octets = if nat_lt 32 (length octets)
+    then TooLong else if nat_lt 0 (length (digits_of octets)) then NotADigit else NoDigits
 
 -- the number, or why there is none
 abbrev pub reading : List ℕ → Result (List ℕ) NumberFault

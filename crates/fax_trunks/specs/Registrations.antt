@@ -23,31 +23,51 @@ next_stage Renewing stale = None
 
 -- A REGISTER came to nothing: the next is due after a pause, and the pause doubles.
 abbrev pub failed : Standing → ℕ → Registration × RegistrationAction
-failed standing now = (Waiting (later now standing.pause) (record { pause = longer standing.pause; seconds = standing.seconds; until = standing.until }), Nothing)
+failed standing now = (
+  Waiting (later now standing.pause) (record {
+    pause = longer standing.pause;
+    seconds = standing.seconds;
+    until = standing.until;
+  }),
+  Nothing,
+)
 
 -- Our contact is registered. Less than 10 seconds are as good as none.
 abbrev pub granted : Standing → ℕ → ℕ → Registration × RegistrationAction
 granted standing now given =
-    if nat_lt given 10 then failed standing now else
-    (Waiting (refresh now given) (record { pause = first_pause; seconds = standing.seconds; until = expiry now given }), Nothing)
+    if nat_lt given 10 then failed standing now else (
+      Waiting (refresh now given) (record {
+        pause = first_pause;
+        seconds = standing.seconds;
+        until = expiry now given;
+      }),
+      Nothing,
+    )
 
 abbrev pub challenged : Option Stage → Standing → ℕ → Registration × RegistrationAction
 challenged None standing now = failed standing now
-challenged (Some stage) standing now = (Asking (later now answer_time) stage standing, RegisterWithCredentials standing.seconds)
+challenged (Some stage) standing now =
+    (Asking (later now answer_time) stage standing, RegisterWithCredentials standing.seconds)
 
 -- 10.2.8: the next one, after the least pause, asks for as many seconds as the registrar wants at least
 abbrev pub too_brief : Standing → ℕ → ℕ → Registration × RegistrationAction
-too_brief standing now least =
-    if nat_le least standing.seconds then failed standing now else
-    (Waiting (later now least_pause) (record { pause = standing.pause; seconds = least; until = standing.until }), Nothing)
+too_brief standing now least = if nat_le least standing.seconds
+    then failed standing now else (
+      Waiting (later now least_pause) (record {
+        pause = standing.pause;
+        seconds = least;
+        until = standing.until;
+      }),
+      Nothing,
+    )
 
 -- the REGISTER that ends it is sent (10.2.2)
 abbrev pub leave_by : ℕ → Registration × RegistrationAction
 leave_by deadline = (Leaving First deadline, Unregister)
 
 abbrev pub due_row : ℕ → Standing → ℕ → Registration × RegistrationAction
-due_row due standing now =
-    if nat_lt now due then (Waiting due standing, Nothing) else (Asking (later now answer_time) First standing, Register standing.seconds)
+due_row due standing now = if nat_lt now due then (Waiting due standing, Nothing)
+    else (Asking (later now answer_time) First standing, Register standing.seconds)
 
 -- no REGISTER is under way
 abbrev pub waiting_row : ℕ → Standing → ℕ → RegistrationEvent → Registration × RegistrationAction
@@ -68,10 +88,12 @@ overdue_row standing now (TooBrief least) = failed standing now
 overdue_row standing now Refused = failed standing now
 
 -- an answer is waited for
-abbrev pub asking_row : ℕ → Stage → Standing → ℕ → RegistrationEvent → Registration × RegistrationAction
+abbrev pub asking_row : ℕ
+    → Stage → Standing → ℕ → RegistrationEvent → Registration × RegistrationAction
 asking_row limit stage standing now TimePassed = (Asking limit stage standing, Nothing)
 asking_row limit stage standing now (Granted given) = granted standing now given
-asking_row limit stage standing now (Challenged stale) = challenged (next_stage stage stale) standing now
+asking_row limit stage standing now (Challenged stale) =
+    challenged (next_stage stage stale) standing now
 asking_row limit stage standing now (TooBrief least) = too_brief standing now least
 asking_row limit stage standing now Refused = failed standing now
 asking_row limit stage standing now Ended = (Ending limit (later now ending_time), Nothing)
@@ -101,10 +123,12 @@ leaving_row stage deadline Refused = (Over, Nothing)
 -- What happens at a moment: the next state, and what is to be done. What is due comes first.
 abbrev pub row : Registration → ℕ → RegistrationEvent → Registration × RegistrationAction
 row (Waiting due standing) now event = waiting_row due standing now event
-row (Asking limit stage standing) now event = if nat_le limit now then overdue_row standing now event else asking_row limit stage standing now event
-row (Ending limit deadline) now event =
-    if nat_le deadline now then (Over, Nothing) else if nat_le limit now then leave_by deadline else ending_row limit deadline event
-row (Leaving stage deadline) now event = if nat_le deadline now then (Over, Nothing) else leaving_row stage deadline event
+row (Asking limit stage standing) now event = if nat_le limit now
+    then overdue_row standing now event else asking_row limit stage standing now event
+row (Ending limit deadline) now event = if nat_le deadline now then (Over, Nothing)
+    else if nat_le limit now then leave_by deadline else ending_row limit deadline event
+row (Leaving stage deadline) now event =
+    if nat_le deadline now then (Over, Nothing) else leaving_row stage deadline event
 row Over now event = (Over, Nothing)
 
 -- the moment from which something is due although nothing else happens

@@ -10,8 +10,8 @@ use Rattle.fax_trunks.specs.RouteValues.{RouteValue}
 -- what is put in front is an optional `+` and digits, or nothing; 32 octets at most
 abbrev pub route_of : List ℕ → ℕ → ℕ → List ℕ → Result RouteValue NumberFault
 route_of prefix trunk strip add =
-    if nat_lt 32 (length add) then Err TooLong else
-    if list_all is_ascii_digit (digits_of add) then Ok (record { prefix = prefix; trunk = trunk; strip = strip; add = add }) else Err NotADigit
+    if nat_lt 32 (length add) then Err TooLong else if list_all is_ascii_digit (digits_of add)
+    then Ok (record { prefix = prefix; trunk = trunk; strip = strip; add = add }) else Err NotADigit
 
 -- how many octets of a number a prefix takes: all of its own where the number begins with it, and else none
 abbrev pub fit_of : List ℕ → List ℕ → ℕ
@@ -33,4 +33,5 @@ NoneFits fits = (k : ℕ) → slice_index fits k ≡ 0
 
 -- the number without its first octets, and what is put in front; some of the number is left
 abbrev pub dialled : RouteValue → List ℕ → Result (List ℕ) NumberFault
-dialled route number = if nat_le (length number) route.strip then Err NoDigits else reading (route.add ++ drop route.strip number)
+dialled route number = if nat_le (length number) route.strip
+    then Err NoDigits else reading (route.add ++ drop route.strip number)

@@ -9,10 +9,12 @@ use Rattle.fax_trunks.specs.Registrations.{row}
 -- the state after what happened
 abbrev pub state_after : Registration → List (ℕ × RegistrationEvent) → Registration
 state_after state [] = state
-state_after state (happening ∷ happened) = state_after (row state happening.0 happening.1).0 happened
+state_after state (happening ∷ happened) =
+    state_after (row state happening.0 happening.1).0 happened
 
 -- the moments at which what is done passes a test
-abbrev pub moments_of : (RegistrationAction → Bool) → Registration → List (ℕ × RegistrationEvent) → List ℕ
+abbrev pub moments_of : (RegistrationAction → Bool)
+    → Registration → List (ℕ × RegistrationEvent) → List ℕ
 moments_of test state [] = []
 moments_of test state (happening ∷ happened) =
     if test (row state happening.0 happening.1).1
@@ -26,8 +28,8 @@ one_if false = 0
 -- how many of the things done pass a test
 abbrev pub count_of : (RegistrationAction → Bool) → Registration → List (ℕ × RegistrationEvent) → ℕ
 count_of test state [] = 0
-count_of test state (happening ∷ happened) =
-    one_if (test (row state happening.0 happening.1).1) + count_of test (row state happening.0 happening.1).0 happened
+count_of test state (happening ∷ happened) = one_if (test (row state happening.0 happening.1).1)
+    + count_of test (row state happening.0 happening.1).0 happened
 
 -- how many challenges say that their nonce alone was too old
 abbrev pub is_stale : RegistrationEvent → Bool

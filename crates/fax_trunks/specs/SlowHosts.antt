@@ -39,4 +39,5 @@ abbrev pub slowed : Host → ℕ → ℕ → SlowHost
 slowed host now pause = record { host = host; pause = pause; until = later now pause }
 
 abbrev pub after_failure : List SlowHost → Host → ℕ → List SlowHost
-after_failure hosts host now = with_room (without hosts host) ++ slowed host now (pause_after (slow_of hosts host)) ∷ []
+after_failure hosts host now =
+    with_room (without hosts host) ++ slowed host now (pause_after (slow_of hosts host)) ∷ []

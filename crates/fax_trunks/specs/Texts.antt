@@ -11,9 +11,10 @@ onto_front octet parts = (octet ∷ parts.0, parts.1)
 -- what stands before the first such octet, and what after it; none where there is no such octet
 unfoldable pub cut_at : ℕ → List ℕ → Option (List ℕ × List ℕ)
 cut_at mark [] = None
-cut_at mark (octet ∷ text) = if octet == mark then Some ([], text) else option_map (onto_front octet) (cut_at mark text)
+cut_at mark (octet ∷ text) =
+    if octet == mark then Some ([], text) else option_map (onto_front octet) (cut_at mark text)
 
 -- the number that digits write, where it is below 2 ^ 8
 unfoldable pub number : List ℕ → Option ℕ
-number text =
-    if list_all is_ascii_digit text && (nat_lt 0 (length text) && nat_lt (digits_value 10 text) (2 ^ 8)) then Some (digits_value 10 text) else None
+number text = if list_all is_ascii_digit text && (nat_lt 0 (length text)
+    && nat_lt (digits_value 10 text) (2 ^ 8)) then Some (digits_value 10 text) else None

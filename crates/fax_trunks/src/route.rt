@@ -32,7 +32,12 @@ impl Model for Route {
 
     ghost Value = { RouteValue };
 
-    ghost view = { λ route. record { prefix = route.prefix; trunk = route.trunk; strip = route.strip; add = route.add.items } };
+    ghost view = { λ route. record {
+      prefix = route.prefix;
+      trunk = route.trunk;
+      strip = route.strip;
+      add = route.add.items;
+    } };
 }
 
 impl Route {

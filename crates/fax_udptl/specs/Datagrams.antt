@@ -13,7 +13,8 @@ pub record DatagramValue : Type 0 where
 -- Reading answers a value and the octets after it, or the first fault. The next field is read where the
 -- one before it was.
 infixl 10 ◌>>=◌
-abbrev pub ◌>>=◌ : {A B : Type 0} → Result A UdptlFault → (A → Result B UdptlFault) → Result B UdptlFault
+abbrev pub ◌>>=◌ : {A B : Type 0}
+    → Result A UdptlFault → (A → Result B UdptlFault) → Result B UdptlFault
 (Ok x) >>= f = f x
 (Err e) >>= f = Err e
 
@@ -25,8 +26,8 @@ low_octet_at high (low ∷ rest) = Ok (256 * high + low, rest)
 
 unfoldable pub length_at : List ℕ → Result (ℕ × List ℕ) UdptlFault
 length_at [] = Err Short
-length_at (first ∷ rest) =
-    if nat_lt first 128 then Ok (first, rest) else if nat_lt first 192 then low_octet_at (first - 128) rest else Err BadLength
+length_at (first ∷ rest) = if nat_lt first 128 then Ok (first, rest)
+    else if nat_lt first 192 then low_octet_at (first - 128) rest else Err BadLength
 
 -- a packet stands after its length
 unfoldable pub packet_at : List ℕ → Result (List ℕ × List ℕ) UdptlFault

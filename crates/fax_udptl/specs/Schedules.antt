@@ -15,7 +15,8 @@ pub record IsSentAt (packets : List (List ℕ)) (place : ℕ) (d : DatagramValue
   pub primary : slice_get packets place ≡ Some d.primary
   pub few : length d.secondaries ≤ place
   pub countable : length d.secondaries ≤ 16383
-  pub secondaries : (i : ℕ) → i < length d.secondaries → slice_get d.secondaries i ≡ slice_get packets (place - 1 - i)
+  pub secondaries : (i : ℕ)
+      → i < length d.secondaries → slice_get d.secondaries i ≡ slice_get packets (place - 1 - i)
 
 -- a datagram that came, and the place at which it was sent
 pub record Arrival : Type 0 where
@@ -33,12 +34,14 @@ greatest_place (a ∷ earlier) = max a.place (greatest_place earlier)
 -- a place within 32,767 of the greatest that came before
 abbrev pub IsNear : List Arrival → ℕ → Type 0
 IsNear [] place = Unit {0}
-IsNear (a ∷ earlier) place = (place ≤ greatest_place (a ∷ earlier) + 32767) × (greatest_place (a ∷ earlier) ≤ place + 32767)
+IsNear (a ∷ earlier) place =
+    (place ≤ greatest_place (a ∷ earlier) + 32767) × (greatest_place (a ∷ earlier) ≤ place + 32767)
 
 -- any list of the sender's datagrams, each near to those before it
 abbrev pub IsHonest : List (List ℕ) → List Arrival → Type 0
 IsHonest packets [] = Unit {0}
-IsHonest packets (a ∷ earlier) = IsSentAt packets a.place a.datagram × IsNear earlier a.place × IsHonest packets earlier
+IsHonest packets (a ∷ earlier) =
+    IsSentAt packets a.place a.datagram × IsNear earlier a.place × IsHonest packets earlier
 
 -- The datagram that came first reaches back to the first packet of the list: so the slots begin there.
 abbrev pub BeginsAtFirst : List Arrival → Type 0
@@ -48,7 +51,8 @@ BeginsAtFirst (a ∷ b ∷ earlier) = BeginsAtFirst (b ∷ earlier)
 
 -- Slot k is missing, or it is the sender's packet of a place: slots are counted from -65,536, and modulo 65,536 alone their
 -- numbers are those of the places, so that places are shifted by a multiple of it.
-pub record IsShifted (packets : List (List ℕ)) (multiple k : ℕ) (slot : Option (List ℕ)) : Type 0 where
+pub record IsShifted (packets : List (List ℕ)) (multiple k : ℕ) (slot : Option (List ℕ)) :
+    Type 0 where
   pub place : ℕ
   pub shifted : k + 65536 * multiple ≡ place + 65536
   pub is : slot ≡ slice_get packets place
@@ -56,10 +60,10 @@ pub record IsShifted (packets : List (List ℕ)) (multiple k : ℕ) (slot : Opti
 -- Over every honest schedule each slot that is decided is missing or is the sender's packet of its place, and all places are
 -- shifted by one multiple of 65,536.
 abbrev pub SlotsAreSent : Type 0
-SlotsAreSent =
-    (packets : List (List ℕ)) (arrivals : List Arrival) → IsHonest packets arrivals
-    → (multiple : ℕ)
-    × ((k : ℕ) (slot : Option (List ℕ)) → decision (datagrams arrivals) k ≡ Some slot → (slot ≡ None) ⊎ IsShifted packets multiple k slot)
+SlotsAreSent = (packets : List (List ℕ)) (arrivals : List Arrival)
+    → IsHonest packets arrivals → (multiple : ℕ)
+    × ((k : ℕ) (slot : Option (List ℕ)) → decision (datagrams arrivals) k ≡ Some slot
+    → (slot ≡ None) ⊎ IsShifted packets multiple k slot)
 
 -- the slots of a call are a part of the list, with losses; from its first packet on where the first datagram says so
 pub record ArePartOf (packets : List (List ℕ)) (arrivals : List Arrival) : Type 0 where
@@ -69,10 +73,12 @@ pub record ArePartOf (packets : List (List ℕ)) (arrivals : List Arrival) : Typ
   pub whole : BeginsAtFirst arrivals → next ≡ length (newest_slots (datagrams arrivals))
 
 abbrev pub SlotsAreAPart : Type 0
-SlotsAreAPart = (packets : List (List ℕ)) (arrivals : List Arrival) → IsHonest packets arrivals → ArePartOf packets arrivals
+SlotsAreAPart = (packets : List (List ℕ)) (arrivals : List Arrival)
+    → IsHonest packets arrivals → ArePartOf packets arrivals
 
 -- The datagrams of a sender that was given these packets, the newest first, are those of its list, whatever its redundancy.
 abbrev pub SendersSendTheirList : Type 0
 SendersSendTheirList =
-    (redundancy : ℕ) (later : List (List ℕ)) (packet : List ℕ) (given : List (List ℕ)) → redundancy ≤ most_redundancy
-    → IsSentAt (reverse (later ++ packet ∷ given)) (length given) (datagram_for redundancy given packet)
+    (redundancy : ℕ) (later : List (List ℕ)) (packet : List ℕ) (given : List (List ℕ))
+    → redundancy ≤ most_redundancy → IsSentAt (reverse (later ++ packet ∷ given))
+    (length given) (datagram_for redundancy given packet)

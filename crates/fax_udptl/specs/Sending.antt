@@ -24,7 +24,8 @@ pub record HasSent (redundancy : ℕ) (given : List (List ℕ)) (sender : Sender
 
 -- the datagram of the packet that is given after those: it has the packet, and as many of those as the redundancy says
 abbrev pub datagram_for : (redundancy : ℕ) → List (List ℕ) → List ℕ → DatagramValue
-datagram_for redundancy given packet = record { number = length given % 65536; primary = packet; secondaries = take redundancy given }
+datagram_for redundancy given packet =
+    record { number = length given % 65536; primary = packet; secondaries = take redundancy given }
 
 -- packets whose lengths can be written
 abbrev pub AreShort : List (List ℕ) → Type 0

@@ -27,7 +27,8 @@ nearest expected number = agreeing_from (expected - 32768) number
 abbrev pub greatest : List DatagramValue → ℕ
 greatest [] = 0
 greatest (d ∷ []) = 65536 + d.number
-greatest (d ∷ e ∷ earlier) = max (nearest (greatest (e ∷ earlier) + 1) d.number) (greatest (e ∷ earlier))
+greatest (d ∷ e ∷ earlier) =
+    max (nearest (greatest (e ∷ earlier) + 1) d.number) (greatest (e ∷ earlier))
 
 -- the integer of a datagram that comes after those
 abbrev pub integer_after : List DatagramValue → DatagramValue → ℕ
@@ -42,9 +43,9 @@ said_of integer d k = slice_get (d.primary ∷ d.secondaries) (integer - k)
 -- what is decided of slot k: what the first datagram says whose integer is at least k
 abbrev pub decision : List DatagramValue → ℕ → Option (Option (List ℕ))
 decision [] k = None
-decision (d ∷ earlier) k =
-    if is_some (decision earlier k) then decision earlier k
-    else if nat_le k (integer_after earlier d) then Some (said_of (integer_after earlier d) d k) else None
+decision (d ∷ earlier) k = if is_some (decision earlier k)
+    then decision earlier k else if nat_le k (integer_after earlier d)
+    then Some (said_of (integer_after earlier d) d k) else None
 
 -- the slots begin at the oldest secondary of the first datagram
 abbrev pub first_slot : List DatagramValue → ℕ
@@ -60,8 +61,8 @@ integers_from a (suc n) = a ∷ integers_from (a + 1) n
 -- The slots up to the greatest integer, in the order of time: the oldest first.
 unfoldable pub slots : List DatagramValue → List (Option (List ℕ))
 slots [] = []
-slots (d ∷ earlier) =
-    filter_map (decision (d ∷ earlier)) (integers_from (first_slot (d ∷ earlier)) (greatest (d ∷ earlier) + 1 - first_slot (d ∷ earlier)))
+slots (d ∷ earlier) = filter_map (decision (d ∷ earlier)) (integers_from (first_slot (d ∷ earlier))
+    (greatest (d ∷ earlier) + 1 - first_slot (d ∷ earlier)))
 
 -- The same slots, the newest first, as the datagrams are given. What the slots say, as the pieces of frames
 -- and images that they bring, is told from this list, and not from the one in the order of time.

@@ -24,7 +24,8 @@ next_slot [] d = first_slot (d ∷ [])
 next_slot (e ∷ earlier) d = greatest (e ∷ earlier) + 1
 
 -- the datagram d, which comes after those that arrived, decides just these slots
-pub record Decides (arrived : List DatagramValue) (d : DatagramValue) (decided : DecidedValue) : Type 0 where
+pub record Decides (arrived : List DatagramValue) (d : DatagramValue) (decided : DecidedValue) :
+    Type 0 where
   pub from : decided.from ≡ next_slot arrived d % 65536
   pub slots : slots (d ∷ arrived) ≡ slots arrived ++ slots_in decided
 
@@ -32,5 +33,7 @@ pub record Decides (arrived : List DatagramValue) (d : DatagramValue) (decided :
 pub record Takes (octets : List ℕ) (old new : Option ℕ) (decided : DecidedValue) : Type 0 where
   pub datagram : DatagramValue
   pub is : datagram_of octets ≡ Ok datagram
-  pub after : (arrived : List DatagramValue) → IsAfter arrived old → IsAfter (datagram ∷ arrived) new
-  pub decides : (arrived : List DatagramValue) → IsAfter arrived old → Decides arrived datagram decided
+  pub after : (arrived : List DatagramValue)
+      → IsAfter arrived old → IsAfter (datagram ∷ arrived) new
+  pub decides : (arrived : List DatagramValue)
+      → IsAfter arrived old → Decides arrived datagram decided

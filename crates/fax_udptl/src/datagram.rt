@@ -20,7 +20,8 @@ impl<'a> Model for Datagram<'a> {
 
     ghost Value = { DatagramValue };
 
-    ghost view = { λ d. record { number = d.number; primary = d.primary.now; secondaries = d.secondaries } };
+    ghost view = { λ d.
+        record { number = d.number; primary = d.primary.now; secondaries = d.secondaries } };
 }
 
 impl<'a> Datagram<'a> {
@@ -51,7 +52,8 @@ impl<'a> Datagram<'a> {
 /// after the last secondary, are not read. It takes no memory, and its time is linear in the octets.
 #[tactic(auto, unfolding(crate::specs::Datagrams::datagram_of))]
 pub fn read<'a>(octets: &'a [u8]) -> Result<Datagram<'a>, UdptlFault>
-    ensures { MatchResult result (λ d. datagram_of octets.now ≡ Ok d) (λ e. datagram_of octets.now ≡ Err e) }
+    ensures { MatchResult result
+        (λ d. datagram_of octets.now ≡ Ok d) (λ e. datagram_of octets.now ≡ Err e) }
 {
     let (high, rest) = octets.split_first().ok_or(UdptlFault::Short)?;
     let (low, rest) = rest.split_first().ok_or(UdptlFault::Short)?;

@@ -34,8 +34,8 @@ impl<'a> Model for Packets<'a> {
 
     ghost Value = { List (List ℕ) };
 
-    ghost view = { λ p. reverse (p.secondaries ++ packets_of p.blocks.items ++ texts p.fetched.items)
-        ++ text_list p.primary };
+    ghost view = { λ p. reverse (p.secondaries
+        ++ packets_of p.blocks.items ++ texts p.fetched.items) ++ text_list p.primary };
 
     ghost invariant = { λ p. AreBlocks p.blocks.items };
 }

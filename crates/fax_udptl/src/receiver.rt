@@ -26,7 +26,11 @@ impl<'a> Model for Decided<'a> {
 
     ghost Value = { DecidedValue };
 
-    ghost view = { λ d. record { from = d.from; lost = d.lost; packets = reverse d.secondaries ++ text_list d.primary } };
+    ghost view = { λ d. record {
+      from = d.from;
+      lost = d.lost;
+      packets = reverse d.secondaries ++ text_list d.primary;
+    } };
 
     ghost invariant = { λ d. d.primary ≡ None → d.secondaries ≡ [] };
 }

@@ -48,9 +48,15 @@ impl Model for Sender {
 
     ghost Value = { SenderValue };
 
-    ghost view = { λ s. record { redundancy = s.last.capacity; count = s.count; last = s.last.items; spare = s.spare } };
+    ghost view = { λ s. record {
+      redundancy = s.last.capacity;
+      count = s.count;
+      last = s.last.items;
+      spare = s.spare;
+    } };
 
-    ghost invariant = { λ s. (s.last.capacity ≤ most_redundancy) × AreShort s.last.items × (vec_len s.datagram ≡ 0) × (vec_len s.copy ≡ 0)
+    ghost invariant = { λ s. (s.last.capacity ≤ most_redundancy)
+        × AreShort s.last.items × (vec_len s.datagram ≡ 0) × (vec_len s.copy ≡ 0)
         × HasRoom s.spare s.last.items (vec_capacity s.datagram) (vec_capacity s.copy) };
 }
 
@@ -78,7 +84,8 @@ impl Sender {
         ensures room { OnOk result (octets < self.new.spare) }
         // Nothing else changes.
         ensures same { self.new ≡ record self.old { spare = self.new.spare } }
-        ensures sent { (redundancy : ℕ) (given : List (List ℕ)) → HasSent redundancy given self.old → HasSent redundancy given self.new }
+        ensures sent { (redundancy : ℕ) (given : List (List ℕ))
+            → HasSent redundancy given self.old → HasSent redundancy given self.new }
         ensures err { OnErr result (self.new ≡ self.old) }
     {
         if octets < self.spare {
@@ -99,8 +106,10 @@ impl Sender {
     pub fn send(&mut self, packet: &[u8]) -> Result<Octets, NoMemory>
         requires { length packet.now ≤ 16383 }
         // Whatever was given before, the newest first.
-        ensures sent { IfOk result (λ octets. (redundancy : ℕ) (given : List (List ℕ)) → HasSent redundancy given self.old
-            → (octets ≡ written_datagram (datagram_for redundancy given packet.now)) × HasSent redundancy (packet.now ∷ given) self.new) }
+        ensures sent { IfOk result
+            (λ octets. (redundancy : ℕ) (given : List (List ℕ)) → HasSent redundancy given self.old
+            → (octets ≡ written_datagram (datagram_for redundancy given packet.now))
+            × HasSent redundancy (packet.now ∷ given) self.new) }
         ensures err { OnErr result (self.new ≡ self.old) }
         ensures memory { OnErr result (self.old.spare ≤ length packet.now) }
     {
@@ -144,7 +153,8 @@ fn datagram_size(packet: &[u8], last: &HeapCircularBuffer<Octets>) -> usize
       primary = packet.now;
       secondaries = last.now.items;
     })) }
-    ensures bound { result ≤ 6 + length packet.now + length (flat_map written_packet last.now.items) }
+    ensures bound { result
+        ≤ 6 + length packet.now + length (flat_map written_packet last.now.items) }
 {
     FRAME_SIZE + packet_size(packet) + packets_size(last)
 }
@@ -205,7 +215,8 @@ fn put_datagram(octets: &mut Vec<u8>, number: u16, packet: &[u8], last: &HeapCir
 /// Adds packets, each after its length, for which there is room.
 fn put_packets(octets: &mut Vec<u8>, packets: &HeapCircularBuffer<Octets>)
     requires short { AreShort packets.now.items }
-    requires room { vec_len octets.old + length (flat_map written_packet packets.now.items) ≤ vec_capacity octets.old }
+    requires room { vec_len octets.old + length (flat_map written_packet packets.now.items)
+        ≤ vec_capacity octets.old }
     ensures { octets.new.items ≡ octets.old.items ++ flat_map written_packet packets.now.items }
 {
     for packet in packets {
@@ -216,7 +227,8 @@ fn put_packets(octets: &mut Vec<u8>, packets: &HeapCircularBuffer<Octets>)
 /// Adds a packet after its length, for which there is room.
 fn put_packet(octets: &mut Vec<u8>, packet: &[u8])
     requires short { length packet.now ≤ 16383 }
-    requires room { vec_len octets.old + length (written_packet packet.now) ≤ vec_capacity octets.old }
+    requires room { vec_len octets.old + length (written_packet packet.now)
+        ≤ vec_capacity octets.old }
     ensures items { octets.new.items ≡ octets.old.items ++ written_packet packet.now }
     ensures len { vec_len octets.new ≡ vec_len octets.old + length (written_packet packet.now) }
     ensures capacity { vec_capacity octets.old ≤ vec_capacity octets.new }

@@ -20,10 +20,12 @@ pub record CallValue : Type 0 where
 
 -- the record is of this call
 abbrev pub is_of : CallValue → PageValue → Bool
-is_of call page = nat_eq call.life page.life && nat_eq call.call page.call && bytes_eq call.line page.line
+is_of call page =
+    nat_eq call.life page.life && nat_eq call.call page.call && bytes_eq call.line page.line
 
 abbrev pub is_named : CallName → CallValue → Bool
-is_named name call = nat_eq call.life name.life && nat_eq call.call name.call && bytes_eq call.line name.line
+is_named name call =
+    nat_eq call.life name.life && nat_eq call.call name.call && bytes_eq call.line name.line
 
 -- The pages of a call have the numbers from 1 on; 0 is that of a card, and 2 ^ 32 - 1 of none.
 abbrev pub is_page : PageValue → Bool
@@ -31,7 +33,15 @@ is_page page = nat_lt 0 page.number && nat_lt page.number (2 ^ 32 - 1)
 
 -- one page more of a call
 abbrev pub one_more : (number : ℕ) → CallValue → CallValue
-one_more number call = record { line = call.line; life = call.life; call = call.call; tag = call.tag; pages = min (call.pages + 1) (2 ^ 32 - 1); numbers = call.numbers ++ number ∷ []; card = call.card }
+one_more number call = record {
+  line = call.line;
+  life = call.life;
+  call = call.call;
+  tag = call.tag;
+  pages = min (call.pages + 1) (2 ^ 32 - 1);
+  numbers = call.numbers ++ number ∷ [];
+  card = call.card;
+}
 
 -- it is one of these numbers
 abbrev pub is_among : (number : ℕ) → (numbers : List ℕ) → Bool
@@ -45,20 +55,38 @@ with_number number call = if is_among number call.numbers then call else one_mor
 -- another card, where it can be read
 abbrev pub with_card : Option CardValue → CallValue → CallValue
 with_card None call = call
-with_card (Some card) call = record { line = call.line; life = call.life; call = call.call; tag = call.tag; pages = call.pages; numbers = call.numbers; card = card }
+with_card (Some card) call = record {
+  line = call.line;
+  life = call.life;
+  call = call.call;
+  tag = call.tag;
+  pages = call.pages;
+  numbers = call.numbers;
+  card = card;
+}
 
 -- one record more of it
 abbrev pub told_by : PageValue → CallValue → CallValue
-told_by page call = if nat_eq page.number 0 then with_card (card_in page.text) call else (if is_page page then with_number page.number call else call)
+told_by page call = if nat_eq page.number 0 then with_card (card_in page.text) call
+    else (if is_page page then with_number page.number call else call)
 
 -- a call of which this is the first page
 abbrev pub begun_by : PageValue → CallValue
-begun_by page = record { line = page.line; life = page.life; call = page.call; tag = page.tag; pages = 1; numbers = page.number ∷ []; card = unknown }
+begun_by page = record {
+  line = page.line;
+  life = page.life;
+  call = page.call;
+  tag = page.tag;
+  pages = 1;
+  numbers = page.number ∷ [];
+  card = unknown;
+}
 
 -- A call is listed from its first page on; of its cards the last one counts, and one before its first page is none.
 abbrev pub with_page : PageValue → List CallValue → List CallValue
 with_page page [] = if is_page page then begun_by page ∷ [] else []
-with_page page (call ∷ calls) = if is_of call page then told_by page call ∷ calls else call ∷ with_page page calls
+with_page page (call ∷ calls) =
+    if is_of call page then told_by page call ∷ calls else call ∷ with_page page calls
 
 abbrev pub calls_after : List CallValue → List PageValue → List CallValue
 calls_after calls [] = calls
@@ -74,7 +102,8 @@ name_of call = record { life = call.life; call = call.call; line = call.line }
 
 -- No call before place i has the name of the one there, where one is.
 abbrev pub IsFirst : List CallValue → ℕ → Type 0
-IsFirst calls i = MatchOption (slice_get calls i) (Unit {0}) (λ call. list_any (is_named (name_of call)) (take i calls) ≡ false)
+IsFirst calls i = MatchOption (slice_get calls i) (Unit {0})
+    (λ call. list_any (is_named (name_of call)) (take i calls) ≡ false)
 
 -- all but one
 abbrev pub but : CallName → List CallValue → List CallValue
@@ -82,7 +111,16 @@ but name calls = filter (λ call. not (is_named name call)) calls
 
 -- the end of so many numbers of a call, from this one on
 abbrev pub end_from : (first pages : ℕ) → CallName → EndedValue
-end_from first pages name = record { life = name.life; call = name.call; first = first; pages = pages; delivered = 0; format = card_format; outcome = NotPlaced; line = name.line }
+end_from first pages name = record {
+  life = name.life;
+  call = name.call;
+  first = first;
+  pages = pages;
+  delivered = 0;
+  format = card_format;
+  outcome = NotPlaced;
+  line = name.line;
+}
 
 -- the end of all pages of a call and of its cards
 abbrev pub end_of : CallName → EndedValue
@@ -109,7 +147,8 @@ has_number number page = nat_eq page.number number
 -- of these pages, after those that were before, each that is the first of its number
 abbrev pub firsts_after : (before pages : List PageValue) → List PageValue
 firsts_after before [] = []
-firsts_after before (page ∷ pages) = if list_any (has_number page.number) before then firsts_after before pages else page ∷ firsts_after (before ++ page ∷ []) pages
+firsts_after before (page ∷ pages) = if list_any (has_number page.number) before
+    then firsts_after before pages else page ∷ firsts_after (before ++ page ∷ []) pages
 
 -- THE PAGES OF A CALL, in the order in which they came first: of those that were put under one number the first one. So what comes later
 -- stands after all that was there, also where one of those is put again.
@@ -128,8 +167,10 @@ number_of page = page.number
 -- those that are listed of a call, of these: none where it is none of them
 abbrev pub numbers_named : CallName → List CallValue → List ℕ
 numbers_named name [] = []
-numbers_named name (call ∷ calls) = if is_named name call then call.numbers else numbers_named name calls
+numbers_named name (call ∷ calls) =
+    if is_named name call then call.numbers else numbers_named name calls
 
 -- THE NUMBERS THAT ARE LISTED OF A CALL are those of its pages, in their order.
 abbrev pub PagesAreListed : Type 0
-PagesAreListed = (name : CallName) (waits : List PageValue) → numbers_named name (calls_of waits) ≡ map number_of (pages_named name waits)
+PagesAreListed = (name : CallName) (waits : List PageValue)
+    → numbers_named name (calls_of waits) ≡ map number_of (pages_named name waits)

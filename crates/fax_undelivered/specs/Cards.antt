@@ -26,20 +26,30 @@ pub record CardFits (card : CardValue) : Type 0 where
   pub delivered : card.delivered < 2 ^ 32
 
 abbrev pub card_octets : CardValue → List ℕ
-card_octets card = outcome_number card.outcome ∷ to_be_bytes w32 card.tries ++ to_be_bytes w64 card.at ++ to_be_bytes w32 card.delivered ++ card.cause
+card_octets card = outcome_number card.outcome ∷ to_be_bytes w32 card.tries
+    ++ to_be_bytes w64 card.at ++ to_be_bytes w32 card.delivered ++ card.cause
 
 -- the outcomes, each at its number
 abbrev pub outcomes : List Outcome
-outcomes = Delivered ∷ NotReceiver ∷ WidthLacking ∷ FineLacking ∷ RatesSpent ∷ NoAnswer ∷ NoReply ∷ PageRefused ∷ HungUp ∷ NotPlaced ∷ []
+outcomes = Delivered ∷ NotReceiver ∷ WidthLacking
+    ∷ FineLacking ∷ RatesSpent ∷ NoAnswer ∷ NoReply ∷ PageRefused ∷ HungUp ∷ NotPlaced ∷ []
 
-abbrev pub card_with : Option Outcome → (cause : List ℕ) → (tries at delivered : ℕ) → Option CardValue
+abbrev pub card_with : Option Outcome
+    → (cause : List ℕ) → (tries at delivered : ℕ) → Option CardValue
 card_with None cause tries at delivered = None
-card_with (Some outcome) cause tries at delivered = Some (record { outcome = outcome; cause = cause; tries = tries; at = at; delivered = delivered })
+card_with (Some outcome) cause tries at delivered = Some (record {
+  outcome = outcome;
+  cause = cause;
+  tries = tries;
+  at = at;
+  delivered = delivered;
+})
 
 -- the card that octets are, where they are one
 abbrev pub card_in : List ℕ → Option CardValue
-card_in (n ∷ t0 ∷ t1 ∷ t2 ∷ t3 ∷ a0 ∷ a1 ∷ a2 ∷ a3 ∷ a4 ∷ a5 ∷ a6 ∷ a7 ∷ d0 ∷ d1 ∷ d2 ∷ d3 ∷ cause) =
-    card_with (slice_get outcomes n) cause (from_be_bytes w32 (t0 ∷ t1 ∷ t2 ∷ t3 ∷ [])) (from_be_bytes w64 (a0 ∷ a1 ∷ a2 ∷ a3 ∷ a4 ∷ a5 ∷ a6 ∷ a7 ∷ []))
+card_in (n ∷ t0 ∷ t1 ∷ t2 ∷ t3 ∷ a0 ∷ a1 ∷ a2 ∷ a3 ∷ a4 ∷ a5 ∷ a6 ∷ a7 ∷ d0 ∷ d1 ∷ d2 ∷ d3
+    ∷ cause) = card_with (slice_get outcomes n) cause (from_be_bytes w32 (t0 ∷ t1 ∷ t2 ∷ t3 ∷ []))
+    (from_be_bytes w64 (a0 ∷ a1 ∷ a2 ∷ a3 ∷ a4 ∷ a5 ∷ a6 ∷ a7 ∷ []))
     (from_be_bytes w32 (d0 ∷ d1 ∷ d2 ∷ d3 ∷ []))
 card_in octets = None
 
@@ -57,7 +67,16 @@ card_format = record { width = W1728; fine = false }
 
 -- A card is put as a page of number 0 of its call, whose text it is.
 abbrev pub card_record : CallName → (tag text : List ℕ) → PageValue
-card_record name tag text = record { life = name.life; call = name.call; number = 0; format = card_format; closes = true; line = name.line; tag = tag; text = text }
+card_record name tag text = record {
+  life = name.life;
+  call = name.call;
+  number = 0;
+  format = card_format;
+  closes = true;
+  line = name.line;
+  tag = tag;
+  text = text;
+}
 
 abbrev pub card_page : CallName → (tag : List ℕ) → CardValue → PageValue
 card_page name tag card = card_record name tag (card_octets card)

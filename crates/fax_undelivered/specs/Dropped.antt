@@ -46,28 +46,37 @@ pub data Event : Type 0 where
 
 -- none of the pages of a job is let go that was not delivered, but into the second pair
 abbrev pub AreKept : EndedValue → EndedValue → Pairs → Type 0
-AreKept ended left pairs = (page : PageValue) → IsIn page pairs.first → ends ended (name_of page) ≡ true → (ends left (name_of page) ≡ false) ⊎ IsIn page pairs.second
+AreKept ended left pairs = (page : PageValue) → IsIn page pairs.first
+    → ends ended (name_of page) ≡ true → (ends left (name_of page) ≡ false) ⊎ IsIn page pairs.second
 
 -- nor does a try that was delivered let a page go that it had not: of the records of a call, that of number 0 is a card, and no page
 abbrev pub HadAll : CallName → List ℕ → List PageValue → Type 0
-HadAll name numbers second = (page : PageValue) → IsIn page second → ends (end_of name) (name_of page) ≡ true → 0 < page.number → is_among page.number numbers ≡ true
+HadAll name numbers second = (page : PageValue)
+    → IsIn page second → ends (end_of name) (name_of page) ≡ true
+    → 0 < page.number → is_among page.number numbers ≡ true
 
 abbrev pub with_if : Bool → List PageValue → List PageValue → List PageValue
 with_if are_there waits pages = if are_there then waits ++ pages else waits
 
 abbrev pub Goes : Event → Pairs → Pairs → Type 0
 Goes (Puts pages) old new = (new.first ≡ old.first ++ pages) × (new.second ≡ old.second)
-Goes (MayPut pages are_there) old new = (new.first ≡ with_if are_there old.first pages) × (new.second ≡ old.second)
-Goes (Comes pages are_there) old new = (new.first ≡ old.first) × (new.second ≡ with_if are_there old.second pages)
-Goes (Ends ended left) old new = (new.first ≡ without ended old.first) × (new.second ≡ old.second) × AreKept ended left old
-Goes (Discards name) old new = (new.first ≡ old.first) × (new.second ≡ without (end_of name) old.second)
-Goes (Arrives name numbers) old new = (new.first ≡ old.first) × (new.second ≡ without (end_of name) old.second) × HadAll name numbers old.second
+Goes (MayPut pages are_there) old new =
+    (new.first ≡ with_if are_there old.first pages) × (new.second ≡ old.second)
+Goes (Comes pages are_there) old new =
+    (new.first ≡ old.first) × (new.second ≡ with_if are_there old.second pages)
+Goes (Ends ended left) old new =
+    (new.first ≡ without ended old.first) × (new.second ≡ old.second) × AreKept ended left old
+Goes (Discards name) old new =
+    (new.first ≡ old.first) × (new.second ≡ without (end_of name) old.second)
+Goes (Arrives name numbers) old new = (new.first ≡ old.first)
+    × (new.second ≡ without (end_of name) old.second) × HadAll name numbers old.second
 Goes Rests old new = (new.first ≡ old.first) × (new.second ≡ old.second)
 
 -- these befell, from where the files held anything
 abbrev pub Befell : Pairs → List Event → Pairs → Type 0
 Befell begun [] now = now ≡ begun
-Befell begun (event ∷ events) now = (between : Pairs) × Befell begun events between × Goes event between now
+Befell begun (event ∷ events) now =
+    (between : Pairs) × Befell begun events between × Goes event between now
 
 -- the pages that were put with an Ok, and those that were there at first
 abbrev pub put_in : Pairs → List Event → List PageValue
@@ -90,9 +99,12 @@ WasDelivered page [] = ⊥
 WasDelivered page (Puts pages ∷ events) = WasDelivered page events
 WasDelivered page (MayPut pages are_there ∷ events) = WasDelivered page events
 WasDelivered page (Comes pages are_there ∷ events) = WasDelivered page events
-WasDelivered page (Ends ended left ∷ events) = ((ends ended (name_of page) ≡ true) × (ends left (name_of page) ≡ false)) ⊎ WasDelivered page events
+WasDelivered page (Ends ended left ∷ events) =
+    ((ends ended (name_of page) ≡ true) × (ends left (name_of page) ≡ false))
+    ⊎ WasDelivered page events
 WasDelivered page (Discards name ∷ events) = WasDelivered page events
-WasDelivered page (Arrives name numbers ∷ events) = IsOfTry name numbers page ⊎ WasDelivered page events
+WasDelivered page (Arrives name numbers ∷ events) =
+    IsOfTry name numbers page ⊎ WasDelivered page events
 WasDelivered page (Rests ∷ events) = WasDelivered page events
 
 -- or a word dropped it
@@ -102,17 +114,20 @@ WasDiscarded page (Puts pages ∷ events) = WasDiscarded page events
 WasDiscarded page (MayPut pages are_there ∷ events) = WasDiscarded page events
 WasDiscarded page (Comes pages are_there ∷ events) = WasDiscarded page events
 WasDiscarded page (Ends ended left ∷ events) = WasDiscarded page events
-WasDiscarded page (Discards name ∷ events) = (ends (end_of name) (name_of page) ≡ true) ⊎ WasDiscarded page events
+WasDiscarded page (Discards name ∷ events) =
+    (ends (end_of name) (name_of page) ≡ true) ⊎ WasDiscarded page events
 WasDiscarded page (Arrives name numbers ∷ events) = WasDiscarded page events
 WasDiscarded page (Rests ∷ events) = WasDiscarded page events
 
 -- where a page is: it waits in the first pair or in the second, or was delivered, or was dropped by a word
 abbrev pub IsNotDropped : PageValue → List Event → Pairs → Type 0
-IsNotDropped page events now = IsIn page now.first ⊎ IsIn page now.second ⊎ WasDelivered page events ⊎ WasDiscarded page events
+IsNotDropped page events now =
+    IsIn page now.first ⊎ IsIn page now.second ⊎ WasDelivered page events ⊎ WasDiscarded page events
 
 -- NOTHING IS DROPPED, whatever befalls, of each page that was put with an Ok. (Pages have the numbers from 1 on.)
 abbrev pub NothingIsDropped : Type 0
-NothingIsDropped = (begun now : Pairs) (events : List Event) (page : PageValue) → 0 < page.number → Befell begun events now → IsIn page (put_in begun events) → IsNotDropped page events now
+NothingIsDropped = (begun now : Pairs) (events : List Event) (page : PageValue) → 0 < page.number
+    → Befell begun events now → IsIn page (put_in begun events) → IsNotDropped page events now
 
 -- ---- the end of a job is such an event
 
@@ -120,7 +135,8 @@ NothingIsDropped = (begun now : Pairs) (events : List Event) (page : PageValue) 
 abbrev pub AreNotDelivered : Report → (queue : QueueValue) → (left : EndedValue) → Type 0
 AreNotDelivered report queue left =
     (((report.outcome ≡ Delivered) ⊎ (report.pages ≤ report.delivered)) × (left.pages ≡ 0))
-    ⊎ ((job : EndedJob) × NamesLeft report.pages report.delivered job queue.waits × IsEndOf job queue.line left)
+    ⊎ ((job : EndedJob)
+    × NamesLeft report.pages report.delivered job queue.waits × IsEndOf job queue.line left)
 
 -- What the end of a job makes of both pairs, where these pages wait: more pages come into the second, or none; and then its end is noted in
 -- the first, of whose pages those were not delivered that its report says so.
@@ -139,16 +155,25 @@ pub record EndsAs {D U : Type 0} (seen : D → List ℕ) (may_leave : D → List
   pub not_delivered : AreNotDelivered report queue left
 
 -- THE END OF A JOB THAT IS NOTED IS SUCH AN EVENT, where nothing wrong was read of the first pair: its pages came into the second before.
-abbrev pub StoredEndsAreEvents : {D U : Type 0} → (D → List ℕ) → (D → List ℕ → Type 0) → (is_usable is_clean : D → Bool) → (U → List ℕ) → (U → List ℕ → Type 0) → (U → Bool) → Type 0
+abbrev pub StoredEndsAreEvents : {D U : Type 0} → (D → List ℕ) → (D → List ℕ → Type 0)
+    → (is_usable is_clean : D → Bool) → (U → List ℕ) → (U → List ℕ → Type 0) → (U → Bool) → Type 0
 StoredEndsAreEvents {D} {U} seen may_leave is_usable is_clean seen_too may_leave_too is_usable_too =
-    (line : ℕ) (report : Report) (card : CardValue) (olds news : List QueueValue) (before after : Spool D) (old : Undelivered U) (new : Option (Undelivered U)) (waits kept : List PageValue)
-    → (e : EndsStored seen may_leave is_usable is_clean seen_too may_leave_too is_usable_too line report card olds news before after (Some old) new) → e.ends.noted ≡ true
-    → PagesWait seen may_leave is_usable before waits → Keeps seen_too may_leave_too is_usable_too old kept → AreClean is_clean (files_of e.read)
-    → EndsAs seen may_leave is_usable seen_too may_leave_too is_usable_too line report olds waits kept after new
+    (line : ℕ) (report : Report) (card : CardValue) (olds news : List QueueValue)
+    (before after : Spool D) (old : Undelivered U) (new : Option (Undelivered U))
+    (waits kept : List PageValue) → (e : EndsStored seen may_leave is_usable is_clean
+    seen_too may_leave_too is_usable_too line report card olds news before after (Some old) new)
+    → e.ends.noted ≡ true → PagesWait seen may_leave is_usable before waits
+    → Keeps seen_too may_leave_too is_usable_too old kept
+    → AreClean is_clean (files_of e.read) → EndsAs seen
+    may_leave is_usable seen_too may_leave_too is_usable_too line report olds waits kept after new
 
 -- AND WHERE ITS PAGES COULD NOT BE KEPT they wait in the first pair as they did.
-abbrev pub FailedPutsLeaveJobs : {D U : Type 0} → (D → List ℕ) → (D → List ℕ → Type 0) → (is_usable is_clean : D → Bool) → (U → List ℕ) → (U → List ℕ → Type 0) → (U → Bool) → Type 0
+abbrev pub FailedPutsLeaveJobs : {D U : Type 0} → (D → List ℕ) → (D → List ℕ → Type 0)
+    → (is_usable is_clean : D → Bool) → (U → List ℕ) → (U → List ℕ → Type 0) → (U → Bool) → Type 0
 FailedPutsLeaveJobs {D} {U} seen may_leave is_usable is_clean seen_too may_leave_too is_usable_too =
-    (line : ℕ) (report : Report) (card : CardValue) (olds news : List QueueValue) (before after : Spool D) (old new : Option (Undelivered U)) (waits : List PageValue)
-    → (e : EndsStored seen may_leave is_usable is_clean seen_too may_leave_too is_usable_too line report card olds news before after old new) → e.may ≡ false
-    → PagesWait seen may_leave is_usable before waits → PagesWait seen may_leave is_usable after waits
+    (line : ℕ) (report : Report) (card : CardValue) (olds news : List QueueValue)
+    (before after : Spool D) (old new : Option (Undelivered U)) (waits : List PageValue)
+    → (e : EndsStored seen may_leave is_usable
+    is_clean seen_too may_leave_too is_usable_too line report card olds news before after old new)
+    → e.may ≡ false → PagesWait seen may_leave is_usable before waits
+    → PagesWait seen may_leave is_usable after waits

@@ -7,12 +7,14 @@ use Rattle.fax_undelivered.specs.Calls.{calls_of}
 use Rattle.fax_undelivered.specs.declared.undelivered.Undelivered.{Undelivered}
 
 -- THESE PAGES AND CARDS WAIT in the second pair, whatever crash follows, and just their calls are listed.
-pub record Keeps {D : Type 0} (seen : D → List ℕ) (may_leave : D → List ℕ → Type 0) (is_usable : D → Bool) (kept : Undelivered D) (waits : List PageValue) : Type 0 where
+pub record Keeps {D : Type 0} (seen : D → List ℕ) (may_leave : D → List ℕ → Type 0)
+    (is_usable : D → Bool) (kept : Undelivered D) (waits : List PageValue) : Type 0 where
   pub wait : PagesWait seen may_leave is_usable kept.spool waits
   pub listed : kept.calls.items ≡ calls_of waits
 
 -- the same; or the pair refuses everything from now on, and each crash tells these
-pub record KeepsStill {D : Type 0} (seen : D → List ℕ) (may_leave : D → List ℕ → Type 0) (is_usable : D → Bool) (kept : Undelivered D) (waits : List PageValue) : Type 0 where
+pub record KeepsStill {D : Type 0} (seen : D → List ℕ) (may_leave : D → List ℕ → Type 0)
+    (is_usable : D → Bool) (kept : Undelivered D) (waits : List PageValue) : Type 0 where
   pub wait : WaitSo seen may_leave is_usable kept.spool (λ told. told ≡ waits)
   pub listed : kept.calls.items ≡ calls_of waits
 

@@ -29,22 +29,30 @@ short_cause cause = take (min (length cause) 64) cause
 
 -- the cause of a line's job is noted after the others, or memory for that was refused
 abbrev pub NotesCause : ℕ → List ℕ → List CauseValue → List CauseValue → Type 0
-NotesCause line cause olds news = (news ≡ olds ++ record { line = line; cause = short_cause cause } ∷ []) ⊎ (news ≡ olds)
+NotesCause line cause olds news =
+    (news ≡ olds ++ record { line = line; cause = short_cause cause } ∷ []) ⊎ (news ≡ olds)
 
 -- the card of a job that ended with this report
 abbrev pub card_for : Report → (cause : List ℕ) → (at : ℕ) → CardValue
-card_for report cause at = record { outcome = report.outcome; cause = cause; tries = 1; at = at; delivered = 0 }
+card_for report cause at =
+    record { outcome = report.outcome; cause = cause; tries = 1; at = at; delivered = 0 }
 
 -- Pages were put into the second pair, with a card, all of them at once: at an `Ok` they wait there; else each crash leaves them there or not.
-pub record PutsPages {U : Type 0} (seen : U → List ℕ) (may_leave : U → List ℕ → Type 0) (is_usable : U → Bool) (pages : List PageValue) (card : CardValue) (is_ok : Bool) (old new : Undelivered U) : Type 0 where
-  pub kept : is_ok ≡ true → (waits : List PageValue) → Keeps seen may_leave is_usable old waits → Keeps seen may_leave is_usable new (waits ++ with_its_card pages card)
-  pub does : Does seen may_leave is_usable (Puts (with_its_card pages card)) is_ok old.spool new.spool
+pub record PutsPages {U : Type 0} (seen : U → List ℕ)
+    (may_leave : U → List ℕ → Type 0) (is_usable : U → Bool) (pages : List PageValue)
+    (card : CardValue) (is_ok : Bool) (old new : Undelivered U) : Type 0 where
+  pub kept : is_ok ≡ true → (waits : List PageValue) → Keeps seen may_leave is_usable old waits
+      → Keeps seen may_leave is_usable new (waits ++ with_its_card pages card)
+  pub does :
+      Does seen may_leave is_usable (Puts (with_its_card pages card)) is_ok old.spool new.spool
   pub same : is_ok ≡ false → new.calls.items ≡ old.calls.items
 
 -- where there are none, nothing is put
-abbrev pub PutsIf : {U : Type 0} → (U → List ℕ) → (U → List ℕ → Type 0) → (U → Bool) → List PageValue → CardValue → Bool → Undelivered U → Undelivered U → Type 0
+abbrev pub PutsIf : {U : Type 0} → (U → List ℕ) → (U → List ℕ → Type 0)
+    → (U → Bool) → List PageValue → CardValue → Bool → Undelivered U → Undelivered U → Type 0
 PutsIf seen may_leave is_usable [] card is_ok old new = (is_ok ≡ true) × (new ≡ old)
-PutsIf seen may_leave is_usable (page ∷ pages) card is_ok old new = PutsPages seen may_leave is_usable (page ∷ pages) card is_ok old new
+PutsIf seen may_leave is_usable (page ∷ pages) card is_ok old new =
+    PutsPages seen may_leave is_usable (page ∷ pages) card is_ok old new
 
 -- THE PAGES OF A JOB THAT FAILED ARE KEPT: those that were not delivered were read from the first pair, and put into the second.
 pub record KeepsLeft {D U : Type 0} (seen : D → List ℕ) (may_leave : D → List ℕ → Type 0) (is_usable is_clean : D → Bool) (seen_too : U → List ℕ) (may_leave_too : U → List ℕ → Type 0) (is_usable_too : U → Bool)
@@ -57,23 +65,31 @@ pub record KeepsLeft {D U : Type 0} (seen : D → List ℕ) (may_leave : D → L
 
 -- What comes before the end of a job may be noted, where there is a second pair: nothing where it was delivered; else its pages are kept, and
 -- it may be where that was Ok. Where they could not be read nothing is done, and it may not.
-abbrev pub MayEndWith : {D U : Type 0} → (D → List ℕ) → (D → List ℕ → Type 0) → (is_usable is_clean : D → Bool) → (U → List ℕ) → (U → List ℕ → Type 0) → (U → Bool)
-    → (line : ℕ) → Report → CardValue → List QueueValue → (before read : Spool D) → (may : Bool) → (old new : Undelivered U) → Type 0
-MayEndWith seen may_leave is_usable is_clean seen_too may_leave_too is_usable_too line report card queues before read may old new =
-    ((report.outcome ≡ Delivered) × (may ≡ true) × (new ≡ old))
-    ⊎ ((may ≡ false) × (new ≡ old))
-    ⊎ KeepsLeft seen may_leave is_usable is_clean seen_too may_leave_too is_usable_too line report card queues before read may old new
+abbrev pub MayEndWith : {D U : Type 0}
+    → (D → List ℕ) → (D → List ℕ → Type 0) → (is_usable is_clean : D → Bool)
+    → (U → List ℕ) → (U → List ℕ → Type 0) → (U → Bool) → (line : ℕ) → Report → CardValue
+    → List QueueValue → (before read : Spool D) → (may : Bool) → (old new : Undelivered U) → Type 0
+MayEndWith seen may_leave is_usable is_clean seen_too may_leave_too is_usable_too line report card
+    queues before read may old new = ((report.outcome ≡ Delivered) × (may ≡ true) × (new ≡ old))
+    ⊎ ((may ≡ false) × (new ≡ old)) ⊎ KeepsLeft seen may_leave is_usable
+    is_clean seen_too may_leave_too is_usable_too line report card queues before read may old new
 
 -- and where there may be none
-abbrev pub MayEnd : {D U : Type 0} → (D → List ℕ) → (D → List ℕ → Type 0) → (is_usable is_clean : D → Bool) → (U → List ℕ) → (U → List ℕ → Type 0) → (U → Bool)
-    → (line : ℕ) → Report → CardValue → List QueueValue → (before read : Spool D) → (may : Bool) → (old new : Option (Undelivered U)) → Type 0
-MayEnd seen may_leave is_usable is_clean seen_too may_leave_too is_usable_too line report card queues before read may None new = (may ≡ true) × (new ≡ None)
-MayEnd {D} {U} seen may_leave is_usable is_clean seen_too may_leave_too is_usable_too line report card queues before read may (Some old) new =
-    (now : Undelivered U) × (new ≡ Some now)
-    × MayEndWith seen may_leave is_usable is_clean seen_too may_leave_too is_usable_too line report card queues before read may old now
+abbrev pub MayEnd : {D U : Type 0}
+    → (D → List ℕ) → (D → List ℕ → Type 0) → (is_usable is_clean : D → Bool) → (U → List ℕ)
+    → (U → List ℕ → Type 0) → (U → Bool) → (line : ℕ) → Report → CardValue → List QueueValue
+    → (before read : Spool D) → (may : Bool) → (old new : Option (Undelivered U)) → Type 0
+MayEnd seen may_leave is_usable is_clean seen_too may_leave_too
+    is_usable_too line report card queues before read may None new = (may ≡ true) × (new ≡ None)
+MayEnd {D} {U} seen may_leave is_usable is_clean
+    seen_too may_leave_too is_usable_too line report card queues before read may (Some old) new =
+    (now : Undelivered U) × (new ≡ Some now) × MayEndWith seen may_leave is_usable
+    is_clean seen_too may_leave_too is_usable_too line report card queues before read may old now
 
 -- The end of a job is noted or not (`EndsJobIf`), and only where it may be: else nothing is written.
-pub record EndsWhere {D : Type 0} (seen : D → List ℕ) (may_leave : D → List ℕ → Type 0) (is_usable : D → Bool) (may : Bool) (line : ℕ) (report : Report) (olds news : List QueueValue) (before after : Spool D) : Type 0 where
+pub record EndsWhere {D : Type 0} (seen : D → List ℕ)
+    (may_leave : D → List ℕ → Type 0) (is_usable : D → Bool) (may : Bool) (line : ℕ)
+    (report : Report) (olds news : List QueueValue) (before after : Spool D) : Type 0 where
   pub ends : EndsJobIf seen may_leave is_usable line report olds news before after
   pub owed : may ≡ false → (ends.noted ≡ false) × (after ≡ before)
 

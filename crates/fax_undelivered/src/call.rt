@@ -48,7 +48,15 @@ impl Model for UndeliveredCall {
 
     ghost Value = { CallValue };
 
-    ghost view = { λ c. record { line = c.line.items; life = c.life; call = c.call; tag = c.tag.items; pages = c.pages; numbers = c.numbers.items; card = c.card } };
+    ghost view = { λ c. record {
+      line = c.line.items;
+      life = c.life;
+      call = c.call;
+      tag = c.tag.items;
+      pages = c.pages;
+      numbers = c.numbers.items;
+      card = c.card;
+    } };
 }
 
 impl UndeliveredCall {
@@ -91,7 +99,8 @@ impl UndeliveredCall {
 
     /// Whether it is the call of these names.
     pub(crate) fn is_named(&self, line: &[u8], life: u32, call: u32) -> bool
-        ensures { result ≡ is_named (record { life = life; call = call; line = line.now }) self.now }
+        ensures { result
+            ≡ is_named (record { life = life; call = call; line = line.now }) self.now }
     {
         self.life == life && self.call == call && self.line.as_slice() == line
     }
@@ -208,7 +217,8 @@ fn place_of(calls: &[UndeliveredCall], page: &PageRecord<'_>, last: usize) -> us
     requires { IsFirst calls.now last }
     ensures within { result ≤ length calls.now }
     ensures before { list_any (is_named (call_of page.now)) (take result calls.now) ≡ false }
-    ensures found { MatchOption (slice_get calls.now result) (result ≡ length calls.now) (λ call. is_of call page.now ≡ true) }
+    ensures found { MatchOption (slice_get calls.now result) (result ≡ length calls.now)
+        (λ call. is_of call page.now ≡ true) }
 {
     if has_at(calls, last, page) {
         return last;
@@ -218,7 +228,8 @@ fn place_of(calls: &[UndeliveredCall], page: &PageRecord<'_>, last: usize) -> us
 
 /// Whether a record is of the call at a place of these.
 fn has_at(calls: &[UndeliveredCall], i: usize, page: &PageRecord<'_>) -> bool
-    ensures { MatchOption (slice_get calls.now i) (result ≡ false) (λ call. result ≡ is_of call page.now) }
+    ensures { MatchOption (slice_get calls.now i) (result ≡ false)
+        (λ call. result ≡ is_of call page.now) }
 {
     match calls.get(i) {
         Some(call) => call.has(page),
@@ -230,7 +241,8 @@ fn has_at(calls: &[UndeliveredCall], i: usize, page: &PageRecord<'_>) -> bool
 fn first_of(calls: &[UndeliveredCall], page: &PageRecord<'_>) -> usize
     ensures within { result ≤ length calls.now }
     ensures before { list_any (is_named (call_of page.now)) (take result calls.now) ≡ false }
-    ensures found { MatchOption (slice_get calls.now result) (result ≡ length calls.now) (λ call. is_of call page.now ≡ true) }
+    ensures found { MatchOption (slice_get calls.now result) (result ≡ length calls.now)
+        (λ call. is_of call page.now ≡ true) }
 {
     for (i, call) in calls.iter().enumerate() {
         if call.has(page) {
@@ -247,8 +259,10 @@ pub(crate) fn tag_of<'a>(
     life: u32,
     call: u32,
 ) -> Option<&'a [u8]>
-    ensures { MatchOption result (list_any (is_named (record { life = life; call = call; line = line.now })) calls.now ≡ false)
-        (λ _. list_any (is_named (record { life = life; call = call; line = line.now })) calls.now ≡ true) }
+    ensures { MatchOption result (list_any
+        (is_named (record { life = life; call = call; line = line.now })) calls.now ≡ false)
+        (λ _. list_any (is_named (record { life = life; call = call; line = line.now })) calls.now
+        ≡ true) }
 {
     for it in calls {
         if it.is_named(line, life, call) {
@@ -260,7 +274,8 @@ pub(crate) fn tag_of<'a>(
 
 /// Whether the call of these names is one of these.
 pub(crate) fn has_call(calls: &[UndeliveredCall], line: &[u8], life: u32, call: u32) -> bool
-    ensures { result ≡ list_any (is_named (record { life = life; call = call; line = line.now })) calls.now }
+    ensures { result
+        ≡ list_any (is_named (record { life = life; call = call; line = line.now })) calls.now }
 {
     for it in calls {
         if it.is_named(line, life, call) {

@@ -26,7 +26,13 @@ impl Model for Card {
 
     ghost Value = { CardValue };
 
-    ghost view = { λ c. record { outcome = c.outcome; cause = c.cause.items; tries = c.tries; at = c.at; delivered = c.delivered } };
+    ghost view = { λ c. record {
+      outcome = c.outcome;
+      cause = c.cause.items;
+      tries = c.tries;
+      at = c.at;
+      delivered = c.delivered;
+    } };
 }
 
 impl Card {

@@ -22,7 +22,8 @@ pub(crate) fn keep_first(pages: &mut Vec<WaitingPage>)
 /// Whether a page before the one at place i of these has its number.
 fn is_put_again(pages: &[WaitingPage], i: usize) -> bool
     requires { i < length pages.now }
-    ensures { MatchOption (slice_get pages.now i) (Unit {0}) (λ page. result ≡ list_any (has_number page.number) (take i pages.now)) }
+    ensures { MatchOption (slice_get pages.now i) (Unit {0})
+        (λ page. result ≡ list_any (has_number page.number) (take i pages.now)) }
 {
     let page = &pages[i];
     has_number(&pages[..i], page.number)

@@ -24,10 +24,12 @@ pub fn nothing_is_dropped()
 /// The end of a job that `PairedStore` notes is one of the events of `nothing_is_dropped`: the pages that were not delivered came into the
 /// second pair before.
 pub fn stored_ends_are_events<D: Disk, U: Disk>()
-    ensures { StoredEndsAreEvents D.seen D.may_leave D.is_usable D.is_clean U.seen U.may_leave U.is_usable }
+    ensures { StoredEndsAreEvents
+        D.seen D.may_leave D.is_usable D.is_clean U.seen U.may_leave U.is_usable }
 {}
 
 /// A job whose pages could not be kept is owed: what waited in the first pair waits there.
 pub fn failed_puts_leave_jobs<D: Disk, U: Disk>()
-    ensures { FailedPutsLeaveJobs D.seen D.may_leave D.is_usable D.is_clean U.seen U.may_leave U.is_usable }
+    ensures { FailedPutsLeaveJobs
+        D.seen D.may_leave D.is_usable D.is_clean U.seen U.may_leave U.is_usable }
 {}

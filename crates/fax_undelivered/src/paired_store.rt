@@ -98,7 +98,8 @@ impl<D: Disk, U: Disk> PairedStore<D, U> {
         ensures causes { self.new.causes.items ≡ [] }
         ensures day { self.new.day ≡ self.old.day }
         ensures second { self.new.undelivered ≡ self.old.undelivered }
-        ensures unchanged { IsUnchanged self.old.storage.queues.items self.new.storage.queues.items self.old.storage.spool self.new.storage.spool }
+        ensures unchanged { IsUnchanged self.old.storage.queues.items
+            self.new.storage.queues.items self.old.storage.spool self.new.storage.spool }
     {
         self.storage.begin_slot();
         self.causes.clear();
@@ -110,7 +111,8 @@ impl<D: Disk, U: Disk> PairedStore<D, U> {
         ensures causes { self.new.causes.items ≡ self.old.causes.items }
         ensures day { self.new.day ≡ self.old.day }
         ensures second { self.new.undelivered ≡ self.old.undelivered }
-        ensures unchanged { IsUnchanged self.old.storage.queues.items self.new.storage.queues.items self.old.storage.spool self.new.storage.spool }
+        ensures unchanged { IsUnchanged self.old.storage.queues.items
+            self.new.storage.queues.items self.old.storage.spool self.new.storage.spool }
     {
         self.storage.set_tag(i, tag);
     }
@@ -161,8 +163,10 @@ fn may_end<D: Disk, U: Disk>(
     line: usize,
     ending: &Ending<'_>,
 ) -> bool
-    ensures first { MayEnd D.seen D.may_leave D.is_usable D.is_clean U.seen U.may_leave U.is_usable line ending.now.report (card_for ending.now.report ending.now.cause.now ending.now.day)
-        storage.old.queues.items storage.old.spool storage.new.spool result undelivered.old undelivered.new }
+    ensures first { MayEnd D.seen
+        D.may_leave D.is_usable D.is_clean U.seen U.may_leave U.is_usable line ending.now.report
+        (card_for ending.now.report ending.now.cause.now ending.now.day) storage.old.queues.items
+        storage.old.spool storage.new.spool result undelivered.old undelivered.new }
     ensures read { IsRead D.seen D.may_leave D.is_usable storage.old.spool storage.new.spool }
     ensures refuses { Refuses storage.old.spool → storage.new.spool ≡ storage.old.spool }
     ensures queues { storage.new.queues.items ≡ storage.old.queues.items }
@@ -181,7 +185,9 @@ fn may_end_with<D: Disk, U: Disk>(
     line: usize,
     ending: &Ending<'_>,
 ) -> bool
-    ensures first { MayEndWith D.seen D.may_leave D.is_usable D.is_clean U.seen U.may_leave U.is_usable line ending.now.report (card_for ending.now.report ending.now.cause.now ending.now.day)
+    ensures first { MayEndWith
+        D.seen D.may_leave D.is_usable D.is_clean U.seen U.may_leave U.is_usable line
+        ending.now.report (card_for ending.now.report ending.now.cause.now ending.now.day)
         storage.old.queues.items storage.old.spool storage.new.spool result second.old second.new }
     ensures read { IsRead D.seen D.may_leave D.is_usable storage.old.spool storage.new.spool }
     ensures refuses { Refuses storage.old.spool → storage.new.spool ≡ storage.old.spool }
@@ -202,7 +208,8 @@ fn keep_left<D: Disk, U: Disk>(
     ending: &Ending<'_>,
 ) -> bool
     ensures kept { ((result ≡ false) × (second.new ≡ second.old))
-        ⊎ KeepsLeft D.seen D.may_leave D.is_usable D.is_clean U.seen U.may_leave U.is_usable line ending.now.report (card_for ending.now.report ending.now.cause.now ending.now.day)
+        ⊎ KeepsLeft D.seen D.may_leave D.is_usable D.is_clean U.seen U.may_leave U.is_usable line
+        ending.now.report (card_for ending.now.report ending.now.cause.now ending.now.day)
         storage.old.queues.items storage.old.spool storage.new.spool result second.old second.new }
     ensures read { IsRead D.seen D.may_leave D.is_usable storage.old.spool storage.new.spool }
     ensures refuses { Refuses storage.old.spool → storage.new.spool ≡ storage.old.spool }
@@ -222,7 +229,8 @@ fn put_left<U: Disk>(
     ending: &Ending<'_>,
 ) -> bool
     ensures { ((result ≡ false) × (second.new ≡ second.old))
-        ⊎ PutsIf U.seen U.may_leave U.is_usable pages.now (card_for ending.now.report ending.now.cause.now ending.now.day) result second.old second.new }
+        ⊎ PutsIf U.seen U.may_leave U.is_usable pages.now (card_for
+        ending.now.report ending.now.cause.now ending.now.day) result second.old second.new }
 {
     match card_for(alloc, ending) {
         Ok(card) => put_pages(alloc, second, pages, &card),
@@ -232,7 +240,8 @@ fn put_left<U: Disk>(
 
 /// The card of a job that ended so.
 fn card_for(alloc: Global, ending: &Ending<'_>) -> Result<Card, AllocError>
-    ensures { IfOk result (λ card. card ≡ card_for ending.now.report ending.now.cause.now ending.now.day) }
+    ensures { IfOk result
+        (λ card. card ≡ card_for ending.now.report ending.now.cause.now ending.now.day) }
 {
     Ok(Card {
         outcome: ending.report.outcome,
@@ -250,7 +259,8 @@ fn put_pages<U: Disk>(
     pages: &[WaitingPage],
     card: &Card,
 ) -> bool
-    ensures { PutsIf U.seen U.may_leave U.is_usable pages.now card.now result second.old second.new }
+    ensures { PutsIf U.seen U.may_leave U.is_usable pages.now
+        card.now result second.old second.new }
 {
     if pages.is_empty() {
         return true;
@@ -263,9 +273,12 @@ impl<D: Disk, U: Disk> PageStore<PageToStore> for PairedStore<D, U> {
     ghost use Rattle.fax_queue.specs.Storing.{StoresPages};
     ghost use Rattle.fax_queue.specs.SpoolStorage.{PutsPages};
 
-    ghost keeps = { λ store pages. StoresPages D.seen D.may_leave D.is_usable store.storage.spool pages };
+    ghost keeps = { λ store pages.
+        StoresPages D.seen D.may_leave D.is_usable store.storage.spool pages };
 
-    ghost puts = { λ pages is_stored old new. PutsPages D.seen D.may_leave D.is_usable pages is_stored old.storage.queues.items new.storage.queues.items old.storage.spool new.storage.spool };
+    ghost puts = { λ pages is_stored old new.
+        PutsPages D.seen D.may_leave D.is_usable pages is_stored
+        old.storage.queues.items new.storage.queues.items old.storage.spool new.storage.spool };
 
     fn store_all(&mut self, pages: &[PageToStore]) -> Result<(), StoreFault> {
         self.storage.store_all(pages)
@@ -276,12 +289,17 @@ impl<D: Disk, U: Disk> RunStore for PairedStore<D, U> {
     ghost use Rattle.fax_queue.specs.SpoolStorage.{IsUnchanged, NotesPage};
     ghost use Rattle.fax_undelivered.specs.StoredEnds.{EndsStored, card_for, cause_of};
 
-    ghost is_same = { λ old new. IsUnchanged old.storage.queues.items new.storage.queues.items old.storage.spool new.storage.spool };
+    ghost is_same = { λ old new. IsUnchanged old.storage.queues.items
+        new.storage.queues.items old.storage.spool new.storage.spool };
 
-    ghost notes = { λ line call old new. NotesPage line call old.storage.queues.items new.storage.queues.items old.storage.spool new.storage.spool };
+    ghost notes = { λ line call old new. NotesPage line call
+        old.storage.queues.items new.storage.queues.items old.storage.spool new.storage.spool };
 
-    ghost ends = { λ line report old new. EndsStored D.seen D.may_leave D.is_usable D.is_clean U.seen U.may_leave U.is_usable line report (card_for report (cause_of old.causes.items line) old.day)
-        old.storage.queues.items new.storage.queues.items old.storage.spool new.storage.spool old.undelivered new.undelivered };
+    ghost ends = { λ line report old new.
+        EndsStored D.seen D.may_leave D.is_usable D.is_clean U.seen U.may_leave U.is_usable line
+        report (card_for report (cause_of old.causes.items line) old.day)
+        old.storage.queues.items new.storage.queues.items
+        old.storage.spool new.storage.spool old.undelivered new.undelivered };
 
     fn note(&mut self, line: usize, call: u32) {
         self.storage.note(line, call);
@@ -307,7 +325,8 @@ impl<D: Disk, U: Disk> RunStore for PairedStore<D, U> {
 
 /// The job of a line that is first in turn ended: where that may be noted, it is.
 fn end_where<D: Disk>(storage: &mut Storage<D>, line: usize, report: Report, may: bool)
-    ensures { EndsWhere D.seen D.may_leave D.is_usable may line report storage.old.queues.items storage.new.queues.items storage.old.spool storage.new.spool }
+    ensures { EndsWhere D.seen D.may_leave D.is_usable may line report
+        storage.old.queues.items storage.new.queues.items storage.old.spool storage.new.spool }
 {
     if !may {
         storage.leave(line);

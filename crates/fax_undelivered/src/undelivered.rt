@@ -73,8 +73,9 @@ impl<D: Disk + Drop> Undelivered<D> {
     pub fn new(alloc: Global, opened: OpenedSpool<D>) -> Result<Self, NoMemory>
         ensures spool { IfOk result (λ kept. kept.spool ≡ opened.spool) }
         ensures calls { IfOk result (λ kept. kept.calls.items ≡ calls_of opened.pages.items) }
-        ensures keeps { IfOk result (λ kept. (waits : List PageValue) → PagesWait D.seen D.may_leave D.is_usable opened.spool waits → opened.pages.items ≡ closed waits
-            → Keeps D.seen D.may_leave D.is_usable kept waits) }
+        ensures keeps { IfOk result (λ kept. (waits : List PageValue)
+            → PagesWait D.seen D.may_leave D.is_usable opened.spool waits → opened.pages.items
+            ≡ closed waits → Keeps D.seen D.may_leave D.is_usable kept waits) }
     {
         let OpenedSpool {
             spool,
@@ -136,10 +137,13 @@ impl<D: Disk> Undelivered<D> {
     /// their call is listed. At an `Err` the calls are as they were: the disk failed, and all of it is on the disk or none; or memory was
     /// refused, a name has more than 255 octets, or a number is no page's (0, 2 ^ 32 - 1), and nothing has changed.
     pub fn keep(&mut self, alloc: Global, pages: &[WaitingPage], card: &Card) -> io::Result<()>
-        ensures kept { OnOk result ((waits : List PageValue) → Keeps D.seen D.may_leave D.is_usable self.old waits
-            → Keeps D.seen D.may_leave D.is_usable self.new (waits ++ with_its_card pages.now card.now)) }
+        ensures kept { OnOk result ((waits : List PageValue)
+            → Keeps D.seen D.may_leave D.is_usable self.old waits
+            → Keeps D.seen D.may_leave D.is_usable self.new (waits
+            ++ with_its_card pages.now card.now)) }
         ensures pages { OnOk result (list_all is_page pages.now ≡ true) }
-        ensures does { Does D.seen D.may_leave D.is_usable (Puts (with_its_card pages.now card.now)) (is_ok result) self.old.spool self.new.spool }
+        ensures does { Does D.seen D.may_leave D.is_usable (Puts (with_its_card pages.now card.now))
+            (is_ok result) self.old.spool self.new.spool }
         ensures same { OnErr result (self.new.calls.items ≡ self.old.calls.items) }
     {
         if !are_pages(pages) {
@@ -185,11 +189,15 @@ impl<D: Disk> Undelivered<D> {
         call: u32,
         card: &Card,
     ) -> io::Result<bool>
-        ensures noted { IfOk result (λ was. let name : CallNameValue = record { life = life; call = call; line = line.now } in
-            (list_any (is_named name) self.old.calls.items ≡ was) × MatchBool was
-            ((tag : List ℕ) × ((waits : List PageValue) → Keeps D.seen D.may_leave D.is_usable self.old waits → Keeps D.seen D.may_leave D.is_usable self.new (waits ++ card_page name tag card.now ∷ [])))
-            (self.new ≡ self.old)) }
-        ensures does { OnErr result ((tag : List ℕ) × Does D.seen D.may_leave D.is_usable (Puts (card_page (record { life = life; call = call; line = line.now }) tag card.now ∷ [])) false self.old.spool self.new.spool) }
+        ensures noted { IfOk result
+            (λ was. let name : CallNameValue = record { life = life; call = call; line = line.now }
+            in (list_any (is_named name) self.old.calls.items ≡ was) × MatchBool was ((tag : List ℕ)
+            × ((waits : List PageValue) → Keeps D.seen D.may_leave D.is_usable self.old waits
+            → Keeps D.seen D.may_leave D.is_usable self.new (waits
+            ++ card_page name tag card.now ∷ []))) (self.new ≡ self.old)) }
+        ensures does { OnErr result ((tag : List ℕ) × Does D.seen D.may_leave D.is_usable
+            (Puts (card_page (record { life = life; call = call; line = line.now }) tag card.now
+            ∷ [])) false self.old.spool self.new.spool) }
         ensures same { OnErr result (self.new.calls.items ≡ self.old.calls.items) }
     {
         let tag = match tag_of(self.calls.as_slice(), line, life, call) {
@@ -214,11 +222,15 @@ impl<D: Disk> Undelivered<D> {
     /// The pages of a call and its cards wait no more: `false` where there is no such call. At an `Err` of the disk that is so or not at the
     /// next start; at any other (no memory, a name of more than 255 octets) nothing has changed.
     pub fn discard(&mut self, alloc: Global, line: &[u8], life: u32, call: u32) -> io::Result<bool>
-        ensures gone { IfOk result (λ was. let name : CallNameValue = record { life = life; call = call; line = line.now } in
-            (list_any (is_named name) self.old.calls.items ≡ was) × MatchBool was
-            ((waits : List PageValue) → Keeps D.seen D.may_leave D.is_usable self.old waits → KeepsStill D.seen D.may_leave D.is_usable self.new (without (end_of name) waits))
+        ensures gone { IfOk result
+            (λ was. let name : CallNameValue = record { life = life; call = call; line = line.now }
+            in (list_any (is_named name) self.old.calls.items ≡ was)
+            × MatchBool was ((waits : List PageValue)
+            → Keeps D.seen D.may_leave D.is_usable self.old waits
+            → KeepsStill D.seen D.may_leave D.is_usable self.new (without (end_of name) waits))
             (self.new ≡ self.old)) }
-        ensures does { OnErr result (Does D.seen D.may_leave D.is_usable (Ends (end_of (record { life = life; call = call; line = line.now }))) false self.old.spool self.new.spool) }
+        ensures does { OnErr result (Does D.seen D.may_leave D.is_usable (Ends (end_of (record
+            { life = life; call = call; line = line.now }))) false self.old.spool self.new.spool) }
         ensures same { OnErr result (self.new.calls.items ≡ self.old.calls.items) }
     {
         if !has_call(self.calls.as_slice(), line, life, call) {
@@ -243,8 +255,10 @@ impl<D: Disk> Undelivered<D> {
         life: u32,
         call: u32,
     ) -> io::Result<Vec<WaitingPage>>
-        ensures found { IfOk result (λ pages. AreClean D.is_clean (files_of self.new.spool) → (waits : List PageValue) → PagesWait D.seen D.may_leave D.is_usable self.old.spool waits
-            → pages.items ≡ pages_named (record { life = life; call = call; line = line.now }) waits) }
+        ensures found { IfOk result
+            (λ pages. AreClean D.is_clean (files_of self.new.spool) → (waits : List PageValue)
+            → PagesWait D.seen D.may_leave D.is_usable self.old.spool waits → pages.items
+            ≡ pages_named (record { life = life; call = call; line = line.now }) waits) }
         ensures read { IsRead D.seen D.may_leave D.is_usable self.old.spool self.new.spool }
         ensures same { self.new.calls.items ≡ self.old.calls.items }
     {
@@ -256,9 +270,11 @@ impl<D: Disk> Undelivered<D> {
 
     /// Puts records, all of them at once, and lists what they tell.
     fn put(&mut self, alloc: Global, records: &[PageRecord<'_>]) -> io::Result<()>
-        ensures kept { OnOk result ((waits : List PageValue) → Keeps D.seen D.may_leave D.is_usable self.old waits
+        ensures kept { OnOk result ((waits : List PageValue)
+            → Keeps D.seen D.may_leave D.is_usable self.old waits
             → Keeps D.seen D.may_leave D.is_usable self.new (waits ++ records.now)) }
-        ensures does { Does D.seen D.may_leave D.is_usable (Puts records.now) (is_ok result) self.old.spool self.new.spool }
+        ensures does { Does D.seen D.may_leave D.is_usable (Puts records.now)
+            (is_ok result) self.old.spool self.new.spool }
         ensures same { OnErr result (self.new.calls.items ≡ self.old.calls.items) }
     {
         let mut calls = copies_of(alloc, self.calls.as_slice())?;
@@ -308,7 +324,8 @@ fn end_from<'a>(first: u32, pages: u32, line: &'a [u8], life: u32, call: u32) ->
 
 /// Drops a call of these.
 fn drop_call(calls: &mut Vec<UndeliveredCall>, line: &[u8], life: u32, call: u32)
-    ensures { calls.new.items ≡ but (record { life = life; call = call; line = line.now }) calls.old.items }
+    ensures { calls.new.items
+        ≡ but (record { life = life; call = call; line = line.now }) calls.old.items }
 {
     calls.retain(|it| !it.is_named(line, life, call));
 }
@@ -339,7 +356,8 @@ fn records_with_card<'a>(
     pages: &'a [WaitingPage],
     text: &'a [u8],
 ) -> Result<Vec<PageRecord<'a>>, AllocError>
-    ensures { IfOk result (λ records. records.items ≡ pages.now ++ card_records pages.now text.now) }
+    ensures { IfOk result
+        (λ records. records.items ≡ pages.now ++ card_records pages.now text.now) }
 {
     let mut records = records_of(alloc, pages)?;
     if let Some((first, _)) = pages.split_first() {

@@ -57,10 +57,12 @@ HearsOne now old new = (event : Event) × Hears now event old new
 
 -- one event that the message may be, or none
 abbrev pub MayHear : ℕ → MessageText → Agent → Agent → Type 0
-MayHear now text old new = IsQuiet old new ⊎ ((event : Event) × MayBe old.routes text event × Hears now event old new)
+MayHear now text old new =
+    IsQuiet old new ⊎ ((event : Event) × MayBe old.routes text event × Hears now event old new)
 
 abbrev pub MayHearMessageInPart : ℕ → MessageText → Agent → Agent → Type 0
-MayHearMessageInPart now text old new = IsQuiet old new ⊎ ((event : Event) × MayBe old.routes text event × HearsInPart now event old new)
+MayHearMessageInPart now text old new = IsQuiet old new
+    ⊎ ((event : Event) × MayBe old.routes text event × HearsInPart now event old new)
 
 abbrev pub MayHearInPart : ℕ → Agent → Agent → Type 0
 MayHearInPart now old new = IsQuiet old new ⊎ ((event : Event) × HearsInPart now event old new)
@@ -71,8 +73,12 @@ HearsDial now on old new = (choice : Choice) × Hears now (Dialled on choice) ol
 
 -- What is answered of a datagram, whose trunk and whose message are these, and what is done. Nothing is, where it is of nobody who is heard, or no message;
 -- a message is an event for the switch that it may be, or none.
-abbrev pub HearsDatagram : {E : Type 0} → ℕ → Option ℕ → Result MessageText SipFault → Result Heard E → Agent → Agent → Type 0
+abbrev pub HearsDatagram : {E : Type 0}
+    → ℕ → Option ℕ → Result MessageText SipFault → Result Heard E → Agent → Agent → Type 0
 HearsDatagram now trunk message (Ok heard.Stranger) old new = (trunk ≡ None) × (new ≡ old)
-HearsDatagram now trunk message (Ok (heard.NoMessage fault)) old new = IsSome trunk × (message ≡ Err fault) × (new ≡ old)
-HearsDatagram now trunk message (Ok heard.Message) old new = IsSome trunk × (text : MessageText) × (message ≡ Ok text) × MayHear now text old new
-HearsDatagram now trunk message (Err failed) old new = IsSome trunk × (text : MessageText) × (message ≡ Ok text) × MayHearMessageInPart now text old new
+HearsDatagram now trunk message (Ok (heard.NoMessage fault)) old new =
+    IsSome trunk × (message ≡ Err fault) × (new ≡ old)
+HearsDatagram now trunk message (Ok heard.Message) old new =
+    IsSome trunk × (text : MessageText) × (message ≡ Ok text) × MayHear now text old new
+HearsDatagram now trunk message (Err failed) old new = IsSome trunk
+    × (text : MessageText) × (message ≡ Ok text) × MayHearMessageInPart now text old new

@@ -18,19 +18,23 @@ use Rattle.fax_trunks.specs.Routes.{IsChoice, fits_of}
 
 -- a 2xx to an INVITE of ours is told with what it describes, or as 500 where no dialog comes of it
 abbrev pub IsAcceptance : ℕ → List ℕ → ℕ → Description → Type 0
-IsAcceptance status body told said = ((told ≡ status) × Says body said) ⊎ ((told ≡ 500) × (said ≡ NothingSaid))
+IsAcceptance status body told said =
+    ((told ≡ status) × Says body said) ⊎ ((told ≡ 500) × (said ≡ NothingSaid))
 
 -- a refusal is told as it is, or as 408 where we cancelled the INVITE since it rang too long
 abbrev pub IsRefusal : ℕ → ℕ → Type 0
 IsRefusal status told = (told ≡ status) ⊎ ((status ≡ 487) × (told ≡ 408))
 
 abbrev pub IsFinal : ℕ → List ℕ → ℕ → Description → Type 0
-IsFinal status body told said = ((status < 300) × IsAcceptance status body told said) ⊎ ((300 ≤ status) × IsRefusal status told × (said ≡ NothingSaid))
+IsFinal status body told said = ((status < 300) × IsAcceptance status body told said)
+    ⊎ ((300 ≤ status) × IsRefusal status told × (said ≡ NothingSaid))
 
 -- an answer with this status: the final one to an INVITE, or to a BYE, or a 2xx to an INVITE once more
 abbrev pub IsOfAnswer : MessageText → ℕ → CallEvent → Type 0
-IsOfAnswer text status (call.InviteAnswered told pause said) = (200 ≤ status) × IsFinal status text.body told said
-IsOfAnswer text status call.AnswerRepeated = (200 ≤ status) × (status < 300) × (text.sequence.method ≡ codes "INVITE")
+IsOfAnswer text status (call.InviteAnswered told pause said) =
+    (200 ≤ status) × IsFinal status text.body told said
+IsOfAnswer text status call.AnswerRepeated =
+    (200 ≤ status) × (status < 300) × (text.sequence.method ≡ codes "INVITE")
 IsOfAnswer text status (call.Reinvited said) = ⊥
 IsOfAnswer text status (call.Acknowledged said) = ⊥
 IsOfAnswer text status call.ByeReceived = ⊥
@@ -47,7 +51,8 @@ is_within text = is_some (parameter_of (codes "tag") text.to)
 abbrev pub IsOfRequest : MessageText → Method → CallEvent → Type 0
 IsOfRequest text asked (call.InviteAnswered told pause said) = ⊥
 IsOfRequest text asked call.AnswerRepeated = ⊥
-IsOfRequest text asked (call.Reinvited said) = (asked ≡ method.Invite) × (is_within text ≡ true) × Says text.body said
+IsOfRequest text asked (call.Reinvited said) =
+    (asked ≡ method.Invite) × (is_within text ≡ true) × Says text.body said
 IsOfRequest text asked (call.Acknowledged said) = (asked ≡ method.Ack) × Says text.body said
 IsOfRequest text asked call.ByeReceived = asked ≡ method.Bye
 IsOfRequest text asked call.ByeDone = ⊥
@@ -57,11 +62,13 @@ IsOfRequest text asked call.Expired = ⊥
 
 -- the number of an address has this route
 abbrev pub IsRouted : List RouteValue → List ℕ → ℕ → Type 0
-IsRouted routes uri route = (number : List ℕ) × (reading_of_user (user_of uri) ≡ Ok number) × IsChoice (fits_of routes number) route
+IsRouted routes uri route = (number : List ℕ)
+    × (reading_of_user (user_of uri) ≡ Ok number) × IsChoice (fits_of routes number) route
 
 -- an INVITE that calls a number with a route
 abbrev pub IsCall : List RouteValue → List ℕ → MessageText → Method → ℕ → Description → Type 0
-IsCall routes uri text asked route said = (asked ≡ method.Invite) × (is_within text ≡ false) × IsRouted routes uri route × Says text.body said
+IsCall routes uri text asked route said = (asked ≡ method.Invite)
+    × (is_within text ≡ false) × IsRouted routes uri route × Says text.body said
 
 abbrev pub MayBeAnswer : MessageText → ℕ → Event → Type 0
 MayBeAnswer text status happening.Elapsed = ⊥
@@ -75,7 +82,8 @@ MayBeAnswer text status (happening.Within id happened) = IsOfAnswer text status 
 
 abbrev pub MayBeRequest : List RouteValue → List ℕ → MessageText → Method → Event → Type 0
 MayBeRequest routes uri text asked happening.Elapsed = ⊥
-MayBeRequest routes uri text asked (happening.Came route said) = IsCall routes uri text asked route said
+MayBeRequest routes uri text asked (happening.Came route said) =
+    IsCall routes uri text asked route said
 MayBeRequest routes uri text asked (happening.Rung id on) = ⊥
 MayBeRequest routes uri text asked (happening.NotRung id refusal) = ⊥
 MayBeRequest routes uri text asked (happening.Dialled on choice) = ⊥

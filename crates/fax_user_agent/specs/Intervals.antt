@@ -23,12 +23,14 @@ abbrev pub expires_in : MessageText → Option (List ℕ)
 expires_in text = first_of (values_of SessionExpires text.lines)
 
 abbrev pub supports_timers : MessageText → Bool
-supports_timers text = list_any (λ word. is_word word (codes "timer")) (elements_of Supported text.lines)
+supports_timers text =
+    list_any (λ word. is_word word (codes "timer")) (elements_of Supported text.lines)
 
 -- what an INVITE of theirs asks for, and what it is answered
 abbrev pub agreement_in : MessageText → Option (ℕ × Agreement)
-agreement_in text =
-    option_and_then (λ value. option_map (λ seconds. (seconds, agreement seconds (refresher_in value) (supports_timers text))) (seconds_in value)) (expires_in text)
+agreement_in text = option_and_then (λ value.
+    option_map (λ seconds. (seconds, agreement seconds (refresher_in value) (supports_timers text)))
+    (seconds_in value)) (expires_in text)
 
 abbrev pub agent_of : Agreement → Option Agent
 agent_of TooSmall = None
@@ -37,11 +39,13 @@ agent_of (With agent) = Some agent
 
 -- the interval that a 2xx to it has, and who refreshes
 abbrev pub kept_of : Option (ℕ × Agreement) → Option (ℕ × Agent)
-kept_of asked = option_and_then (λ asked. option_map (λ agent. (asked.0, agent)) (agent_of asked.1)) asked
+kept_of asked =
+    option_and_then (λ asked. option_map (λ agent. (asked.0, agent)) (agent_of asked.1)) asked
 
 -- what a 2xx to an INVITE of ours has: where it does not say who refreshes, we do
 abbrev pub agreed_in : MessageText → Option (ℕ × Agent)
-agreed_in text = option_and_then (λ value. option_map (λ seconds. (seconds, unwrap_or (refresher_in value) Uac)) (seconds_in value)) (expires_in text)
+agreed_in text = option_and_then (λ value. option_map
+    (λ seconds. (seconds, unwrap_or (refresher_in value) Uac)) (seconds_in value)) (expires_in text)
 
 -- a `Min-SE` came: our next INVITE has no shorter one (7.4)
 abbrev pub raised_by : Option ℕ → Interval → Interval

@@ -11,6 +11,8 @@ credential_lines None = []
 credential_lines (Some credential) = (credential.name, credential.value.items) ∷ []
 
 abbrev pub invite_lines : List ℕ → Interval → Option Credential → List (Name × List ℕ)
-invite_lines contact interval credential =
-    (Contact, contact) ∷ (Allow, codes "INVITE, ACK, CANCEL, BYE, OPTIONS") ∷ []
-    ++ (interval_lines interval ++ (credential_lines credential ++ (ContentType, codes "application/sdp") ∷ []))
+invite_lines contact interval credential = (
+  Contact,
+  contact,
+) ∷ (Allow, codes "INVITE, ACK, CANCEL, BYE, OPTIONS") ∷ [] ++ (interval_lines interval
+    ++ (credential_lines credential ++ (ContentType, codes "application/sdp") ∷ []))

@@ -13,8 +13,8 @@ is_one_host one other = is_same one.family other.family && one.bits == other.bit
 
 -- a datagram of a trunk comes from the host of its address, or from one of its networks
 abbrev pub is_of_trunk : SocketAddr → Trunk → Bool
-is_of_trunk from trunk =
-    is_one_host (host_of (socket_ip from)) (host_of (socket_ip trunk.address)) || list_any (is_within (host_of (socket_ip from))) trunk.allow.items
+is_of_trunk from trunk = is_one_host (host_of (socket_ip from)) (host_of (socket_ip trunk.address))
+    || list_any (is_within (host_of (socket_ip from))) trunk.allow.items
 
 -- the first trunk whose datagram it may be
 abbrev pub trunk_of : List Trunk → SocketAddr → Option ℕ

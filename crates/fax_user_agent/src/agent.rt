@@ -82,7 +82,8 @@ impl UserAgent {
         ensures trunks { IfOk result (λ agent. agent.trunks ≡ settings.trunks.items) }
         ensures routes { IfOk result (λ agent. agent.routes ≡ settings.routes.items) }
         ensures switch { IfOk result (λ agent. agent.switch ≡ begun settings.calls) }
-        ensures nothing { IfOk result (λ agent. (agent.datagrams ≡ []) × (agent.words ≡ []) × (agent.told ≡ [])) }
+        ensures nothing { IfOk result
+            (λ agent. (agent.datagrams ≡ []) × (agent.words ≡ []) × (agent.told ≡ [])) }
     {
         let most = settings.calls;
         let profile = Profile::new(alloc, settings)?;
@@ -115,7 +116,8 @@ impl UserAgent {
 
     /// A datagram came, from there.
     pub fn hear(&mut self, now: u64, from: SocketAddr, octets: &[u8]) -> Result<Heard, AllocError>
-        ensures heard { HearsDatagram now (trunk_of self.old.trunks from) (message_of octets.now) result self.old self.new }
+        ensures heard { HearsDatagram now (trunk_of self.old.trunks from)
+            (message_of octets.now) result self.old self.new }
         ensures queues { Queues self.old self.new }
     {
         let Some(trunk) = self.profile.trunk_from(from) else {
@@ -140,7 +142,8 @@ impl UserAgent {
         message: &Message<'_>,
     ) -> Result<(), AllocError>
         ensures ok { OnOk result (MayHear now (message_text message.now) self.old self.new) }
-        ensures err { OnErr result (MayHearMessageInPart now (message_text message.now) self.old self.new) }
+        ensures err { OnErr result
+            (MayHearMessageInPart now (message_text message.now) self.old self.new) }
         ensures queues { Queues self.old self.new }
     {
         self.book.desk.now = now;

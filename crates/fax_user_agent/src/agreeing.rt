@@ -63,7 +63,8 @@ pub(crate) fn agreed_by(answer: &Message<'_>) -> Option<(u32, Agent)>
 impl CallState {
     /// The least interval of a message is heard, of a 422 to our INVITE or of their INVITE: whether it tells one.
     pub fn hear_least(&mut self, message: &Message<'_>) -> bool
-        ensures interval { self.new.interval ≡ raised_by (least_in (message_text message.now)) self.old.interval }
+        ensures interval { self.new.interval
+            ≡ raised_by (least_in (message_text message.now)) self.old.interval }
         ensures told { result ≡ is_some (least_in (message_text message.now)) }
     {
         let Some(least) = least_told(message) else {

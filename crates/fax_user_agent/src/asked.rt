@@ -83,7 +83,8 @@ fn is_description(request: &Message<'_>) -> bool {
 
 /// The number of a call and its route; or the status with which its INVITE is refused.
 fn wanted_of(profile: &Profile, incoming: &Incoming<'_>) -> Result<Wanted, u16>
-    ensures { IfOk result (λ wanted. IsRouted profile.now.routes.items incoming.now.uri.now wanted.route) }
+    ensures { IfOk result
+        (λ wanted. IsRouted profile.now.routes.items incoming.now.uri.now wanted.route) }
 {
     let Ok(number) = Number::of_user(user_of(incoming.uri)) else {
         return Err(404);
@@ -116,7 +117,8 @@ impl Book {
         incoming: &Incoming<'_>,
         word: &[u8],
     ) -> Result<Option<Event>, AllocError>
-        ensures { Brings (MayBeRequest profile.now.routes.items incoming.now.uri.now (message_text incoming.now.message.now) (method_of word.now)) result }
+        ensures { Brings (MayBeRequest profile.now.routes.items incoming.now.uri.now
+            (message_text incoming.now.message.now) (method_of word.now)) result }
     {
         if let Some(place) = self.desk.server_of(&incoming.key) {
             self.repeat(place, incoming)?;
@@ -167,7 +169,8 @@ impl Book {
 
     /// The ACK of a 2xx of ours came.
     fn acknowledged(&mut self, incoming: &Incoming<'_>) -> Option<Event>
-        ensures { (routes : List RouteValue) → IfSome result (MayBeRequest routes incoming.now.uri.now (message_text incoming.now.message.now) asked.Ack) }
+        ensures { (routes : List RouteValue) → IfSome result (MayBeRequest routes
+            incoming.now.uri.now (message_text incoming.now.message.now) asked.Ack) }
     {
         let place = self.call_taking(incoming.message)?;
         let call = self.calls.get(place)?;
@@ -181,7 +184,8 @@ impl Book {
 
     /// A CANCEL came: it is answered, and is one of an INVITE that waits for a line, or of none.
     fn cancelled(&mut self, incoming: &Incoming<'_>) -> Result<Option<Event>, AllocError>
-        ensures { (routes : List RouteValue) → Brings (MayBeRequest routes incoming.now.uri.now (message_text incoming.now.message.now) asked.Cancel) result }
+        ensures { (routes : List RouteValue) → Brings (MayBeRequest routes
+            incoming.now.uri.now (message_text incoming.now.message.now) asked.Cancel) result }
     {
         let key = Key {
             branch: incoming.key.branch,
@@ -256,7 +260,8 @@ impl Book {
 
     /// A BYE came: it is answered, where there is such a dialog.
     fn ended(&mut self, incoming: &Incoming<'_>) -> Result<Option<Event>, AllocError>
-        ensures { (routes : List RouteValue) → Brings (MayBeRequest routes incoming.now.uri.now (message_text incoming.now.message.now) asked.Bye) result }
+        ensures { (routes : List RouteValue) → Brings (MayBeRequest routes
+            incoming.now.uri.now (message_text incoming.now.message.now) asked.Bye) result }
     {
         let Some(place) = self.call_taking(incoming.message) else {
             return self.refused(incoming, 481);
@@ -290,7 +295,10 @@ impl Book {
 
     /// An INVITE within a dialog came.
     fn invited_again(&mut self, incoming: &Incoming<'_>) -> Result<Option<Event>, AllocError>
-        ensures { (routes : List RouteValue) → within_dialog (message_text incoming.now.message.now) ≡ true → Brings (MayBeRequest routes incoming.now.uri.now (message_text incoming.now.message.now) asked.Invite) result }
+        ensures { (routes : List RouteValue)
+            → within_dialog (message_text incoming.now.message.now) ≡ true
+            → Brings (MayBeRequest routes
+            incoming.now.uri.now (message_text incoming.now.message.now) asked.Invite) result }
     {
         let Some(place) = self.call_taking(incoming.message) else {
             return self.refused(incoming, 481);
@@ -341,7 +349,9 @@ impl Book {
         profile: &Profile,
         incoming: &Incoming<'_>,
     ) -> Result<Option<Event>, AllocError>
-        ensures { within_dialog (message_text incoming.now.message.now) ≡ false → Brings (MayBeRequest profile.now.routes.items incoming.now.uri.now (message_text incoming.now.message.now) asked.Invite) result }
+        ensures { within_dialog (message_text incoming.now.message.now) ≡ false
+            → Brings (MayBeRequest profile.now.routes.items
+            incoming.now.uri.now (message_text incoming.now.message.now) asked.Invite) result }
     {
         if self.is_accepted(incoming) {
             return Ok(None);
@@ -360,7 +370,10 @@ impl Book {
 
     /// A call that comes in is opened, where its trunk has room.
     fn open(&mut self, incoming: &Incoming<'_>, wanted: Wanted) -> Result<Option<Event>, AllocError>
-        ensures { (routes : List RouteValue) → within_dialog (message_text incoming.now.message.now) ≡ false → IsRouted routes incoming.now.uri.now wanted.route → Brings (MayBeRequest routes incoming.now.uri.now (message_text incoming.now.message.now) asked.Invite) result }
+        ensures { (routes : List RouteValue)
+            → within_dialog (message_text incoming.now.message.now) ≡ false
+            → IsRouted routes incoming.now.uri.now wanted.route → Brings (MayBeRequest routes
+            incoming.now.uri.now (message_text incoming.now.message.now) asked.Invite) result }
     {
         let tag = self.desk.random.token();
         let Ok(dialog) = Dialog::of_answerer(incoming.message, tag.as_slice()) else {

@@ -43,7 +43,8 @@ fn put_invite_fields<'a>(
     interval: &'a IntervalText,
     credential: Option<&'a Credential>,
 ) -> Result<(), AllocError>
-    ensures { OnOk result (map field_text fields.new.items ≡ map field_text fields.old.items ++ invite_lines contact.now interval.now.interval (option_copied credential.entry)) }
+    ensures { OnOk result (map field_text fields.new.items ≡ map field_text fields.old.items
+        ++ invite_lines contact.now interval.now.interval (option_copied credential.entry)) }
 {
     put_line(fields, Name::Contact, contact)?;
     put_line(fields, Name::Allow, ALLOW)?;
@@ -55,7 +56,8 @@ fn put_invite_fields<'a>(
 
 /// A line more.
 fn put_line<'a>(fields: &mut Vec<Field<'a>>, name: Name, value: &'a [u8]) -> Result<(), AllocError>
-    ensures { OnOk result (map field_text fields.new.items ≡ map field_text fields.old.items ++ (name, value.now) ∷ []) }
+    ensures { OnOk result (map field_text fields.new.items
+        ≡ map field_text fields.old.items ++ (name, value.now) ∷ []) }
 {
     fields.push(Field { name, value })?;
     Ok(())
@@ -76,7 +78,8 @@ fn put_credential<'a>(
     fields: &mut Vec<Field<'a>>,
     credential: Option<&'a Credential>,
 ) -> Result<(), AllocError>
-    ensures { OnOk result (map field_text fields.new.items ≡ map field_text fields.old.items ++ credential_lines (option_copied credential.entry)) }
+    ensures { OnOk result (map field_text fields.new.items
+        ≡ map field_text fields.old.items ++ credential_lines (option_copied credential.entry)) }
 {
     if let Some(credential) = credential {
         fields.push(Field {

@@ -31,7 +31,8 @@ fn put_order(
     id: u64,
     word: LineAction,
 ) -> Result<(), AllocError>
-    ensures ok { OnOk result (map word_of orders.new.items ≡ map word_of orders.old.items ++ said_by word) }
+    ensures ok { OnOk result (map word_of orders.new.items
+        ≡ map word_of orders.old.items ++ said_by word) }
     ensures err { OnErr result (orders.new.items ≡ orders.old.items) }
 {
     let order = match word {
@@ -53,7 +54,8 @@ pub(crate) fn put_orders(
     calls: &[CallState],
     entries: &[Entry],
 ) -> Result<(), AllocError>
-    ensures ok { OnOk result (map word_of orders.new.items ≡ map word_of orders.old.items ++ words_of entries.now) }
+    ensures ok { OnOk result (map word_of orders.new.items
+        ≡ map word_of orders.old.items ++ words_of entries.now) }
     ensures err { Extends (map word_of orders.old.items) (map word_of orders.new.items) }
 {
     for entry in entries {

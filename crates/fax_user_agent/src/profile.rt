@@ -63,7 +63,8 @@ fn first_trunk(trunks: &[Trunk], from: SocketAddr) -> Option<usize>
 
 /// Where a request over a trunk goes: where it is to go, if a datagram from there would be the trunk's, and else to the trunk's address.
 fn destination_over(trunk: &Trunk, wanted: Option<SocketAddr>) -> SocketAddr
-    ensures wanted { IfSome wanted (λ address. is_of_trunk address trunk.now ≡ true → result ≡ address) }
+    ensures wanted { IfSome wanted
+        (λ address. is_of_trunk address trunk.now ≡ true → result ≡ address) }
     ensures own { (is_of_trunk result trunk.now ≡ true) ⊎ (result ≡ trunk.now.address) }
 {
     match wanted {

@@ -14,8 +14,10 @@ const MOST_NEAR: usize = 32_768;
 
 /// Whether they told all, and what came to the gateway's calling leg and to the machine that is called was handed over to them.
 pub(crate) fn is_linked(caller: &TellingEnd, wire: &TellingWire, answerer: &TellingEnd) -> bool
-    ensures { result ≡ true → (before after : LinesShown) → IsUnused before → after.caller.sent ≡ caller.now.sent → after.wire.received ≡ wire.now.received
-        → after.wire.sent ≡ wire.now.sent → after.answerer.received ≡ answerer.now.received → AreLinked before after }
+    ensures { result ≡ true
+        → (before after : LinesShown) → IsUnused before → after.caller.sent ≡ caller.now.sent
+        → after.wire.received ≡ wire.now.received → after.wire.sent ≡ wire.now.sent
+        → after.answerer.received ≡ answerer.now.received → AreLinked before after }
 {
     let Some(by_caller) = caller.sent.whole() else {
         return false;
@@ -40,7 +42,8 @@ pub(crate) fn is_linked(caller: &TellingEnd, wire: &TellingWire, answerer: &Tell
 
 /// Whether they told all, and what came to the gateway's called leg was handed over by the machine that is called.
 pub(crate) fn is_linked_back(wire: &TellingWire, answerer: &TellingEnd) -> bool
-    ensures { result ≡ true → (before after : LinesShown) → IsUnused before → after.wire.received ≡ wire.now.received
+    ensures { result ≡ true
+        → (before after : LinesShown) → IsUnused before → after.wire.received ≡ wire.now.received
         → after.answerer.sent ≡ answerer.now.sent → AreLinkedBack before after }
 {
     let Some(receipts) = wire.received.whole() else {
@@ -78,8 +81,10 @@ fn came_on_called(receipts: &[Received], sent: &[Octets]) -> bool
 
 /// Whether a receipt brought no datagram on this leg, or one of these.
 fn is_from(at: Leg, receipt: &Received, sent: &[Octets]) -> bool
-    ensures calling { result ≡ true → at ≡ legs.Calling → All (Contains sent.now) (came_calling (receipt.now ∷ [])) }
-    ensures called { result ≡ true → at ≡ legs.Called → All (Contains sent.now) (came_called (receipt.now ∷ [])) }
+    ensures calling { result ≡ true
+        → at ≡ legs.Calling → All (Contains sent.now) (came_calling (receipt.now ∷ [])) }
+    ensures called { result ≡ true
+        → at ≡ legs.Called → All (Contains sent.now) (came_called (receipt.now ∷ [])) }
 {
     match receipt.came_on(at) {
         None => true,

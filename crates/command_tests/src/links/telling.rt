@@ -58,7 +58,8 @@ impl Model for Received {
 
     ghost Value = { Receipt };
 
-    ghost view = { λ r. cond r.failed (Failed r.leg r.room) (unwrap_or (option_map (Came r.leg r.room) r.came) (Nothing r.leg r.room)) };
+    ghost view = { λ r. cond r.failed (Failed r.leg r.room)
+        (unwrap_or (option_map (Came r.leg r.room) r.came) (Nothing r.leg r.room)) };
 }
 
 impl Received {
@@ -99,10 +100,14 @@ impl Received {
 
     /// The datagram that it brought, where it is one of this leg.
     pub fn came_on(&self, at: Leg) -> Option<&Octets>
-        ensures calling { (octets : List ℕ) → option_copied result ≡ Some octets → at ≡ legs.Calling → came_calling (self.now ∷ []) ≡ octets ∷ [] }
-        ensures called { (octets : List ℕ) → option_copied result ≡ Some octets → at ≡ legs.Called → came_called (self.now ∷ []) ≡ octets ∷ [] }
-        ensures not_calling { option_copied result ≡ None → at ≡ legs.Calling → came_calling (self.now ∷ []) ≡ [] }
-        ensures not_called { option_copied result ≡ None → at ≡ legs.Called → came_called (self.now ∷ []) ≡ [] }
+        ensures calling { (octets : List ℕ) → option_copied result ≡ Some octets
+            → at ≡ legs.Calling → came_calling (self.now ∷ []) ≡ octets ∷ [] }
+        ensures called { (octets : List ℕ) → option_copied result ≡ Some octets
+            → at ≡ legs.Called → came_called (self.now ∷ []) ≡ octets ∷ [] }
+        ensures not_calling { option_copied result ≡ None
+            → at ≡ legs.Calling → came_calling (self.now ∷ []) ≡ [] }
+        ensures not_called { option_copied result ≡ None
+            → at ≡ legs.Called → came_called (self.now ∷ []) ≡ [] }
     {
         if self.failed || self.leg != at {
             return None;
@@ -182,7 +187,8 @@ impl TellingWire {
 }
 
 impl Wire for TellingWire {
-    ghost known = { λ wire. record { failures = wire.failures; received = wire.received; sent = wire.sent } };
+    ghost known = { λ wire.
+        record { failures = wire.failures; received = wire.received; sent = wire.sent } };
 
     fn receive(&mut self, leg: Leg, buffer: &mut [u8]) -> Result<Option<usize>, WireFault> {
         let answer = self.next(leg, buffer);

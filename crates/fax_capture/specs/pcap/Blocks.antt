@@ -7,4 +7,5 @@ abbrev pub block_shown : Block → BlockValue
 block_shown block = record { kind = block.kind; body = block.body.now }
 
 abbrev pub option_shown : InterfaceOption → OptionValue
-option_shown option = record { code = option.code; value = option.value.now; after = option.after.now }
+option_shown option =
+    record { code = option.code; value = option.value.now; after = option.after.now }

@@ -51,7 +51,8 @@ most_of_record = 16777216
 -- The first four octets of a pcap file, in its byte order, are a magic number, which tells the unit of fractions of a second:
 -- so many nanoseconds.
 unfoldable pub unit_of_magic : ℕ → Option ℕ
-unit_of_magic magic = if magic == 2712847316 then Some 1000 else if magic == 2712812621 then Some 1 else None
+unit_of_magic magic =
+    if magic == 2712847316 then Some 1000 else if magic == 2712812621 then Some 1 else None
 
 -- the head of a pcap file: the magic number, the version, four octets that mean nothing, four more, the most octets of a
 -- packet, and the link type, in 16 bits
@@ -72,16 +73,18 @@ pcap_of order unit octets = do
 -- a record: seconds, a fraction of a second, the octets captured of the packet, those that it had; and the octets
 abbrev pub pcap_packet_of : PcapFile → List ℕ → List ℕ → PacketValue
 pcap_packet_of file header octets = record {
-  time = Some (1000000000 * number_32 file.order header 0 + file.unit * number_32 file.order header 4);
+  time = Some (1000000000
+      * number_32 file.order header 0 + file.unit * number_32 file.order header 4);
   link = file.link;
   is_cut = nat_lt (number_32 file.order header 8) (number_32 file.order header 12);
   octets = octets;
 }
 
 unfoldable pub pcap_packet_at : PcapFile → List ℕ → Result (PacketValue × List ℕ) CaptureFault
-pcap_packet_at file octets = front_of Cut 16 octets >>= λ parts.
-    if nat_lt most_of_record (number_32 file.order parts.0 8) then Err Damaged
-    else (front_of Cut (number_32 file.order parts.0 8) parts.1 >>= λ packet. Ok (pcap_packet_of file parts.0 packet.0, packet.1))
+pcap_packet_at file octets =
+    front_of Cut 16 octets >>= λ parts. if nat_lt most_of_record (number_32 file.order parts.0 8)
+    then Err Damaged else (front_of Cut (number_32 file.order parts.0 8) parts.1 >>= λ packet.
+    Ok (pcap_packet_of file parts.0 packet.0, packet.1))
 
 -- ---- pcapng
 
@@ -93,9 +96,10 @@ pub record BlockValue : Type 0 where
 -- A block is its type, its length, its body, and its length again, which is a multiple of four.
 unfoldable pub block_of : ByteOrder → ℕ → ℕ → List ℕ → Result (BlockValue × List ℕ) CaptureFault
 block_of order kind count octets =
-    if nat_lt count 12 || (not (count % 4 == 0) || nat_lt most_of_record count) then Err Damaged
-    else (front_of Cut (count - 12) octets >>= λ body. front_of Cut 4 body.1 >>= λ last.
-    if number_32 order last.0 0 == count then Ok (record { kind = kind; body = body.0 }, last.1) else Err Damaged)
+    if nat_lt count 12 || (not (count % 4 == 0) || nat_lt most_of_record count)
+    then Err Damaged else (front_of Cut (count - 12) octets >>= λ body.
+    front_of Cut 4 body.1 >>= λ last. if number_32 order last.0 0 == count
+    then Ok (record { kind = kind; body = body.0 }, last.1) else Err Damaged)
 
 unfoldable pub block_at : ByteOrder → List ℕ → Result (BlockValue × List ℕ) CaptureFault
 block_at order octets = do
@@ -137,10 +141,10 @@ first_eight order value = front_of Damaged 8 value >>= λ parts. Ok (number_64 o
 -- What one option tells of an interface's times: if_tsresol, of code 9, their unit, an octet; if_tsoffset, of code 14, the
 -- seconds that are added to them, in 64 bits.
 unfoldable pub times_with : ByteOrder → OptionValue → Times → Result Times CaptureFault
-times_with order option times =
-    if option.code == 9 then (first_octet option.value >>= λ unit. Ok (record times { resolution = unit }))
-    else if option.code == 14 then (first_eight order option.value >>= λ seconds. Ok (record times { offset = seconds }))
-    else Ok times
+times_with order option times = if option.code == 9
+    then (first_octet option.value >>= λ unit. Ok (record times { resolution = unit }))
+    else if option.code == 14 then (first_eight order option.value >>= λ seconds.
+    Ok (record times { offset = seconds })) else Ok times
 
 -- what the options tell, one by one, of which one of code 0 is the last
 unfoldable pub times_in : (most : ℕ) → ByteOrder → List ℕ → Times → Result Times CaptureFault
@@ -165,23 +169,26 @@ interface_in order body = do
 -- A time counts units since 1970: below 128 that many decimal places of a second, else so many binary ones.
 unfoldable pub nanoseconds : ℕ → ℕ → ℕ
 nanoseconds resolution count =
-    if nat_lt resolution 128 then (1000000000 * count) / (10 ^ resolution) else (1000000000 * count) / (2 ^ (resolution - 128))
+    if nat_lt resolution 128 then (1000000000 * count) / (10 ^ resolution)
+    else (1000000000 * count) / (2 ^ (resolution - 128))
 
 -- Seconds with a sign, as two's complement, are added to a time, which lies in 1970 at the earliest (this project's profile).
 unfoldable pub moved_by : ℕ → ℕ → ℕ
-moved_by offset time =
-    if nat_lt offset 9223372036854775808 then time + 1000000000 * offset else time - 1000000000 * (18446744073709551616 - offset)
+moved_by offset time = if nat_lt offset 9223372036854775808
+    then time + 1000000000 * offset else time - 1000000000 * (18446744073709551616 - offset)
 
 -- the moment, in nanoseconds since 1970, that a count of units says
 abbrev pub moment_of : Times → ℕ → ℕ
 moment_of times count = moved_by times.offset (nanoseconds times.resolution count)
 
 unfoldable pub interface_at : List Interface → ℕ → Result Interface CaptureFault
-interface_at interfaces number = elim (slice_get interfaces number) [ Some interface ↦ Ok interface | None ↦ Err Damaged ]
+interface_at interfaces number =
+    elim (slice_get interfaces number) [ Some interface ↦ Ok interface | None ↦ Err Damaged ]
 
 -- after the four octets of a packet's interface: its time in two numbers, the high one first, the octets captured of it, those
 -- that it had; and the octets
-unfoldable pub timed_packet : ByteOrder → Interface → List ℕ → List ℕ → Result PacketValue CaptureFault
+unfoldable pub timed_packet : ByteOrder
+    → Interface → List ℕ → List ℕ → Result PacketValue CaptureFault
 timed_packet order interface header octets = do
   packet ← front_of Damaged (number_32 order header 12) octets
   Ok (record {
@@ -207,7 +214,8 @@ old_packet_in order interfaces body = do
 
 -- How many octets are captured of a packet that had so many; 0 sets no bound.
 unfoldable pub captured_of : Interface → ℕ → ℕ
-captured_of interface count = if interface.most_octets == 0 then count else min count interface.most_octets
+captured_of interface count =
+    if interface.most_octets == 0 then count else min count interface.most_octets
 
 -- a simple packet, of the first interface: the octets that it had, and those that were captured. It has no time.
 unfoldable pub simple_in : ByteOrder → List Interface → List ℕ → Result PacketValue CaptureFault
@@ -233,46 +241,56 @@ pub record RecordValue : Type 0 where
 -- passed over
 unfoldable pub block_record : HeadValue → BlockValue → Result RecordValue CaptureFault
 block_record head block =
-    if block.kind == 1 then (interface_in head.order block.body >>= λ interface.
-    Ok (record { packet = None; head = record head { interfaces = head.interfaces ++ interface ∷ [] } }))
+    if block.kind == 1 then (interface_in head.order block.body >>= λ interface. Ok (record {
+      packet = None;
+      head = record head { interfaces = head.interfaces ++ interface ∷ [] };
+    }))
     else if block.kind == 2 then (old_packet_in head.order head.interfaces block.body >>= λ packet.
     Ok (record { packet = Some packet; head = head }))
     else if block.kind == 3 then (simple_in head.order head.interfaces block.body >>= λ packet.
-    Ok (record { packet = Some packet; head = head }))
-    else if block.kind == 6 then (enhanced_in head.order head.interfaces block.body >>= λ packet.
-    Ok (record { packet = Some packet; head = head }))
-    else Ok (record { packet = None; head = head })
+    Ok (record { packet = Some packet; head = head })) else if block.kind == 6
+    then (enhanced_in head.order head.interfaces block.body >>= λ packet. Ok (record {
+      packet = Some packet;
+      head = head;
+    })) else Ok (record { packet = None; head = head })
 
 -- what is there once a section has begun, of either byte order
 abbrev pub section_head : ByteOrder → HeadValue
 section_head order = record { kind = Pcapng; order = order; interfaces = [] }
 
 unfoldable pub section_record : List ℕ → Result (RecordValue × List ℕ) CaptureFault
-section_record octets = section_at octets >>= λ section. Ok (record { packet = None; head = section_head section.0 }, section.1)
+section_record octets = section_at octets >>= λ section.
+    Ok (record { packet = None; head = section_head section.0 }, section.1)
 
 unfoldable pub pcap_record : ByteOrder → ℕ → List ℕ → Result (RecordValue × List ℕ) CaptureFault
-pcap_record order unit octets = pcap_of order unit octets >>= λ file. Ok (record { packet = None; head = file.0 }, file.1)
+pcap_record order unit octets =
+    pcap_of order unit octets >>= λ file. Ok (record { packet = None; head = file.0 }, file.1)
 
 -- The head of a file is its first record: of pcap in either byte order, or that of the first section of pcapng.
 unfoldable pub head_record : List ℕ → Result (RecordValue × List ℕ) CaptureFault
-head_record octets = front_of Cut 4 octets >>= λ parts.
-    if number_32 Big parts.0 0 == 168627466 then section_record octets
-    else elim (unit_of_magic (number_32 Big parts.0 0)) [
-      | Some unit ↦ pcap_record Big unit octets
-      | None ↦ elim (unit_of_magic (number_32 Little parts.0 0)) [ Some unit ↦ pcap_record Little unit octets | None ↦ Err NoCapture ]
+head_record octets = front_of Cut 4 octets >>= λ parts. if number_32 Big parts.0 0 == 168627466
+    then section_record octets else elim (unit_of_magic (number_32 Big parts.0 0)) [
+      | Some unit
+          ↦ pcap_record Big unit octets
+      | None ↦ elim (unit_of_magic (number_32 Little parts.0 0))
+          [ Some unit ↦ pcap_record Little unit octets | None ↦ Err NoCapture ]
     ]
 
 -- a packet of pcap
-unfoldable pub packet_record : HeadValue → PcapFile → List ℕ → Result (RecordValue × List ℕ) CaptureFault
-packet_record head file octets = pcap_packet_at file octets >>= λ packet. Ok (record { packet = Some packet.0; head = head }, packet.1)
+unfoldable pub packet_record : HeadValue
+    → PcapFile → List ℕ → Result (RecordValue × List ℕ) CaptureFault
+packet_record head file octets = pcap_packet_at file octets >>= λ packet.
+    Ok (record { packet = Some packet.0; head = head }, packet.1)
 
 -- a section's head, or a block of the section
 unfoldable pub pcapng_record : HeadValue → List ℕ → Result (RecordValue × List ℕ) CaptureFault
-pcapng_record head octets = front_of Cut 4 octets >>= λ parts.
-    if number_32 Big parts.0 0 == 168627466 then section_record octets
-    else (block_at head.order octets >>= λ block. block_record head block.0 >>= λ told. Ok (told, block.1))
+pcapng_record head octets =
+    front_of Cut 4 octets >>= λ parts. if number_32 Big parts.0 0 == 168627466
+    then section_record octets else (block_at head.order octets >>= λ block.
+    block_record head block.0 >>= λ told. Ok (told, block.1))
 
-unfoldable pub record_of_kind : FileKind → HeadValue → List ℕ → Result (RecordValue × List ℕ) CaptureFault
+unfoldable pub record_of_kind : FileKind
+    → HeadValue → List ℕ → Result (RecordValue × List ℕ) CaptureFault
 record_of_kind Unopened head octets = head_record octets
 record_of_kind (Pcap file) head octets = packet_record head file octets
 record_of_kind Pcapng head octets = pcapng_record head octets
@@ -292,15 +310,17 @@ lacks_octets (Fragment fragment) = false
 -- What a frame tells of its packet: a datagram, or a fragment of one, or none. Of a packet that was captured in part, and in the first
 -- of fragments, a datagram may be there in part; where its headers are not there, whose it is is not known, and the capture is a cut
 -- one.
-unfoldable pub found_in_frame : Option ℕ → Bool → FrameRead → Result (Option TimedPacket) CaptureFault
-found_in_frame time is_cut (Ok found) =
-    if lacks_octets found && not is_cut then Ok None else Ok (Some (record { time = time; found = found }))
+unfoldable pub found_in_frame : Option ℕ
+    → Bool → FrameRead → Result (Option TimedPacket) CaptureFault
+found_in_frame time is_cut (Ok found) = if lacks_octets found && not is_cut
+    then Ok None else Ok (Some (record { time = time; found = found }))
 found_in_frame time is_cut (Err Other) = Ok None
 found_in_frame time true (Err Short) = Err Snapped
 found_in_frame time false (Err Short) = Ok None
 
 abbrev pub found_in_packet : PacketValue → Result (Option TimedPacket) CaptureFault
-found_in_packet packet = found_in_frame packet.time packet.is_cut (frame_at packet.link packet.octets)
+found_in_packet packet =
+    found_in_frame packet.time packet.is_cut (frame_at packet.link packet.octets)
 
 -- what was read: a datagram or a fragment, where the record has one, and what is told of the capture then
 pub record ReadValue : Type 0 where
@@ -308,10 +328,14 @@ pub record ReadValue : Type 0 where
   pub head : HeadValue
 
 unfoldable pub read_of_record : RecordValue → Result ReadValue CaptureFault
-read_of_record told = elim told.packet [
-  | Some packet ↦ found_in_packet packet >>= λ found. Ok (record { found = found; head = told.head })
-  | None ↦ Ok (record { found = None; head = told.head })
-]
+read_of_record told =
+    elim told.packet [
+      | Some packet ↦ found_in_packet packet >>= λ found. Ok (record {
+        found = found;
+        head = told.head;
+      })
+      | None ↦ Ok (record { found = None; head = told.head })
+    ]
 
 -- a block is read so, or not
 abbrev pub ReadsBlock : Result RecordValue CaptureFault → Option TimedPacket → HeadValue → Type 0
@@ -320,7 +344,8 @@ ReadsBlock told found head = told >>= read_of_record ≡ Ok (record { found = fo
 abbrev pub FailsBlock : Result RecordValue CaptureFault → CaptureFault → Type 0
 FailsBlock told fault = (fault ≡ NoMemory) ⊎ (told >>= read_of_record ≡ Err fault)
 
-unfoldable pub read_of : Result (RecordValue × List ℕ) CaptureFault → Result (ReadValue × List ℕ) CaptureFault
+unfoldable pub read_of : Result (RecordValue × List ℕ) CaptureFault
+    → Result (ReadValue × List ℕ) CaptureFault
 read_of recorded = recorded >>= λ told. read_of_record told.0 >>= λ read. Ok (read, told.1)
 
 -- what is read at the front of octets, and those after it
@@ -328,8 +353,10 @@ abbrev pub read_at : HeadValue → List ℕ → Result (ReadValue × List ℕ) C
 read_at head octets = read_of (record_at head octets)
 
 -- a record is read so: this was found, this is told of the capture then, and these octets stand after it
-abbrev pub ReadsAs : Result (RecordValue × List ℕ) CaptureFault → Option TimedPacket → HeadValue → List ℕ → Type 0
-ReadsAs recorded found head after = read_of recorded ≡ Ok (record { found = found; head = head }, after)
+abbrev pub ReadsAs : Result (RecordValue × List ℕ) CaptureFault
+    → Option TimedPacket → HeadValue → List ℕ → Type 0
+ReadsAs recorded found head after =
+    read_of recorded ≡ Ok (record { found = found; head = head }, after)
 
 -- or not, for want of memory or for this fault
 abbrev pub FailsAs : Result (RecordValue × List ℕ) CaptureFault → CaptureFault → Type 0
@@ -338,8 +365,8 @@ FailsAs recorded fault = (fault ≡ NoMemory) ⊎ (read_of recorded ≡ Err faul
 -- One record after the other, from octets to those after them, this is found.
 abbrev pub Follow : HeadValue → List ℕ → List (Option TimedPacket) → HeadValue → List ℕ → Type 0
 Follow old octets [] new after = (new ≡ old) × (after ≡ octets)
-Follow old octets (found ∷ more) new after =
-    (head : HeadValue) × (rest : List ℕ) × ReadsAs (record_at old octets) found head rest × Follow head rest more new after
+Follow old octets (found ∷ more) new after = (head : HeadValue) × (rest : List ℕ)
+    × ReadsAs (record_at old octets) found head rest × Follow head rest more new after
 
 -- What is wrong where a capture ends before a record did: fewer than four octets are no capture.
 unfoldable pub fault_of_end : FileKind → List ℕ → Option CaptureFault

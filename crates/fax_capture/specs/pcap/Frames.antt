@@ -20,13 +20,10 @@ FrameRead = Result Found FrameFault
 -- the numbers of link types that are read: LINKTYPE_ETHERNET, _LINUX_SLL, _LINUX_SLL2, _NULL and _LOOP, and _RAW, _IPV4 and
 -- _IPV6; 12 and 14 are what some systems have for _RAW
 unfoldable pub link_of : ℕ → LinkType
-link_of number =
-    if number == 1 then Ethernet
-    else if number == 113 then LinuxCooked
-    else if number == 276 then LinuxCooked2
-    else if number == 0 || number == 108 then Loopback
-    else if number == 12 || (number == 14 || (number == 101 || (number == 228 || number == 229))) then RawIp
-    else Unread
+link_of number = if number == 1 then Ethernet else if number == 113 then LinuxCooked
+    else if number == 276 then LinuxCooked2 else if number == 0 || number == 108 then Loopback
+    else if number == 12 || (number == 14 || (number == 101 || (number == 228 || number == 229)))
+    then RawIp else Unread
 
 -- the data of UDP: its length counts the eight octets of the header too
 unfoldable pub data_at : EndpointValue → EndpointValue → Option ℕ → ℕ → List ℕ → FrameRead
@@ -68,9 +65,9 @@ part_at source destination part octets =
 -- The first 20 octets of a datagram of IPv4 (RFC 791) say that it carries UDP: its version, a header of 20 octets or more, which
 -- the total length counts, and the protocol;
 unfoldable pub is_udp_4 : List ℕ → Bool
-is_udp_4 header =
-    (slice_index header 0 / 16 == 4) && (not (nat_lt (slice_index header 0 % 16) 5)
-    && (not (nat_lt (number_16 Big header 2) (4 * (slice_index header 0 % 16))) && (slice_index header 9 == 17)))
+is_udp_4 header = (slice_index header 0 / 16 == 4) && (not (nat_lt (slice_index header 0 % 16) 5)
+    && (not (nat_lt (number_16 Big header 2) (4 * (slice_index header 0 % 16)))
+    && (slice_index header 9 == 17)))
 
 -- and which part of it: its identification, 13 bits of an offset, and, by one more bit, whether more fragments follow
 unfoldable pub part_4 : List ℕ → Part
@@ -111,10 +108,10 @@ fragment_6_at source destination octets = do
 
 -- UDP after the header, or after that of a fragment
 unfoldable pub after_ip_6 : List ℕ → List ℕ → FrameRead
-after_ip_6 header octets =
-    if is_next_6 header 17 then udp_at (take 16 (drop 8 header)) (take 16 (drop 24 header)) None octets
-    else if is_next_6 header 44 then fragment_6_at (take 16 (drop 8 header)) (take 16 (drop 24 header)) octets
-    else Err Other
+after_ip_6 header octets = if is_next_6 header 17
+    then udp_at (take 16 (drop 8 header)) (take 16 (drop 24 header)) None octets
+    else if is_next_6 header 44
+    then fragment_6_at (take 16 (drop 8 header)) (take 16 (drop 24 header)) octets else Err Other
 
 unfoldable pub ip_6_at : List ℕ → FrameRead
 ip_6_at octets = do
@@ -129,8 +126,8 @@ ip_at octets = do
 
 -- a type of protocol, and the octets that it names; after a tag of IEEE 802.1Q, where there is one, the type within
 unfoldable pub untagged : ℕ → List ℕ → Result (ℕ × List ℕ) FrameFault
-untagged protocol octets =
-    if protocol == 33024 || protocol == 34984 then (front_of Short 4 octets >>= λ parts. Ok (number_16 Big parts.0 2, parts.1))
+untagged protocol octets = if protocol == 33024 || protocol == 34984
+    then (front_of Short 4 octets >>= λ parts. Ok (number_16 Big parts.0 2, parts.1))
     else Ok (protocol, octets)
 
 -- two tags at most: IPv4 or IPv6 after them
@@ -142,7 +139,8 @@ protocol_at protocol octets = do
 
 -- the header of a link, and the type of protocol at its place in it
 unfoldable pub after_header : ℕ → ℕ → List ℕ → FrameRead
-after_header count place octets = front_of Short count octets >>= λ parts. protocol_at (number_16 Big parts.0 place) parts.1
+after_header count place octets =
+    front_of Short count octets >>= λ parts. protocol_at (number_16 Big parts.0 place) parts.1
 
 -- the families of addresses of loopback interfaces: 2 is IPv4; 24, 28 and 30 are IPv6
 unfoldable pub family_at : ℕ → List ℕ → FrameRead
@@ -154,7 +152,8 @@ family_at family octets =
 -- the header of a loopback interface: a family in 32 bits, in the byte order of the host that captured, whichever it was, so
 -- that it is the smaller of both numbers
 unfoldable pub loopback_at : List ℕ → FrameRead
-loopback_at octets = front_of Short 4 octets >>= λ parts. family_at (min (number_32 Big parts.0 0) (number_32 Little parts.0 0)) parts.1
+loopback_at octets = front_of Short 4 octets >>= λ parts.
+    family_at (min (number_32 Big parts.0 0) (number_32 Little parts.0 0)) parts.1
 
 unfoldable pub frame_at : LinkType → List ℕ → FrameRead
 frame_at Ethernet octets = after_header 14 12 octets

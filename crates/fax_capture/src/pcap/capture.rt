@@ -91,13 +91,16 @@ impl Capture {
         &mut self,
         octets: &'a [u8],
     ) -> Result<Option<RecordRead<'a>>, CaptureFault>
-        ensures ok { IfOk result (λ read. IfSome read (λ r. ReadsAs (record_at self.old octets.now) r.found self.new r.after.now)) }
-        ensures more { IfOk result (λ read. read ≡ None → read_of (record_at self.old octets.now) ≡ Err CaptureFault.Cut) }
+        ensures ok { IfOk result (λ read. IfSome read
+            (λ r. ReadsAs (record_at self.old octets.now) r.found self.new r.after.now)) }
+        ensures more { IfOk result (λ read. read ≡ None
+            → read_of (record_at self.old octets.now) ≡ Err CaptureFault.Cut) }
         ensures unread { IfOk result (λ read. read ≡ None → self.new ≡ self.old) }
         ensures err { IfErr result (λ e. FailsAs (record_at self.old octets.now) e) }
         ensures uncut { result ≢ Err CaptureFault.Cut }
         ensures same { OnErr result (self.new ≡ self.old) }
-        ensures shorter { IfOk result (λ read. IfSome read (λ r. length r.after.now < length octets.now)) }
+        ensures shorter { IfOk result
+            (λ read. IfSome read (λ r. length r.after.now < length octets.now)) }
     {
         match self.read_whole(octets) {
             Ok(read) => Ok(Some(read)),
@@ -127,7 +130,8 @@ impl Capture {
     /// Reads the record at the front of octets. `Cut` says that they end inside it.
     #[tactic(auto, unfolding(crate::specs::pcap::Captures::record_of_kind))]
     fn read_whole<'a>(&mut self, octets: &'a [u8]) -> Result<RecordRead<'a>, CaptureFault>
-        ensures ok { IfOk result (λ r. ReadsAs (record_at self.old octets.now) r.found self.new r.after.now) }
+        ensures ok { IfOk result
+            (λ r. ReadsAs (record_at self.old octets.now) r.found self.new r.after.now) }
         ensures err { IfErr result (λ e. FailsAs (record_at self.old octets.now) e) }
         ensures same { OnErr result (self.new ≡ self.old) }
         ensures shorter { IfOk result (λ r. length r.after.now < length octets.now) }
@@ -146,7 +150,8 @@ impl Capture {
         file: PcapFile,
         octets: &'a [u8],
     ) -> Result<RecordRead<'a>, CaptureFault>
-        ensures ok { IfOk result (λ r. ReadsAs (packet_record self.old file octets.now) r.found self.new r.after.now) }
+        ensures ok { IfOk result
+            (λ r. ReadsAs (packet_record self.old file octets.now) r.found self.new r.after.now) }
         ensures err { IfErr result (λ e. FailsAs (packet_record self.old file octets.now) e) }
         ensures same { self.new ≡ self.old }
         ensures shorter { IfOk result (λ r. length r.after.now < length octets.now) }
@@ -161,7 +166,8 @@ impl Capture {
     /// Reads the head of a file.
     #[tactic(auto, unfolding(crate::specs::pcap::Captures::head_record, crate::specs::pcap::Captures::read_of, crate::specs::pcap::Fields::front_of))]
     fn read_head<'a>(&mut self, octets: &'a [u8]) -> Result<RecordRead<'a>, CaptureFault>
-        ensures ok { IfOk result (λ r. ReadsAs (head_record octets.now) r.found self.new r.after.now) }
+        ensures ok { IfOk result
+            (λ r. ReadsAs (head_record octets.now) r.found self.new r.after.now) }
         ensures err { IfErr result (λ e. FailsAs (head_record octets.now) e) }
         ensures same { OnErr result (self.new ≡ self.old) }
         ensures shorter { IfOk result (λ r. length r.after.now < length octets.now) }
@@ -183,7 +189,8 @@ impl Capture {
     /// Reads the head of a section of pcapng, in which no interface is described so far.
     #[tactic(auto, unfolding(crate::specs::pcap::Captures::section_record, crate::specs::pcap::Captures::read_of, crate::specs::pcap::Captures::read_of_record))]
     fn begin_section<'a>(&mut self, octets: &'a [u8]) -> Result<RecordRead<'a>, CaptureFault>
-        ensures ok { IfOk result (λ r. ReadsAs (section_record octets.now) r.found self.new r.after.now) }
+        ensures ok { IfOk result
+            (λ r. ReadsAs (section_record octets.now) r.found self.new r.after.now) }
         ensures err { IfErr result (λ e. FailsAs (section_record octets.now) e) }
         ensures same { OnErr result (self.new ≡ self.old) }
         ensures shorter { IfOk result (λ r. length r.after.now < length octets.now) }
@@ -203,7 +210,8 @@ impl Capture {
         unit: u16,
         octets: &'a [u8],
     ) -> Result<RecordRead<'a>, CaptureFault>
-        ensures ok { IfOk result (λ r. ReadsAs (pcap_record order unit octets.now) r.found self.new r.after.now) }
+        ensures ok { IfOk result
+            (λ r. ReadsAs (pcap_record order unit octets.now) r.found self.new r.after.now) }
         ensures err { IfErr result (λ e. FailsAs (pcap_record order unit octets.now) e) }
         ensures same { OnErr result (self.new ≡ self.old) }
         ensures shorter { IfOk result (λ r. length r.after.now < length octets.now) }
@@ -227,7 +235,8 @@ impl Capture {
     /// Reads a record of pcapng: the head of a section, or a block of the section.
     #[tactic(auto, unfolding(crate::specs::pcap::Captures::pcapng_record, crate::specs::pcap::Captures::read_of, crate::specs::pcap::Fields::front_of))]
     fn read_pcapng<'a>(&mut self, octets: &'a [u8]) -> Result<RecordRead<'a>, CaptureFault>
-        ensures ok { IfOk result (λ r. ReadsAs (pcapng_record self.old octets.now) r.found self.new r.after.now) }
+        ensures ok { IfOk result
+            (λ r. ReadsAs (pcapng_record self.old octets.now) r.found self.new r.after.now) }
         ensures err { IfErr result (λ e. FailsAs (pcapng_record self.old octets.now) e) }
         ensures same { OnErr result (self.new ≡ self.old) }
         ensures shorter { IfOk result (λ r. length r.after.now < length octets.now) }
@@ -250,8 +259,10 @@ impl Capture {
         &mut self,
         block: &Block<'a>,
     ) -> Result<Option<CapturedPacket<'a>>, CaptureFault>
-        ensures ok { IfOk result (λ found. ReadsBlock (block_record self.old (block_shown block.now)) found self.new) }
-        ensures err { IfErr result (λ e. FailsBlock (block_record self.old (block_shown block.now)) e) }
+        ensures ok { IfOk result
+            (λ found. ReadsBlock (block_record self.old (block_shown block.now)) found self.new) }
+        ensures err { IfErr result
+            (λ e. FailsBlock (block_record self.old (block_shown block.now)) e) }
         ensures same { OnErr result (self.new ≡ self.old) }
     {
         let found = match block.kind {

@@ -50,7 +50,15 @@ impl<'a> Model for Datagram<'a> {
 
     ghost Value = { DatagramValue };
 
-    ghost view = { λ d. record { source = d.source; destination = d.destination; fragments = d.fragments; length = d.length; is_whole = d.is_whole; octets = d.octets.now } };
+    ghost view = { λ d.
+        record {
+          source = d.source;
+          destination = d.destination;
+          fragments = d.fragments;
+          length = d.length;
+          is_whole = d.is_whole;
+          octets = d.octets.now;
+        } };
 }
 
 impl<'a> Datagram<'a> {

@@ -18,7 +18,8 @@ pub(crate) fn split_front<E: Copy + Drop>(
     count: usize,
     octets: &[u8],
 ) -> Result<(&[u8], &[u8]), E>
-    ensures gives { Gives (λ parts. (parts.0.now, parts.1.now)) result (front_of fault count octets.now) }
+    ensures gives { Gives
+        (λ parts. (parts.0.now, parts.1.now)) result (front_of fault count octets.now) }
     ensures front { IfOk result (λ parts. length parts.0.now ≡ count) }
     ensures after { IfOk result (λ parts. count + length parts.1.now ≡ length octets.now) }
 {

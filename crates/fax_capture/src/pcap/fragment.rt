@@ -19,7 +19,14 @@ impl<'a> Model for Fragment<'a> {
 
     ghost Value = { FragmentValue };
 
-    ghost view = { λ f. record { source = f.source.now; destination = f.destination.now; number = f.number; place = f.place; is_last = f.is_last; octets = f.octets.now } };
+    ghost view = { λ f. record {
+      source = f.source.now;
+      destination = f.destination.now;
+      number = f.number;
+      place = f.place;
+      is_last = f.is_last;
+      octets = f.octets.now;
+    } };
 }
 
 impl<'a> Fragment<'a> {

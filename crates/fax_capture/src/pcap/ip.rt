@@ -56,7 +56,8 @@ fn is_udp(header: &[u8]) -> bool
     requires { length header.now ≡ 20 }
     ensures is { result ≡ is_udp_4 header.now }
     ensures header { IsTrue result → 5 ≤ slice_index header.now 0 % 16 }
-    ensures counted { IsTrue result → 4 * (slice_index header.now 0 % 16) ≤ number_16 ByteOrder.Big header.now 2 }
+    ensures counted { IsTrue result
+        → 4 * (slice_index header.now 0 % 16) ≤ number_16 ByteOrder.Big header.now 2 }
 {
     let words = header[0] % 16;
     header[0] / 16 == 4
@@ -204,7 +205,8 @@ fn read_data<'a>(
     count: u16,
     octets: &'a [u8],
 ) -> Result<Found<'a>, FrameFault>
-    ensures { Gives (λ f. f) result (data_at source.entry destination.entry fragments count octets.now) }
+    ensures { Gives
+        (λ f. f) result (data_at source.entry destination.entry fragments count octets.now) }
 {
     if count < 8 {
         return Err(FrameFault::Other);

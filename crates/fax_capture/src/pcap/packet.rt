@@ -28,7 +28,8 @@ impl<'a> Model for Packet<'a> {
 
     ghost Value = { PacketValue };
 
-    ghost view = { λ p. record { time = p.time; link = p.link; is_cut = p.is_cut; octets = p.octets.now } };
+    ghost view = { λ p.
+        record { time = p.time; link = p.link; is_cut = p.is_cut; octets = p.octets.now } };
 }
 
 /// A datagram, whole or in part, or a fragment of one, and when it was captured, in nanoseconds since 1970, where the capture tells

@@ -22,7 +22,10 @@ pub(crate) struct Block<'a> {
 /// The first block of some octets.
 #[tactic(auto, unfolding(crate::specs::pcap::Captures::block_at, crate::specs::pcap::Fields::front_of))]
 pub(crate) fn read_block(order: ByteOrder, octets: &[u8]) -> Result<Block<'_>, CaptureFault>
-    ensures gives { Gives (λ b. (record { kind = b.kind; body = b.body.now }, b.after.now)) result (block_at order octets.now) }
+    ensures gives { Gives (λ b. (
+      record { kind = b.kind; body = b.body.now },
+      b.after.now,
+    )) result (block_at order octets.now) }
     ensures shorter { IfOk result (λ b. length b.after.now < length octets.now) }
 {
     let (header, rest) = split_front(CaptureFault::Cut, 8, octets)?;
@@ -42,7 +45,10 @@ fn read_block_body(
     count: u32,
     octets: &[u8],
 ) -> Result<Block<'_>, CaptureFault>
-    ensures gives { Gives (λ b. (record { kind = b.kind; body = b.body.now }, b.after.now)) result (block_of order kind count octets.now) }
+    ensures gives { Gives (λ b. (
+      record { kind = b.kind; body = b.body.now },
+      b.after.now,
+    )) result (block_of order kind count octets.now) }
     ensures shorter { IfOk result (λ b. length b.after.now < length octets.now) }
 {
     if count < 12 || count % 4 != 0 || count > MOST_OF_RECORD {

@@ -10,8 +10,8 @@ kind_name Gauge = codes "gauge"
 
 -- the type of a count, and its value, a line each
 abbrev pub count_text : List ℕ → Kind → ℕ → List ℕ
-count_text name kind value =
-    codes "# TYPE " ++ (name ++ (codes " " ++ (kind_name kind ++ (codes "\n" ++ (name ++ (codes " " ++ (decimal value ++ codes "\n")))))))
+count_text name kind value = codes "# TYPE " ++ (name ++ (codes " "
+    ++ (kind_name kind ++ (codes "\n" ++ (name ++ (codes " " ++ (decimal value ++ codes "\n")))))))
 
 unfoldable pub call_counts : Counters → List ℕ
 call_counts counters =
@@ -60,4 +60,6 @@ undelivered_counts counters =
 
 -- all counts, and the mark of the end
 abbrev pub metrics_text : Counters → List ℕ
-metrics_text counters = call_counts counters ++ job_counts counters ++ wire_counts counters ++ spool_counts counters ++ damage_counts counters ++ undelivered_counts counters ++ codes "# EOF\n"
+metrics_text counters =
+    call_counts counters ++ job_counts counters ++ wire_counts counters ++ spool_counts counters
+    ++ damage_counts counters ++ undelivered_counts counters ++ codes "# EOF\n"

@@ -92,7 +92,8 @@ abbrev pub tag_member : Option (List ℕ) → List Token
 tag_member tag = key (codes "tag") ∷ tag_value tag ∷ []
 
 abbrev pub format_members : Format → List Token
-format_members format = number_member (codes "width") (elements_of format.width) ++ text_member (codes "resolution") (resolution_name format.fine)
+format_members format = number_member (codes "width") (elements_of format.width)
+    ++ text_member (codes "resolution") (resolution_name format.fine)
 
 -- the number of a fault of a page, and after how many rows it is met where it is a line
 abbrev pub row_members : PageFault → List Token
@@ -100,7 +101,8 @@ row_members (page.BadLine n) = number_member (codes "row") n
 row_members fault = []
 
 abbrev pub fault_members : PageFault → List Token
-fault_members fault = number_member (codes "fault_number") (page_fault_number fault) ++ row_members fault
+fault_members fault =
+    number_member (codes "fault_number") (page_fault_number fault) ++ row_members fault
 
 -- why a page is refused
 abbrev pub detail_members : Refusal → List Token
@@ -117,42 +119,55 @@ cause_members (Some cause) = text_member (codes "cause") cause
 
 -- for what cause a job's call was not placed last, how often the job was tried, and when it ended last, in seconds since 1970
 abbrev pub try_members : Option (List ℕ) → (tries last : ℕ) → List Token
-try_members cause tries last = cause_members cause ++ (number_member (codes "tries") tries ++ number_member (codes "last") last)
+try_members cause tries last = cause_members cause
+    ++ (number_member (codes "tries") tries ++ number_member (codes "last") last)
 
 -- ---- the members of each event
 
 abbrev pub what_members : What → List Token
-what_members (Rung call tag) = number_member (codes "call") call ++ tag_member (option_map (λ text. text.now) tag)
-what_members (Page kept tag) =
-    number_member (codes "call") kept.call ++ (tag_member (option_map (λ text. text.now) tag) ++ (number_member (codes "number") kept.number
+what_members (Rung call tag) =
+    number_member (codes "call") call ++ tag_member (option_map (λ text. text.now) tag)
+what_members (Page kept tag) = number_member (codes "call") kept.call ++ (tag_member (option_map
+    (λ text. text.now) tag) ++ (number_member (codes "number") kept.number
     ++ (format_members kept.format ++ number_member (codes "rows") kept.rows)))
-what_members (RefusedPage call tag why) = number_member (codes "call") call ++ (tag_member (option_map (λ text. text.now) tag) ++ refusal_members why)
-what_members (Ended call tag how) = number_member (codes "call") call ++ (tag_member (option_map (λ text. text.now) tag) ++ text_member (codes "how") (ending_name how))
-what_members (Dial call tag) = number_member (codes "call") call ++ tag_member (option_map (λ text. text.now) tag)
-what_members (Asked job tag) =
-    number_member (codes "call") job.call ++ (tag_member (option_map (λ text. text.now) tag) ++ (number_member (codes "try") job.tries
+what_members (RefusedPage call tag why) = number_member (codes "call") call
+    ++ (tag_member (option_map (λ text. text.now) tag) ++ refusal_members why)
+what_members (Ended call tag how) = number_member (codes "call") call ++ (tag_member (option_map
+    (λ text. text.now) tag) ++ text_member (codes "how") (ending_name how))
+what_members (Dial call tag) =
+    number_member (codes "call") call ++ tag_member (option_map (λ text. text.now) tag)
+what_members (Asked job tag) = number_member (codes "call") job.call
+    ++ (tag_member (option_map (λ text. text.now) tag) ++ (number_member (codes "try") job.tries
     ++ (number_member (codes "pages") job.pages ++ number_member (codes "seconds") job.seconds)))
-what_members (Connected call tag) = number_member (codes "call") call ++ tag_member (option_map (λ text. text.now) tag)
+what_members (Connected call tag) =
+    number_member (codes "call") call ++ tag_member (option_map (λ text. text.now) tag)
 what_members (Job report tag cause) =
-    number_member (codes "call") report.call ++ (tag_member (option_map (λ text. text.now) tag) ++ (format_members report.format
-    ++ (number_member (codes "pages") report.pages ++ (number_member (codes "delivered") report.delivered
-    ++ (text_member (codes "outcome") (outcome_name report.outcome) ++ cause_members (option_map (λ text. text.now) cause))))))
+    number_member (codes "call") report.call ++ (tag_member (option_map (λ text. text.now) tag)
+    ++ (format_members report.format ++ (number_member (codes "pages") report.pages
+    ++ (number_member (codes "delivered") report.delivered ++ (text_member (codes "outcome")
+    (outcome_name report.outcome) ++ cause_members (option_map (λ text. text.now) cause))))))
 what_members (Undelivered job tag cause) =
-    number_member (codes "life") job.life ++ (number_member (codes "call") job.call ++ (tag_member (option_map (λ text. text.now) tag)
-    ++ (number_member (codes "pages") job.pages ++ (text_member (codes "outcome") (outcome_name job.outcome)
+    number_member (codes "life") job.life ++ (number_member (codes "call") job.call
+    ++ (tag_member (option_map (λ text. text.now) tag) ++ (number_member (codes "pages") job.pages
+    ++ (text_member (codes "outcome") (outcome_name job.outcome)
     ++ try_members (option_map (λ text. text.now) cause) job.tries job.at))))
-what_members (Discarded life call tag) =
-    number_member (codes "life") life ++ (number_member (codes "call") call ++ tag_member (option_map (λ text. text.now) tag))
-what_members (Wire leg direction count) =
-    text_member (codes "leg") (leg_text leg) ++ (text_member (codes "direction") (direction_name direction) ++ number_member (codes "failures") count)
+what_members (Discarded life call tag) = number_member (codes "life") life
+    ++ (number_member (codes "call") call ++ tag_member (option_map (λ text. text.now) tag))
+what_members (Wire leg direction count) = text_member (codes "leg") (leg_text leg)
+    ++ (text_member (codes "direction") (direction_name direction)
+    ++ number_member (codes "failures") count)
 what_members (Late span) = number_member (codes "ms") span
 what_members (Full call) = number_member (codes "call") call
-what_members (what.NotStored call tag) = number_member (codes "call") call ++ tag_member (option_map (λ text. text.now) tag)
-what_members (SetAside aside tag) =
-    number_member (codes "life") aside.life ++ (number_member (codes "call") aside.call ++ (tag_member (option_map (λ text. text.now) tag)
-    ++ (number_member (codes "number") aside.number ++ text_member (codes "why") (aside_name aside.why))))
-what_members (Damaged records octets) = number_member (codes "records") records ++ number_member (codes "octets") octets
-what_members (Frame lane words) = text_member (codes "lane") lane.now ++ text_member (codes "text") words.now
+what_members (what.NotStored call tag) =
+    number_member (codes "call") call ++ tag_member (option_map (λ text. text.now) tag)
+what_members (SetAside aside tag) = number_member (codes "life") aside.life
+    ++ (number_member (codes "call") aside.call ++ (tag_member (option_map (λ text. text.now) tag)
+    ++ (number_member (codes "number") aside.number
+    ++ text_member (codes "why") (aside_name aside.why))))
+what_members (Damaged records octets) =
+    number_member (codes "records") records ++ number_member (codes "octets") octets
+what_members (Frame lane words) =
+    text_member (codes "lane") lane.now ++ text_member (codes "text") words.now
 what_members SpoolFailed = []
 
 -- the line that it happened on; none where it happened to all of them
@@ -162,8 +177,8 @@ line_members (Some line) = text_member (codes "line") line
 
 -- an event as an object: its name, its line, its moment, and what it tells
 abbrev pub event_tokens : Event → List Token
-event_tokens event =
-    begin_object ∷ (text_member (codes "event") (event_name event.what) ++ (line_members (option_map (λ text. text.now) event.line)
+event_tokens event = begin_object ∷ (text_member (codes "event") (event_name event.what)
+    ++ (line_members (option_map (λ text. text.now) event.line)
     ++ (number_member (codes "at") event.at ++ (what_members event.what ++ end_object ∷ []))))
 
 -- the line of an event, its line feed with it: JSON with no space

@@ -55,4 +55,5 @@ one_more_lost (first ∷ second ∷ due) = first ∷ one_more_lost (second ∷ d
 
 -- what is due once a line comes: it is kept where fewer than 1,024 wait, and else it is lost
 abbrev pub after_line : List QueuedLine → List ℕ → List QueuedLine
-after_line due line = if nat_lt (lines_in due) 1024 then due ++ Line line ∷ [] else one_more_lost due
+after_line due line =
+    if nat_lt (lines_in due) 1024 then due ++ Line line ∷ [] else one_more_lost due

@@ -42,7 +42,8 @@ pub fn write_metrics(alloc: Global, counters: &Counters) -> Result<String, NoMem
 
 /// Writes one count.
 fn put(text: &mut String, name: &str, kind: Kind, value: u64) -> Result<(), AllocError>
-    ensures { OnOk result (string_bytes text.new ≡ string_bytes text.old ++ count_text name.now kind value) }
+    ensures { OnOk result (string_bytes text.new
+        ≡ string_bytes text.old ++ count_text name.now kind value) }
 {
     let kind = kind.name();
     write!(text, "# TYPE {name} {kind}\n{name} {value}\n")
@@ -50,7 +51,8 @@ fn put(text: &mut String, name: &str, kind: Kind, value: u64) -> Result<(), Allo
 
 /// Writes the counts of lines, calls and pages.
 fn put_call_counts(text: &mut String, counters: &Counters) -> Result<(), AllocError>
-    ensures { OnOk result (string_bytes text.new ≡ string_bytes text.old ++ call_counts counters.now) }
+    ensures { OnOk result (string_bytes text.new
+        ≡ string_bytes text.old ++ call_counts counters.now) }
 {
     put(text, "faxgate_lines", Kind::Gauge, counters.lines)?;
     put(text, "faxgate_calls_total", Kind::Counter, counters.calls)?;
@@ -76,7 +78,8 @@ fn put_call_counts(text: &mut String, counters: &Counters) -> Result<(), AllocEr
 
 /// Writes the counts of jobs.
 fn put_job_counts(text: &mut String, counters: &Counters) -> Result<(), AllocError>
-    ensures { OnOk result (string_bytes text.new ≡ string_bytes text.old ++ job_counts counters.now) }
+    ensures { OnOk result (string_bytes text.new
+        ≡ string_bytes text.old ++ job_counts counters.now) }
 {
     put(
         text,
@@ -106,7 +109,8 @@ fn put_job_counts(text: &mut String, counters: &Counters) -> Result<(), AllocErr
 
 /// Writes the counts of datagrams and turns.
 fn put_wire_counts(text: &mut String, counters: &Counters) -> Result<(), AllocError>
-    ensures { OnOk result (string_bytes text.new ≡ string_bytes text.old ++ wire_counts counters.now) }
+    ensures { OnOk result (string_bytes text.new
+        ≡ string_bytes text.old ++ wire_counts counters.now) }
 {
     put(
         text,
@@ -154,7 +158,8 @@ fn put_wire_counts(text: &mut String, counters: &Counters) -> Result<(), AllocEr
 
 /// Writes the counts of pages that are stored on a disk.
 fn put_spool_counts(text: &mut String, counters: &Counters) -> Result<(), AllocError>
-    ensures { OnOk result (string_bytes text.new ≡ string_bytes text.old ++ spool_counts counters.now) }
+    ensures { OnOk result (string_bytes text.new
+        ≡ string_bytes text.old ++ spool_counts counters.now) }
 {
     put(text, "faxgate_puts_total", Kind::Counter, counters.puts)?;
     put(
@@ -179,7 +184,8 @@ fn put_spool_counts(text: &mut String, counters: &Counters) -> Result<(), AllocE
 
 /// Writes the counts of what a disk did to them.
 fn put_damage_counts(text: &mut String, counters: &Counters) -> Result<(), AllocError>
-    ensures { OnOk result (string_bytes text.new ≡ string_bytes text.old ++ damage_counts counters.now) }
+    ensures { OnOk result (string_bytes text.new
+        ≡ string_bytes text.old ++ damage_counts counters.now) }
 {
     put(
         text,
@@ -209,7 +215,8 @@ fn put_damage_counts(text: &mut String, counters: &Counters) -> Result<(), Alloc
 
 /// Writes the counts of what could not be delivered.
 fn put_undelivered_counts(text: &mut String, counters: &Counters) -> Result<(), AllocError>
-    ensures { OnOk result (string_bytes text.new ≡ string_bytes text.old ++ undelivered_counts counters.now) }
+    ensures { OnOk result (string_bytes text.new
+        ≡ string_bytes text.old ++ undelivered_counts counters.now) }
 {
     put(
         text,

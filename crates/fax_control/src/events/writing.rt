@@ -40,7 +40,8 @@ fn put_text(writer: &mut Writer, name: &str, text: &str) -> Result<(), AllocErro
 
 /// Writes the line that something happened on, where it is one.
 fn put_line(writer: &mut Writer, line: Option<&str>) -> Result<(), AllocError>
-    ensures { OnOk result (Adds writer.old writer.new (line_members (option_map (λ text. text.now) line.entry))) }
+    ensures { OnOk result (Adds writer.old writer.new (line_members (option_map
+        (λ text. text.now) line.entry))) }
 {
     match line {
         Some(name) => put_text(writer, "line", name),
@@ -58,7 +59,8 @@ fn put_number(writer: &mut Writer, name: &str, number: u64) -> Result<(), AllocE
 
 /// Writes the tag of a call.
 fn put_tag(writer: &mut Writer, tag: Option<&str>) -> Result<(), AllocError>
-    ensures { OnOk result (Adds writer.old writer.new (tag_member (option_map (λ text. text.now) tag.entry))) }
+    ensures { OnOk result (Adds writer.old writer.new (tag_member (option_map
+        (λ text. text.now) tag.entry))) }
 {
     writer.key("tag")?;
     match tag {
@@ -153,7 +155,8 @@ fn put_refused_page(
     tag: Option<&str>,
     why: Refusal,
 ) -> Result<(), AllocError>
-    ensures { OnOk result (Adds writer.old writer.new (what_members (What.RefusedPage call tag.entry why))) }
+    ensures { OnOk result
+        (Adds writer.old writer.new (what_members (What.RefusedPage call tag.entry why))) }
 {
     put_number(writer, "call", u64::from(call))?;
     put_tag(writer, tag)?;
@@ -178,7 +181,8 @@ fn put_ended(
     tag: Option<&str>,
     how: Ending,
 ) -> Result<(), AllocError>
-    ensures { OnOk result (Adds writer.old writer.new (what_members (What.Ended call tag.entry how))) }
+    ensures { OnOk result
+        (Adds writer.old writer.new (what_members (What.Ended call tag.entry how))) }
 {
     put_number(writer, "call", u64::from(call))?;
     put_tag(writer, tag)?;
@@ -198,7 +202,8 @@ fn put_asked(writer: &mut Writer, asked: AskedJob, tag: Option<&str>) -> Result<
 
 /// Writes for what cause a call was not placed, where there is one.
 fn put_cause(writer: &mut Writer, cause: Option<&str>) -> Result<(), AllocError>
-    ensures { OnOk result (Adds writer.old writer.new (cause_members (option_map (λ text. text.now) cause.entry))) }
+    ensures { OnOk result (Adds writer.old writer.new (cause_members (option_map
+        (λ text. text.now) cause.entry))) }
 {
     match cause {
         Some(text) => put_text(writer, "cause", text),
@@ -213,7 +218,8 @@ fn put_job(
     tag: Option<&str>,
     cause: Option<&str>,
 ) -> Result<(), AllocError>
-    ensures { OnOk result (Adds writer.old writer.new (what_members (What.Job report tag.entry cause.entry))) }
+    ensures { OnOk result
+        (Adds writer.old writer.new (what_members (What.Job report tag.entry cause.entry))) }
 {
     put_number(writer, "call", u64::from(report.call))?;
     put_tag(writer, tag)?;
@@ -231,7 +237,8 @@ fn put_tries(
     tries: u32,
     last: u64,
 ) -> Result<(), AllocError>
-    ensures { OnOk result (Adds writer.old writer.new (try_members (option_map (λ text. text.now) cause.entry) tries last)) }
+    ensures { OnOk result (Adds writer.old writer.new (try_members (option_map
+        (λ text. text.now) cause.entry) tries last)) }
 {
     put_cause(writer, cause)?;
     put_number(writer, "tries", u64::from(tries))?;
@@ -245,7 +252,8 @@ fn put_undelivered(
     tag: Option<&str>,
     cause: Option<&str>,
 ) -> Result<(), AllocError>
-    ensures { OnOk result (Adds writer.old writer.new (what_members (What.Undelivered job tag.entry cause.entry))) }
+    ensures { OnOk result
+        (Adds writer.old writer.new (what_members (What.Undelivered job tag.entry cause.entry))) }
 {
     put_number(writer, "life", u64::from(job.life))?;
     put_number(writer, "call", u64::from(job.call))?;
@@ -262,7 +270,8 @@ fn put_discarded(
     call: u32,
     tag: Option<&str>,
 ) -> Result<(), AllocError>
-    ensures { OnOk result (Adds writer.old writer.new (what_members (What.Discarded life call tag.entry))) }
+    ensures { OnOk result
+        (Adds writer.old writer.new (what_members (What.Discarded life call tag.entry))) }
 {
     put_number(writer, "life", u64::from(life))?;
     put_number(writer, "call", u64::from(call))?;
@@ -276,7 +285,8 @@ fn put_wire(
     direction: Direction,
     count: u64,
 ) -> Result<(), AllocError>
-    ensures { OnOk result (Adds writer.old writer.new (what_members (What.Wire leg direction count))) }
+    ensures { OnOk result
+        (Adds writer.old writer.new (what_members (What.Wire leg direction count))) }
 {
     put_text(writer, "leg", leg.name())?;
     put_text(writer, "direction", direction.name())?;
@@ -285,7 +295,8 @@ fn put_wire(
 
 /// Writes what is told of a page that is not sent.
 fn put_aside(writer: &mut Writer, page: PageAside, tag: Option<&str>) -> Result<(), AllocError>
-    ensures { OnOk result (Adds writer.old writer.new (what_members (What.SetAside page tag.entry))) }
+    ensures { OnOk result
+        (Adds writer.old writer.new (what_members (What.SetAside page tag.entry))) }
 {
     put_number(writer, "life", u64::from(page.life))?;
     put_number(writer, "call", u64::from(page.call))?;

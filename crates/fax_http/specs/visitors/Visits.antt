@@ -10,7 +10,8 @@ use Rattle.fax_http.specs.Connections.{ConnectionValue, Hears, answered_by, noth
 
 -- some octets that came were heard, or none
 abbrev pub IsRead : ConnectionValue → ConnectionValue → Type 0
-IsRead old new = (new ≡ old) ⊎ ((octets : List ℕ) × (asked : Option Question) × Hears octets asked old new)
+IsRead old new =
+    (new ≡ old) ⊎ ((octets : List ℕ) × (asked : Option Question) × Hears octets asked old new)
 
 -- so many octets of the answer were written
 abbrev pub IsWritten : ConnectionValue → ConnectionValue → Type 0
@@ -65,8 +66,11 @@ IsAnsweredPlace answer None (Some new) = ⊥
 IsAnsweredPlace answer (Some old) (Some new) = new ≡ answered_by answer old
 
 -- the one at this place, and no other one
-abbrev pub IsAnsweredAt : Answer → ℕ → List (Option ConnectionValue) → List (Option ConnectionValue) → Type 0
+abbrev pub IsAnsweredAt : Answer
+    → ℕ → List (Option ConnectionValue) → List (Option ConnectionValue) → Type 0
 IsAnsweredAt answer place [] new = new ≡ []
 IsAnsweredAt answer place (one ∷ others) [] = ⊥
-IsAnsweredAt answer zero (one ∷ others) (new ∷ new_others) = IsAnsweredPlace answer one new × (new_others ≡ others)
-IsAnsweredAt answer (suc place) (one ∷ others) (new ∷ new_others) = (new ≡ one) × IsAnsweredAt answer place others new_others
+IsAnsweredAt answer zero (one ∷ others) (new ∷ new_others) =
+    IsAnsweredPlace answer one new × (new_others ≡ others)
+IsAnsweredAt answer (suc place) (one ∷ others) (new ∷ new_others) =
+    (new ≡ one) × IsAnsweredAt answer place others new_others

@@ -14,11 +14,13 @@ packet_in (contents.Indicator code) = Indicator code
 packet_in (contents.Message kind fields) = Message kind (texts_of fields.items)
 
 -- two slices that were read
-abbrev pub seen_octets : Result (Bor (List ℕ) × Bor (List ℕ)) IfpFault → Result (List ℕ × List ℕ) IfpFault
+abbrev pub seen_octets : Result (Bor (List ℕ) × Bor (List ℕ)) IfpFault
+    → Result (List ℕ × List ℕ) IfpFault
 seen_octets (Ok slices) = Ok (slices.0.now, slices.1.now)
 seen_octets (Err fault) = Err fault
 
 -- a field that was read, and the place after it
 abbrev pub seen_field : Result (Field × Place) IfpFault → Result ReadField IfpFault
-seen_field (Ok read) = Ok (record { text = text_of read.0; half = read.1.half; octets = read.1.octets.now })
+seen_field (Ok read) =
+    Ok (record { text = text_of read.0; half = read.1.half; octets = read.1.octets.now })
 seen_field (Err fault) = Err fault

@@ -11,4 +11,5 @@ half_after (Some half) field = None
 -- the octets that a field adds after a half octet, if one is left
 abbrev pub added : Option ℕ → FieldText → List ℕ
 added (Some half) field = (16 * half + four_bits field) ∷ counted field.octets
-added None field = if is_some field.octets then (16 * four_bits field ∷ counted field.octets) else []
+added None field =
+    if is_some field.octets then (16 * four_bits field ∷ counted field.octets) else []

@@ -5,7 +5,8 @@ use Rattle.fax_ifp.specs.Pieces.{Piece, Image, pieces_of}
 use Rattle.fax_ifp.specs.Tracked.{TrackState, IsLeftBy}
 
 -- these elements leave this, and their pieces are earlier ones and then those given
-pub record HasGiven (heard : List Element) (tracked : TrackState) (earlier given : List Piece) : Type 0 where
+pub record HasGiven (heard : List Element) (tracked : TrackState) (earlier given : List Piece) :
+    Type 0 where
   pub left : IsLeftBy heard tracked
   pub pieces : pieces_of heard ≡ earlier ++ given
 
@@ -15,7 +16,8 @@ Stand = TrackState × List Piece
 
 -- these elements, in the order of time, lead from the old stand to the new, whatever came before
 abbrev pub Hears : List Element → Stand → Stand → Type 0
-Hears told old new = (heard : List Element) (earlier : List Piece) → HasGiven heard old.0 earlier old.1 → HasGiven (reverse told ++ heard) new.0 earlier new.1
+Hears told old new = (heard : List Element) (earlier : List Piece)
+    → HasGiven heard old.0 earlier old.1 → HasGiven (reverse told ++ heard) new.0 earlier new.1
 
 -- an image that is not whole
 abbrev pub spoilt : Option Image → Option Image

@@ -26,13 +26,16 @@ with_given (Some octets) given = octets ∷ given
 abbrev pub octets_given : Setup → Writing → List Event → List (List ℕ)
 octets_given setup writes [] = []
 octets_given setup writes (Ring at number ∷ earlier) = octets_given setup writes earlier
-octets_given setup writes (FromCalling octets at decided read ∷ earlier) = octets_given setup writes earlier
-octets_given setup writes (FromCalled octets at decided ∷ earlier) = octets_given setup writes earlier
+octets_given setup writes (FromCalling octets at decided read ∷ earlier) =
+    octets_given setup writes earlier
+octets_given setup writes (FromCalled octets at decided ∷ earlier) =
+    octets_given setup writes earlier
 octets_given setup writes (Tick at given ∷ earlier) =
-    with_given given.on_called
-    (in_call (begins_next setup (both_legs setup writes earlier).leg) (book_of (in_tick setup writes earlier at)).sending (octets_given setup writes earlier))
+    with_given given.on_called (in_call (begins_next setup (both_legs setup writes earlier).leg)
+    (book_of (in_tick setup writes earlier at)).sending (octets_given setup writes earlier))
 octets_given setup writes (Placed at connected ∷ earlier) =
-    in_call true (book_of (both_legs setup writes (Placed at connected ∷ earlier))).sending (octets_given setup writes earlier)
+    in_call true (book_of (both_legs setup writes (Placed at connected
+    ∷ earlier))).sending (octets_given setup writes earlier)
 
 -- the own packets of the datagrams that octets are
 abbrev pub packet_in : Result DatagramValue UdptlFault → List (List ℕ)
@@ -51,16 +54,17 @@ pub record ReadsAsSent (packets : List (List ℕ)) (place : ℕ) (octets : List 
 
 -- What the call gave: each datagram at its place, one of each packet. So its packets can be read off the octets.
 pub record GivesItsPackets (given : List (List ℕ)) (leg : CalledLeg) : Type 0 where
-  pub each : (place : ℕ) (octets : List ℕ) → slice_get (reverse given) place ≡ Some octets → ReadsAsSent (reverse leg.given) place octets
+  pub each : (place : ℕ) (octets : List ℕ)
+      → slice_get (reverse given) place ≡ Some octets → ReadsAsSent (reverse leg.given) place octets
   pub many : length given ≡ length leg.given
   pub packets : packets_in given ≡ leg.given
 
 abbrev pub CallsGiveTheirPackets : Type 0
-CallsGiveTheirPackets =
-    (setup : Setup) (writes : Writing) (trace : List Event) (leg : CalledLeg) → IsTrace setup writes trace → (both_legs setup writes trace).leg ≡ Some leg
+CallsGiveTheirPackets = (setup : Setup) (writes : Writing) (trace : List Event) (leg : CalledLeg)
+    → IsTrace setup writes trace → (both_legs setup writes trace).leg ≡ Some leg
     → GivesItsPackets (octets_given setup writes trace) leg
 
 abbrev pub NoneIsGivenBeforeACall : Type 0
-NoneIsGivenBeforeACall =
-    (setup : Setup) (writes : Writing) (trace : List Event) → IsTrace setup writes trace → (both_legs setup writes trace).leg ≡ None
-    → octets_given setup writes trace ≡ []
+NoneIsGivenBeforeACall = (setup : Setup) (writes : Writing) (trace : List Event)
+    → IsTrace setup writes trace
+    → (both_legs setup writes trace).leg ≡ None → octets_given setup writes trace ≡ []

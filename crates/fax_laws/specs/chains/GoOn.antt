@@ -14,22 +14,26 @@ use Rattle.fax_laws.specs.chains.Links.{IsLinked, IsNear, octets_heard}
 
 -- Octets that the first gave come while the second's call is on, at any moment; and either gateway has a tick, in which the first
 -- begins no other call.
-pub record GoOn (setup other : Setup) (writes others : Writing) (first second : List Event) (places : List ℕ) : Type 0 where
-  pub comes :
-      (place : ℕ) (octets : List ℕ) (at : ℕ) → slice_get (reverse (octets_given setup writes first)) place ≡ Some octets → IsNear places place
-      → idle_after (calling_leg other second) ≡ false
-      → (decided : Bool) × (read : Reading) × IsLinked setup other writes others first (FromCalling octets at decided read ∷ second)
-  pub second_ticks : (at : ℕ) → (given : Given) × IsLinked setup other writes others first (Tick at given ∷ second)
+pub record GoOn (setup other : Setup)
+    (writes others : Writing) (first second : List Event) (places : List ℕ) : Type 0 where
+  pub comes : (place : ℕ) (octets : List ℕ) (at : ℕ)
+      → slice_get (reverse (octets_given setup writes first)) place ≡ Some octets
+      → IsNear places place
+      → idle_after (calling_leg other second) ≡ false → (decided : Bool) × (read : Reading)
+      × IsLinked setup other writes others first (FromCalling octets at decided read ∷ second)
+  pub second_ticks : (at : ℕ)
+      → (given : Given) × IsLinked setup other writes others first (Tick at given ∷ second)
   pub first_ticks :
       (at : ℕ) → begins_next setup (both_legs setup writes first).leg ≡ false
       → (given : Given) × IsLinked setup other writes others (Tick at given ∷ first) second
 
 abbrev pub LinksBegin : Type 0
-LinksBegin = (setup other : Setup) (writes others : Writing) → IsLinked setup other writes others [] []
+LinksBegin = (setup other : Setup) (writes others : Writing)
+    → IsLinked setup other writes others [] []
 
 abbrev pub LinksGoOn : Type 0
-LinksGoOn =
-    (setup other : Setup) (writes others : Writing) (first second : List Event) (link : IsLinked setup other writes others first second)
+LinksGoOn = (setup other : Setup) (writes others : Writing)
+    (first second : List Event) (link : IsLinked setup other writes others first second)
     → GoOn setup other writes others first second link.places
 
 -- A link over which a datagram came of a job with this page.
@@ -48,4 +52,5 @@ pub record HasCome (writes others : Writing) (page : PageValue) : Type 0 where
   pub came : octets_heard other second ≡ octets ∷ []
 
 abbrev pub SomeAreLinked : Type 0
-SomeAreLinked = (writes others : Writing) (page : PageValue) → IsPage page → HasCome writes others page
+SomeAreLinked = (writes others : Writing) (page : PageValue)
+    → IsPage page → HasCome writes others page

@@ -18,20 +18,24 @@ at_if (Some octets) now moments = now ∷ moments
 abbrev pub moments_given : Setup → Writing → List Event → List ℕ
 moments_given setup writes [] = []
 moments_given setup writes (Ring at number ∷ earlier) = moments_given setup writes earlier
-moments_given setup writes (FromCalling octets at decided read ∷ earlier) = moments_given setup writes earlier
-moments_given setup writes (FromCalled octets at decided ∷ earlier) = moments_given setup writes earlier
-moments_given setup writes (Tick at given ∷ earlier) =
-    at_if given.on_called (clock (Tick at given ∷ earlier))
-    (in_call (begins_next setup (both_legs setup writes earlier).leg) (book_of (in_tick setup writes earlier at)).sending (moments_given setup writes earlier))
+moments_given setup writes (FromCalling octets at decided read ∷ earlier) =
+    moments_given setup writes earlier
+moments_given setup writes (FromCalled octets at decided ∷ earlier) =
+    moments_given setup writes earlier
+moments_given setup writes (Tick at given ∷ earlier) = at_if given.on_called (clock (Tick at given
+    ∷ earlier)) (in_call (begins_next setup (both_legs setup writes earlier).leg)
+    (book_of (in_tick setup writes earlier at)).sending (moments_given setup writes earlier))
 moments_given setup writes (Placed at connected ∷ earlier) =
-    in_call true (book_of (both_legs setup writes (Placed at connected ∷ earlier))).sending (moments_given setup writes earlier)
+    in_call true (book_of (both_legs setup writes (Placed at connected
+    ∷ earlier))).sending (moments_given setup writes earlier)
 
 -- and those at which the octets of `octets_heard` came
 abbrev pub moments_heard : Setup → List Event → List ℕ
 moments_heard setup [] = []
 moments_heard setup (Ring at number ∷ earlier) = []
 moments_heard setup (FromCalling octets at decided read ∷ earlier) =
-    if idle_after (calling_leg setup earlier) then moments_heard setup earlier else clock (FromCalling octets at decided read ∷ earlier) ∷ moments_heard setup earlier
+    if idle_after (calling_leg setup earlier) then moments_heard setup earlier
+    else clock (FromCalling octets at decided read ∷ earlier) ∷ moments_heard setup earlier
 moments_heard setup (FromCalled octets at decided ∷ earlier) = moments_heard setup earlier
 moments_heard setup (Tick at given ∷ earlier) = moments_heard setup earlier
 moments_heard setup (Placed at connected ∷ earlier) = moments_heard setup earlier
@@ -58,11 +62,14 @@ Follows (last ∷ earlier) at = (last ≤ at) × (at ≤ last + longest_silence)
 -- each of what was given at these places came soon, at these moments, and soon after the one before; moments given have the first first
 abbrev pub AreTimely : (given : List ℕ) → (places : List ℕ) → (heard : List ℕ) → Type 0
 AreTimely given [] [] = Unit {0}
-AreTimely given (place ∷ places) (at ∷ heard) = IsSoon given place at × Follows heard at × AreTimely given places heard
+AreTimely given (place ∷ places) (at ∷ heard) =
+    IsSoon given place at × Follows heard at × AreTimely given places heard
 AreTimely given places heard = ⊥
 
 -- So it is where both gateways have one clock: what comes is near, however many datagrams a call has.
 abbrev pub TimelyAreNear : Type 0
 TimelyAreNear =
-    (setup other : Setup) (writes : Writing) (first second : List Event) (places : List ℕ) → IsTrace setup writes first
-    → AreTimely (reverse (moments_given setup writes first)) places (moments_heard other second) → AreNear places
+    (setup other : Setup) (writes : Writing) (first second : List Event) (places : List ℕ)
+    → IsTrace setup writes first
+    → AreTimely (reverse (moments_given setup writes first)) places (moments_heard other second)
+    → AreNear places

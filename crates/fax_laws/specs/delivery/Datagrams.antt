@@ -33,8 +33,8 @@ caller_with writes now (Some octets) l = hears writes octets now l
 
 abbrev pub answerer_with : Reader → ℕ → Option (List ℕ) → CallingLeg → CallingLeg
 answerer_with reads now None l = l
-answerer_with reads now (Some octets) l =
-    if is_idle (answers.core_of l).state then l else answers.leg_with l now (read_by reads (question (Some l) now octets)) (datagram_of octets)
+answerer_with reads now (Some octets) l = if is_idle (answers.core_of l).state then l
+    else answers.leg_with l now (read_by reads (question (Some l) now octets)) (datagram_of octets)
 
 -- the datagrams that their ticks give
 abbrev pub by_caller : Setup → Writing → ℕ → CalledLeg → Option (List ℕ)
@@ -47,18 +47,27 @@ by_answerer other now l = answers.told_by other l.given (answers.answers l now).
 -- given, and time goes on.
 unfoldable pub legs_round : Setup → Setup → Writing → Reader → ℕ → Legs → Legs
 legs_round setup other writes reads now l =
-    let c : CalledLeg = caller_with writes now l.reply l.caller in
-    let a : CallingLeg = answerer_with reads now (by_caller setup writes now c) l.answerer in
-    record { caller = with_tick (calls.calls writes c now) now c; answerer = answers.leg_ticked a now; reply = by_answerer other now a }
+    let c : CalledLeg = caller_with writes now l.reply l.caller
+    in let a : CallingLeg = answerer_with reads now (by_caller setup writes now c) l.answerer
+    in record {
+      caller = with_tick (calls.calls writes c now) now c;
+      answerer = answers.leg_ticked a now;
+      reply = by_answerer other now a;
+    }
 
 unfoldable pub legs_rounds : Setup → Setup → Writing → Reader → (many : ℕ) → (now : ℕ) → Legs → Legs
 legs_rounds setup other writes reads zero now l = l
-legs_rounds setup other writes reads (suc many) now l = legs_rounds setup other writes reads many (now + 40) (legs_round setup other writes reads now l)
+legs_rounds setup other writes reads (suc many) now l =
+    legs_rounds setup other writes reads many (now + 40) (legs_round setup other writes reads now l)
 
 -- both are new: the one calls with a job, and the other one is rung
 abbrev pub legs_begun : Setup → Setup → Writing → JobValue → ℕ → Legs
 legs_begun setup other writes job now =
-    record { caller = begun_leg job (core_left setup writes None) now; answerer = rung_leg (new_answering other.pause) now 0; reply = None }
+    record {
+      caller = begun_leg job (core_left setup writes None) now;
+      answerer = rung_leg (new_answering other.pause) now 0;
+      reply = None;
+    }
 
 -- The call is over at both ends. The caller tells that its job was delivered, with one page; and the pages that the answerer confirmed
 -- are this one.
@@ -67,10 +76,13 @@ pub record ArePassed (writes : Writing) (page : PageValue) (l : Legs) : Type 0 w
   pub outcome : (calls.core_of writes l.caller).outcome ≡ Some outcomes.Delivered
   pub delivered : (calls.core_of writes l.caller).counts.delivered ≡ 1
   pub answerer_over : (answers.core_of l.answerer).state ≡ answering.Idle
-  pub pages : pages_confirmed (rung l.answerer.before l.answerer.begun) l.answerer.events ≡ page ∷ []
+  pub pages :
+      pages_confirmed (rung l.answerer.before l.answerer.begun) l.answerer.events ≡ page ∷ []
 
 -- Whichever the page, its format, the redundancy and the pause of each machine: after so many rounds, and ever after, it is delivered.
 abbrev pub DatagramsGetThrough : Type 0
-DatagramsGetThrough =
-    (setup other : Setup) (writes : Writing) (reads : Reader) (page : PageValue) (number start many : ℕ) → IsWriting writes → IsReader reads → IsPage page → most_rounds writes page ≤ many
-    → start + 40 * many + 1 < 2 ^ 64 → ArePassed writes page (legs_rounds setup other writes reads many start (legs_begun setup other writes (job_of number page) start))
+DatagramsGetThrough = (setup other : Setup)
+    (writes : Writing) (reads : Reader) (page : PageValue) (number start many : ℕ)
+    → IsWriting writes → IsReader reads → IsPage page → most_rounds writes page ≤ many
+    → start + 40 * many + 1 < 2 ^ 64 → ArePassed writes page (legs_rounds
+    setup other writes reads many start (legs_begun setup other writes (job_of number page) start))

@@ -35,10 +35,11 @@ most_rounds writes page = length (writes page Mr 0) / 72 + 350
 -- Whichever the page, its format, the pauses and the calls before: after so many rounds, and ever after, it is delivered. (Moments have
 -- 64 bits.)
 abbrev pub PagesGetThrough : Type 0
-PagesGetThrough =
-    (writes : Writing) (reads : Reader) (page : PageValue) (number start many : ℕ) (caller : CallerCore) (answerer : AnswererCore) → IsWriting writes → IsReader reads → IsPage page
-    → MayBegin caller.pace start → MayBegin answerer.pace start → most_rounds writes page ≤ many → start + 40 * many + 1 < 2 ^ 64
-    → IsDelivered page (rounds writes reads (job_of number page) many start (begun (job_of number page) caller answerer start))
+PagesGetThrough = (writes : Writing) (reads : Reader) (page : PageValue)
+    (number start many : ℕ) (caller : CallerCore) (answerer : AnswererCore) → IsWriting writes
+    → IsReader reads → IsPage page → MayBegin caller.pace start → MayBegin answerer.pace start
+    → most_rounds writes page ≤ many → start + 40 * many + 1 < 2 ^ 64 → IsDelivered page (rounds
+    writes reads (job_of number page) many start (begun (job_of number page) caller answerer start))
 
 -- There are such calls: a function that reads images rightly, and machines that may begin at any moment, since no call was on.
 abbrev pub ReadersAre : Type 0
@@ -49,8 +50,11 @@ NewMachinesMayBegin = (pause now : ℕ) → IsPause pause → MayBegin (new_pace
 
 -- And as soon as the caller's call is over it is delivered: no page is told so before the answerer has it, and no other end is told.
 abbrev pub OverIsDelivered : Type 0
-OverIsDelivered =
-    (writes : Writing) (reads : Reader) (page : PageValue) (number start many : ℕ) (caller : CallerCore) (answerer : AnswererCore) → IsWriting writes → IsReader reads → IsPage page
-    → MayBegin caller.pace start → MayBegin answerer.pace start → start + 40 * (most_rounds writes page + many) + 1 < 2 ^ 64
-    → is_over (rounds writes reads (job_of number page) many start (begun (job_of number page) caller answerer start)).caller.state ≡ true
-    → IsDelivered page (rounds writes reads (job_of number page) many start (begun (job_of number page) caller answerer start))
+OverIsDelivered = (writes : Writing) (reads : Reader)
+    (page : PageValue) (number start many : ℕ) (caller : CallerCore) (answerer : AnswererCore)
+    → IsWriting writes → IsReader reads → IsPage page → MayBegin caller.pace start
+    → MayBegin answerer.pace start → start + 40 * (most_rounds writes page + many) + 1 < 2 ^ 64
+    → is_over (rounds writes reads (job_of number page)
+    many start (begun (job_of number page) caller answerer start)).caller.state ≡ true
+    → IsDelivered page (rounds
+    writes reads (job_of number page) many start (begun (job_of number page) caller answerer start))

@@ -24,7 +24,8 @@ use Rattle.fax_laws.specs.delivery.Delivered.{MayBegin, most_rounds}
 abbrev pub all_kept : List PageValue → List ConfirmedPage → List ConfirmedPage
 all_kept [] kept = kept
 all_kept (page ∷ []) kept = record { page = page; closes = true } ∷ kept
-all_kept (page ∷ next ∷ rest) kept = all_kept (next ∷ rest) (record { page = page; closes = false } ∷ kept)
+all_kept (page ∷ next ∷ rest) kept =
+    all_kept (next ∷ rest) (record { page = page; closes = false } ∷ kept)
 
 -- The call is over at both ends. The caller tells that its job was delivered, with all its pages, and the answerer gave MCF with just
 -- these.
@@ -47,9 +48,10 @@ rounds_of_pages writes (page ∷ pages) = most_rounds writes page + more_rounds 
 
 -- Whichever the pages, their formats, the pauses and the calls before: after so many rounds, and ever after, they are delivered.
 abbrev pub JobsGetThrough : Type 0
-JobsGetThrough =
-    (writes : Writing) (reads : Reader) (job : JobValue) (start many : ℕ) (caller : CallerCore) (answerer : AnswererCore) → IsWriting writes → IsReader reads → IsJob job
-    → MayBegin caller.pace start → MayBegin answerer.pace start → rounds_of_pages writes job.pages ≤ many → start + 40 * many + 1 < 2 ^ 64
+JobsGetThrough = (writes : Writing) (reads : Reader) (job : JobValue)
+    (start many : ℕ) (caller : CallerCore) (answerer : AnswererCore) → IsWriting writes
+    → IsReader reads → IsJob job → MayBegin caller.pace start → MayBegin answerer.pace start
+    → rounds_of_pages writes job.pages ≤ many → start + 40 * many + 1 < 2 ^ 64
     → AreDelivered job (rounds writes reads job many start (begun job caller answerer start))
 
 -- ---- BY DATAGRAMS: each machine is as a gateway is on its leg. (ITU-T T.38, UDPTL with redundancy.) So a gateway's called leg delivers
@@ -62,11 +64,14 @@ pub record AreAllPassed (writes : Writing) (job : JobValue) (l : Legs) : Type 0 
   pub outcome : (calls.core_of writes l.caller).outcome ≡ Some outcomes.Delivered
   pub delivered : (calls.core_of writes l.caller).counts.delivered ≡ length job.pages
   pub answerer_over : (answers.core_of l.answerer).state ≡ answering.Idle
-  pub pages : pages_confirmed (rung l.answerer.before l.answerer.begun) l.answerer.events ≡ reverse job.pages
+  pub pages : pages_confirmed (rung l.answerer.before l.answerer.begun) l.answerer.events
+      ≡ reverse job.pages
 
 -- Whichever the pages, their formats, the redundancy and the pause of each machine: after so many rounds, and ever after, they are
 -- delivered.
 abbrev pub JobsPass : Type 0
 JobsPass =
-    (setup other : Setup) (writes : Writing) (reads : Reader) (job : JobValue) (start many : ℕ) → IsWriting writes → IsReader reads → IsJob job → rounds_of_pages writes job.pages ≤ many
-    → start + 40 * many + 1 < 2 ^ 64 → AreAllPassed writes job (legs_rounds setup other writes reads many start (legs_begun setup other writes job start))
+    (setup other : Setup) (writes : Writing) (reads : Reader) (job : JobValue) (start many : ℕ)
+    → IsWriting writes → IsReader reads → IsJob job
+    → rounds_of_pages writes job.pages ≤ many → start + 40 * many + 1 < 2 ^ 64 → AreAllPassed writes
+    job (legs_rounds setup other writes reads many start (legs_begun setup other writes job start))

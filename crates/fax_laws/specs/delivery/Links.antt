@@ -49,17 +49,20 @@ slots_with (Some packet) false before = Some packet ∷ before
 unfoldable pub pieces_with : Option (List ℕ) → (over : Bool) → List Slot → List Piece
 pieces_with None over before = []
 pieces_with (Some packet) true before = []
-pieces_with (Some packet) false before = drop (length (pieces before)) (pieces (Some packet ∷ before))
+pieces_with (Some packet) false before =
+    drop (length (pieces before)) (pieces (Some packet ∷ before))
 
 -- the caller's turn: what the answerer gave comes, and time goes on
 unfoldable pub caller_turned : Writing → JobValue → ℕ → Link → call.TickResult
-caller_turned writes job now l = call.ticked writes job (call.came_all l.caller (pieces_with l.reply (is_over l.caller.state) l.to_caller) now) now
+caller_turned writes job now l = call.ticked writes
+    job (call.came_all l.caller (pieces_with l.reply (is_over l.caller.state) l.to_caller) now) now
 
 -- the answerer's turn: this packet comes, if one was given, and time goes on
 unfoldable pub answerer_turned : Reader → ℕ → Option (List ℕ) → Link → answer.TickResult
 answerer_turned reads now packet l =
-    let came : List Piece = pieces_with packet (is_idle l.answerer.state) l.to_answerer in
-    answer.ticked (answer.came_all (read_by reads (answer.first_asked l.answerer came now)) l.answerer came now) now
+    let came : List Piece = pieces_with packet (is_idle l.answerer.state) l.to_answerer
+    in answer.ticked (answer.came_all
+    (read_by reads (answer.first_asked l.answerer came now)) l.answerer came now) now
 
 -- A ROUND: the caller has its turn, and then the answerer, to which comes what the caller has just given.
 abbrev pub packet_given : Option Packet → Option (List ℕ)
@@ -87,7 +90,8 @@ round writes reads job now l =
 -- so many rounds, the first of them at this moment
 unfoldable pub rounds : Writing → Reader → JobValue → (many : ℕ) → (now : ℕ) → Link → Link
 rounds writes reads job zero now l = l
-rounds writes reads job (suc many) now l = rounds writes reads job many (now + 40) (round writes reads job now l)
+rounds writes reads job (suc many) now l =
+    rounds writes reads job many (now + 40) (round writes reads job now l)
 
 -- a call begins: the caller starts that of a job, and the answerer is rung
 abbrev pub begun : JobValue → CallerCore → AnswererCore → (now : ℕ) → Link

@@ -32,19 +32,24 @@ by_gateway (round ∷ earlier) = handed_calling (sent round.gateway)
 
 abbrev pub by_answerer : Setup → List Round → List (List ℕ)
 by_answerer setup [] = []
-by_answerer setup (round ∷ earlier) = handed (by_machine setup (moment_after earlier) (called_with setup (moment_after earlier) round.called (answerer_after setup earlier)))
+by_answerer setup (round ∷ earlier) = handed (by_machine setup (moment_after earlier)
+    (called_with setup (moment_after earlier) round.called (answerer_after setup earlier)))
 
 -- In a round there come: to the machine that calls what the gateway handed over in the last one; to the gateway what the machine that calls
 -- hands over in this one, and what the machine that is called did in the last; and to that what the gateway hands over in this one.
-pub record ComesOnce (setup : Setup) (writes : Writing) (job : JobValue) (earlier : List Round) (round : Round) : Type 0 where
+pub record ComesOnce (setup : Setup)
+    (writes : Writing) (job : JobValue) (earlier : List Round) (round : Round) : Type 0 where
   pub to_caller : round.calling ≡ by_gateway earlier
-  pub on_calling : came_calling (receipts round.gateway) ≡ handed (by_caller setup writes (moment_after earlier) (calling_with writes (moment_after earlier) round.calling (caller_after setup writes job earlier)))
+  pub on_calling : came_calling (receipts round.gateway)
+      ≡ handed (by_caller setup writes (moment_after earlier) (calling_with
+      writes (moment_after earlier) round.calling (caller_after setup writes job earlier)))
   pub on_called : came_called (receipts round.gateway) ≡ by_answerer setup earlier
   pub to_answerer : octets_of round.called ≡ handed_called (sent round.gateway)
 
 abbrev pub EachComesOnce : Setup → Writing → JobValue → List Round → Type 0
 EachComesOnce setup writes job [] = Unit {0}
-EachComesOnce setup writes job (round ∷ earlier) = ComesOnce setup writes job earlier round × EachComesOnce setup writes job earlier
+EachComesOnce setup writes job (round ∷ earlier) =
+    ComesOnce setup writes job earlier round × EachComesOnce setup writes job earlier
 
 -- an exchange of a page over such lines that is played to its end, in which the page is delivered
 pub record EndsWell (setup : Setup) (writes : Writing) (page : PageValue) : Type 0 where
@@ -57,6 +62,6 @@ pub record EndsWell (setup : Setup) (writes : Writing) (page : PageValue) : Type
   pub pages : pages_on (answerer_after setup rounds) ≡ page ∷ []
 
 abbrev pub ExchangesEndWell : Type 0
-ExchangesEndWell =
-    (setup : Setup) (writes : Writing) (reads : Reader) (page : PageValue) → setup.asks ≡ false → setup.restored ≡ [] → IsWriting writes → IsReader reads → IsPage page
-    → 2 * most_rounds writes page ≤ exchanges.most_rounds → EndsWell setup writes page
+ExchangesEndWell = (setup : Setup) (writes : Writing) (reads : Reader) (page : PageValue)
+    → setup.asks ≡ false → setup.restored ≡ [] → IsWriting writes → IsReader reads
+    → IsPage page → 2 * most_rounds writes page ≤ exchanges.most_rounds → EndsWell setup writes page

@@ -35,8 +35,11 @@ pub(super) struct ShortRuns {
 pub(super) fn short_runs(ahead: Ahead, colour: Colour) -> Option<ShortRuns>
     requires known { ahead.left ≤ 56 }
     ensures few { IfSome result (λ runs. (runs.first < 64) × (runs.second < 64)) }
-    ensures after { IfSome result (λ runs. ShowsAfter ahead.window ahead.left runs.ahead.window runs.ahead.left) }
-    ensures spelt { IfSome result (λ runs. (s t : List Bool) × SpellsRun colour s runs.first × SpellsRun (other colour) t runs.second × FirstAre ahead.window ahead.left runs.ahead.left (s ++ t)) }
+    ensures after { IfSome result
+        (λ runs. ShowsAfter ahead.window ahead.left runs.ahead.window runs.ahead.left) }
+    ensures spelt { IfSome result (λ runs. (s t : List Bool)
+        × SpellsRun colour s runs.first × SpellsRun (other colour) t runs.second
+        × FirstAre ahead.window ahead.left runs.ahead.left (s ++ t)) }
 {
     match colour {
         Colour::White => match white_and_black(ahead) {
@@ -52,8 +55,11 @@ pub(super) fn short_runs(ahead: Ahead, colour: Colour) -> Option<ShortRuns>
 fn white_and_black(ahead: Ahead) -> Option<ShortRuns>
     requires known { ahead.left ≤ 56 }
     ensures few { IfSome result (λ runs. (runs.first < 64) × (runs.second < 64)) }
-    ensures after { IfSome result (λ runs. ShowsAfter ahead.window ahead.left runs.ahead.window runs.ahead.left) }
-    ensures spelt { IfSome result (λ runs. (s t : List Bool) × SpellsRun White s runs.first × SpellsRun Black t runs.second × FirstAre ahead.window ahead.left runs.ahead.left (s ++ t)) }
+    ensures after { IfSome result
+        (λ runs. ShowsAfter ahead.window ahead.left runs.ahead.window runs.ahead.left) }
+    ensures spelt { IfSome result
+        (λ runs. (s t : List Bool) × SpellsRun White s runs.first × SpellsRun Black t runs.second
+        × FirstAre ahead.window ahead.left runs.ahead.left (s ++ t)) }
 {
     let Some(pair) = pair_at(ahead.window >> 8) else {
         return None;
@@ -74,8 +80,11 @@ fn white_and_black(ahead: Ahead) -> Option<ShortRuns>
 fn one_by_one(ahead: Ahead, colour: Colour) -> Option<ShortRuns>
     requires known { ahead.left ≤ 56 }
     ensures few { IfSome result (λ runs. (runs.first < 64) × (runs.second < 64)) }
-    ensures after { IfSome result (λ runs. ShowsAfter ahead.window ahead.left runs.ahead.window runs.ahead.left) }
-    ensures spelt { IfSome result (λ runs. (s t : List Bool) × SpellsRun colour s runs.first × SpellsRun (other colour) t runs.second × FirstAre ahead.window ahead.left runs.ahead.left (s ++ t)) }
+    ensures after { IfSome result
+        (λ runs. ShowsAfter ahead.window ahead.left runs.ahead.window runs.ahead.left) }
+    ensures spelt { IfSome result (λ runs. (s t : List Bool)
+        × SpellsRun colour s runs.first × SpellsRun (other colour) t runs.second
+        × FirstAre ahead.window ahead.left runs.ahead.left (s ++ t)) }
 {
     let Some(first) = short_run(ahead, colour) else {
         return None;
@@ -95,8 +104,10 @@ fn one_by_one(ahead: Ahead, colour: Colour) -> Option<ShortRuns>
 fn short_run(ahead: Ahead, colour: Colour) -> Option<ShortRun>
     requires known { ahead.left ≤ 56 }
     ensures few { IfSome result (λ short. short.run < 64) }
-    ensures after { IfSome result (λ short. ShowsAfter ahead.window ahead.left short.ahead.window short.ahead.left) }
-    ensures spelt { IfSome result (λ short. (text : List Bool) × SpellsRun colour text short.run × FirstAre ahead.window ahead.left short.ahead.left text) }
+    ensures after { IfSome result
+        (λ short. ShowsAfter ahead.window ahead.left short.ahead.window short.ahead.left) }
+    ensures spelt { IfSome result (λ short. (text : List Bool) × SpellsRun colour text short.run
+        × FirstAre ahead.window ahead.left short.ahead.left text) }
 {
     let word = word_at(colour, ahead.window >> 8);
     let bits = u32::from(word.bits);
@@ -113,7 +124,8 @@ fn short_run(ahead: Ahead, colour: Colour) -> Option<ShortRun>
 #[inline]
 pub(super) fn ones(ahead: Ahead) -> u32
     ensures few { result ≤ ahead.left }
-    ensures ones { (more : List Bool) × (word_bits 64 ahead.window ≡ replicate result true ++ more) }
+    ensures ones { (more : List Bool)
+        × (word_bits 64 ahead.window ≡ replicate result true ++ more) }
 {
     let zeros_for_ones = u64::MAX - ahead.window;
     zeros_for_ones.leading_zeros().min(ahead.left)

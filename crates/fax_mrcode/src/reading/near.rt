@@ -57,8 +57,10 @@ pub(super) fn read_near_steps(
     requires at { StepsAt changes.now width start.from }
     ensures next { IsStartIn changes.now width line.new result }
     ensures right { start.from ≤ result.from }
-    ensures so_far { (old : Place) → StepsSoFar (painted Colour.White 0 changes.now width) width old reader.old (left_of_a0 line.old start) start
-        → StepsSoFar (painted Colour.White 0 changes.now width) width old reader.new (left_of_a0 line.new result) result }
+    ensures so_far { (old : Place)
+        → StepsSoFar (painted Colour.White 0 changes.now width) width old reader.old
+        (left_of_a0 line.old start) start → StepsSoFar (painted Colour.White 0 changes.now width)
+        width old reader.new (left_of_a0 line.new result) result }
 {
     let known = reader.known();
     let first = Near {
@@ -92,7 +94,9 @@ fn near_start(line: &mut RowBuilder, changes: &[u16], width: u16, near: Near) ->
     requires at { StepsAt changes.now width near.from }
     requires known { near.ahead.left ≤ 56 }
     ensures next { IsStartIn changes.now width line.new (start_of result) }
-    ensures taken { (line.new ≡ line.old) × (result ≡ near) ⊎ TakesNear (painted Colour.White 0 changes.now width) width line.old near line.new result }
+    ensures taken { (line.new ≡ line.old)
+        × (result ≡ near) ⊎ TakesNear (painted Colour.White 0 changes.now width)
+        width line.old near line.new result }
 {
     if near.ahead.window >> 56 == 0xff && near.ahead.left >= 8 {
         near_zeros(line, changes, width, near)
@@ -109,7 +113,8 @@ fn near_step(line: &mut RowBuilder, changes: &[u16], width: u16, near: Near) -> 
     requires at { StepsAt changes.now width near.from }
     requires known { near.ahead.left ≤ 56 }
     ensures next { IfSome result (λ next. IsStartIn changes.now width line.new (start_of next)) }
-    ensures taken { IfSome result (λ next. TakesNear (painted Colour.White 0 changes.now width) width line.old near line.new next) }
+    ensures taken { IfSome result (λ next.
+        TakesNear (painted Colour.White 0 changes.now width) width line.old near line.new next) }
     ensures none { IsNone result → line.new ≡ line.old }
 {
     let word = vertical_word(near.ahead.window);
@@ -133,7 +138,8 @@ fn near_zeros(line: &mut RowBuilder, changes: &[u16], width: u16, near: Near) ->
     requires some { 0 < near.ahead.left }
     requires zero { near.ahead.window / 2 ^ 63 ≡ 1 }
     ensures next { IsStartIn changes.now width line.new (start_of result) }
-    ensures taken { TakesNear (painted Colour.White 0 changes.now width) width line.old near line.new result }
+    ensures taken { TakesNear (painted Colour.White 0 changes.now width)
+        width line.old near line.new result }
 {
     let b1 = next_change(changes, width, near);
     if near.from > 0 {
@@ -170,10 +176,12 @@ fn near_vertical(
     requires at { StepsAt changes.now width near.from }
     requires known { near.ahead.left ≤ 56 }
     requires size { length (mode_word (Mode.Vertical word.offset)) ≡ word.bits }
-    requires begins { (rest : List Bool) × (word_bits 64 near.ahead.window ≡ mode_word (Mode.Vertical word.offset) ++ rest) }
+    requires begins { (rest : List Bool)
+        × (word_bits 64 near.ahead.window ≡ mode_word (Mode.Vertical word.offset) ++ rest) }
     requires back { IsBack word.offset word.back }
     ensures next { IfSome result (λ next. IsStartIn changes.now width line.new (start_of next)) }
-    ensures taken { IfSome result (λ next. TakesNear (painted Colour.White 0 changes.now width) width line.old near line.new next) }
+    ensures taken { IfSome result (λ next.
+        TakesNear (painted Colour.White 0 changes.now width) width line.old near line.new next) }
     ensures none { IsNone result → line.new ≡ line.old }
 {
     let bits = u32::from(word.bits);
@@ -218,8 +226,12 @@ fn near_pass(changes: &[u16], width: u16, near: Near) -> Option<Near>
     requires at { StepsAt changes.now width near.from }
     requires known { near.ahead.left ≤ 56 }
     requires word { near.ahead.window / 2 ^ 60 ≡ 1 }
-    ensures next { IfSome result (λ next. (line : Elements) → IsStartIn changes.now width line (start_of near) → IsStartIn changes.now width line (start_of next)) }
-    ensures taken { IfSome result (λ next. (line : Elements) → IsStartIn changes.now width line (start_of near) → TakesNear (painted Colour.White 0 changes.now width) width line near line next) }
+    ensures next { IfSome result
+        (λ next. (line : Elements) → IsStartIn changes.now width line (start_of near)
+        → IsStartIn changes.now width line (start_of next)) }
+    ensures taken { IfSome result
+        (λ next. (line : Elements) → IsStartIn changes.now width line (start_of near)
+        → TakesNear (painted Colour.White 0 changes.now width) width line near line next) }
 {
     if near.ahead.left < PASS_BITS {
         return None;
@@ -245,7 +257,8 @@ fn near_horizontal(line: &mut RowBuilder, changes: &[u16], width: u16, near: Nea
     requires known { near.ahead.left ≤ 56 }
     requires word { near.ahead.window / 2 ^ 61 ≡ 1 }
     ensures next { IfSome result (λ next. IsStartIn changes.now width line.new (start_of next)) }
-    ensures taken { IfSome result (λ next. TakesNear (painted Colour.White 0 changes.now width) width line.old near line.new next) }
+    ensures taken { IfSome result (λ next.
+        TakesNear (painted Colour.White 0 changes.now width) width line.old near line.new next) }
     ensures none { IsNone result → line.new ≡ line.old }
 {
     if near.ahead.left < SHORT_STEP_BITS {
@@ -273,8 +286,12 @@ fn turn_at_runs(
     requires first { runs.first < 64 }
     requires second { runs.second < 64 }
     ensures next { IfSome result (λ next. IsStartIn changes.now width line.new (start_of next)) }
-    ensures taken { IfSome result (λ next. (s t : List Bool) → SpellsRun (colour_after_changes near.index) s runs.first → SpellsRun (other (colour_after_changes near.index)) t runs.second
-        → TakesStep (painted Colour.White 0 changes.now width) width Mode.Horizontal (s ++ t) (left_of_a0 line.old (start_of near)) (start_of near) (left_of_a0 line.new (start_of next)) (start_of next)) }
+    ensures taken { IfSome result
+        (λ next. (s t : List Bool) → SpellsRun (colour_after_changes near.index) s runs.first
+        → SpellsRun (other (colour_after_changes near.index)) t runs.second
+        → TakesStep (painted Colour.White 0 changes.now width) width Mode.Horizontal (s
+        ++ t) (left_of_a0 line.old (start_of near))
+        (start_of near) (left_of_a0 line.new (start_of next)) (start_of next)) }
     ensures ahead { IfSome result (λ next. next.ahead ≡ runs.ahead) }
     ensures none { IsNone result → line.new ≡ line.old }
 {

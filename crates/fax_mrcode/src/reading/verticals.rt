@@ -24,10 +24,13 @@ pub(super) struct VerticalWord {
 #[inline]
 pub(super) fn vertical_word(window: u64) -> VerticalWord
     ensures few { result.bits ≤ 7 }
-    ensures size { 0 < result.bits → length (mode_word (Mode.Vertical result.offset)) ≡ result.bits }
+    ensures size { 0 < result.bits
+        → length (mode_word (Mode.Vertical result.offset)) ≡ result.bits }
     ensures back { IsBack result.offset result.back }
-    ensures begins { 0 < result.bits → (rest : List Bool) × (word_bits 64 window ≡ mode_word (Mode.Vertical result.offset) ++ rest) }
-    ensures none { result.bits ≡ 0 → (offset : Offset) (rest : List Bool) → word_bits 64 window ≡ mode_word (Mode.Vertical offset) ++ rest → ⊥ }
+    ensures begins { 0 < result.bits → (rest : List Bool)
+        × (word_bits 64 window ≡ mode_word (Mode.Vertical result.offset) ++ rest) }
+    ensures none { result.bits ≡ 0 → (offset : Offset) (rest : List Bool)
+        → word_bits 64 window ≡ mode_word (Mode.Vertical offset) ++ rest → ⊥ }
 {
     word_at((window >> 57) as usize)
 }

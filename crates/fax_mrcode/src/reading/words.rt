@@ -28,7 +28,8 @@ struct ModeWord {
 #[inline]
 pub(super) fn read_mode(reader: &mut BitReader) -> Result<Mode, LineFault>
     ensures ok { IfOk result (λ mode. Passes reader.old reader.new (mode_word mode)) }
-    ensures fault { IfErr result (λ fault. (fault ≡ LineFault.NoMode) × ((mode : Mode) (rest : List Bool) → reader.old.left ≡ mode_word mode ++ rest → ⊥)) }
+    ensures fault { IfErr result (λ fault. (fault ≡ LineFault.NoMode)
+        × ((mode : Mode) (rest : List Bool) → reader.old.left ≡ mode_word mode ++ rest → ⊥)) }
 {
     let Some(word) = word_of(reader.window() << 8) else {
         return Err(LineFault::NoMode);
@@ -44,8 +45,10 @@ pub(super) fn read_mode(reader: &mut BitReader) -> Result<Mode, LineFault>
 #[inline]
 fn word_of(window: u64) -> Option<ModeWord>
     ensures size { IfSome result (λ word. length (mode_word word.mode) ≡ word.bits) }
-    ensures begins { IfSome result (λ word. (rest : List Bool) × (word_bits 64 window ≡ mode_word word.mode ++ rest)) }
-    ensures none { IsNone result → (mode : Mode) (rest : List Bool) → word_bits 64 window ≡ mode_word mode ++ rest → ⊥ }
+    ensures begins { IfSome result
+        (λ word. (rest : List Bool) × (word_bits 64 window ≡ mode_word word.mode ++ rest)) }
+    ensures none { IsNone result
+        → (mode : Mode) (rest : List Bool) → word_bits 64 window ≡ mode_word mode ++ rest → ⊥ }
 {
     let vertical = vertical_word(window);
     if vertical.bits > 0 {

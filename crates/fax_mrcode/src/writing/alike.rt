@@ -15,7 +15,8 @@ pub(super) fn places_alike(changes: &[u16], index: usize, above: &[u16], over: u
     ensures few { result ≤ 28 }
     ensures inside { 0 < result → index + result ≤ length changes.now }
     ensures inside_above { 0 < result → over + result ≤ length above.now }
-    ensures alike { (k : ℕ) → k < result → slice_index changes.now (index + k) ≡ slice_index above.now (over + k) }
+    ensures alike { (k : ℕ)
+        → k < result → slice_index changes.now (index + k) ≡ slice_index above.now (over + k) }
 {
     let mut count = 0;
     while count < MOST && four_alike(changes, index + count, above, over + count) {
@@ -31,7 +32,8 @@ fn four_alike(changes: &[u16], index: usize, above: &[u16], over: usize) -> bool
     requires over { over ≤ length above.now + 2 ^ 33 }
     ensures inside { IsTrue result → index + 4 ≤ length changes.now }
     ensures inside_above { IsTrue result → over + 4 ≤ length above.now }
-    ensures alike { IsTrue result → (k : ℕ) → k < 4 → slice_index changes.now (index + k) ≡ slice_index above.now (over + k) }
+    ensures alike { IsTrue result → (k : ℕ)
+        → k < 4 → slice_index changes.now (index + k) ≡ slice_index above.now (over + k) }
 {
     index + AT_ONCE <= changes.len()
         && over + AT_ONCE <= above.len()
@@ -42,8 +44,9 @@ fn four_alike(changes: &[u16], index: usize, above: &[u16], over: usize) -> bool
 #[inline]
 fn four_at(places: &[u16], index: usize) -> u64
     requires { index + 4 ≤ length places.now }
-    ensures digits { result ≡ slice_index places.now index + 65536 * slice_index places.now (index + 1)
-        + 4294967296 * slice_index places.now (index + 2) + 281474976710656 * slice_index places.now (index + 3) }
+    ensures digits { result ≡ slice_index places.now index
+        + 65536 * slice_index places.now (index + 1) + 4294967296 * slice_index places.now (index
+        + 2) + 281474976710656 * slice_index places.now (index + 3) }
     ensures places { (k : ℕ) → k < 4 → slice_index places.now (index + k) < 65536 }
 {
     u64::from(places[index])

@@ -43,7 +43,8 @@ fn kept_front(octets: &[u8], zeros: u32) -> Kept
     ensures within { result.len ≤ length octets.now }
     ensures kept { less_fill zeros (take result.len octets.now) ≡ take result.len octets.now }
     ensures zeros { result.zeros ≡ zeros_after zeros (take result.len octets.now) }
-    ensures stops { result.len < length octets.now → (get_or octets.now result.len 0 ≡ 0) × (most_zeros ≤ result.zeros) }
+    ensures stops { result.len < length octets.now
+        → (get_or octets.now result.len 0 ≡ 0) × (most_zeros ≤ result.zeros) }
 {
     let mut place = 0;
     let mut count = zeros;

@@ -30,8 +30,10 @@ pub(super) fn judge<S: RowStore>(
     requires used { used ≤ 8 * length octets.now }
     requires few { length (S.rows rows.now) ≤ most_rows }
     requires each { All (λ row. length row ≡ elements_of width) (S.rows rows.now) }
-    ensures judged { (all : List ℕ) → IsReadUpTo coding (elements_of width) all (S.rows rows.now) tag (drop used (bits_of octets.now))
-        → NoMoreIsWhole coding (elements_of width) (S.rows rows.now) tag (drop used (bits_of octets.now)) → AreJudged coding (elements_of width) all (S.rows rows.now) result }
+    ensures judged { (all : List ℕ) → IsReadUpTo coding (elements_of width) all (S.rows rows.now)
+        tag (drop used (bits_of octets.now)) → NoMoreIsWhole coding (elements_of width)
+        (S.rows rows.now) tag (drop used (bits_of octets.now))
+        → AreJudged coding (elements_of width) all (S.rows rows.now) result }
     ensures some { IsNone result → 0 < length (S.rows rows.now) }
 {
     let Some(tag) = tag else {
@@ -63,7 +65,8 @@ fn judge_line<S: RowStore>(
     requires each { All (λ row. length row ≡ elements_of width) (S.rows rows.now) }
     requires begins { LineBegins reader.old.left }
     requires few { length (S.rows rows.now) < most_rows }
-    ensures { (BeginsRow coding (elements_of width) tag (last_of (S.rows rows.now)) reader.old.left → ⊥) → Stops coding (elements_of width) (S.rows rows.now) 0 tag reader.old.left result }
+    ensures { (BeginsRow coding (elements_of width) tag (last_of (S.rows rows.now)) reader.old.left
+        → ⊥) → Stops coding (elements_of width) (S.rows rows.now) 0 tag reader.old.left result }
 {
     match pass_line(rows, reader, width, tag) {
         Ending::Whole => {}
@@ -88,9 +91,13 @@ pub(super) fn pass_line<S: RowStore>(
     tag: bool,
 ) -> Ending
     requires { All (λ row. length row ≡ elements_of width) (S.rows rows.now) }
-    ensures line { result ≡ Ending.Whole → (row : Elements) × (text : List Bool) × SpellsRow (elements_of width) tag (last_of (S.rows rows.now)) text row × Passes reader.old reader.new text }
-    ensures fails { result ≢ Ending.Whole → FailsRow (elements_of width) tag (last_of (S.rows rows.now)) reader.old.left }
-    ensures stays { result ≡ Ending.Broken → (more : List Bool) → FailsRow (elements_of width) tag (last_of (S.rows rows.now)) (reader.old.left ++ more) }
+    ensures line { result ≡ Ending.Whole → (row : Elements) × (text : List Bool)
+        × SpellsRow (elements_of width) tag (last_of (S.rows rows.now)) text row
+        × Passes reader.old reader.new text }
+    ensures fails { result ≢ Ending.Whole
+        → FailsRow (elements_of width) tag (last_of (S.rows rows.now)) reader.old.left }
+    ensures stays { result ≡ Ending.Broken → (more : List Bool)
+        → FailsRow (elements_of width) tag (last_of (S.rows rows.now)) (reader.old.left ++ more) }
 {
     if tag {
         let passed = pass_line_1d(reader, width);
@@ -107,7 +114,8 @@ pub(super) fn pass_line<S: RowStore>(
 /// How a line ends that was to be passed. The reader stands at the step that cannot be taken, if there is one.
 fn ending_of(passed: Result<(), LineFault>, reader: &BitReader) -> Ending
     ensures line { result ≡ Ending.Whole ↔ IsOk passed }
-    ensures stays { result ≡ Ending.Broken → IfErr passed (λ fault. StaysBad fault reader.now.left) }
+    ensures stays { result ≡ Ending.Broken
+        → IfErr passed (λ fault. StaysBad fault reader.now.left) }
 {
     match passed {
         Ok(()) => Ending::Whole,

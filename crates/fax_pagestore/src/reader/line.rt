@@ -37,8 +37,10 @@ pub(super) fn keep_unread(
     width: Width,
 ) -> Result<u32, NoMemory>
     requires { reached.place ≤ 8 * length octets.old.items }
-    ensures kept { IfOk result (λ used. AreKept (elements_of width) reached.tag reached.settled (drop reached.place (bits_of octets.old.items)) (drop used (bits_of octets.new.items))) }
-    ensures no_more { IfOk result (λ used. length (drop used (bits_of octets.new.items)) ≤ length (drop reached.place (bits_of octets.old.items))) }
+    ensures kept { IfOk result (λ used. AreKept (elements_of width) reached.tag reached.settled
+        (drop reached.place (bits_of octets.old.items)) (drop used (bits_of octets.new.items))) }
+    ensures no_more { IfOk result (λ used. length (drop used (bits_of octets.new.items))
+        ≤ length (drop reached.place (bits_of octets.old.items))) }
     ensures used { IfOk result (λ used. used < 8) }
     ensures within { IfOk result (λ used. used ≤ 8 * length octets.new.items) }
     ensures few { OnOk result (length octets.new.items ≤ most_octets) }
@@ -71,9 +73,12 @@ fn keep_line(
     width: Width,
 ) -> Result<u32, NoMemory>
     requires { place ≤ 8 * length octets.old.items }
-    ensures kept { IfOk result (λ used. (drop used (bits_of octets.new.items) ≡ drop place (bits_of octets.old.items))
-        ⊎ BeginSameLine (elements_of width) (drop place (bits_of octets.old.items)) (drop used (bits_of octets.new.items))) }
-    ensures no_more { IfOk result (λ used. length (drop used (bits_of octets.new.items)) ≤ length (drop place (bits_of octets.old.items))) }
+    ensures kept { IfOk result
+        (λ used. (drop used (bits_of octets.new.items) ≡ drop place (bits_of octets.old.items))
+        ⊎ BeginSameLine (elements_of width)
+        (drop place (bits_of octets.old.items)) (drop used (bits_of octets.new.items))) }
+    ensures no_more { IfOk result (λ used. length (drop used (bits_of octets.new.items))
+        ≤ length (drop place (bits_of octets.old.items))) }
     ensures used { IfOk result (λ used. used < 8) }
     ensures within { IfOk result (λ used. used ≤ 8 * length octets.new.items) }
     ensures few { OnOk result (length octets.new.items ≤ most_octets) }
@@ -100,7 +105,8 @@ fn keep_line(
 /// for which there is none: of no text of a page so many are left, where what can be settled is, and a line is written anew.
 fn keep_from(octets: &mut Vec<u8>, place: u128) -> Result<u32, NoMemory>
     requires { place ≤ 8 * length octets.old.items }
-    ensures kept { IfOk result (λ used. drop used (bits_of octets.new.items) ≡ drop place (bits_of octets.old.items)) }
+    ensures kept { IfOk result
+        (λ used. drop used (bits_of octets.new.items) ≡ drop place (bits_of octets.old.items)) }
     ensures used { IfOk result (λ used. used < 8) }
     ensures within { IfOk result (λ used. used ≤ 8 * length octets.new.items) }
     ensures few { OnOk result (length octets.new.items ≤ most_octets) }
@@ -122,10 +128,12 @@ fn shorter_line(
     width: Width,
 ) -> Result<Option<Line>, NoMemory>
     requires used { used ≤ 8 * length octets.now }
-    ensures same { IfOk result (λ line. IfSome line (λ l. BeginSameLine (elements_of width) (drop used (bits_of octets.now)) (drop l.used (bits_of l.octets.items)))) }
+    ensures same { IfOk result (λ line. IfSome line (λ l. BeginSameLine (elements_of width)
+        (drop used (bits_of octets.now)) (drop l.used (bits_of l.octets.items)))) }
     ensures used { IfOk result (λ line. IfSome line (λ l. l.used < 8)) }
     ensures within { IfOk result (λ line. IfSome line (λ l. l.used ≤ 8 * length l.octets.items)) }
-    ensures shorter { IfOk result (λ line. IfSome line (λ l. length l.octets.items < length octets.now)) }
+    ensures shorter { IfOk result
+        (λ line. IfSome line (λ l. length l.octets.items < length octets.now)) }
     ensures few { IfOk result (λ line. IfSome line (λ l. length l.octets.items ≤ most_octets)) }
 {
     if octets.len() < LONG {
@@ -148,9 +156,11 @@ fn shorter_line(
 /// stand side by side after the first run.
 fn read_runs(alloc: Global, reader: &mut BitReader, width: u16) -> Result<Vec<u16>, NoMemory>
     requires { IsWidth width }
-    ensures line { IfOk result (λ runs. RunsSoFar width reader.old reader.new (stretches White runs.items) (colour_after runs.items)) }
+    ensures line { IfOk result (λ runs. RunsSoFar width
+        reader.old reader.new (stretches White runs.items) (colour_after runs.items)) }
     ensures within { IfOk result (λ runs. sum runs.items < width) }
-    ensures some { IfOk result (λ runs. 0 < length runs.items → reader.old.passed < reader.new.passed) }
+    ensures some { IfOk result
+        (λ runs. 0 < length runs.items → reader.old.passed < reader.new.passed) }
 {
     let mut runs = Vec::new(alloc);
     let mut colour = Colour::White;
@@ -173,8 +183,10 @@ fn read_runs(alloc: Global, reader: &mut BitReader, width: u16) -> Result<Vec<u1
 /// Adds a run to those of a line. Where it has no elements, nor the last one before it, both are left out, but for the first
 /// run of the line.
 fn add_run(runs: &mut Vec<u16>, run: u16) -> Result<(), NoMemory>
-    ensures row { OnOk result (stretches White runs.new.items ≡ stretches White runs.old.items ++ replicate run (colour_after runs.old.items)) }
-    ensures colour { OnOk result (colour_after runs.new.items ≡ other (colour_after runs.old.items)) }
+    ensures row { OnOk result (stretches White runs.new.items
+        ≡ stretches White runs.old.items ++ replicate run (colour_after runs.old.items)) }
+    ensures colour { OnOk result (colour_after runs.new.items
+        ≡ other (colour_after runs.old.items)) }
     ensures sum { OnOk result (sum runs.new.items ≡ sum runs.old.items + run) }
 {
     let len = runs.len();
@@ -189,7 +201,8 @@ fn add_run(runs: &mut Vec<u16>, run: u16) -> Result<(), NoMemory>
 /// The runs, and the bits that are left of a reader after them, in octets of which the last ends with the last of the bits.
 fn write_line(alloc: Global, runs: &[u16], reader: &mut BitReader) -> Result<Line, NoMemory>
     requires { sum runs.now ≤ 2432 }
-    ensures bits { IfOk result (λ line. drop line.used (bits_of line.octets.items) ≡ written_runs White runs.now ++ reader.old.left) }
+    ensures bits { IfOk result (λ line. drop line.used (bits_of line.octets.items)
+        ≡ written_runs White runs.now ++ reader.old.left) }
     ensures used { IfOk result (λ line. line.used < 8) }
     ensures within { IfOk result (λ line. line.used ≤ 8 * length line.octets.items) }
 {

@@ -25,7 +25,17 @@ impl Model for Mark {
 
     ghost Value = { MarkValue };
 
-    ghost view = { λ m. record { format = m.format; coding = m.coding; count = m.count; tag = m.tag; left = drop m.used (bits_of m.octets.items); zeros = m.zeros; settled = m.settled } };
+    ghost view = { λ m. record {
+      format = m.format;
+      coding = m.coding;
+      count = m.count;
+      tag = m.tag;
+      left = drop m.used (bits_of m.octets.items);
+      zeros = m.zeros;
+      settled = m.settled;
+    } };
 
-    ghost invariant = { λ m. (m.used ≤ 8 * length m.octets.items) × (m.settled ≡ Some Page → 0 < m.count) × (m.used < 8) × (length m.octets.items ≤ most_octets) };
+    ghost invariant = { λ m. (m.used ≤ 8 * length m.octets.items)
+        × (m.settled ≡ Some Page → 0 < m.count)
+        × (m.used < 8) × (length m.octets.items ≤ most_octets) };
 }

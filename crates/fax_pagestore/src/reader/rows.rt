@@ -54,12 +54,20 @@ pub(super) fn read_up_to<S: RowStore>(
     ensures each { All (λ row. length row ≡ elements_of width) (S.rows rows.new) }
     ensures place { IfOk result (λ reached. reached.place ≤ 8 * length octets.now) }
     ensures on { IfOk result (λ reached. used ≤ reached.place) }
-    ensures some { IfOk result (λ reached. reached.settled ≡ Some Settled.Page → 0 < length (S.rows rows.new)) }
-    ensures read { IfOk result (λ reached. reached.settled ≡ None → (all : List ℕ) → IsReadUpTo coding (elements_of width) all (S.rows rows.old) tag (drop used (bits_of octets.now))
-        → IsReadUpTo coding (elements_of width) all (S.rows rows.new) reached.tag (drop reached.place (bits_of octets.now))) }
-    ensures waits { IfOk result (λ reached. reached.settled ≡ None → NoMoreIsWhole coding (elements_of width) (S.rows rows.new) reached.tag (drop reached.place (bits_of octets.now))) }
-    ensures all { IfOk result (λ reached. IsSome reached.settled → reached.place ≡ 8 * length octets.now) }
-    ensures settled { IfOk result (λ reached. (what : Settled) → reached.settled ≡ Some what → (all more : List ℕ) → IsReadUpTo coding (elements_of width) all (S.rows rows.old) tag (drop used (bits_of octets.now))
+    ensures some { IfOk result
+        (λ reached. reached.settled ≡ Some Settled.Page → 0 < length (S.rows rows.new)) }
+    ensures read { IfOk result (λ reached. reached.settled ≡ None
+        → (all : List ℕ) → IsReadUpTo coding (elements_of width) all (S.rows rows.old)
+        tag (drop used (bits_of octets.now)) → IsReadUpTo coding (elements_of width)
+        all (S.rows rows.new) reached.tag (drop reached.place (bits_of octets.now))) }
+    ensures waits { IfOk result
+        (λ reached. reached.settled ≡ None → NoMoreIsWhole coding (elements_of width)
+        (S.rows rows.new) reached.tag (drop reached.place (bits_of octets.now))) }
+    ensures all { IfOk result
+        (λ reached. IsSome reached.settled → reached.place ≡ 8 * length octets.now) }
+    ensures settled { IfOk result (λ reached. (what : Settled)
+        → reached.settled ≡ Some what → (all more : List ℕ) → IsReadUpTo coding
+        (elements_of width) all (S.rows rows.old) tag (drop used (bits_of octets.now))
         → AreJudged coding (elements_of width) (all ++ more) (S.rows rows.new) (fault_of what)) }
 {
     let mut reader = BitReader::new(octets);
@@ -102,7 +110,8 @@ pub(super) fn unread_from(octets: &[u8], used: u32, tag: Option<bool>) -> u32
     requires { used ≤ 8 * length octets.now }
     ensures within { result ≤ 8 * length octets.now }
     ensures on { used ≤ result }
-    ensures read { (coding : Coding) (width : ℕ) (all : List ℕ) (rows : List Elements) → IsReadUpTo coding width all rows tag (drop used (bits_of octets.now))
+    ensures read { (coding : Coding) (width : ℕ) (all : List ℕ) (rows : List Elements)
+        → IsReadUpTo coding width all rows tag (drop used (bits_of octets.now))
         → IsReadUpTo coding width all rows tag (drop result (bits_of octets.now)) }
 {
     match tag {
@@ -114,7 +123,8 @@ pub(super) fn unread_from(octets: &[u8], used: u32, tag: Option<bool>) -> u32
 /// The tag of the last separator: that of the front, which is passed where none was.
 fn begin(reader: &mut BitReader, coding: Coding, tag: Option<bool>) -> Option<bool>
     ensures passes { IsSome result → (text : List Bool) × Passes reader.old reader.new text }
-    ensures read { IfSome result (λ first. (width : ℕ) (octets : List ℕ) (rows : List Elements) → IsReadUpTo coding width octets rows tag reader.old.left
+    ensures read { IfSome result (λ first. (width : ℕ) (octets : List ℕ) (rows : List Elements)
+        → IsReadUpTo coding width octets rows tag reader.old.left
         → ReadSoFar coding width octets rows 0 first reader.new.left) }
     ensures none { IsNone result → tag ≡ None }
     ensures no_eol { IsNone result → HoldsNoTaggedEol coding reader.old.left }
@@ -158,11 +168,15 @@ fn read_rows_on<S: RowStore>(
     ensures same { (more : List Elements) × (S.rows rows.new ≡ S.rows rows.old ++ more) }
     ensures few { length (S.rows rows.new) ≤ most_rows }
     ensures each { All (λ row. length row ≡ elements_of width) (S.rows rows.new) }
-    ensures read { IfOk result (λ halt. (octets : List ℕ) → ReadSoFar coding (elements_of width) octets (S.rows rows.old) 0 first reader.old.left
-        → ReadSoFar coding (elements_of width) octets (S.rows rows.new) 0 halt.tag reader.new.left) }
+    ensures read { IfOk result (λ halt. (octets : List ℕ)
+        → ReadSoFar coding (elements_of width) octets (S.rows rows.old) 0 first reader.old.left
+        → ReadSoFar coding
+        (elements_of width) octets (S.rows rows.new) 0 halt.tag reader.new.left) }
     ensures passes { OnOk result ((text : List Bool) × Passes reader.old reader.new text) }
-    ensures stops { IfOk result (λ halt. (fault : PageFault) → halt.stop ≡ Stop.Fault fault → Stops coding (elements_of width) (S.rows rows.new) 0 halt.tag reader.new.left fault) }
-    ensures no_line { IfOk result (λ halt. halt.stop ≡ Stop.NoLine → LineBegins reader.new.left → ⊥) }
+    ensures stops { IfOk result (λ halt. (fault : PageFault) → halt.stop ≡ Stop.Fault fault
+        → Stops coding (elements_of width) (S.rows rows.new) 0 halt.tag reader.new.left fault) }
+    ensures no_line { IfOk result
+        (λ halt. halt.stop ≡ Stop.NoLine → LineBegins reader.new.left → ⊥) }
     ensures no_eol { IfOk result (λ halt. halt.stop ≡ Stop.NoEols → end ≤ reader.new.passed) }
 {
     // the row before, where the next line is two-dimensional
@@ -195,14 +209,20 @@ fn read_next<S: RowStore>(
 ) -> Result<Result<bool, Stop>, NoMemory>
     requires few { length (S.rows rows.old) ≤ most_rows }
     requires each { All (λ row. length row ≡ elements_of width) (S.rows rows.old) }
-    requires kept { tag ≡ false → 0 < length (S.rows rows.old) → last_of (S.rows rows.old) ≡ Some kept.old }
-    ensures row { (next : Bool) → result ≡ Ok (Ok next) → ReadsOne coding (elements_of width) tag next (S.rows rows.old) (S.rows rows.new) reader.old reader.new }
+    requires kept { tag ≡ false
+        → 0 < length (S.rows rows.old) → last_of (S.rows rows.old) ≡ Some kept.old }
+    ensures row { (next : Bool)
+        → result ≡ Ok (Ok next) → ReadsOne coding (elements_of width) tag next (S.rows rows.old)
+        (S.rows rows.new) reader.old reader.new }
     ensures room { (next : Bool) → result ≡ Ok (Ok next) → length (S.rows rows.old) < most_rows }
-    ensures kept { (next : Bool) → result ≡ Ok (Ok next) → next ≡ false → last_of (S.rows rows.new) ≡ Some kept.new }
+    ensures kept { (next : Bool)
+        → result ≡ Ok (Ok next) → next ≡ false → last_of (S.rows rows.new) ≡ Some kept.new }
     ensures no_line { result ≡ Ok (Err Stop.NoLine) → LineBegins reader.old.left → ⊥ }
     ensures no_eol { result ≡ Ok (Err Stop.NoEols) → end ≤ reader.old.passed }
-    ensures fault { (fault : PageFault) → result ≡ Ok (Err (Stop.Fault fault)) → Stops coding (elements_of width) (S.rows rows.old) 0 tag reader.old.left fault }
-    ensures stays { (stop : Stop) → result ≡ Ok (Err stop) → (S.rows rows.new ≡ S.rows rows.old) × (reader.new ≡ reader.old) }
+    ensures fault { (fault : PageFault) → result ≡ Ok (Err (Stop.Fault fault))
+        → Stops coding (elements_of width) (S.rows rows.old) 0 tag reader.old.left fault }
+    ensures stays { (stop : Stop) → result ≡ Ok (Err stop)
+        → (S.rows rows.new ≡ S.rows rows.old) × (reader.new ≡ reader.old) }
     ensures err { OnErr result (S.rows rows.new ≡ S.rows rows.old) }
 {
     if reader.place() >= end {
@@ -244,9 +264,12 @@ fn read_over(
     n: u32,
 ) -> Result<Result<bool, PageFault>, NoMemory>
     requires { tag ≡ false → 0 < n → IsWidth (length kept.old) }
-    ensures ok { (next : Bool) → result ≡ Ok (Ok next) → (text separator : List Bool) × SpellsRow (elements_of width) tag (row_before n kept.old) text kept.new × IsSeparator coding next separator
-        × Passes reader.old reader.new (text ++ separator) }
-    ensures fault { (fault : PageFault) → result ≡ Ok (Err fault) → (rows : List Elements) → length rows ≡ n → (tag ≡ false → row_before n kept.old ≡ last_of rows) → WantsLine rows 0 reader.old.left
+    ensures ok { (next : Bool) → result ≡ Ok (Ok next) → (text separator : List Bool)
+        × SpellsRow (elements_of width) tag (row_before n kept.old) text kept.new
+        × IsSeparator coding next separator × Passes reader.old reader.new (text ++ separator) }
+    ensures fault { (fault : PageFault)
+        → result ≡ Ok (Err fault) → (rows : List Elements) → length rows ≡ n
+        → (tag ≡ false → row_before n kept.old ≡ last_of rows) → WantsLine rows 0 reader.old.left
         → Stops coding (elements_of width) rows 0 tag reader.old.left fault }
 {
     if tag {
@@ -265,7 +288,8 @@ fn read_over(
 /// Keeps the last of rows, if there is one, where this tag says that the next line is two-dimensional.
 fn keep_last<S: RowStore>(kept: &mut RowBuilder, rows: &S, width: Width, tag: bool)
     requires { All (λ row. length row ≡ elements_of width) (S.rows rows.now) }
-    ensures { tag ≡ false → 0 < length (S.rows rows.now) → last_of (S.rows rows.now) ≡ Some kept.new }
+    ensures { tag ≡ false
+        → 0 < length (S.rows rows.now) → last_of (S.rows rows.now) ≡ Some kept.new }
 {
     let count = rows.len();
     if !tag && count > 0 {

@@ -47,9 +47,12 @@ pub(super) fn settle<S: RowStore>(
     requires few { length (S.rows rows.now) ≤ most_rows }
     requires each { All (λ row. length row ≡ elements_of width) (S.rows rows.now) }
     requires no_line { halt.now.stop ≡ Stop.NoLine → LineBegins reader.old.left → ⊥ }
-    requires stops { (fault : PageFault) → halt.now.stop ≡ Stop.Fault fault → Stops coding (elements_of width) (S.rows rows.now) 0 halt.now.tag reader.old.left fault }
-    ensures settled { IfSome result (λ what. (octets more : List ℕ) → ReadSoFar coding (elements_of width) octets (S.rows rows.now) 0 halt.now.tag reader.old.left
-        → AreJudged coding (elements_of width) (octets ++ more) (S.rows rows.now) (fault_of what)) }
+    requires stops { (fault : PageFault) → halt.now.stop ≡ Stop.Fault fault
+        → Stops coding (elements_of width) (S.rows rows.now) 0 halt.now.tag reader.old.left fault }
+    ensures settled { IfSome result (λ what. (octets more : List ℕ)
+        → ReadSoFar coding (elements_of width) octets (S.rows rows.now)
+        0 halt.now.tag reader.old.left → AreJudged coding (elements_of width) (octets
+        ++ more) (S.rows rows.now) (fault_of what)) }
     ensures some { result ≡ Some Settled.Page → 0 < length (S.rows rows.now) }
     ensures open { IsNone result → halt.now.stop ≢ Stop.Fault PageFault.TooManyRows }
 {
@@ -73,8 +76,11 @@ fn stays<S: RowStore>(
     fault: PageFault,
 ) -> bool
     requires each { All (λ row. length row ≡ elements_of width) (S.rows rows.now) }
-    requires stops { Stops coding (elements_of width) (S.rows rows.now) 0 tag reader.old.left fault }
-    ensures stays { IsTrue result → (more : List Bool) → Stops coding (elements_of width) (S.rows rows.now) 0 tag (reader.old.left ++ more) fault }
+    requires stops { Stops coding (elements_of width)
+        (S.rows rows.now) 0 tag reader.old.left fault }
+    ensures stays { IsTrue result → (more : List Bool)
+        → Stops coding (elements_of width) (S.rows rows.now) 0 tag (reader.old.left
+        ++ more) fault }
     ensures many { result ≡ false → fault ≢ PageFault.TooManyRows }
 {
     match fault {
@@ -94,7 +100,9 @@ fn stays_bad<S: RowStore>(
 ) -> bool
     requires each { All (λ row. length row ≡ elements_of width) (S.rows rows.now) }
     requires wants { WantsLine (S.rows rows.now) 0 reader.old.left }
-    ensures { IsTrue result → (more : List Bool) → Stops coding (elements_of width) (S.rows rows.now) 0 tag (reader.old.left ++ more) (PageFault.BadLine (length (S.rows rows.now))) }
+    ensures { IsTrue result → (more : List Bool)
+        → Stops coding (elements_of width) (S.rows rows.now) 0 tag (reader.old.left
+        ++ more) (PageFault.BadLine (length (S.rows rows.now))) }
 {
     match pass_line(rows, reader, width, tag) {
         Ending::Whole => match pass_separator(reader, coding) {
@@ -116,11 +124,15 @@ pub(super) fn pass_end(
     count: u32,
 ) -> Option<Settled>
     requires no_line { LineBegins reader.old.left → ⊥ }
-    ensures settled { IfSome result (λ what. (width : ℕ) (octets more : List ℕ) (rows : List Elements) → count ≡ length rows → length rows ≤ most_rows
-        → ReadSoFar coding width octets rows 0 tag reader.old.left → AreJudged coding width (octets ++ more) rows (fault_of what)) }
+    ensures settled { IfSome result
+        (λ what. (width : ℕ) (octets more : List ℕ) (rows : List Elements) → count ≡ length rows
+        → length rows ≤ most_rows → ReadSoFar coding width octets rows 0 tag reader.old.left
+        → AreJudged coding width (octets ++ more) rows (fault_of what)) }
     ensures some { result ≡ Some Settled.Page → 0 < count }
-    ensures none { IsNone result → (width : ℕ) (octets : List ℕ) (rows : List Elements) → count ≡ length rows → length rows ≤ most_rows
-        → ReadSoFar coding width octets rows 0 tag reader.old.left → FailsPage width coding octets PageFault.NoRtc }
+    ensures none { IsNone result
+        → (width : ℕ) (octets : List ℕ) (rows : List Elements) → count ≡ length rows
+        → length rows ≤ most_rows → ReadSoFar coding width octets rows 0 tag reader.old.left
+        → FailsPage width coding octets PageFault.NoRtc }
 {
     match pass_return_to_control(reader, coding, tag) {
         Ending::Whole if count == 0 => Some(Settled::NoPage(PageFault::Empty)),

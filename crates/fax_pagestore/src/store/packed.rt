@@ -41,8 +41,10 @@ impl Model for PackedRows {
 
     ghost view = { λ r. map (λ e. row_at r.places.items e.start e.count e.width) r.extents.items };
 
-    ghost invariant = { λ r. All (λ e. HasRowAt r.places.items e.start e.count e.width) r.extents.items × AreInOrder r.extents.items × (vec_len r.extents < 2 ^ 32)
-        × AreSideBySide 0 r.extents.items (length r.places.items) };
+    ghost invariant = { λ r.
+        All (λ e. HasRowAt r.places.items e.start e.count e.width) r.extents.items
+        × AreInOrder r.extents.items
+        × (vec_len r.extents < 2 ^ 32) × AreSideBySide 0 r.extents.items (length r.places.items) };
 }
 
 impl RowStore for PackedRows {

@@ -37,8 +37,10 @@ impl Model for Waiting {
     ghost view = { λ w. take w.bits (bits_of (drop w.given w.octets.items)) };
 
     // The last octet is filled with zeros.
-    ghost invariant = { λ w. (w.given ≤ length w.octets.items) × (w.bits ≤ 8 * length (drop w.given w.octets.items))
-        × IsPadded (drop w.given w.octets.items) (take w.bits (bits_of (drop w.given w.octets.items))) };
+    ghost invariant = { λ w. (w.given ≤ length w.octets.items)
+        × (w.bits ≤ 8 * length (drop w.given w.octets.items))
+        × IsPadded (drop w.given w.octets.items)
+        (take w.bits (bits_of (drop w.given w.octets.items))) };
 }
 
 impl Waiting {
@@ -109,7 +111,8 @@ impl Waiting {
     /// The first n octets of these bits and others after them, where there are as many bits here or none
     /// after them.
     pub fn front(&self, n: usize) -> Result<Octets, NoMemory>
-        ensures front { IfOk result (λ front. (octets : List ℕ) (more : List Bool) → AreOctets octets → IsPadded octets (self.now ++ more)
+        ensures front { IfOk result (λ front. (octets : List ℕ) (more : List Bool)
+            → AreOctets octets → IsPadded octets (self.now ++ more)
             → (8 * n ≤ length self.now) ⊎ (more ≡ []) → front ≡ take n octets) }
         ensures few { IfOk result (λ front. length front ≤ n) }
         ensures some { IfOk result (λ front. 1 ≤ n → self.now ≢ [] → 1 ≤ length front) }

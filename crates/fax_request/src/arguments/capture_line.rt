@@ -45,7 +45,8 @@ const CALL: Argument = Argument {
 
 /// The error of a text after this option of `faxgate capture` that says no address.
 pub fn refused_address(alloc: Global, option: &str, text: &str) -> Error
-    ensures { (kind_of result ≡ ErrorKind.ValueValidation) ⊎ (kind_of result ≡ ErrorKind.OutOfMemory) }
+    ensures { (kind_of result ≡ ErrorKind.ValueValidation)
+        ⊎ (kind_of result ≡ ErrorKind.OutOfMemory) }
 {
     match address_error(alloc, option, text) {
         Ok(error) | Err(error) => error,
@@ -65,7 +66,8 @@ fn address_error(alloc: Global, option: &str, text: &str) -> Result<Error, Error
 
 /// The error of addresses of `faxgate capture` of which both mean one endpoint.
 pub fn refused_machines(alloc: Global) -> Error
-    ensures { (kind_of result ≡ ErrorKind.ValueValidation) ⊎ (kind_of result ≡ ErrorKind.OutOfMemory) }
+    ensures { (kind_of result ≡ ErrorKind.ValueValidation)
+        ⊎ (kind_of result ≡ ErrorKind.OutOfMemory) }
 {
     match capture_error(alloc, ErrorKind::ValueValidation, ONE_MACHINE) {
         Ok(error) | Err(error) => error,
@@ -74,7 +76,8 @@ pub fn refused_machines(alloc: Global) -> Error
 
 /// The error of one address of `faxgate capture` without the other one.
 pub fn refused_half(alloc: Global) -> Error
-    ensures { (kind_of result ≡ ErrorKind.ValueValidation) ⊎ (kind_of result ≡ ErrorKind.OutOfMemory) }
+    ensures { (kind_of result ≡ ErrorKind.ValueValidation)
+        ⊎ (kind_of result ≡ ErrorKind.OutOfMemory) }
 {
     match capture_error(alloc, ErrorKind::ValueValidation, HALF) {
         Ok(error) | Err(error) => error,

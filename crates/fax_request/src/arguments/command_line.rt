@@ -51,7 +51,8 @@ fn bare_command<'a>(alloc: Global) -> Result<Command<'a>, AllocError> {
 
 /// The error of words that name no command.
 pub fn refused_command(alloc: Global) -> Error
-    ensures { (kind_of result ≡ ErrorKind.MissingSubcommand) ⊎ (kind_of result ≡ ErrorKind.OutOfMemory) }
+    ensures { (kind_of result ≡ ErrorKind.MissingSubcommand)
+        ⊎ (kind_of result ≡ ErrorKind.OutOfMemory) }
 {
     match command_error(alloc) {
         Ok(error) | Err(error) => error,

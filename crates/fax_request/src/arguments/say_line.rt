@@ -35,7 +35,8 @@ const CONTROL_WORDS: Argument = Argument {
 
 /// The error of words that `faxgate say` cannot say.
 pub fn refused_words(alloc: Global, why: &str) -> Error
-    ensures { (kind_of result ≡ ErrorKind.ValueValidation) ⊎ (kind_of result ≡ ErrorKind.OutOfMemory) }
+    ensures { (kind_of result ≡ ErrorKind.ValueValidation)
+        ⊎ (kind_of result ≡ ErrorKind.OutOfMemory) }
 {
     match words_error(alloc, why) {
         Ok(error) | Err(error) => error,

@@ -11,9 +11,11 @@ impl RowBuilder {
     /// was painted, and answers how many they are; `None` where those of no such row do, and then it has
     /// no elements. It takes no memory.
     pub fn paint_row(&mut self, runs: &[u16], width: Width) -> Option<usize>
-        ensures runs { IfSome result (λ count. AreRuns (take count runs.now) self.new × (count ≤ length runs.now)) }
+        ensures runs { IfSome result
+            (λ count. AreRuns (take count runs.now) self.new × (count ≤ length runs.now)) }
         ensures width { IfSome result (λ _. length self.new ≡ elements_of width) }
-        ensures none { IfNone result ((row : Elements) (first more : List ℕ) → length row ≡ elements_of width → AreRuns first row → runs.now ≡ first ++ more → ⊥) }
+        ensures none { IfNone result ((row : Elements) (first more : List ℕ)
+            → length row ≡ elements_of width → AreRuns first row → runs.now ≡ first ++ more → ⊥) }
         ensures empty { IsNone result → self.new ≡ [] }
     {
         self.clear();
@@ -38,9 +40,12 @@ fn push_ends(ends: &mut Vec<u16>, runs: &[u16], width: u16) -> Option<usize>
     requires empty { ends.old.items ≡ [] }
     requires room { width ≤ vec_capacity ends.old }
     requires is_width { IsWidth width }
-    ensures runs { IfSome result (λ count. AreRunsOfRow (take count runs.now) × (sum (take count runs.now) ≡ width) × (count ≤ length runs.now)) }
-    ensures ends { IfSome result (λ count. ends.new.items ≡ changes_between 0 (take count runs.now)) }
-    ensures none { IfNone result ((count : ℕ) → sum (take count runs.now) ≡ width → All (λ n. 0 < n) (drop 1 (take count runs.now)) → ⊥) }
+    ensures runs { IfSome result (λ count. AreRunsOfRow (take count runs.now)
+        × (sum (take count runs.now) ≡ width) × (count ≤ length runs.now)) }
+    ensures ends { IfSome result
+        (λ count. ends.new.items ≡ changes_between 0 (take count runs.now)) }
+    ensures none { IfNone result ((count : ℕ) → sum (take count runs.now) ≡ width
+        → All (λ n. 0 < n) (drop 1 (take count runs.now)) → ⊥) }
     ensures room { vec_capacity ends.old ≤ vec_capacity ends.new }
 {
     let mut place = 0;

@@ -107,7 +107,8 @@ fn set_bits(octets: &mut [u8], from: u16, to: u16)
     requires some { from < to }
     requires within { to ≤ 8 * length octets.old }
     requires fours { length octets.old % 4 ≡ 0 }
-    ensures bits { bits_of octets.new ≡ take from (bits_of octets.old) ++ (replicate (to - from) true ++ drop to (bits_of octets.old)) }
+    ensures bits { bits_of octets.new ≡ take from (bits_of octets.old)
+        ++ (replicate (to - from) true ++ drop to (bits_of octets.old)) }
     ensures same_room { length octets.new ≡ length octets.old }
 {
     let first = usize::from(from / 32);

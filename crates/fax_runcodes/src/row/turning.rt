@@ -11,8 +11,10 @@ impl RowBuilder {
     #[inline]
     pub fn turn(&mut self, place: u16)
         requires within { place < length self.old }
-        requires same { drop place self.old ≡ replicate (length self.old - place) (colour_before self.old place) }
-        ensures { self.new ≡ take place self.old ++ replicate (length self.old - place) (other (colour_before self.old place)) }
+        requires same { drop place self.old
+            ≡ replicate (length self.old - place) (colour_before self.old place) }
+        ensures { self.new ≡ take place self.old
+            ++ replicate (length self.old - place) (other (colour_before self.old place)) }
     {
         self.changes.push_reserved(place);
     }
@@ -23,10 +25,12 @@ impl RowBuilder {
     #[inline]
     pub fn turn_at_all(&mut self, places: &[u16])
         requires rising { AreRising 0 places.now (length self.old) }
-        requires same { let first : ℕ = slice_index_or places.now 0 (length self.old) in
-            drop first self.old ≡ replicate (length self.old - first) (colour_before self.old first) }
-        ensures { let first : ℕ = slice_index_or places.now 0 (length self.old) in
-            self.new ≡ take first self.old ++ painted (colour_before self.old first) first places.now (length self.old) }
+        requires same { let first : ℕ = slice_index_or places.now 0 (length self.old)
+            in drop first self.old
+            ≡ replicate (length self.old - first) (colour_before self.old first) }
+        ensures { let first : ℕ = slice_index_or places.now 0 (length self.old)
+            in self.new ≡ take first self.old
+            ++ painted (colour_before self.old first) first places.now (length self.old) }
     {
         push_all(&mut self.changes, places);
     }

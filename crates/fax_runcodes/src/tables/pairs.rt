@@ -7,7 +7,8 @@ use super::WordPair;
 #[inline]
 pub(crate) fn first_eleven(index: usize) -> WordPair
     requires { index < 2048 }
-    ensures { result ≡ slice_index_or FIRST_ELEVEN index (record { white = 0; black = 0; bits = 0 }) }
+    ensures { result
+        ≡ slice_index_or FIRST_ELEVEN index (record { white = 0; black = 0; bits = 0 }) }
 {
     FIRST_ELEVEN[index]
 }

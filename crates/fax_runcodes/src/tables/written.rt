@@ -36,7 +36,8 @@ impl WrittenWord {
         requires below { self.word < 2 ^ self.bits }
         requires next_below { next.word < 2 ^ next.bits }
         requires few { self.bits + next.bits < 32 }
-        ensures text { word_bits result.bits result.word ≡ word_bits self.bits self.word ++ word_bits next.bits next.word }
+        ensures text { word_bits result.bits result.word
+            ≡ word_bits self.bits self.word ++ word_bits next.bits next.word }
         ensures bits { result.bits ≡ self.bits + next.bits }
         ensures below { result.word < 2 ^ result.bits }
     {

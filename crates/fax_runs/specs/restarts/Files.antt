@@ -21,6 +21,6 @@ file_of pages = blocks (stored_epoch 1 ∷ stored_epoch 1 ∷ map stored_page pa
 -- EACH PAST CAN BE HAD OVER FILES, one of which is not empty. So no law that has a past over files as its premise speaks of new ones
 -- alone: with a life in which a page was put, and is owed, that page is told by these.
 abbrev pub PastsHaveFiles : Type 0
-PastsHaveFiles =
-    (writes : Writing) (line : List ℕ) (lives : List Life) (puts : List CallPage) (pages : List spool.PageValue) → HasPast writes line lives puts pages → All CanBeTold pages
+PastsHaveFiles = (writes : Writing) (line : List ℕ) (lives : List Life) (puts : List CallPage)
+    (pages : List spool.PageValue) → HasPast writes line lives puts pages → All CanBeTold pages
     → (0 < length (file_of pages)) × HasPastOver writes line lives puts [] (file_of pages)

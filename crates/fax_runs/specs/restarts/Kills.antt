@@ -14,7 +14,8 @@ use Rattle.fax_runs.specs.restarts.Crossings.{HasPastOver, LeavesOver}
 use Rattle.fax_runs.specs.restarts.Runs.{OneRun, WasRun}
 
 -- What there was of a run as it was killed: it began so, and of its orders these were done.
-pub record IsCut {D K : Type 0} (run : OneRun D K) (earlier : List DoneOrder) (cut : OneRun D K) : Type 0 where
+pub record IsCut {D K : Type 0} (run : OneRun D K) (earlier : List DoneOrder) (cut : OneRun D K) :
+    Type 0 where
   pub opened : cut.opened ≡ run.opened
   pub number : cut.number ≡ run.number
   pub setup : cut.setup ≡ run.setup
@@ -26,16 +27,23 @@ pub record IsCut {D K : Type 0} (run : OneRun D K) (earlier : List DoneOrder) (c
   pub settled : run.settled ≡ ends ++ cut.settled
 
 -- RUNS CAN BE CUT ANYWHERE: after each of its orders there was a run, which is what had been done so far.
-abbrev pub RunsCanBeCut : {D K : Type 0} → (D → List ℕ) → (D → List ℕ → Type 0) → (D → Bool) → (K → List QueueValue) → (K → Spool D) → Type 0
+abbrev pub RunsCanBeCut : {D K : Type 0} → (D → List ℕ)
+    → (D → List ℕ → Type 0) → (D → Bool) → (K → List QueueValue) → (K → Spool D) → Type 0
 RunsCanBeCut {D} {K} seen may_leave is_usable queues_of spool_of =
-    (line : List ℕ) (run : OneRun D K) (later earlier : List DoneOrder) → WasRun seen may_leave is_usable queues_of spool_of line run → run.done ≡ later ++ earlier
-    → (cut : OneRun D K) × IsCut run earlier cut × WasRun seen may_leave is_usable queues_of spool_of line cut
+    (line : List ℕ) (run : OneRun D K) (later earlier : List DoneOrder)
+    → WasRun seen may_leave is_usable queues_of spool_of line run
+    → run.done ≡ later ++ earlier → (cut : OneRun D K)
+    × IsCut run earlier cut × WasRun seen may_leave is_usable queues_of spool_of line cut
 
 -- KILLED RUNS LEAD FROM FILES TO FILES: after whichever of its orders the process of a run was killed, of a line that had a past over its
 -- files there is one life more over whatever the crash leaves of them.
-abbrev pub KilledRunsCross : {D K : Type 0} → (D → List ℕ) → (D → List ℕ → Type 0) → (D → Bool) → (K → List QueueValue) → (K → Spool D) → Type 0
+abbrev pub KilledRunsCross : {D K : Type 0} → (D → List ℕ)
+    → (D → List ℕ → Type 0) → (D → Bool) → (K → List QueueValue) → (K → Spool D) → Type 0
 KilledRunsCross {D} {K} seen may_leave is_usable queues_of spool_of =
-    (writes : Writing) (line : List ℕ) (lives : List Life) (puts : List CallPage) (older newer one other : List ℕ) (run : OneRun D K) (later earlier : List DoneOrder)
-    → IsWriting writes → HasPastOver writes line lives puts older newer → AreBoth older newer one other → IsOpened seen may_leave is_usable one other run.opened
-    → WasRun seen may_leave is_usable queues_of spool_of line run → run.done ≡ later ++ earlier
-    → (cut : OneRun D K) × IsCut run earlier cut × LeavesOver may_leave spool_of writes line lives puts cut
+    (writes : Writing) (line : List ℕ) (lives : List Life) (puts : List CallPage)
+    (older newer one other : List ℕ) (run : OneRun D K) (later earlier : List DoneOrder)
+    → IsWriting writes → HasPastOver writes line lives puts older newer
+    → AreBoth older newer one other → IsOpened seen may_leave is_usable one other run.opened
+    → WasRun seen may_leave is_usable queues_of spool_of line run
+    → run.done ≡ later ++ earlier → (cut : OneRun D K)
+    × IsCut run earlier cut × LeavesOver may_leave spool_of writes line lives puts cut

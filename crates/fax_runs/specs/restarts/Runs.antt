@@ -35,7 +35,9 @@ pub record OneRun (D K : Type 0) : Type 0 where
 
 -- It ran: from the spool that was opened, with the line restored with those of its own pages that were told, and its queue with just
 -- these. Its wire held nothing back. No other line had its name.
-pub record WasRun {D K : Type 0} (seen : D → List ℕ) (may_leave : D → List ℕ → Type 0) (is_usable : D → Bool) (queues_of : K → List QueueValue) (spool_of : K → Spool D) (line : List ℕ) (run : OneRun D K) : Type 0 where
+pub record WasRun {D K : Type 0} (seen : D → List ℕ)
+    (may_leave : D → List ℕ → Type 0) (is_usable : D → Bool) (queues_of : K → List QueueValue)
+    (spool_of : K → Spool D) (line : List ℕ) (run : OneRun D K) : Type 0 where
   pub spool_is : spool_of run.before ≡ run.opened.spool
   pub restored : RestoredLine
   pub restores : Restores line run.opened.pages.items restored
@@ -46,8 +48,10 @@ pub record WasRun {D K : Type 0} (seen : D → List ℕ) (may_leave : D → List
   pub set : AreSetWith run.setup place.line.gateway.settings (map call_shown restored.calls.items)
   pub queued : slice_get (queues_of run.before) run.number ≡ Some restored.queue
   pub as_many : length (queues_of run.before) ≡ length run.begun
-  pub alone : (other : ℕ) (queue : QueueValue) → slice_get (queues_of run.before) other ≡ Some queue → other ≢ run.number → queue.line ≢ line
-  pub ran : RanOnDisk seen may_leave is_usable queues_of spool_of run.first run.done run.settled run.begun run.left run.before run.after
+  pub alone : (other : ℕ) (queue : QueueValue)
+      → slice_get (queues_of run.before) other ≡ Some queue → other ≢ run.number → queue.line ≢ line
+  pub ran : RanOnDisk seen may_leave is_usable
+      queues_of spool_of run.first run.done run.settled run.begun run.left run.before run.after
 
 -- what there was of it, whatever its files are of: the number of the line, the setup of its gateway, the ends of its slots' turns, and
 -- the lines after it
@@ -58,11 +62,13 @@ pub record RunTold : Type 0 where
   pub left : List PlaceValue
 
 abbrev pub told_of : {D K : Type 0} → OneRun D K → RunTold
-told_of run = record { number = run.number; setup = run.setup; settled = run.settled; left = run.left }
+told_of run =
+    record { number = run.number; setup = run.setup; settled = run.settled; left = run.left }
 
 -- A RUN IS THIS LIFE of the line's gateway, in which these pages were put with an `Ok`; and its wire let out on the calling leg what the
 -- ticks of that life gave, but where a page was not put.
-pub record IsLifeOf (writes : Writing) (run : RunTold) (life : Life) (kept : List CallPage) : Type 0 where
+pub record IsLifeOf (writes : Writing) (run : RunTold) (life : Life) (kept : List CallPage) :
+    Type 0 where
   pub setup : life.setup ≡ run.setup
   pub place : PlaceValue
   pub there : slice_get run.left run.number ≡ Some place

@@ -17,4 +17,5 @@ is_under_way under_way call = list_any (λ name. is_named name call) under_way
 
 -- ONLY WHERE MORE THAN 64 CALLS WAIT IS ONE DROPPED: the oldest of which no try is under way.
 abbrev pub dropped_next : List CallName → List CallValue → Option ℕ
-dropped_next under_way calls = if nat_lt most_calls (length calls) then position (λ call. not (is_under_way under_way call)) calls else None
+dropped_next under_way calls = if nat_lt most_calls (length calls)
+    then position (λ call. not (is_under_way under_way call)) calls else None

@@ -35,8 +35,10 @@ octets_of_newer spool = octets_of (files_of spool).1.disk
 
 -- the same of the files of another one
 abbrev pub IsOverFilesOf : Undelivered MemoryFile → Undelivered MemoryFile → Type 0
-IsOverFilesOf before kept = IsOver (octets_of_older before.spool) (octets_of_newer before.spool) kept
+IsOverFilesOf before kept =
+    IsOver (octets_of_older before.spool) (octets_of_newer before.spool) kept
 
 -- WHERE IT REFUSES EVERYTHING it is opened anew, or, where memory is refused for that, another one of empty files takes its place, or none.
 abbrev pub IsMended : (old new : Undelivered MemoryFile) → Type 0
-IsMended old new = (new ≡ old) ⊎ ((refuses_now old.spool ≡ true) × (IsOverFilesOf old new ⊎ IsOver [] [] new))
+IsMended old new =
+    (new ≡ old) ⊎ ((refuses_now old.spool ≡ true) × (IsOverFilesOf old new ⊎ IsOver [] [] new))

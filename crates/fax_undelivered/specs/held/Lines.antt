@@ -5,10 +5,13 @@ use Rattle.fax_queue.specs.Queues.{QueueValue}
 
 -- none of the pages of a line waits
 abbrev pub fresh : (line : List ℕ) → QueueValue
-fresh line = record { line = line; waits = []; is_whole = true; tags = []; aside = []; newest = None }
+fresh line =
+    record { line = line; waits = []; is_whole = true; tags = []; aside = []; newest = None }
 
 -- So its queue and its texts changed, and no others.
-pub record ChangesLine (line : ℕ) (change : (old new : QueueValue) → (olds news : List PageValue) → Type 0) (olds news : List QueueValue) (texts after : List (List PageValue)) : Type 0 where
+pub record ChangesLine (line : ℕ)
+    (change : (old new : QueueValue) → (olds news : List PageValue) → Type 0)
+    (olds news : List QueueValue) (texts after : List (List PageValue)) : Type 0 where
   pub old : QueueValue
   pub new : QueueValue
   pub was : slice_get olds line ≡ Some old
@@ -20,7 +23,8 @@ pub record ChangesLine (line : ℕ) (change : (old new : QueueValue) → (olds n
   pub changed : change old new before left
 
 -- where there is such a line
-abbrev pub ChangesIf : (line : ℕ) → ((old new : QueueValue) → (olds news : List PageValue) → Type 0) → (olds news : List QueueValue) → (texts after : List (List PageValue)) → Type 0
+abbrev pub ChangesIf : (line : ℕ) → ((old new : QueueValue) → (olds news : List PageValue) → Type 0)
+    → (olds news : List QueueValue) → (texts after : List (List PageValue)) → Type 0
 ChangesIf line change olds news texts after =
     (((length olds ≤ line) ⊎ (length texts ≤ line)) × (news ≡ olds) × (after ≡ texts))
     ⊎ ChangesLine line change olds news texts after

@@ -39,10 +39,15 @@ pub fn drop_beyond<U: Disk>(
     kept: &mut Undelivered<U>,
     under_way: &[CallName],
 ) -> io::Result<Option<DroppedCall>>
-    ensures none { IfOk result (λ dropped. IfNone dropped ((dropped_next under_way.now kept.old.calls.items ≡ None) × (kept.new ≡ kept.old))) }
-    ensures dropped { IfOk result (λ dropped. IfSome dropped (λ it. (k : ℕ) × (call : CallValue) × (dropped_next under_way.now kept.old.calls.items ≡ Some k) × (slice_get kept.old.calls.items k ≡ Some call)
-        × (it.name ≡ name_of call) × (it.tag.items ≡ call.tag)
-        × ((waits : List PageValue) → Keeps U.seen U.may_leave U.is_usable kept.old waits → KeepsStill U.seen U.may_leave U.is_usable kept.new (without (end_of (name_of call)) waits)))) }
+    ensures none { IfOk result
+        (λ dropped. IfNone dropped ((dropped_next under_way.now kept.old.calls.items ≡ None)
+        × (kept.new ≡ kept.old))) }
+    ensures dropped { IfOk result (λ dropped. IfSome dropped (λ it. (k : ℕ)
+        × (call : CallValue) × (dropped_next under_way.now kept.old.calls.items ≡ Some k)
+        × (slice_get kept.old.calls.items k ≡ Some call)
+        × (it.name ≡ name_of call) × (it.tag.items ≡ call.tag) × ((waits : List PageValue)
+        → Keeps U.seen U.may_leave U.is_usable kept.old waits → KeepsStill
+        U.seen U.may_leave U.is_usable kept.new (without (end_of (name_of call)) waits)))) }
     ensures same { OnErr result (kept.new.calls.items ≡ kept.old.calls.items) }
 {
     let Some(k) = dropped_next(kept.calls(), under_way) else {

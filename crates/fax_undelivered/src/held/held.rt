@@ -54,7 +54,8 @@ impl HeldPages {
 
     /// One more line, of this name, none of whose pages waits.
     pub fn add_line(&mut self, name: &str) -> Result<(), NoMemory>
-        ensures queues { OnOk result (self.new.queues.items ≡ self.old.queues.items ++ fresh name.now ∷ []) }
+        ensures queues { OnOk result (self.new.queues.items
+            ≡ self.old.queues.items ++ fresh name.now ∷ []) }
         ensures texts { OnOk result (self.new.texts.items ≡ self.old.texts.items ++ [] ∷ []) }
         ensures second { self.new.undelivered ≡ self.old.undelivered }
         ensures same_queues { OnErr result (self.new.queues.items ≡ self.old.queues.items) }
@@ -70,7 +71,8 @@ impl HeldPages {
     /// A page of a line was confirmed, in a call of this tag: it waits, after the others of its line. Where memory is refused for its text it
     /// waits without it.
     pub fn confirm(&mut self, page: PageToStore, tag: &[u8])
-        ensures held { ChangesIf page.line (HoldsPage page tag.now) self.old.queues.items self.new.queues.items self.old.texts.items self.new.texts.items }
+        ensures held { ChangesIf page.line (HoldsPage page tag.now)
+            self.old.queues.items self.new.queues.items self.old.texts.items self.new.texts.items }
         ensures second { self.new.undelivered ≡ self.old.undelivered }
     {
         let i = page.line;
@@ -85,7 +87,8 @@ impl HeldPages {
 
     /// A page of line i was confirmed in this call, and memory was refused for its text: it waits without it.
     pub fn note(&mut self, i: usize, call: u32)
-        ensures noted { ChangesIf i (NotesPage call) self.old.queues.items self.new.queues.items self.old.texts.items self.new.texts.items }
+        ensures noted { ChangesIf i (NotesPage call)
+            self.old.queues.items self.new.queues.items self.old.texts.items self.new.texts.items }
         ensures second { self.new.undelivered ≡ self.old.undelivered }
     {
         if i >= self.queues.len() {
@@ -101,9 +104,12 @@ impl HeldPages {
     /// `true` tells that: not where the text of one of them is not there, or memory is refused. Where it is not known which pages it had, as
     /// memory was refused before, the texts of all pages of the line are dropped.
     pub fn end_job(&mut self, i: usize, end: &JobEnd<'_>) -> bool
-        ensures ends { ChangesIf i (EndsJob octets_of leaves can_be_used end.now.report (card_for end.now.report end.now.cause.now end.now.day) result self.old.undelivered self.new.undelivered)
+        ensures ends { ChangesIf i
+            (EndsJob octets_of leaves can_be_used end.now.report (card_for end.now.report
+            end.now.cause.now end.now.day) result self.old.undelivered self.new.undelivered)
             self.old.queues.items self.new.queues.items self.old.texts.items self.new.texts.items }
-        ensures not_put { result ≡ false → IsNotPut octets_of leaves can_be_used self.old.undelivered self.new.undelivered }
+        ensures not_put { result ≡ false
+            → IsNotPut octets_of leaves can_be_used self.old.undelivered self.new.undelivered }
     {
         if i >= self.queues.len() {
             return false;

@@ -81,7 +81,8 @@ impl HeldTexts {
         page: PageToStore,
         tag: &[u8],
     ) -> bool
-        ensures { MatchBool result (self.new ≡ self.old ++ held_as line.now number page tag.now ∷ []) (self.new ≡ self.old) }
+        ensures { MatchBool result (self.new
+            ≡ self.old ++ held_as line.now number page tag.now ∷ []) (self.new ≡ self.old) }
     {
         let Ok(waits) = waiting_page(alloc, line.as_bytes(), number, page, tag) else {
             return false;
@@ -115,10 +116,15 @@ impl HeldTexts {
         undelivered: &mut Undelivered<U>,
         end: &JobEnd<'_>,
     ) -> bool
-        ensures kept { result ≡ true → IsPut U.seen U.may_leave U.is_usable end.now.report (card_for end.now.report end.now.cause.now end.now.day) queue.old self.old undelivered.old undelivered.new }
-        ensures not_put { result ≡ false → IsNotPut U.seen U.may_leave U.is_usable undelivered.old undelivered.new }
-        ensures texts { self.new ≡ texts_after end.now.report.pages queue.new.is_whole queue.old self.old }
-        ensures waits { MatchBool queue.new.is_whole (queue.new.waits ≡ drop end.now.report.pages queue.old.waits) (queue.new.waits ≡ queue.old.waits) }
+        ensures kept { result ≡ true
+            → IsPut U.seen U.may_leave U.is_usable end.now.report (card_for end.now.report
+            end.now.cause.now end.now.day) queue.old self.old undelivered.old undelivered.new }
+        ensures not_put { result ≡ false
+            → IsNotPut U.seen U.may_leave U.is_usable undelivered.old undelivered.new }
+        ensures texts { self.new
+            ≡ texts_after end.now.report.pages queue.new.is_whole queue.old self.old }
+        ensures waits { MatchBool queue.new.is_whole (queue.new.waits
+            ≡ drop end.now.report.pages queue.old.waits) (queue.new.waits ≡ queue.old.waits) }
     {
         let report = end.report;
         let left = queue.job_left(report.pages, report.delivered);
@@ -168,8 +174,11 @@ fn keep_left<U: Disk>(
     left: Option<EndedJob>,
     end: &JobEnd<'_>,
 ) -> bool
-    ensures kept { result ≡ true → PutsLast U.seen U.may_leave U.is_usable end.now.report (card_for end.now.report end.now.cause.now end.now.day) left pages.now undelivered.old undelivered.new }
-    ensures not_put { result ≡ false → IsNotPut U.seen U.may_leave U.is_usable undelivered.old undelivered.new }
+    ensures kept { result ≡ true
+        → PutsLast U.seen U.may_leave U.is_usable end.now.report (card_for end.now.report
+        end.now.cause.now end.now.day) left pages.now undelivered.old undelivered.new }
+    ensures not_put { result ≡ false
+        → IsNotPut U.seen U.may_leave U.is_usable undelivered.old undelivered.new }
 {
     let Some(left) = left else {
         return false;
@@ -189,8 +198,12 @@ fn keep_last<U: Disk>(
     end: &JobEnd<'_>,
 ) -> bool
     ensures all { result ≡ true → left.stored ≡ end.now.report.pages - end.now.report.delivered }
-    ensures kept { result ≡ true → PutsPages U.seen U.may_leave U.is_usable (last_of (end.now.report.pages - end.now.report.delivered) pages.now) (card_for end.now.report end.now.cause.now end.now.day) true undelivered.old undelivered.new }
-    ensures not_put { result ≡ false → IsNotPut U.seen U.may_leave U.is_usable undelivered.old undelivered.new }
+    ensures kept { result ≡ true
+        → PutsPages U.seen U.may_leave U.is_usable (last_of (end.now.report.pages
+        - end.now.report.delivered) pages.now) (card_for
+        end.now.report end.now.cause.now end.now.day) true undelivered.old undelivered.new }
+    ensures not_put { result ≡ false
+        → IsNotPut U.seen U.may_leave U.is_usable undelivered.old undelivered.new }
 {
     let wanted = end.report.pages.saturating_sub(end.report.delivered);
     if left.stored != u64::from(wanted) || wanted as usize > pages.len() {
@@ -207,8 +220,10 @@ fn put_pages<U: Disk>(
     pages: &[WaitingPage],
     end: &JobEnd<'_>,
 ) -> bool
-    ensures kept { result ≡ true → PutsPages U.seen U.may_leave U.is_usable pages.now (card_for end.now.report end.now.cause.now end.now.day) true undelivered.old undelivered.new }
-    ensures not_put { result ≡ false → IsNotPut U.seen U.may_leave U.is_usable undelivered.old undelivered.new }
+    ensures kept { result ≡ true → PutsPages U.seen U.may_leave U.is_usable pages.now (card_for
+        end.now.report end.now.cause.now end.now.day) true undelivered.old undelivered.new }
+    ensures not_put { result ≡ false
+        → IsNotPut U.seen U.may_leave U.is_usable undelivered.old undelivered.new }
 {
     let Ok(card) = card_of(alloc, end) else {
         return false;

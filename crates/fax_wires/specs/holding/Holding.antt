@@ -29,8 +29,19 @@ octets_of None = None
 octets_of (Some octets) = Some octets.items
 
 -- over a wire it holds nothing at first
-abbrev pub fresh : KnownWire → (clock : ℕ) → (calling_due called_due : Option ℕ) → Peers → HoldingValue
-fresh wire clock calling_due called_due peers = record { held = None; is_silenced = false; failures = 0; wire = wire; clock = clock; calling_due = calling_due; called_due = called_due; peers = peers }
+abbrev pub fresh : KnownWire
+    → (clock : ℕ) → (calling_due called_due : Option ℕ) → Peers → HoldingValue
+fresh wire clock calling_due called_due peers =
+    record {
+      held = None;
+      is_silenced = false;
+      failures = 0;
+      wire = wire;
+      clock = clock;
+      calling_due = calling_due;
+      called_due = called_due;
+      peers = peers;
+    }
 
 -- what is told of it: nothing of what it was handed to send
 abbrev pub as_told : HoldingValue → KnownWire
@@ -123,7 +134,8 @@ KeepsClock old new = new.clock ≡ old.clock
 -- ---- a wire that holds back, or one that does not
 
 -- this is so of what it holds; of a wire that sends at once nothing is told
-abbrev pub WhereItHolds : (HoldingValue → HoldingValue → Type 0) → Option HoldingValue → Option HoldingValue → Type 0
+abbrev pub WhereItHolds : (HoldingValue → HoldingValue → Type 0)
+    → Option HoldingValue → Option HoldingValue → Type 0
 WhereItHolds comes None None = Unit {0}
 WhereItHolds comes None (Some new) = ⊥
 WhereItHolds comes (Some old) None = ⊥

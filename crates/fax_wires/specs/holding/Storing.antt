@@ -20,7 +20,8 @@ failed confirms is_stored = confirms && not is_stored
 abbrev pub silenced_after : List LegAction → Bool
 silenced_after [] = false
 silenced_after (Begins ∷ earlier) = false
-silenced_after (Turn given confirms is_stored ∷ earlier) = silenced_after earlier || failed confirms is_stored
+silenced_after (Turn given confirms is_stored ∷ earlier) =
+    silenced_after earlier || failed confirms is_stored
 
 abbrev pub with_given : Option (List ℕ) → List (List ℕ) → List (List ℕ)
 with_given None earlier = earlier
@@ -31,7 +32,8 @@ abbrev pub went_out : List LegAction → List (List ℕ)
 went_out [] = []
 went_out (Begins ∷ earlier) = went_out earlier
 went_out (Turn given confirms is_stored ∷ earlier) =
-    if silenced_after earlier || failed confirms is_stored then went_out earlier else with_given given (went_out earlier)
+    if silenced_after earlier || failed confirms is_stored
+    then went_out earlier else with_given given (went_out earlier)
 
 abbrev pub is_calling : Leg → Bool
 is_calling legs.Calling = true
@@ -40,7 +42,8 @@ is_calling legs.Called = false
 -- of what a wire was handed, the datagrams of the calling leg
 abbrev pub on_calling : List HandedDatagram → List (List ℕ)
 on_calling [] = []
-on_calling (h ∷ earlier) = if is_calling h.leg then h.octets ∷ on_calling earlier else on_calling earlier
+on_calling (h ∷ earlier) =
+    if is_calling h.leg then h.octets ∷ on_calling earlier else on_calling earlier
 
 -- of a wire that tells what it was handed, these are the datagrams of its calling leg
 abbrev pub HasSent : List (List ℕ) → Option (List HandedDatagram) → Type 0
@@ -53,7 +56,8 @@ pub record HasDone (actions : List LegAction) (wire : HoldingValue) : Type 0 whe
   pub out : HasSent (went_out actions) wire.wire.sent
 
 -- In a turn after these actions it holds what the turn gave, unless it is silenced, and none of that went out.
-pub record HoldsAfter (actions : List LegAction) (given : Option (List ℕ)) (wire : HoldingValue) : Type 0 where
+pub record HoldsAfter (actions : List LegAction) (given : Option (List ℕ)) (wire : HoldingValue) :
+    Type 0 where
   pub held : wire.held ≡ (if silenced_after actions then None else given)
   pub is_silenced : wire.is_silenced ≡ silenced_after actions
   pub out : HasSent (went_out actions) wire.wire.sent
@@ -87,11 +91,13 @@ HoldsAfterWhere actions given (Some wire) = HoldsAfter actions given wire
 
 -- BY A LOG A WIRE COMES TO HOLD WHAT IT HANDED OVER on the calling leg, whatever actions it had done before, and lets none of it out.
 abbrev pub HoldsByLog : List Entry → Option HoldingValue → Option HoldingValue → Type 0
-HoldsByLog log old new = (actions : List LegAction) → HasDoneWhere actions old → HoldsAfterWhere actions (handed_by log) new
+HoldsByLog log old new = (actions : List LegAction)
+    → HasDoneWhere actions old → HoldsAfterWhere actions (handed_by log) new
 
 -- It does so by any log, whose receives and sends are all that is done with it.
 abbrev pub LogsAreHeld : Type 0
-LogsAreHeld = (log : List Entry) (old new : Option HoldingValue) → WireGoes (λ at. StaysWhere) SendsWhere log old new → HoldsByLog log old new
+LogsAreHeld = (log : List Entry) (old new : Option HoldingValue)
+    → WireGoes (λ at. StaysWhere) SendsWhere log old new → HoldsByLog log old new
 
 -- no call begins in these actions
 abbrev pub BeginsNone : List LegAction → Type 0
@@ -101,15 +107,18 @@ BeginsNone (Turn given confirms is_stored ∷ earlier) = BeginsNone earlier
 
 -- a turn that confirmed a page that was not stored gave nothing that went out
 abbrev pub StoredFirst : Type 0
-StoredFirst = (given : Option (List ℕ)) (earlier : List LegAction) → went_out (Turn given true false ∷ earlier) ≡ went_out earlier
+StoredFirst = (given : Option (List ℕ)) (earlier : List LegAction)
+    → went_out (Turn given true false ∷ earlier) ≡ went_out earlier
 
 -- and nothing goes out after it until the next call begins
 abbrev pub SilencedUntilTheNextCall : Type 0
-SilencedUntilTheNextCall = (later earlier : List LegAction) (given : Option (List ℕ)) → BeginsNone later → went_out (later ++ Turn given true false ∷ earlier) ≡ went_out earlier
+SilencedUntilTheNextCall = (later earlier : List LegAction) (given : Option (List ℕ))
+    → BeginsNone later → went_out (later ++ Turn given true false ∷ earlier) ≡ went_out earlier
 
 -- ---- where pages are stored
 
 -- Pages are put, all of them at once, by a store that tells what its puts make of it. Where there are none it is not asked.
-abbrev pub PutsIf : {P K : Type 0} → (List P → Bool → K → K → Type 0) → List P → Bool → K → K → Type 0
+abbrev pub PutsIf : {P K : Type 0}
+    → (List P → Bool → K → K → Type 0) → List P → Bool → K → K → Type 0
 PutsIf puts [] is_stored old new = (is_stored ≡ true) × (new ≡ old)
 PutsIf puts (page ∷ pages) is_stored old new = puts (page ∷ pages) is_stored old new

@@ -4,6 +4,7 @@ use Rattle.fax_gateway.specs.declared.leg.Leg.{Leg}
 use Rattle.fax_gateway.specs.declared.leg.Leg.TheVariants as legs
 use Rattle.fax_wires.specs.holding.Holding.{HoldingValue, TellsPeers, due_on}
 
-pub told_due : (at : Leg) (old new : HoldingValue) → TellsPeers old new → due_on at new ≡ due_on at old
+pub told_due : (at : Leg) (old new : HoldingValue)
+    → TellsPeers old new → due_on at new ≡ due_on at old
 told_due legs.Calling old new made = made.calling_due
 told_due legs.Called old new made = made.called_due

@@ -23,15 +23,25 @@ pub record PeerValue : Type 0 where
   pub is_heard : Bool
 
 abbrev pub nobody : PeerValue
-nobody = record { address = None; learns = false; is_fixed = false; bounds = no_bounds; in_call = no_bounds; is_gone = false; is_heard = false }
+nobody = record {
+  address = None;
+  learns = false;
+  is_fixed = false;
+  bounds = no_bounds;
+  in_call = no_bounds;
+  is_gone = false;
+  is_heard = false;
+}
 
 -- this peer was said
 abbrev pub said : Peer → PeerValue → PeerValue
-said peer old = record old { address = peer.address; learns = not (is_some peer.address); bounds = peer.bounds }
+said peer old =
+    record old { address = peer.address; learns = not (is_some peer.address); bounds = peer.bounds }
 
 -- there is none any more, but where the line has it for ever
 abbrev pub cut_off : PeerValue → PeerValue
-cut_off old = if old.is_fixed then old else record old { address = None; learns = false; bounds = no_bounds }
+cut_off old =
+    if old.is_fixed then old else record old { address = None; learns = false; bounds = no_bounds }
 
 -- a call begins, which is bounded so
 abbrev pub bounded : Bounds → PeerValue → PeerValue
@@ -55,7 +65,8 @@ learned address old = record old { address = Some address; learns = false; is_he
 
 -- A PEER STAYS OR IS HEARD: its address stays, but where it is still to be learned, and is. Nothing else changes.
 abbrev pub Hears : PeerValue → PeerValue → Type 0
-Hears old new = (new ≡ old) ⊎ (new ≡ heard old) ⊎ ((old.learns ≡ true) × (address : SocketAddr) × (new ≡ learned address old))
+Hears old new = (new ≡ old) ⊎ (new ≡ heard old)
+    ⊎ ((old.learns ≡ true) × (address : SocketAddr) × (new ≡ learned address old))
 
 -- of a wire that tells its peers
 abbrev pub HearsWhere : Option PeerValue → Option PeerValue → Type 0
@@ -66,7 +77,12 @@ HearsWhere (Some old) (Some new) = Hears old new
 -- what is known of it; of a wire that tells none, nothing
 abbrev pub state_of : Option PeerValue → LegState
 state_of None = record { has_peer = false; is_fixed = false; is_heard = false; is_gone = false }
-state_of (Some peer) = record { has_peer = is_some peer.address || peer.learns; is_fixed = peer.is_fixed; is_heard = peer.is_heard; is_gone = peer.is_gone }
+state_of (Some peer) = record {
+  has_peer = is_some peer.address || peer.learns;
+  is_fixed = peer.is_fixed;
+  is_heard = peer.is_heard;
+  is_gone = peer.is_gone;
+}
 
 -- ---- of both legs
 

@@ -43,7 +43,8 @@ abbrev pub most_repeated : ℕ
 most_repeated = 1500
 
 abbrev pub kept_of : RepeatPolicy → ℕ → List ℕ → LastValue
-kept_of policy now octets = if nat_le (length octets) most_repeated then record { octets = octets; sends = 1; due = due_after policy now 1 } else unknown
+kept_of policy now octets = if nat_le (length octets) most_repeated
+    then record { octets = octets; sends = 1; due = due_after policy now 1 } else unknown
 
 -- its moment has come
 abbrev pub has_come : Option ℕ → ℕ → Bool
@@ -52,11 +53,15 @@ has_come (Some moment) now = nat_le moment now
 
 -- a datagram whose moment has come is sent again, once
 abbrev pub repeated : RepeatPolicy → ℕ → LastValue → LastValue
-repeated policy now last =
-    if has_come last.due now then record { octets = last.octets; sends = last.sends + 1; due = due_after policy now (last.sends + 1) } else last
+repeated policy now last = if has_come last.due now then record {
+  octets = last.octets;
+  sends = last.sends + 1;
+  due = due_after policy now (last.sends + 1);
+} else last
 
 abbrev pub repeat_of : Leg → ℕ → LastValue → List HandedDatagram
-repeat_of at now last = if has_come last.due now then record { leg = at; octets = last.octets } ∷ [] else []
+repeat_of at now last =
+    if has_come last.due now then record { leg = at; octets = last.octets } ∷ [] else []
 
 -- it is sent no more
 abbrev pub ceased : LastValue → LastValue
@@ -103,7 +108,8 @@ pub record GoesOn (now : ℕ) (old new : RepeatingValue) : Type 0 where
   pub tells : new.tells ≡ old.tells
   pub peers : new.peers ≡ old.peers
   pub received : Grows [] old.wire.received new.wire.received
-  pub sent : Grows (repeat_of legs.Called now old.called ++ repeat_of legs.Calling now old.calling) old.wire.sent new.wire.sent
+  pub sent : Grows (repeat_of legs.Called now old.called
+      ++ repeat_of legs.Calling now old.calling) old.wire.sent new.wire.sent
 
 -- nothing changes of what is told of a wire
 pub record IsToldAs (before after : KnownWire) : Type 0 where

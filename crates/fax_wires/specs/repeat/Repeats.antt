@@ -21,13 +21,14 @@ same_octets = pointwise nat_eq
 -- how often the newest datagrams of a leg, one after the other, are this one
 abbrev pub times : Leg → List ℕ → List HandedDatagram → ℕ
 times at octets [] = 0
-times at octets (h ∷ earlier) =
-    if same_leg at h.leg then (if same_octets octets h.octets then times at octets earlier + 1 else 0) else times at octets earlier
+times at octets (h ∷ earlier) = if same_leg at h.leg then (if same_octets octets h.octets
+    then times at octets earlier + 1 else 0) else times at octets earlier
 
 -- what was sent, without what repeats the one before it on its leg
 abbrev pub once : List HandedDatagram → List HandedDatagram
 once [] = []
-once (h ∷ earlier) = if nat_eq (times h.leg h.octets earlier) 0 then h ∷ once earlier else once earlier
+once (h ∷ earlier) =
+    if nat_eq (times h.leg h.octets earlier) 0 then h ∷ once earlier else once earlier
 
 -- each datagram of a leg was sent at most so often, one send after the other
 abbrev pub at_most : ℕ → List HandedDatagram → Bool
@@ -46,7 +47,8 @@ pub record IsLast (at : Leg) (last : LastValue) (sent : List HandedDatagram) : T
   pub sends_are : times at last.octets sent ≡ last.sends
 
 -- None was sent more often than the policy says; and so what is sent again is the newest of its leg.
-pub record AreRepeats (policy : RepeatPolicy) (calling called : LastValue) (sent : List HandedDatagram) : Type 0 where
+pub record AreRepeats (policy : RepeatPolicy)
+    (calling called : LastValue) (sent : List HandedDatagram) : Type 0 where
   pub within : at_most (length (gaps policy) + 1) sent ≡ true
   pub on_calling : IsLast legs.Calling calling sent
   pub on_called : IsLast legs.Called called sent
@@ -59,10 +61,16 @@ told_if true None = None
 told_if false sent = None
 
 abbrev pub told_of : RepeatingValue → KnownWire
-told_of wire = record { failures = wire.failures; received = wire.wire.received; sent = told_if wire.tells wire.wire.sent }
+told_of wire = record {
+  failures = wire.failures;
+  received = wire.wire.received;
+  sent = told_if wire.tells wire.wire.sent;
+}
 
-abbrev pub RepeatsIf : Bool → RepeatPolicy → LastValue → LastValue → Option (List HandedDatagram) → Type 0
-RepeatsIf tells policy calling called told = (sent : List HandedDatagram) → tells ≡ true → told ≡ Some sent → AreRepeats policy calling called sent
+abbrev pub RepeatsIf : Bool
+    → RepeatPolicy → LastValue → LastValue → Option (List HandedDatagram) → Type 0
+RepeatsIf tells policy calling called told = (sent : List HandedDatagram)
+    → tells ≡ true → told ≡ Some sent → AreRepeats policy calling called sent
 
 -- what holds of each
 abbrev pub Repeats : RepeatingValue → Type 0
@@ -70,7 +78,8 @@ Repeats wire = RepeatsIf wire.tells wire.policy wire.calling wire.called wire.wi
 
 -- a datagram is to be sent again only where it was sent less often than the policy says
 pub record IsWithin (policy : RepeatPolicy) (last : LastValue) : Type 0 where
-  pub within : (moment : ℕ) → last.due ≡ Some moment → (0 < last.sends) × (last.sends ≤ length (gaps policy))
+  pub within : (moment : ℕ)
+      → last.due ≡ Some moment → (0 < last.sends) × (last.sends ≤ length (gaps policy))
 
 -- nothing was handed over to a wire that tells it
 abbrev pub TellsNone : Option (List HandedDatagram) → Type 0

@@ -7,7 +7,8 @@ use Rattle.fax_wires.specs.repeat.Peers.{HearsOn, HearsWhere, PeerValue, Peers, 
 use Rattle.fax_wires.specs.repeat.Policies.{LastValue, RepeatingValue, TellsPeers, last_on}
 
 -- By what it is told of its peers a wire that repeats has no more to do, and no less.
-pub told_due : (at : Leg) (old new : RepeatingValue) → TellsPeers old new → (last_on at new).due ≡ (last_on at old).due
+pub told_due : (at : Leg) (old new : RepeatingValue)
+    → TellsPeers old new → (last_on at new).due ≡ (last_on at old).due
 told_due legs.Calling old new made = ap (λ (l : LastValue). l.due) made.calling
 told_due legs.Called old new made = ap (λ (l : LastValue). l.due) made.called
 

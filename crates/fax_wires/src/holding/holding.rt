@@ -47,7 +47,17 @@ impl<W: TimedWire + Drop> Model for HoldingWire<W> {
 
     ghost Value = { HoldingValue };
 
-    ghost view = { λ w. record { held = octets_of w.held; is_silenced = w.is_silenced; failures = w.failures; wire = W.known w.wire; clock = W.clock w.wire; calling_due = W.due leg_shown.Calling w.wire; called_due = W.due leg_shown.Called w.wire; peers = peers_of W.peer_at w.wire } };
+    ghost view = { λ w.
+        record {
+          held = octets_of w.held;
+          is_silenced = w.is_silenced;
+          failures = w.failures;
+          wire = W.known w.wire;
+          clock = W.clock w.wire;
+          calling_due = W.due leg_shown.Calling w.wire;
+          called_due = W.due leg_shown.Called w.wire;
+          peers = peers_of W.peer_at w.wire;
+        } };
 
     ghost invariant = { λ w. w.is_silenced ≡ true → octets_of w.held ≡ None };
 }
@@ -55,7 +65,8 @@ impl<W: TimedWire + Drop> Model for HoldingWire<W> {
 impl<W: TimedWire + Drop> HoldingWire<W> {
     /// A wire that holds nothing, over this one. The calling leg is not silenced.
     pub fn new(alloc: Global, wire: W) -> Self
-        ensures { result ≡ fresh (W.known wire) (W.clock wire) (W.due LegShown.Calling wire) (W.due LegShown.Called wire) (peers_of W.peer_at wire) }
+        ensures { result ≡ fresh (W.known wire) (W.clock wire)
+            (W.due LegShown.Calling wire) (W.due LegShown.Called wire) (peers_of W.peer_at wire) }
     {
         HoldingWire {
             wire,
@@ -144,7 +155,8 @@ impl<W: TimedWire + Drop> HoldingWire<W> {
         ensures silence { self.new.is_silenced ≡ self.old.is_silenced }
         ensures failures { self.new.failures ≡ failures_after self.old.failures result }
         ensures received { Grows [] self.old.wire.received self.new.wire.received }
-        ensures sent { Grows (record { leg = LegShown.Called; octets = octets.now } ∷ []) self.old.wire.sent self.new.wire.sent }
+        ensures sent { Grows (record { leg = LegShown.Called; octets = octets.now }
+            ∷ []) self.old.wire.sent self.new.wire.sent }
         ensures clock { KeepsClock self.old self.new }
         ensures peers { self.new.peers ≡ self.old.peers }
     {
@@ -164,9 +176,11 @@ impl<W: TimedWire + Drop> Wire for HoldingWire<W> {
 
     ghost known = { as_told };
 
-    ghost receives = { λ leg old new. Stays old new × HearsOn leg old.peers new.peers × KeepsClock old new };
+    ghost receives = { λ leg old new. Stays old new
+        × HearsOn leg old.peers new.peers × KeepsClock old new };
 
-    ghost sends = { λ leg octets is_sent old new. Sends leg octets is_sent old new × (new.peers ≡ old.peers) × KeepsClock old new };
+    ghost sends = { λ leg octets is_sent old new. Sends leg octets is_sent old new
+        × (new.peers ≡ old.peers) × KeepsClock old new };
 
     fn receive(&mut self, leg: Leg, buffer: &mut [u8]) -> Result<Option<usize>, WireFault> {
         match self.wire.receive(leg, buffer) {
@@ -241,7 +255,8 @@ impl<W: TimedWire + Drop> TimedWire for HoldingWire<W> {
 
     ghost goes_on = { λ old new. Stays old new × (new.peers ≡ old.peers) };
 
-    ghost ceases = { λ leg old new. Ceases leg old new × (new.peers ≡ old.peers) × KeepsClock old new };
+    ghost ceases = { λ leg old new. Ceases leg old new
+        × (new.peers ≡ old.peers) × KeepsClock old new };
 
     ghost keeps_due = { told_due };
 

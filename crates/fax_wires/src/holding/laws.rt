@@ -18,10 +18,15 @@ pub fn silenced_until_the_next_call()
 
 /// In a turn a wire holds what it is handed on the calling leg, and what it hands on on the called leg changes nothing of that.
 pub fn turns_are_held()
-    ensures nothing { (actions : List LegAction) (wire : HoldingValue) → HasDone actions wire → HoldsAfter actions None wire }
-    ensures given { (actions : List LegAction) (octets : List ℕ) (old new : HoldingValue) → HasDone actions old → Holds octets old new → HoldsAfter actions (Some octets) new }
-    ensures lost { (actions : List LegAction) (old new : HoldingValue) → HasDone actions old → Loses old new → HoldsAfter actions None new }
-    ensures beside { (actions : List LegAction) (given : Option (List ℕ)) (octets : List ℕ) (old new : HoldingValue) → HoldsAfter actions given old → HandsOn octets old new → HoldsAfter actions given new }
+    ensures nothing { (actions : List LegAction) (wire : HoldingValue)
+        → HasDone actions wire → HoldsAfter actions None wire }
+    ensures given { (actions : List LegAction) (octets : List ℕ) (old new : HoldingValue)
+        → HasDone actions old → Holds octets old new → HoldsAfter actions (Some octets) new }
+    ensures lost { (actions : List LegAction) (old new : HoldingValue)
+        → HasDone actions old → Loses old new → HoldsAfter actions None new }
+    ensures beside { (actions : List LegAction)
+        (given : Option (List ℕ)) (octets : List ℕ) (old new : HoldingValue)
+        → HoldsAfter actions given old → HandsOn octets old new → HoldsAfter actions given new }
 {}
 
 /// As a turn ends a wire that holds back holds what the turn handed over on the calling leg, unless it is silenced, or the datagram was lost for
@@ -32,5 +37,7 @@ pub fn logs_are_held()
 
 /// The next call begins after the actions so far.
 pub fn calls_begin()
-    ensures { (actions : List LegAction) (old new : HoldingValue) → HasDone actions old → Speaks leg_shown.Calling old new → IsToldAs old.wire new.wire → HasDone (BeginsAction ∷ actions) new }
+    ensures { (actions : List LegAction) (old new : HoldingValue)
+        → HasDone actions old → Speaks leg_shown.Calling old new
+        → IsToldAs old.wire new.wire → HasDone (BeginsAction ∷ actions) new }
 {}

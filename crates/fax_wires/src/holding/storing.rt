@@ -24,13 +24,15 @@ pub trait PageStore<P> {
 
     /// Keeps pages after the others, in their order. At an `Err` each of them may be stored or not.
     fn store_all(&mut self, pages: &[P]) -> Result<(), StoreFault>
-        ensures kept { OnOk result ((before : List P) → keeps self.old before → keeps self.new (before ++ pages.now)) }
+        ensures kept { OnOk result ((before : List P)
+            → keeps self.old before → keeps self.new (before ++ pages.now)) }
         ensures puts { puts pages.now (is_ok result) self.old self.new };
 }
 
 /// Keeps pages, all of them at once. Where there are none the store is not asked.
 pub fn store_pages<P, K: PageStore<P>>(store: &mut K, pages: &[P]) -> Result<(), StoreFault>
-    ensures kept { OnOk result ((before : List P) → K.keeps store.old before → K.keeps store.new (before ++ pages.now)) }
+    ensures kept { OnOk result ((before : List P)
+        → K.keeps store.old before → K.keeps store.new (before ++ pages.now)) }
     ensures some { OnErr result (0 < length pages.now) }
     ensures puts { PutsIf K.puts pages.now (is_ok result) store.old store.new }
 {
@@ -44,7 +46,9 @@ pub fn store_pages<P, K: PageStore<P>>(store: &mut K, pages: &[P]) -> Result<(),
 /// it gave on the calling leg goes out; where its page is not stored that does not go out, and the leg is silenced until the next call
 /// begins. A datagram whose send fails is lost.
 pub fn end_turn<W: TimedWire + Drop>(wire: &mut HoldingWire<W>, confirms: bool, is_stored: bool)
-    ensures settled { (actions : List LegAction) (given : Option (List ℕ)) → HoldsAfter actions given wire.old → HasDone (TurnAction given confirms is_stored ∷ actions) wire.new }
+    ensures settled { (actions : List LegAction) (given : Option (List ℕ))
+        → HoldsAfter actions given wire.old
+        → HasDone (TurnAction given confirms is_stored ∷ actions) wire.new }
     ensures told { IsToldAs (as_told wire.old) (as_told wire.new) }
     ensures peers { wire.new.peers ≡ wire.old.peers }
 {

@@ -106,7 +106,8 @@ impl Last {
     pub fn hand(&mut self, policy: RepeatPolicy, now: u64, octets: &[u8]) -> bool
         ensures kept { self.new ≡ kept_of policy now octets.now }
         ensures short { result ≡ true → nat_le (length octets.now) 1500 ≡ true }
-        ensures other { result ≡ true → 0 < self.old.sends → same_octets octets.now self.old.octets ≡ false }
+        ensures other { result ≡ true
+            → 0 < self.old.sends → same_octets octets.now self.old.octets ≡ false }
     {
         if octets.len() > MOST_REPEATED {
             *self = Last::new();

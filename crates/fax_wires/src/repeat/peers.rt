@@ -55,32 +55,38 @@ pub trait LegWire: Wire {
     /// dropped. An `Err`: the peer is as before.
     fn set_peer(&mut self, leg: Leg, peer: Peer) -> Result<(), NoRoute>
         ensures told { IsToldAs (Self.known self.old) (Self.known self.new) }
-        ensures said { OnOk result (peers_of Self.peer_at self.new ≡ change_on leg (said peer) (peers_of Self.peer_at self.old)) }
-        ensures err { OnErr result (peers_of Self.peer_at self.new ≡ peers_of Self.peer_at self.old) }
+        ensures said { OnOk result (peers_of Self.peer_at self.new
+            ≡ change_on leg (said peer) (peers_of Self.peer_at self.old)) }
+        ensures err { OnErr result (peers_of Self.peer_at self.new
+            ≡ peers_of Self.peer_at self.old) }
         ensures makes { Self.is_told self.old self.new };
 
     /// From now on a leg has no peer, but where its line has one for ever.
     fn cut(&mut self, leg: Leg)
         ensures told { IsToldAs (Self.known self.old) (Self.known self.new) }
-        ensures cut { peers_of Self.peer_at self.new ≡ change_on leg cut_off (peers_of Self.peer_at self.old) }
+        ensures cut { peers_of Self.peer_at self.new
+            ≡ change_on leg cut_off (peers_of Self.peer_at self.old) }
         ensures makes { Self.is_told self.old self.new };
 
     /// A call begins on a leg, whose datagrams are bounded so in it. Nothing is known of its peer's call.
     fn begin(&mut self, leg: Leg, bounds: Bounds)
         ensures told { IsToldAs (Self.known self.old) (Self.known self.new) }
-        ensures begun { peers_of Self.peer_at self.new ≡ change_on leg (bounded bounds) (peers_of Self.peer_at self.old) }
+        ensures begun { peers_of Self.peer_at self.new
+            ≡ change_on leg (bounded bounds) (peers_of Self.peer_at self.old) }
         ensures makes { Self.is_told self.old self.new };
 
     /// The peer's call on a leg is gone: it is heard to say goodbye, once a turn, until the leg's call is over.
     fn hang_up(&mut self, leg: Leg)
         ensures told { IsToldAs (Self.known self.old) (Self.known self.new) }
-        ensures gone { peers_of Self.peer_at self.new ≡ change_on leg gone (peers_of Self.peer_at self.old) }
+        ensures gone { peers_of Self.peer_at self.new
+            ≡ change_on leg gone (peers_of Self.peer_at self.old) }
         ensures makes { Self.is_told self.old self.new };
 
     /// A turn begins, and the call of a leg is on or not: where it is not, nothing is known any more of the peer's call.
     fn settle(&mut self, leg: Leg, is_on: bool)
         ensures told { IsToldAs (Self.known self.old) (Self.known self.new) }
-        ensures settled { peers_of Self.peer_at self.new ≡ change_on leg (settled is_on) (peers_of Self.peer_at self.old) }
+        ensures settled { peers_of Self.peer_at self.new
+            ≡ change_on leg (settled is_on) (peers_of Self.peer_at self.old) }
         ensures makes { Self.is_told self.old self.new };
 
     /// What is known of the peer of a leg.
@@ -88,8 +94,10 @@ pub trait LegWire: Wire {
         ensures { result ≡ state_of (peer_on leg (peers_of Self.peer_at self.now)) };
 
     /// By a receive on a leg its peer stays, or is heard; that of the other leg stays.
-    ghost keeps_on_receive: { (at : LegShown) (old new : Self) → Self.receives at old new → HearsOn at (peers_of peer_at old) (peers_of peer_at new) };
+    ghost keeps_on_receive: { (at : LegShown) (old new : Self)
+        → Self.receives at old new → HearsOn at (peers_of peer_at old) (peers_of peer_at new) };
 
     /// By a send both stay.
-    ghost keeps_on_send: { (at : LegShown) (octets : List ℕ) (is_sent : Bool) (old new : Self) → Self.sends at octets is_sent old new → peers_of peer_at new ≡ peers_of peer_at old };
+    ghost keeps_on_send: { (at : LegShown) (octets : List ℕ) (is_sent : Bool) (old new : Self)
+        → Self.sends at octets is_sent old new → peers_of peer_at new ≡ peers_of peer_at old };
 }

@@ -51,16 +51,43 @@ impl<W: LegWire + Drop> Model for RepeatingWire<W> {
 
     ghost Value = { RepeatingValue };
 
-    ghost view = { λ w. record { policy = w.policy; clock = w.clock; calling = w.calling; called = w.called; failures = w.failures; tells = w.tells; wire = W.known w.wire; peers = peers_of W.peer_at w.wire } };
+    ghost view = { λ w. record {
+      policy = w.policy;
+      clock = w.clock;
+      calling = w.calling;
+      called = w.called;
+      failures = w.failures;
+      tells = w.tells;
+      wire = W.known w.wire;
+      peers = peers_of W.peer_at w.wire;
+    } };
 
-    ghost invariant = { λ w. IsRepeating (record { policy = w.policy; clock = w.clock; calling = w.calling; called = w.called; failures = w.failures; tells = w.tells; wire = W.known w.wire; peers = peers_of W.peer_at w.wire }) };
+    ghost invariant = { λ w. IsRepeating (record {
+      policy = w.policy;
+      clock = w.clock;
+      calling = w.calling;
+      called = w.called;
+      failures = w.failures;
+      tells = w.tells;
+      wire = W.known w.wire;
+      peers = peers_of W.peer_at w.wire;
+    }) };
 }
 
 impl<W: LegWire + Drop> RepeatingWire<W> {
     /// A wire over one that was handed nothing.
     pub fn new(wire: W, policy: RepeatPolicy) -> Self
         requires { TellsNone (W.known wire).sent }
-        ensures { result ≡ record { policy = policy; clock = 0; calling = unknown; called = unknown; failures = 0; tells = true; wire = W.known wire; peers = peers_of W.peer_at wire } }
+        ensures { result ≡ record {
+          policy = policy;
+          clock = 0;
+          calling = unknown;
+          called = unknown;
+          failures = 0;
+          tells = true;
+          wire = W.known wire;
+          peers = peers_of W.peer_at wire;
+        } }
     {
         RepeatingWire {
             wire,
@@ -87,7 +114,8 @@ impl<W: LegWire + Drop> RepeatingWire<W> {
         ensures handed { HandsOver leg_shown.Calling octets.now self.old self.new }
         ensures failures { self.new.failures ≡ failures_after self.old.failures result }
         ensures received { Grows [] self.old.wire.received self.new.wire.received }
-        ensures told { Grows (record { leg = leg_shown.Calling; octets = octets.now } ∷ []) (told_if self.old.tells self.old.wire.sent) (told_if self.new.tells self.new.wire.sent) }
+        ensures told { Grows (record { leg = leg_shown.Calling; octets = octets.now } ∷ []) (told_if
+            self.old.tells self.old.wire.sent) (told_if self.new.tells self.new.wire.sent) }
     {
         let is_other = self.calling.hand(self.policy, self.clock, octets);
         self.tells = both(self.tells, is_other);
@@ -101,7 +129,8 @@ impl<W: LegWire + Drop> RepeatingWire<W> {
         ensures handed { HandsOver leg_shown.Called octets.now self.old self.new }
         ensures failures { self.new.failures ≡ failures_after self.old.failures result }
         ensures received { Grows [] self.old.wire.received self.new.wire.received }
-        ensures told { Grows (record { leg = leg_shown.Called; octets = octets.now } ∷ []) (told_if self.old.tells self.old.wire.sent) (told_if self.new.tells self.new.wire.sent) }
+        ensures told { Grows (record { leg = leg_shown.Called; octets = octets.now } ∷ []) (told_if
+            self.old.tells self.old.wire.sent) (told_if self.new.tells self.new.wire.sent) }
     {
         let is_other = self.called.hand(self.policy, self.clock, octets);
         self.tells = both(self.tells, is_other);
@@ -135,7 +164,8 @@ fn send_again<W: LegWire>(wire: &mut W, leg: Leg, last: &mut Last, policy: Repea
     ensures last { last.new ≡ repeated policy now last.old }
     ensures received { Grows [] (W.known wire.old).received (W.known wire.new).received }
     ensures peers { peers_of W.peer_at wire.new ≡ peers_of W.peer_at wire.old }
-    ensures sent { Grows (repeat_of leg now last.old) (W.known wire.old).sent (W.known wire.new).sent }
+    ensures sent { Grows (repeat_of leg now last.old)
+        (W.known wire.old).sent (W.known wire.new).sent }
 {
     if last.is_due(now) {
         let _ = wire.send(leg, last.octets());
@@ -152,7 +182,8 @@ impl<W: LegWire + Drop> Wire for RepeatingWire<W> {
 
     ghost receives = { λ leg old new. HearsOn leg old.peers new.peers × (new.clock ≡ old.clock) };
 
-    ghost sends = { λ leg octets is_sent old new. (new.peers ≡ old.peers) × (new.clock ≡ old.clock) };
+    ghost sends = { λ leg octets is_sent old new. (new.peers ≡ old.peers)
+        × (new.clock ≡ old.clock) };
 
     fn receive(&mut self, leg: Leg, buffer: &mut [u8]) -> Result<Option<usize>, WireFault> {
         match self.wire.receive(leg, buffer) {
@@ -168,7 +199,8 @@ impl<W: LegWire + Drop> Wire for RepeatingWire<W> {
     fn send(&mut self, leg: Leg, octets: &[u8]) -> Result<(), WireFault>
         ensures failures { self.new.failures ≡ failures_after self.old.failures result }
         ensures received { Grows [] self.old.wire.received self.new.wire.received }
-        ensures sent { Grows (record { leg = leg; octets = octets.now } ∷ []) (told_if self.old.tells self.old.wire.sent) (told_if self.new.tells self.new.wire.sent) }
+        ensures sent { Grows (record { leg = leg; octets = octets.now } ∷ []) (told_if
+            self.old.tells self.old.wire.sent) (told_if self.new.tells self.new.wire.sent) }
         ensures handed { HandsOver leg octets.now self.old self.new }
         ensures repeats { Repeats self.new }
     {

@@ -39,23 +39,29 @@ pub trait TimedWire: LegWire {
         ensures { result ≡ due_of due self.now };
 
     /// By what it is told of its peers it has no more to do, and no less.
-    ghost keeps_due: { (leg : LegShown) (old new : Self) → Self.is_told old new → due leg new ≡ due leg old };
+    ghost keeps_due: { (leg : LegShown) (old new : Self)
+        → Self.is_told old new → due leg new ≡ due leg old };
 
     /// Nothing but time itself moves its clock: no receive,
-    ghost clock_on_receive: { (at : LegShown) (old new : Self) → Self.receives at old new → clock new ≡ clock old };
+    ghost clock_on_receive: { (at : LegShown) (old new : Self)
+        → Self.receives at old new → clock new ≡ clock old };
 
     /// no send,
-    ghost clock_on_send: { (at : LegShown) (octets : List ℕ) (is_sent : Bool) (old new : Self) → Self.sends at octets is_sent old new → clock new ≡ clock old };
+    ghost clock_on_send: { (at : LegShown) (octets : List ℕ) (is_sent : Bool) (old new : Self)
+        → Self.sends at octets is_sent old new → clock new ≡ clock old };
 
     /// nothing that it is told of its peers,
     ghost clock_on_told: { (old new : Self) → Self.is_told old new → clock new ≡ clock old };
 
     /// and no call that begins.
-    ghost clock_on_cease: { (at : LegShown) (old new : Self) → ceases at old new → clock new ≡ clock old };
+    ghost clock_on_cease: { (at : LegShown) (old new : Self)
+        → ceases at old new → clock new ≡ clock old };
 
     /// As time goes on the peers of both legs stay.
-    ghost keeps_on_time: { (old new : Self) → goes_on old new → peers_of Self.peer_at new ≡ peers_of Self.peer_at old };
+    ghost keeps_on_time: { (old new : Self)
+        → goes_on old new → peers_of Self.peer_at new ≡ peers_of Self.peer_at old };
 
     /// Where a call begins they stay.
-    ghost keeps_on_cease: { (at : LegShown) (old new : Self) → ceases at old new → peers_of Self.peer_at new ≡ peers_of Self.peer_at old };
+    ghost keeps_on_cease: { (at : LegShown) (old new : Self)
+        → ceases at old new → peers_of Self.peer_at new ≡ peers_of Self.peer_at old };
 }
