@@ -79,7 +79,7 @@ while pending:
         if came.judged and w: told[e.name] = ("refused", w)
         elif len(taken) == 1:
             g = next(iter(came.goals.items()), None) or next(iter(came.unanswered.items()), None)
-            wrong = next((l for l in came.said.split("\n") if "error" in l and "by-macro" not in l and "Error" not in l), "")
+            wrong = next((l for l in came.said.split("\n") if "error" in l and "by-macro" not in l and "Error" not in l and not l.startswith("statements ")), "")
             if came.judged and g: told[e.name] = ("refused", f"{g[0]}: {g[1]} (another)")
             elif came.judged and not re.search(r"(?m)^fn \S+: (?!proved)", came.said) and not wrong: told[e.name] = ("NOT REFUSED here", "its function is still proved")
             elif came.judged and re.search(r"(?m)^fn \S+: (?:not proved|no proof)", came.said): told[e.name] = ("refused", "a name or an answer is gone: " + " ".join(re.findall(r"(?m)^fn \S+: (?!proved).*", came.said))[:150])
