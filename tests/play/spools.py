@@ -23,8 +23,6 @@ FILES = ("pages", "pages-wal")
 # What the records of pages, of jobs that ended and of epochs begin with.
 PAGE_KIND, ENDED_KIND, EPOCH = b"\x01", b"\x02", b"\x03"
 DELIVERED, PAGE_REFUSED = 0, 7
-# How many lines there are from one to the next in the same slot.
-SLOTS = 40
 
 
 # Records (docs/ARCHITECTURE.md): a gate three times, the length three times, a SHA-256 digest, and what it is of.
@@ -527,18 +525,19 @@ class TwinLeg(t38.Leg):
         super().close()
 
 
-class PagesOfASlot(Spooling):
+class PagesOfARound(Spooling):
     def play(self, fails):
-        """The same call on two lines of a slot. It gives the counts, and whether both calling machines heard an MCF, or neither."""
-        lines = [Line(self.ports, f"a{i}") for i in range(SLOTS + 1)]
+        """The same call on two lines, whose slots have their turns one after the other. It gives the counts, and whether both calling
+        machines heard an MCF, or neither."""
+        lines = [Line(self.ports, "a0"), Line(self.ports, "a1")]
         server = self.serve(*lines)
-        self.silent(lines[0]), self.silent(lines[SLOTS])
+        self.silent(lines[0]), self.silent(lines[1])
         if fails:
             self.limit(server, len(file_of(*epochs(1))) + 10)
-        leg = TwinLeg(lines[0], lines[SLOTS])
+        leg = TwinLeg(*lines)
         machine = self.stack.enter_context(t38.Calling(leg, [PAGE], t4=SHORT_T4))
         client = server.client()
-        client.send(f"ring a0\nring a{SLOTS}\n".encode())
+        client.send(b"ring a0\nring a1\n")
         self.assertEqual([client.answer(), client.answer()], [["ok 0"], ["ok 0"]])
         machine.join(PATIENCE)
         leg.drain()
@@ -548,7 +547,7 @@ class PagesOfASlot(Spooling):
         return server.metrics(), heard
 
     def test_they_are_kept_at_once(self):
-        """Where both commands come in one turn of the slot, there is one put. Now and then a turn lies between both, and it is tried
+        """Where both commands come in one round of the slots, there is one put. Now and then a round ends between both, and it is tried
         again."""
         for _ in range(4):
             counts, heard = self.play(fails=False)

@@ -8,8 +8,8 @@ use Rattle.fax_line.specs.declared.settling.PageToStore.{PageToStore}
 use Rattle.fax_line.specs.declared.settling.SlotEnd.{SlotEnd}
 use Rattle.fax_line.specs.StoredRuns.{EndsIf, IsRun, IsSettled, NotesIf, TellsFirst, TellsPlace, TellsWhere, kept_if, stored_pages}
 use Rattle.fax_line.specs.Places.{PlaceValue}
-use Rattle.fax_line.specs.Runs.{AskedOf, DoneOrder, Turned, Woken, next_slot}
-use Rattle.fax_line.specs.Settling.{has_page, was_turned}
+use Rattle.fax_line.specs.Runs.{AskedOf, DoneOrder, Stored, Turned, Woken, turned_in}
+use Rattle.fax_line.specs.Settling.{has_page}
 
 nil_after : (pages : List PageToStore) → pages ++ [] ≡ pages
 nil_after [] = refl
@@ -37,33 +37,34 @@ module _
   told_where number true told handed old new pages is kept = ended number told.report is.0 new pages is.2 (noted number told.kept handed old is.0 pages is.1 kept)
   told_where number false told handed old new pages is kept = by_none old new pages is kept
 
-  told_place : (slot : ℕ) (handed : List PageToStore) (number : ℕ) (o : Option PlaceValue) (old new : K) (pages : List PageToStore) → TellsPlace notes ends slot handed number o old new → keeps old pages → keeps new pages
-  told_place slot handed number None old new pages is kept = by_none old new pages is kept
-  told_place slot handed number (Some place) old new pages is kept = told_where number (was_turned slot number place) place.line.turned (has_page handed number) old new pages is kept
+  told_place : (which : ℕ → Bool) (handed : List PageToStore) (number : ℕ) (o : Option PlaceValue) (old new : K) (pages : List PageToStore) → TellsPlace notes ends which handed number o old new → keeps old pages → keeps new pages
+  told_place which handed number None old new pages is kept = by_none old new pages is kept
+  told_place which handed number (Some place) old new pages is kept = told_where number (which number) place.line.turned (has_page handed number) old new pages is kept
 
-  told_first : (slot : ℕ) (handed : List PageToStore) (lines : List PlaceValue) (number : ℕ) (old new : K) (pages : List PageToStore) → TellsFirst notes ends slot handed lines number old new → keeps old pages → keeps new pages
-  told_first slot handed lines zero old new pages is kept = by_none old new pages is kept
-  told_first slot handed lines (suc number) old new pages is kept =
-      told_place slot handed number (slice_get lines number) is.0 new pages is.2 (told_first slot handed lines number old is.0 pages is.1 kept)
+  told_first : (which : ℕ → Bool) (handed : List PageToStore) (lines : List PlaceValue) (number : ℕ) (old new : K) (pages : List PageToStore) → TellsFirst notes ends which handed lines number old new → keeps old pages → keeps new pages
+  told_first which handed lines zero old new pages is kept = by_none old new pages is kept
+  told_first which handed lines (suc number) old new pages is kept =
+      told_place which handed number (slice_get lines number) is.0 new pages is.2 (told_first which handed lines number old is.0 pages is.1 kept)
 
   put_if : (put : List PageToStore) (is_stored : Bool) (old new : K) (pages : List PageToStore) → PutsIf puts put is_stored old new → keeps old pages → keeps new (pages ++ kept_if is_stored put)
   put_if [] true old new pages is kept = subst (λ (l : List PageToStore). keeps new l) (sym (nil_after pages)) (by_none old new pages is.1 kept)
   put_if [] false old new pages is kept = subst (λ (l : List PageToStore). keeps new l) (sym (nil_after pages)) (by_none old new pages is.1 kept)
   put_if (page ∷ put) is_stored old new pages is kept = by_puts (page ∷ put) is_stored old new pages is kept
 
-  settles : (slot : ℕ) (end : SlotEnd) (old new : List PlaceValue) (before after : K) (pages : List PageToStore)
-      → IsSettled same puts notes ends slot end old new before after → keeps before pages → keeps after (pages ++ kept_if (is_ok end.answer) end.pages.items)
-  settles slot end old new before after pages is kept =
-      told_first slot end.pages.items new is.told.count is.kept after (pages ++ kept_if (is_ok end.answer) end.pages.items) is.told.told
+  settles : (which : ℕ → Bool) (end : SlotEnd) (old new : List PlaceValue) (before after : K) (pages : List PageToStore)
+      → IsSettled same puts notes ends which end old new before after → keeps before pages → keeps after (pages ++ kept_if (is_ok end.answer) end.pages.items)
+  settles which end old new before after pages is kept =
+      told_first which end.pages.items new is.told.count is.kept after (pages ++ kept_if (is_ok end.answer) end.pages.items) is.told.told
       (put_if end.pages.items (is_ok end.answer) is.begun is.kept pages is.put (by_same before is.begun pages is.is_same kept))
 
-  pub run_keeps : (first : ℕ) (done : List DoneOrder) (settled : List SlotEnd) (old new : List PlaceValue) (before after : K) (pages : List PageToStore)
-      → IsRun same puts notes ends first done settled old new before after → keeps before pages → keeps after (pages ++ stored_pages settled)
-  run_keeps first [] [] old new before after pages ran kept = subst (λ (l : List PageToStore). keeps after l) (sym (nil_after pages)) (by_none before after pages ran.1 kept)
-  run_keeps first [] (end ∷ settled) old new before after pages ran kept = absurd ran
-  run_keeps first (Turned now rests ∷ done) [] old new before after pages ran kept = absurd ran
-  run_keeps first (Turned now rests ∷ done) (end ∷ settled) old new before after pages ran kept =
+  pub run_keeps : (done : List DoneOrder) (settled : List SlotEnd) (old new : List PlaceValue) (before after : K) (pages : List PageToStore)
+      → IsRun same puts notes ends done settled old new before after → keeps before pages → keeps after (pages ++ stored_pages settled)
+  run_keeps [] [] old new before after pages ran kept = subst (λ (l : List PageToStore). keeps after l) (sym (nil_after pages)) (by_none before after pages ran.1 kept)
+  run_keeps [] (end ∷ settled) old new before after pages ran kept = absurd ran
+  run_keeps (Turned now visits ∷ done) settled old new before after pages ran kept = run_keeps done settled old ran.0 before after pages ran.2 kept
+  run_keeps (Stored visits ∷ done) [] old new before after pages ran kept = absurd ran
+  run_keeps (Stored visits ∷ done) (end ∷ settled) old new before after pages ran kept =
       subst (λ (l : List PageToStore). keeps after l) (append_assoc pages (stored_pages settled) (kept_if (is_ok end.answer) end.pages.items))
-      (settles (next_slot first done) end ran.1 new ran.2 after (pages ++ stored_pages settled) ran.6 (run_keeps first done settled old ran.0 before ran.2 pages ran.3 kept))
-  run_keeps first (AskedOf line now what answer ∷ done) settled old new before after pages ran kept = run_keeps first done settled old ran.0 before after pages ran.1 kept
-  run_keeps first (Woken line ∷ done) settled old new before after pages ran kept = run_keeps first done settled old ran.0 before after pages ran.1 kept
+      (settles (turned_in visits) end ran.1 new ran.2 after (pages ++ stored_pages settled) ran.6 (run_keeps done settled old ran.0 before ran.2 pages ran.3 kept))
+  run_keeps (AskedOf line now what answer ∷ done) settled old new before after pages ran kept = run_keeps done settled old ran.0 before after pages ran.1 kept
+  run_keeps (Woken line ∷ done) settled old new before after pages ran kept = run_keeps done settled old ran.0 before after pages ran.1 kept

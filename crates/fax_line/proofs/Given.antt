@@ -1,32 +1,31 @@
 -- Over a run the peer of a called leg is the one that it was given.
-use Rattle.std.proofs.Common.{◌≡◌, ◌<◌, ℕ, max, Bool, true, false, not, ◌&&◌, nat_eq, List, [], ◌∷◌, ◌++◌, length, slice_index_or, Option, Some, None, is_some, option_map, Result, Ok, Err, refl, sym, ◌∙◌, ap, subst, arith, inl, inr, if◌then◌else◌}
+use Rattle.std.proofs.Common.{◌≡◌, ◌<◌, ℕ, max, Bool, true, false, not, nat_eq, List, [], ◌∷◌, ◌++◌, length, slice_index_or, Option, Some, None, is_some, option_map, Ok, Err, refl, sym, subst, arith, inl, inr, if◌then◌else◌}
 use Rattle.std.specs.declared.net.socket_addr.SocketAddr.{SocketAddr}
 use Rattle.fax_call.specs.Writings.{IsWriting, Writing}
 use Rattle.fax_jobs.specs.declared.report.Report.{Report}
 use Rattle.fax_gateway.specs.declared.leg.Leg.{Leg}
 use Rattle.fax_gateway.specs.declared.leg.Leg.TheVariants as legs
-use Rattle.fax_gateway.specs.Driving.{DriverValue, Entry, HasMade, events}
-use Rattle.fax_gateway.specs.Events.{Event}
+use Rattle.fax_gateway.specs.Driving.{DriverValue, HasMade, events}
 use Rattle.fax_gateway.specs.Reached.{GatewayValue, IsReachedBy}
 use Rattle.fax_gateway.specs.Setups.{Setup}
 use Rattle.fax_gateway.specs.Turns.{call_of_rep}
 use Rattle.fax_wires.specs.declared.repeat.peers.Bounds.{Bounds}
 use Rattle.fax_wires.specs.declared.repeat.peers.Peer.{Peer}
-use Rattle.fax_wires.specs.repeat.Peers.{Hears, HearsWhere, PeerValue, Peers, bounded, change_on, cut_off, gone, heard, learned, no_bounds, said, settled}
+use Rattle.fax_wires.specs.repeat.Peers.{Hears, HearsWhere, PeerValue, Peers, bounded, change_on, cut_off, gone, no_bounds, said, settled}
 use Rattle.fax_line.specs.declared.asked.LineAnswer.{LineAnswer}
 use Rattle.fax_line.specs.declared.asked.LineAnswer.TheVariants as answered
 use Rattle.fax_line.specs.declared.asked.LineRequest.{LineRequest}
 use Rattle.fax_line.specs.declared.asked.LineRequest.TheVariants as asked
 use Rattle.fax_line.specs.declared.settling.PageToStore.{PageToStore}
 use Rattle.fax_line.specs.declared.settling.SlotEnd.{SlotEnd}
-use Rattle.fax_line.specs.Actions.{Action, Asks, Goes, LineValue, Rests, TellsTurn, Turns, Wakes}
-use Rattle.fax_line.specs.Operations.{AllStayHeld, AskFrees, AsksLine, IsFreed, LinesWent, SlotTells, TellsInSlot, TurnsSlot, WakesLine, actions_of, slot_of}
+use Rattle.fax_line.specs.Actions.{Action, Goes, LineValue}
+use Rattle.fax_line.specs.Operations.{AllStayHeld, AskFrees, AsksLine, IsFreed, LinesWent, VisitsLines, VisitsTell, WakesLine, actions_of}
 use Rattle.fax_line.specs.GivenPeers.{CalledPeersAreGiven, CalledPeersAreGivenWithout, IsAddressOf, IsGiven, IsGivenAs, IsSomewhere, given_after, given_by, given_in, given_on, given_without, has_reported}
-use Rattle.fax_line.specs.StoredRuns.{IsRun, IsSettled, RanWithout}
+use Rattle.fax_line.specs.StoredRuns.{EndUnstored, EndsUnstored, IsRun, RanWithout}
 use Rattle.fax_line.specs.LegPeers.{TurnsPeers, cut_if, peers_after, settled_both}
-use Rattle.fax_line.specs.Places.{PlaceValue, StaysHeld, TellsOrRests}
-use Rattle.fax_line.specs.Runs.{AskedOf, DoneOrder, Turned, Woken, latest, next_slot}
-use Rattle.fax_line.specs.Settling.{EndsSlot, EndsWhere, is_stored_in, was_turned}
+use Rattle.fax_line.specs.Places.{Passes, PlaceValue, RestsAt, StaysHeld, TellsVisit, TurnsAt, Visit}
+use Rattle.fax_line.specs.Runs.{AskedOf, DoneOrder, Stored, Turned, Woken, latest, turned_in}
+use Rattle.fax_line.specs.Settling.{EndTurns, EndsWhere, is_stored_in}
 
 -- ---- one peer
 
@@ -171,11 +170,11 @@ has_stayed setup writes given actions old new writing goes stays has = record {
   is_given = subst (λ (p : Peers). IsGiven given p.called) (sym stays.1) has.is_given;
 }
 
-has_turned : (setup : Setup) (writes : Writing) (given : Option Peer) (b rests : Bool) (now : ℕ) (actions : List Action) (old new : PlaceValue) → IsWriting writes → Goes actions old.line new.line → TellsInSlot b now rests old new
-    → Has setup writes given old.line → Has setup writes (given_after (b && (not rests && is_some new.line.turned.report)) given) new.line
-has_turned setup writes given false rests now actions old new writing goes tells has = has_stayed setup writes given actions old new writing goes tells has
-has_turned setup writes given true true now actions old new writing goes tells has = has_stayed setup writes given actions old new writing goes tells.1 has
-has_turned setup writes given true false now actions old new writing goes tells has = record {
+has_visited : (setup : Setup) (writes : Writing) (given : Option Peer) (visit : Visit) (actions : List Action) (old new : PlaceValue) → IsWriting writes → Goes actions old.line new.line → TellsVisit visit old new
+    → Has setup writes given old.line → Has setup writes (given_after (has_reported visit new) given) new.line
+has_visited setup writes given Passes actions old new writing goes tells has = has_stayed setup writes given actions old new writing goes tells has
+has_visited setup writes given (RestsAt now) actions old new writing goes tells has = has_stayed setup writes given actions old new writing goes tells.1 has
+has_visited setup writes given (TurnsAt now) actions old new writing goes tells has = record {
   somewhere = somewhere_on setup writes actions old.line new.line writing goes has.somewhere;
   is_given =
       given_turned given (is_some new.line.turned.report) (is_some (call_of_rep old.line.gateway.calling)) (is_some old.line.gateway.book.sending) old.line.peers new.line.peers
@@ -196,18 +195,28 @@ module _ (setup : Setup) (writes : Writing) (writing : IsWriting writes) (number
     pub there : number < length lines
     pub has : Has setup writes given (slice_index_or lines number other).line
 
-  stands_ended : (given : Option Peer) (slot : ℕ) (is_stored : ℕ → Bool) (old new : List PlaceValue) → EndsSlot slot is_stored old new → Stands given old → Stands given new
-  stands_ended given slot is_stored old new ends was = record {
+  stands_ended : (given : Option Peer) (which is_stored : ℕ → Bool) (old new : List PlaceValue) → EndTurns which is_stored old new → Stands given old → Stands given new
+  stands_ended given which is_stored old new ends was = record {
     there = let low = was.there in omega (arith, low, ends.as_many);
-    has = has_ended setup writes given (was_turned slot number (slice_index_or old number other)) (is_stored number) (slice_index_or old number other) (slice_index_or new number other) (ends.each number other was.there) was.has;
+    has = has_ended setup writes given (which number) (is_stored number) (slice_index_or old number other) (slice_index_or new number other) (ends.each number other was.there) was.has;
   }
 
-  stands_turned : (given : Option Peer) (slot now : ℕ) (rests : ℕ → Bool) (old new : List PlaceValue) → LinesWent (TurnsSlot slot now rests ∷ []) old new → SlotTells slot now rests old new → Stands given old
-      → Stands (given_after (has_reported slot rests number (slice_index_or new number other)) given) new
-  stands_turned given slot now rests old new went tells was = record {
+  stands_unstored : (given : Option Peer) (which : ℕ → Bool) (old new : List PlaceValue) → EndUnstored which old new → Stands given old → Stands given new
+  stands_unstored given which old new ends was = record {
+    there = let low = was.there in omega (arith, low, ends.as_many);
+    has = by (which number) (ends.each number other was.there);
+  }
+    where
+      by : (b : Bool) → EndsUnstored b (slice_index_or old number other) (slice_index_or new number other) → Has setup writes given (slice_index_or new number other).line
+      by true is = has_ended setup writes given true false (slice_index_or old number other) (slice_index_or new number other) is.1 was.has
+      by false is = has_ended setup writes given false false (slice_index_or old number other) (slice_index_or new number other) is was.has
+
+  stands_visited : (given : Option Peer) (visits : ℕ → Visit) (old new : List PlaceValue) → LinesWent (VisitsLines visits ∷ []) old new → VisitsTell visits old new → Stands given old
+      → Stands (given_after (has_reported (visits number) (slice_index_or new number other)) given) new
+  stands_visited given visits old new went tells was = record {
     there = let low = was.there in omega (arith, low, went.as_many);
     has =
-        has_turned setup writes given (nat_eq (slot_of number) slot) (rests number) now (actions_of number (TurnsSlot slot now rests ∷ [])) (slice_index_or old number other) (slice_index_or new number other) writing
+        has_visited setup writes given (visits number) (actions_of number (VisitsLines visits ∷ [])) (slice_index_or old number other) (slice_index_or new number other) writing
         (went.each number other was.there).goes (tells.each number other was.there) was.has;
   }
 
@@ -229,35 +238,40 @@ module _ (setup : Setup) (writes : Writing) (writing : IsWriting writes) (number
   }
 
   module _ (K : Type 0) (same : K → K → Type 0) (puts : List PageToStore → Bool → K → K → Type 0) (notes : ℕ → ℕ → K → K → Type 0) (ends : ℕ → Report → K → K → Type 0) (start : Option Peer) where
-    stands_in : (first : ℕ) (done : List DoneOrder) (settled : List SlotEnd) (old new : List PlaceValue) (k l : K) (ran : IsRun same puts notes ends first done settled old new k l) → Stands start old
-        → Stands (given_in same puts notes ends number other start first done settled old new k l ran) new
-    stands_in first [] [] old new k l ran was = subst (λ (p : List PlaceValue). Stands start p) (sym ran.0) was
-    stands_in first [] (end ∷ settled) old new k l ran was = absurd ran
-    stands_in first (Turned now rests ∷ done) [] old new k l ran was = absurd ran
-    stands_in first (Turned now rests ∷ done) (end ∷ settled) old new k l ran was =
-        let earlier = given_in same puts notes ends number other start first done settled old ran.0 k ran.2 ran.3 in
-        stands_ended (given_after (has_reported (next_slot first done) rests number (slice_index_or ran.1 number other)) earlier) (next_slot first done) (is_stored_in end) ran.1 new ran.6.settled
-        (stands_turned earlier (next_slot first done) (max (latest done) now) rests ran.0 ran.1 ran.4 ran.5 (stands_in first done settled old ran.0 k ran.2 ran.3 was))
-    stands_in first (AskedOf line now what answer ∷ done) settled old new k l ran was =
-        stands_asked (given_in same puts notes ends number other start first done settled old ran.0 k l ran.1) line (max (latest done) now) what answer ran.0 new ran.2 ran.3 (stands_in first done settled old ran.0 k l ran.1 was)
-    stands_in first (Woken line ∷ done) settled old new k l ran was =
-        stands_woken (given_in same puts notes ends number other start first done settled old ran.0 k l ran.1) line ran.0 new ran.2 ran.3 (stands_in first done settled old ran.0 k l ran.1 was)
+    stands_in : (done : List DoneOrder) (settled : List SlotEnd) (old new : List PlaceValue) (k l : K) (ran : IsRun same puts notes ends done settled old new k l) → Stands start old
+        → Stands (given_in same puts notes ends number other start done settled old new k l ran) new
+    stands_in [] [] old new k l ran was = subst (λ (p : List PlaceValue). Stands start p) (sym ran.0) was
+    stands_in [] (end ∷ settled) old new k l ran was = absurd ran
+    stands_in (Turned now visits ∷ done) settled old new k l ran was =
+        let earlier = given_in same puts notes ends number other start done settled old ran.0 k l ran.2 in
+        stands_unstored (given_after (has_reported (visits number) (slice_index_or ran.1 number other)) earlier) (turned_in visits) ran.1 new ran.5
+        (stands_visited earlier visits ran.0 ran.1 ran.3 ran.4 (stands_in done settled old ran.0 k l ran.2 was))
+    stands_in (Stored visits ∷ done) [] old new k l ran was = absurd ran
+    stands_in (Stored visits ∷ done) (end ∷ settled) old new k l ran was =
+        let earlier = given_in same puts notes ends number other start done settled old ran.0 k ran.2 ran.3 in
+        stands_ended (given_after (has_reported (visits number) (slice_index_or ran.1 number other)) earlier) (turned_in visits) (is_stored_in end) ran.1 new ran.6.settled
+        (stands_visited earlier visits ran.0 ran.1 ran.4 ran.5 (stands_in done settled old ran.0 k ran.2 ran.3 was))
+    stands_in (AskedOf line now what answer ∷ done) settled old new k l ran was =
+        stands_asked (given_in same puts notes ends number other start done settled old ran.0 k l ran.1) line (max (latest done) now) what answer ran.0 new ran.2 ran.3 (stands_in done settled old ran.0 k l ran.1 was)
+    stands_in (Woken line ∷ done) settled old new k l ran was =
+        stands_woken (given_in same puts notes ends number other start done settled old ran.0 k l ran.1) line ran.0 new ran.2 ran.3 (stands_in done settled old ran.0 k l ran.1 was)
 
-  stands_without : (start : Option Peer) (first : ℕ) (done : List DoneOrder) (old new : List PlaceValue) (ran : RanWithout first done old new) → Stands start old → Stands (given_without number other start first done old new ran) new
-  stands_without start first [] old new ran was = subst (λ (p : List PlaceValue). Stands start p) (sym ran) was
-  stands_without start first (Turned now rests ∷ done) old new ran was =
-      let earlier = given_without number other start first done old ran.0 ran.2 in
-      stands_ended (given_after (has_reported (next_slot first done) rests number (slice_index_or ran.1 number other)) earlier) (next_slot first done) (λ number. true) ran.1 new ran.5
-      (stands_turned earlier (next_slot first done) (max (latest done) now) rests ran.0 ran.1 ran.3 ran.4 (stands_without start first done old ran.0 ran.2 was))
-  stands_without start first (AskedOf line now what answer ∷ done) old new ran was =
-      stands_asked (given_without number other start first done old ran.0 ran.1) line (max (latest done) now) what answer ran.0 new ran.2 ran.3 (stands_without start first done old ran.0 ran.1 was)
-  stands_without start first (Woken line ∷ done) old new ran was =
-      stands_woken (given_without number other start first done old ran.0 ran.1) line ran.0 new ran.2 ran.3 (stands_without start first done old ran.0 ran.1 was)
+  stands_without : (start : Option Peer) (done : List DoneOrder) (old new : List PlaceValue) (ran : RanWithout done old new) → Stands start old → Stands (given_without number other start done old new ran) new
+  stands_without start [] old new ran was = subst (λ (p : List PlaceValue). Stands start p) (sym ran) was
+  stands_without start (Turned now visits ∷ done) old new ran was =
+      let earlier = given_without number other start done old ran.0 ran.2 in
+      stands_ended (given_after (has_reported (visits number) (slice_index_or ran.1 number other)) earlier) (turned_in visits) (λ number. true) ran.1 new ran.5
+      (stands_visited earlier visits ran.0 ran.1 ran.3 ran.4 (stands_without start done old ran.0 ran.2 was))
+  stands_without start (Stored visits ∷ done) old new ran was = absurd ran
+  stands_without start (AskedOf line now what answer ∷ done) old new ran was =
+      stands_asked (given_without number other start done old ran.0 ran.1) line (max (latest done) now) what answer ran.0 new ran.2 ran.3 (stands_without start done old ran.0 ran.1 was)
+  stands_without start (Woken line ∷ done) old new ran was =
+      stands_woken (given_without number other start done old ran.0 ran.1) line ran.0 new ran.2 ran.3 (stands_without start done old ran.0 ran.1 was)
 
 pub called_peers_are_given : {K : Type 0} (same : K → K → Type 0) (puts : List PageToStore → Bool → K → K → Type 0) (notes : ℕ → ℕ → K → K → Type 0) (ends : ℕ → Report → K → K → Type 0) → CalledPeersAreGiven same puts notes ends
-called_peers_are_given {K = K} same puts notes ends setup writes number other start first done settled old new before after writing there somewhere given ran =
-    (stands_in setup writes writing number other K same puts notes ends start first done settled old new before after ran record { there = there; has = record { somewhere = somewhere; is_given = given } }).has.is_given
+called_peers_are_given {K = K} same puts notes ends setup writes number other start done settled old new before after writing there somewhere given ran =
+    (stands_in setup writes writing number other K same puts notes ends start done settled old new before after ran record { there = there; has = record { somewhere = somewhere; is_given = given } }).has.is_given
 
 pub called_peers_are_given_without : CalledPeersAreGivenWithout
-called_peers_are_given_without setup writes number other start first done old new writing there somewhere given ran =
-    (stands_without setup writes writing number other start first done old new ran record { there = there; has = record { somewhere = somewhere; is_given = given } }).has.is_given
+called_peers_are_given_without setup writes number other start done old new writing there somewhere given ran =
+    (stands_without setup writes writing number other start done old new ran record { there = there; has = record { somewhere = somewhere; is_given = given } }).has.is_given

@@ -1,5 +1,6 @@
 mod AllStored
 mod Connected
+mod Early
 mod Given
 mod Goings
 mod Heard
@@ -10,4 +11,5 @@ mod Slots
 mod Stepping
 mod Telling
 mod Turning
+pub mod Recorded
 pub mod Running

@@ -1,5 +1,5 @@
 -- The clock of a line goes no further than the moments of what is done with it.
-use Rattle.std.proofs.Common.{◌≡◌, ℕ, ◌≤◌, max, Bool, true, false, List, [], ◌∷◌, ◌++◌, Option, Some, None, Result, Ok, Err, refl, sym, ◌∙◌, ap, subst, append_assoc, arith, inl, inr}
+use Rattle.std.proofs.Common.{◌≡◌, ℕ, ◌≤◌, max, Bool, true, false, List, [], ◌∷◌, ◌++◌, Option, Some, Result, Ok, Err, refl, sym, ◌∙◌, ap, subst, append_assoc, arith, inl, inr}
 use Rattle.std.specs.List.{All}
 use Rattle.std.proofs.lemmas.Grind.{flat_map-append}
 use Rattle.std.proofs.lemmas.List.Elements.{All-head, All-tail}
@@ -19,7 +19,8 @@ use Rattle.fax_line.specs.declared.asked.LineAnswer.TheVariants as answered
 use Rattle.fax_line.specs.declared.asked.LineRequest.{LineRequest}
 use Rattle.fax_line.specs.declared.asked.LineRequest.TheVariants as asked
 use Rattle.fax_line.specs.Actions.{Action, AreSteps, Asks, IsAsked, IsPlaced, IsRung, Rests, Turns, Wakes}
-use Rattle.fax_line.specs.Laws.{RestsMissNothing, RiseTo}
+use Rattle.fax_line.specs.Laws.{RestsMissNothing}
+use Rattle.fax_line.specs.Operations.{RiseTo}
 
 -- after these entries the clock stands at this moment at most, or where it stood
 abbrev Keeps : ℕ → List Entry → Type 0

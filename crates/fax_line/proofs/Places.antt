@@ -1,14 +1,12 @@
 -- A line in its place.
-use Rattle.std.proofs.Common.{◌≡◌, ℕ, Bool, true, false, not, ◌&&◌, List, [], ◌∷◌, ◌++◌, Option, Some, None, refl, sym, ◌∙◌, ap, subst, arith}
+use Rattle.std.proofs.Common.{◌≡◌, ℕ, Bool, true, false, not, ◌&&◌, List, [], ◌∷◌, ◌++◌, Option, Some, None, refl, sym, ◌∙◌, subst, arith}
 use Rattle.fax_timers.specs.Moments.{earlier, is_due}
 use Rattle.fax_call.specs.Writings.{Writing}
 use Rattle.fax_gateway.specs.Due.{due_at}
 use Rattle.fax_gateway.specs.Events.{Event}
 use Rattle.fax_gateway.specs.Reached.{IsReachedBy}
 use Rattle.fax_gateway.specs.Setups.{Setup}
-use Rattle.fax_line.specs.declared.asked.LineAnswer.{LineAnswer}
-use Rattle.fax_line.specs.declared.asked.LineRequest.{LineRequest}
-use Rattle.fax_line.specs.Actions.{Action, Asks, Goes, LineValue, Rests, Turns, Wakes}
+use Rattle.fax_line.specs.Actions.{Action, Asks, LineValue, Rests, Turns, Wakes}
 use Rattle.fax_line.specs.Places.{GoesInPlace, IsDueOn, PlaceValue, RestsAsleep, is_awake, visit_of}
 use Rattle.fax_line.proofs.Goings.{goes_more, goes_none, goes_rest, goes_wake}
 
@@ -41,6 +39,27 @@ awake_more before older (Rests now ∷ earlier) = awake_more before older earlie
 awake_more before older (Asks now what answer ∷ earlier) = awake_more before older earlier
 awake_more before older (Wakes ∷ earlier) = refl
 
+-- What is awake though it need not be leaves nothing out.
+asleep_down : (actions : List Action) → is_awake true actions ≡ false → is_awake false actions ≡ false
+asleep_down [] is = refl
+asleep_down (Turns now ∷ earlier) is = refl
+asleep_down (Rests now ∷ earlier) is = asleep_down earlier is
+asleep_down (Asks now what answer ∷ earlier) is = asleep_down earlier is
+asleep_down (Wakes ∷ earlier) is = is
+
+asleep_so : (mid before : Bool) (actions : List Action) → (mid ≡ false → before ≡ false) → is_awake mid actions ≡ false → is_awake before actions ≡ false
+asleep_so true true actions so is = is
+asleep_so true false actions so is = asleep_down actions is
+asleep_so false true actions so is = let no : true ≡ false = so refl in cc
+asleep_so false false actions so is = is
+
+rests_so : (mid before : Bool) (actions : List Action) → (mid ≡ false → before ≡ false) → RestsAsleep mid actions → RestsAsleep before actions
+rests_so mid before [] so rests = tt
+rests_so mid before (Turns now ∷ earlier) so rests = rests_so mid before earlier so rests
+rests_so mid before (Rests now ∷ earlier) so rests = (asleep_so mid before earlier so rests.0, rests_so mid before earlier so rests.1)
+rests_so mid before (Asks now what answer ∷ earlier) so rests = rests_so mid before earlier so rests
+rests_so mid before (Wakes ∷ earlier) so rests = rests_so mid before earlier so rests
+
 asleep_more : (before : Bool) (older newer : List Action) → RestsAsleep before older → RestsAsleep (is_awake before older) newer → RestsAsleep before (newer ++ older)
 asleep_more before older [] first second = first
 asleep_more before older (Turns now ∷ earlier) first second = asleep_more before older earlier first second
@@ -49,41 +68,30 @@ asleep_more before older (Asks now what answer ∷ earlier) first second = aslee
 asleep_more before older (Wakes ∷ earlier) first second = asleep_more before older earlier first second
 
 pub place_none : (place : PlaceValue) → GoesInPlace [] place place
-place_none place = record { goes = goes_none place.line; awake = refl; asleep = tt }
+place_none place = record { goes = goes_none place.line; awake = λ is. is; asleep = tt }
 
 pub place_more : (older newer : List Action) (a b c : PlaceValue) → GoesInPlace older a b → GoesInPlace newer b c → GoesInPlace (newer ++ older) a c
 place_more older newer a b c first second = record {
   goes = goes_more older newer a.line b.line c.line first.goes second.goes;
-  awake = second.awake ∙ ap (λ (w : Bool). is_awake w newer) first.awake ∙ awake_more a.awake older newer;
-  asleep = asleep_more a.awake older newer first.asleep (subst (λ (w : Bool). RestsAsleep w newer) first.awake second.asleep);
+  awake = λ is. sym (awake_more a.awake older newer) ∙ asleep_so b.awake (is_awake a.awake older) newer first.awake (second.awake is);
+  asleep = asleep_more a.awake older newer first.asleep (rests_so b.awake (is_awake a.awake older) newer first.awake second.asleep);
 }
 
 -- ---- one action
 
-abbrev pub place_of : LineValue → Option ℕ → Bool → Bool → PlaceValue
-place_of line due awake turned = record { line = line; due = due; awake = awake; turned = turned }
+abbrev pub place_of : LineValue → Option ℕ → Bool → Bool → Bool → PlaceValue
+place_of line due awake turned waits = record { line = line; due = due; awake = awake; turned = turned; waits = waits }
 
-pub place_turns : (now : ℕ) (old new : LineValue) (m n : Option ℕ) (awake x y : Bool) → Goes (Turns now ∷ []) old new
-    → GoesInPlace (Turns now ∷ []) (place_of old m awake x) (place_of new n false y)
-place_turns now old new m n awake x y goes = record { goes = goes; awake = refl; asleep = tt }
-
-pub place_rests : (now : ℕ) (line : LineValue) (due : Option ℕ) (awake x y : Bool) → IsDueOn due line → not awake && not (is_due due now) ≡ true
-    → GoesInPlace (Rests now ∷ []) (place_of line due awake x) (place_of line due awake y)
-place_rests now line due awake x y is rests = record {
+pub place_rests : (now : ℕ) (line : LineValue) (due : Option ℕ) (awake x y w : Bool) → IsDueOn due line → not awake && not (is_due due now) ≡ true
+    → GoesInPlace (Rests now ∷ []) (place_of line due awake x w) (place_of line due awake y w)
+place_rests now line due awake x y w is rests = record {
   goes = goes_rest now line (later_on due line now is (later_is awake (is_due due now) rests));
-  awake = refl;
+  awake = λ same. same;
   asleep = (asleep_is awake (is_due due now) rests, tt);
 }
 
-pub place_asks : (now : ℕ) (what : LineRequest) (answer : Option LineAnswer) (old new : LineValue) (m n : Option ℕ) (awake x : Bool) → Goes (Asks now what answer ∷ []) old new
-    → GoesInPlace (Asks now what answer ∷ []) (place_of old m awake x) (place_of new n awake x)
-place_asks now what answer old new m n awake x goes = record { goes = goes; awake = refl; asleep = tt }
-
-pub place_told : (old new : LineValue) (m n : Option ℕ) (awake x : Bool) → Goes [] old new → GoesInPlace [] (place_of old m awake x) (place_of new n awake x)
-place_told old new m n awake x goes = record { goes = goes; awake = refl; asleep = tt }
-
-pub place_wakes : (line : LineValue) (due : Option ℕ) (awake x : Bool) → GoesInPlace (Wakes ∷ []) (place_of line due awake x) (place_of line due true x)
-place_wakes line due awake x = record { goes = goes_wake line; awake = refl; asleep = tt }
+pub place_wakes : (line : LineValue) (due : Option ℕ) (awake x w : Bool) → GoesInPlace (Wakes ∷ []) (place_of line due awake x w) (place_of line due true x w)
+place_wakes line due awake x w = record { goes = goes_wake line; awake = λ same. same; asleep = tt }
 
 -- in the turn of its slot
 pub visit_rests : (now : ℕ) (rests : Bool) (old new : PlaceValue) → rests ≡ true → GoesInPlace (Rests now ∷ []) old new → GoesInPlace (visit_of now rests ∷ []) old new

@@ -1,53 +1,44 @@
--- What a store is told of the lines of a slot, one after the other.
-use Rattle.std.proofs.Common.{◌≡◌, ◌+◌, ◌-◌, ◌*◌, ◌%◌, ℕ, zero, suc, ◌<◌, ◌≤◌, true, false, Bool, ◌&&◌, nat_eq, List, slice_get, refl, subst, arith, Option, Some, None}
-use Rattle.std.proofs.lemmas.Bool.{eq-eqb, ne_eqb}
+-- A store is told of the turns of lines that wait.
+use Rattle.std.proofs.Common.{◌≡◌, ◌+◌, ℕ, zero, suc, ◌<◌, Bool, List, [], ◌∷◌, length, slice_get, slice_index_or, refl, sym, ◌∙◌, ap, subst, arith, Option, Some, None}
 use Rattle.fax_jobs.specs.declared.report.Report.{Report}
-use Rattle.fax_gateway.specs.declared.turn_report.TurnReport.{TurnReport as Told}
 use Rattle.fax_line.specs.declared.settling.PageToStore.{PageToStore}
-use Rattle.fax_line.specs.StoredRuns.{TellsFirst, TellsPlace, TellsWhere}
+use Rattle.fax_line.specs.Operations.{waits_of}
+use Rattle.fax_line.specs.StoredRuns.{TellsFirst, TellsLines, TellsPlace, TellsWhere}
 use Rattle.fax_line.specs.Places.{PlaceValue}
 use Rattle.fax_line.specs.Settling.{has_page}
+use Rattle.fax_line.proofs.Slots.{waits_is}
 
 module _ (K : Type 0) (notes : ℕ → ℕ → K → K → Type 0) (ends : ℕ → Report → K → K → Type 0) where
-  where_off : (number : ℕ) (a b : Bool) (told : Told) (handed : Bool) (k : K) → a ≡ false → TellsWhere notes ends number (a && b) told handed k k
-  where_off number true b told handed k off = absurd (cc)
-  where_off number false b told handed k off = refl
-
-  where_on : (number : ℕ) (a b : Bool) (told : Told) (handed : Bool) (k l : K) → a ≡ true → TellsWhere notes ends number b told handed k l → TellsWhere notes ends number (a && b) told handed k l
-  where_on number true b told handed k l on tells = tells
-  where_on number false b told handed k l on tells = absurd (cc)
-
-  -- of a line of another slot it is told nothing
-  passes : (slot : ℕ) (pages : List PageToStore) (number : ℕ) (o : Option PlaceValue) (k : K) → nat_eq (number % 40) slot ≡ false → TellsPlace notes ends slot pages number o k k
-  passes slot pages number None k off = refl
-  passes slot pages number (Some place) k off = where_off number (nat_eq (number % 40) slot) place.turned place.line.turned (has_page pages number) k off
-
-  skips : (slot : ℕ) (pages : List PageToStore) (lines : List PlaceValue) (count number : ℕ) (k l : K) → ((j : ℕ) → number ≤ j → j < number + count → nat_eq (j % 40) slot ≡ false)
-      → TellsFirst notes ends slot pages lines number k l → TellsFirst notes ends slot pages lines (number + count) k l
-  skips slot pages lines zero number k l off before =
-      let same : number ≡ number + 0 = omega arith in
-      subst (λ (n : ℕ). TellsFirst notes ends slot pages lines n k l) same before
-  skips slot pages lines (suc count) number k l off before =
-      let same : suc (number + count) ≡ number + suc count = omega arith in
-      subst (λ (n : ℕ). TellsFirst notes ends slot pages lines n k l) same (
+  -- of the line that is next
+  pub tells_next : (pages : List PageToStore) (lines : List PlaceValue) (at : ℕ) (place : PlaceValue) (k l m : K) → at < length lines → slice_get lines at ≡ Some place
+      → place ≡ slice_index_or lines at place → TellsWhere notes ends at place.waits place.line.turned (has_page pages at) l m
+      → TellsFirst notes ends (waits_of lines) pages lines at k l → TellsFirst notes ends (waits_of lines) pages lines (at + 1) k m
+  tells_next pages lines at place k l m low there same tells before =
+      let next : suc at ≡ at + 1 = omega arith in
+      let waits : place.waits ≡ waits_of lines at = ap (λ (p : PlaceValue). p.waits) same ∙ sym (waits_is lines at place low) in
+      subst (λ (n : ℕ). TellsFirst notes ends (waits_of lines) pages lines n k m) next (
         l,
-        skips slot pages lines count number k l (λ j low high. off j low (omega arith)) before,
-        passes slot pages (number + count) (slice_get lines (number + count)) l (off (number + count) (omega arith) (omega arith)),
+        before,
+        subst (λ (o : Option PlaceValue). TellsPlace notes ends (waits_of lines) pages at o l m) (sym there)
+            (subst (λ (b : Bool). TellsWhere notes ends at b place.line.turned (has_page pages at) l m) waits tells),
       )
 
-  -- a round of slots: of the line of this slot it is told
-  pub tells_round : (slot : ℕ) (pages : List PageToStore) (lines : List PlaceValue) (round : ℕ) (k l m : K) → slot < 40
-      → TellsPlace notes ends slot pages (round * 40 + slot) (slice_get lines (round * 40 + slot)) l m
-      → TellsFirst notes ends slot pages lines (round * 40) k l → TellsFirst notes ends slot pages lines ((round + 1) * 40) k m
-  tells_round slot pages lines round k l m low here before =
-      let same : suc (round * 40 + slot) + (39 - slot) ≡ (round + 1) * 40 = omega arith in
-      subst (λ (n : ℕ). TellsFirst notes ends slot pages lines n k m) same
-      (skips slot pages lines (39 - slot) (suc (round * 40 + slot)) k m (λ j far near. ne_eqb (j % 40) slot (λ (e : j % 40 ≡ slot). absurd (omega arith)))
-      (l, skips slot pages lines slot (round * 40) k l (λ j far near. ne_eqb (j % 40) slot (λ (e : j % 40 ≡ slot). absurd (omega arith))) before, here))
+  -- of the same lines, told otherwise
+  place_so : (which other : ℕ → Bool) (pages : List PageToStore) (number : ℕ) (o : Option PlaceValue) (k l : K) → other number ≡ which number → TellsPlace notes ends which pages number o k l → TellsPlace notes ends other pages number o k l
+  place_so which other pages number None k l same told = told
+  place_so which other pages number (Some place) k l same told =
+      subst (λ (b : Bool). TellsWhere notes ends number b place.line.turned (has_page pages number) k l) (sym same) told
 
-  pub tells_place : (slot : ℕ) (pages : List PageToStore) (round : ℕ) (place : PlaceValue) (k l : K) → slot < 40
-      → TellsWhere notes ends (round * 40 + slot) place.turned place.line.turned (has_page pages (round * 40 + slot)) k l
-      → TellsPlace notes ends slot pages (round * 40 + slot) (Some place) k l
-  tells_place slot pages round place k l low tells =
-      where_on (round * 40 + slot) (nat_eq ((round * 40 + slot) % 40) slot) place.turned place.line.turned (has_page pages (round * 40 + slot)) k l
-      (eq-eqb ((round * 40 + slot) % 40) slot (omega arith)) tells
+  first_so : (which other : ℕ → Bool) (pages : List PageToStore) (lines : List PlaceValue) (number : ℕ) (k l : K) → ((i : ℕ) → other i ≡ which i) → TellsFirst notes ends which pages lines number k l
+      → TellsFirst notes ends other pages lines number k l
+  first_so which other pages lines zero k l same told = told
+  first_so which other pages lines (suc number) k l same told =
+      (told.0, first_so which other pages lines number k told.0 same told.1, place_so which other pages number (slice_get lines number) told.0 l (same number) told.2)
+
+  pub told_so : (which other : ℕ → Bool) (pages : List PageToStore) (lines : List PlaceValue) (k l : K) → ((i : ℕ) → other i ≡ which i) → TellsLines notes ends which pages lines k l → TellsLines notes ends other pages lines k l
+  told_so which other pages lines k l same told = record { count = told.count; all = told.all; told = first_so which other pages lines told.count k l same told.told }
+
+pub there_at : (lines : List PlaceValue) (at : ℕ) (d : PlaceValue) → at < length lines → slice_get lines at ≡ Some (slice_index_or lines at d)
+there_at [] at d low = absurd (omega (arith, low))
+there_at (p ∷ lines) zero d low = refl
+there_at (p ∷ lines) (suc at) d low = there_at lines at d (omega (arith, low))

@@ -1,6 +1,6 @@
 -- Whose a line's called leg is: the peer's that was given for a job, until the job is reported. Lists have the newest first. (This
 -- project's profile.)
-use Rattle.std.specs.Prelude.{◌≡◌, ◌<◌, ℕ, max, Bool, true, false, not, ◌&&◌, nat_eq, List, [], ◌∷◌, length, slice_index_or, Option, Some, None, is_some, Result, Ok, Err, if◌then◌else◌}
+use Rattle.std.specs.Prelude.{◌≡◌, ◌<◌, ℕ, Bool, true, false, ◌&&◌, nat_eq, List, [], ◌∷◌, length, slice_index_or, Option, Some, None, is_some, Ok, Err, if◌then◌else◌}
 use Rattle.std.specs.declared.net.socket_addr.SocketAddr.{SocketAddr}
 use Rattle.fax_call.specs.Writings.{IsWriting, Writing}
 use Rattle.fax_jobs.specs.declared.report.Report.{Report}
@@ -20,10 +20,9 @@ use Rattle.fax_line.specs.declared.asked.LineRequest.TheVariants as asked
 use Rattle.fax_line.specs.declared.settling.PageToStore.{PageToStore}
 use Rattle.fax_line.specs.declared.settling.SlotEnd.{SlotEnd}
 use Rattle.fax_line.specs.Actions.{LineValue}
-use Rattle.fax_line.specs.Operations.{slot_of}
 use Rattle.fax_line.specs.StoredRuns.{IsRun, RanWithout}
-use Rattle.fax_line.specs.Places.{PlaceValue}
-use Rattle.fax_line.specs.Runs.{AskedOf, DoneOrder, Turned, Woken, next_slot}
+use Rattle.fax_line.specs.Places.{PlaceValue, Visit, is_turn}
+use Rattle.fax_line.specs.Runs.{AskedOf, DoneOrder, Stored, Turned, Woken}
 
 -- a peer that a leg was given, if it is the called one
 abbrev pub given_on : Leg → Peer → Option Peer → Option Peer
@@ -44,34 +43,38 @@ abbrev pub given_after : Bool → Option Peer → Option Peer
 given_after true before = None
 given_after false before = before
 
--- whether the line of this number, which was turned or left at rest in the turn of a slot, reported a job in it
-abbrev pub has_reported : ℕ → (ℕ → Bool) → ℕ → PlaceValue → Bool
-has_reported slot rests number turned =
-    nat_eq (slot_of number) slot && (not (rests number) && is_some turned.line.turned.report)
+-- whether the line of this number reported a job in the turn that it had by this visit
+abbrev pub has_reported : Visit → PlaceValue → Bool
+has_reported visit turned = is_turn visit && is_some turned.line.turned.report
 
 -- what it is given in a whole run, which begins with this
 abbrev pub given_in :
     {K : Type 0} (same : K → K → Type 0) (puts : List PageToStore → Bool → K → K → Type 0)
     (notes : ℕ → ℕ → K → K → Type 0) (ends : ℕ → Report → K → K → Type 0)
-    (number : ℕ) (other : PlaceValue) (start : Option Peer) (first : ℕ)
+    (number : ℕ) (other : PlaceValue) (start : Option Peer)
     (done : List DoneOrder) (settled : List SlotEnd) (old new : List PlaceValue) (before after : K)
-    → IsRun same puts notes ends first done settled old new before after → Option Peer
-given_in same puts notes ends number other start first [] [] old new before after ran = start
-given_in same puts notes ends number other start first [] (end ∷ settled) old new before after ran =
+    → IsRun same puts notes ends done settled old new before after → Option Peer
+given_in same puts notes ends number other start [] [] old new before after ran = start
+given_in same puts notes ends number other start [] (end ∷ settled) old new before after ran =
     start
-given_in same puts notes ends number other start first (Turned now rests
+given_in same puts notes ends number other start (Turned now visits
+    ∷ done) settled old new before after ran =
+    given_after (has_reported (visits number) (slice_index_or ran.1 number other))
+    (given_in same puts notes ends number other start done settled old ran.0 before after ran.2)
+given_in same puts notes ends number other start (Stored visits
     ∷ done) [] old new before after ran = start
-given_in same puts notes ends number other start first (Turned now rests
-    ∷ done) (end ∷ settled) old new before after ran = given_after
-    (has_reported (next_slot first done) rests number (slice_index_or ran.1 number other)) (given_in
-    same puts notes ends number other start first done settled old ran.0 before ran.2 ran.3)
-given_in same puts notes ends number other start first (AskedOf line now what answer
+given_in same puts notes ends number other start (Stored visits
+    ∷ done) (end ∷ settled) old new before after ran =
+    given_after (has_reported (visits number) (slice_index_or ran.1 number other))
+    (given_in same puts notes ends number other start done settled old ran.0 before ran.2 ran.3)
+given_in same puts notes ends number other start (AskedOf line now what answer
     ∷ done) settled old new before after ran =
-    let earlier = given_in same puts notes ends number other start first done settled old
-    ran.0 before after ran.1 in if nat_eq number line then given_by what answer earlier else earlier
-given_in same puts notes ends number other start first (Woken line
+    let earlier = given_in same puts notes ends number other start done settled
+    old ran.0 before after ran.1 in
+    if nat_eq number line then given_by what answer earlier else earlier
+given_in same puts notes ends number other start (Woken line
     ∷ done) settled old new before after ran =
-    given_in same puts notes ends number other start first done settled old ran.0 before after ran.1
+    given_in same puts notes ends number other start done settled old ran.0 before after ran.1
 
 -- THE PEER IS THE ONE THAT WAS GIVEN: its datagrams go to that address, and come from there alone; where none is given there is none.
 -- Where the address was left open it is still to be learned, or was learned.
@@ -100,34 +103,35 @@ abbrev pub CalledPeersAreGiven : {K : Type 0}
     → (K → K → Type 0) → (List PageToStore → Bool → K → K → Type 0)
     → (ℕ → ℕ → K → K → Type 0) → (ℕ → Report → K → K → Type 0) → Type 0
 CalledPeersAreGiven {K} same puts notes ends = (setup : Setup) (writes : Writing)
-    (number : ℕ) (other : PlaceValue) (start : Option Peer) (first : ℕ) (done : List DoneOrder)
+    (number : ℕ) (other : PlaceValue) (start : Option Peer) (done : List DoneOrder)
     (settled : List SlotEnd) (old new : List PlaceValue) (before after : K) → IsWriting writes
     → number < length old → IsSomewhere setup writes (slice_index_or old number other).line
     → IsGiven start (slice_index_or old number other).line.peers.called
-    → (ran : IsRun same puts notes ends first done settled old new before after)
+    → (ran : IsRun same puts notes ends done settled old new before after)
     → IsGiven (given_in same puts notes ends number other start
-    first done settled old new before after ran) (slice_index_or new number other).line.peers.called
+    done settled old new before after ran) (slice_index_or new number other).line.peers.called
 
 -- the same where there is no store
 abbrev pub given_without : (number : ℕ) (other : PlaceValue)
-    (start : Option Peer) (first : ℕ) (done : List DoneOrder) (old new : List PlaceValue)
-    → RanWithout first done old new → Option Peer
-given_without number other start first [] old new ran = start
-given_without number other start first (Turned now rests ∷ done) old new ran =
-    given_after (has_reported (next_slot first done) rests number (slice_index_or
-    ran.1 number other)) (given_without number other start first done old ran.0 ran.2)
-given_without number other start first (AskedOf line now what answer ∷ done) old new ran =
-    let earlier = given_without number other start first done old ran.0 ran.1 in
+    (start : Option Peer) (done : List DoneOrder) (old new : List PlaceValue)
+    → RanWithout done old new → Option Peer
+given_without number other start [] old new ran = start
+given_without number other start (Turned now visits ∷ done) old new ran =
+    given_after (has_reported (visits number) (slice_index_or ran.1 number other))
+    (given_without number other start done old ran.0 ran.2)
+given_without number other start (Stored visits ∷ done) old new ran = start
+given_without number other start (AskedOf line now what answer ∷ done) old new ran =
+    let earlier = given_without number other start done old ran.0 ran.1 in
     if nat_eq number line then given_by what answer earlier else earlier
-given_without number other start first (Woken line ∷ done) old new ran =
-    given_without number other start first done old ran.0 ran.1
+given_without number other start (Woken line ∷ done) old new ran =
+    given_without number other start done old ran.0 ran.1
 
 abbrev pub CalledPeersAreGivenWithout : Type 0
 CalledPeersAreGivenWithout = (setup : Setup) (writes : Writing) (number : ℕ) (other : PlaceValue)
-    (start : Option Peer) (first : ℕ) (done : List DoneOrder) (old new : List PlaceValue)
+    (start : Option Peer) (done : List DoneOrder) (old new : List PlaceValue)
     → IsWriting writes
     → number < length old → IsSomewhere setup writes (slice_index_or old number other).line
     → IsGiven start (slice_index_or old number other).line.peers.called
-    → (ran : RanWithout first done old new)
-    → IsGiven (given_without number other start first done old new ran)
+    → (ran : RanWithout done old new)
+    → IsGiven (given_without number other start done old new ran)
     (slice_index_or new number other).line.peers.called

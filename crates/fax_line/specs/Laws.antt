@@ -1,5 +1,5 @@
 -- A law of what a line goes through. Lists have the newest first. (This project's profile.)
-use Rattle.std.specs.Prelude.{◌≡◌, ℕ, ◌<◌, ◌≤◌, max, nat_eq, false, List, [], ◌∷◌, length, slice_index_or, Option}
+use Rattle.std.specs.Prelude.{◌≡◌, ℕ, ◌<◌, max, nat_eq, false, List, [], ◌∷◌, length, slice_index_or, Option}
 use Rattle.fax_timers.specs.Moments.{is_due}
 use Rattle.fax_call.specs.Writings.{Writing}
 use Rattle.fax_gateway.specs.Driving.{Entry, events}
@@ -8,17 +8,9 @@ use Rattle.fax_gateway.specs.Events.{clock}
 use Rattle.fax_gateway.specs.Setups.{Setup}
 use Rattle.fax_line.specs.declared.asked.LineAnswer.{LineAnswer}
 use Rattle.fax_line.specs.declared.asked.LineRequest.{LineRequest}
-use Rattle.fax_line.specs.Actions.{Action, AreSteps, Asks, Rests, Turns, Wakes}
-use Rattle.fax_line.specs.Operations.{AskFrees}
+use Rattle.fax_line.specs.Actions.{Action, AreSteps, Rests}
+use Rattle.fax_line.specs.Operations.{AskFrees, RiseTo}
 use Rattle.fax_line.specs.Places.{PlaceValue}
-
--- the moments of what is done with a line never go back, up to this one
-abbrev pub RiseTo : List Action → ℕ → Type 0
-RiseTo [] latest = Unit {0}
-RiseTo (Turns now ∷ earlier) latest = (now ≤ latest) × RiseTo earlier now
-RiseTo (Rests now ∷ earlier) latest = (now ≤ latest) × RiseTo earlier now
-RiseTo (Asks now what answer ∷ earlier) latest = (now ≤ latest) × RiseTo earlier now
-RiseTo (Wakes ∷ earlier) latest = RiseTo earlier latest
 
 -- Where a new line is left at rest, a tick of its gateway would not have been due by the latest moment that it has read: it
 -- would have given nothing, and changed the clock alone.

@@ -4,9 +4,9 @@ use Rattle.std.specs.Prelude.{◌≡◌, ℕ, ◌<◌, ◌≤◌, ◌+◌, ◌-�
 use Rattle.std.specs.List.{All}
 use Rattle.fax_line.specs.declared.asked.LineAnswer.{LineAnswer}
 use Rattle.fax_line.specs.declared.asked.LineRequest.{LineRequest}
-use Rattle.fax_line.specs.Actions.{Action, Asks, Frees, LineValue, Wakes, leg_begun}
+use Rattle.fax_line.specs.Actions.{Action, Asks, Frees, LineValue, Rests, Turns, Wakes, leg_begun}
 use Rattle.fax_line.specs.LegPeers.{peers_after}
-use Rattle.fax_line.specs.Places.{GoesInPlace, IsBegun, IsNewPlace, PlaceValue, StaysHeld, TellsOrRests, is_at_rest, visit_of}
+use Rattle.fax_line.specs.Places.{GoesInPlace, IsBegun, IsNewPlace, PlaceValue, StaysHeld, TellsVisit, Visit, WaitsStill, actions_by, is_at_rest, visit_at}
 
 -- the lines, in the order in which they were added, and the slot that has the next turn
 pub record LinesValue : Type 0 where
@@ -36,22 +36,30 @@ rests_at now lines line = slice_index_or (map (is_at_rest now) lines) line false
 abbrev pub have_turned : List PlaceValue → List Bool
 have_turned lines = map (λ place. place.turned) lines
 
--- What is done: all lines of a slot have their turn, in which these of them are left at rest; or something is asked of one line,
--- which answers, where it is there; or one is told that something may have come for it.
+-- which lines wait
+abbrev pub waits_of : List PlaceValue → ℕ → Bool
+waits_of lines line = slice_index_or (map (λ place. place.waits) lines) line false
+
+-- what is done with each line where this slot has its turn at this moment
+abbrev pub visits_at : (slot now : ℕ) → List PlaceValue → ℕ → Visit
+visits_at slot now lines line =
+    visit_at (nat_eq (slot_of line) slot) (waits_of lines line) (rests_at now lines line) now
+
+-- What is done: lines are visited, one each; or something is asked of one line, which answers, where it is there; or one is told
+-- that something may have come for it.
 pub data Operation : Type 0 where
-  TurnsSlot : (slot now : ℕ) → (rests : ℕ → Bool) → Operation
+  VisitsLines : (visits : ℕ → Visit) → Operation
   AsksLine : (line now : ℕ) → (what : LineRequest) → (answer : Option LineAnswer) → Operation
   WakesLine : (line : ℕ) → Operation
 
 -- what of it is done with one line
 abbrev pub actions_of : ℕ → List Operation → List Action
 actions_of line [] = []
-actions_of line (TurnsSlot slot now rests ∷ earlier) = if nat_eq (slot_of line) slot
-    then visit_of now (rests line) ∷ actions_of line earlier else actions_of line earlier
+actions_of line (VisitsLines visits ∷ earlier) = actions_by (visits line) ++ actions_of line earlier
 actions_of line (AsksLine asked now what answer ∷ earlier) = if nat_eq line asked
     then Asks now what answer ∷ actions_of line earlier else actions_of line earlier
-actions_of line (WakesLine woken ∷ earlier) =
-    if nat_eq line woken then Wakes ∷ actions_of line earlier else actions_of line earlier
+actions_of line (WakesLine woken ∷ earlier) = if nat_eq line woken
+    then Wakes ∷ actions_of line earlier else actions_of line earlier
 
 -- Each line went through its own actions, by itself.
 pub record EachGoes (actions : ℕ → List Action) (old new : List PlaceValue) : Type 0 where
@@ -69,15 +77,32 @@ pub record EachComes (comes : ℕ → PlaceValue → PlaceValue → Type 0) (old
   pub each : (number : ℕ) (other : PlaceValue) → number < length old
       → comes number (slice_index_or old number other) (slice_index_or new number other)
 
--- THE TURN OF A SLOT TELLS of each of its lines what that line's ticks told, but of those that are left at rest. What the wires of these
--- and of other lines hold back stays.
-abbrev pub TellsInSlot : Bool → ℕ → Bool → PlaceValue → PlaceValue → Type 0
-TellsInSlot true now rests old new = TellsOrRests now rests old new
-TellsInSlot false now rests old new = StaysHeld old new
+-- THE TURN OF A SLOT TELLS of each line that was turned in it what that line's ticks told. What the wires of the others hold back
+-- stays.
+abbrev pub VisitsTell : (ℕ → Visit) → List PlaceValue → List PlaceValue → Type 0
+VisitsTell visits old new = EachComes (λ number. TellsVisit (visits number)) old new
 
-abbrev pub SlotTells : ℕ → ℕ → (ℕ → Bool) → List PlaceValue → List PlaceValue → Type 0
-SlotTells slot now rests old new =
-    EachComes (λ number. TellsInSlot (nat_eq (slot_of number) slot) now (rests number)) old new
+-- lines that wait stay as they are, and no other begins to
+abbrev pub AllWaitStill : List PlaceValue → List PlaceValue → Type 0
+AllWaitStill old new = EachComes (λ number. WaitsStill) old new
+
+-- the same lines wait
+abbrev pub WaitAlike : List PlaceValue → List PlaceValue → Type 0
+WaitAlike old new = EachComes (λ number before after. after.waits ≡ before.waits) old new
+
+-- none waits
+abbrev pub AreFree : List PlaceValue → Type 0
+AreFree lines = All (λ place. place.waits ≡ false) lines
+
+-- none waits any more, and nothing else has changed
+abbrev pub AreFreed : List PlaceValue → List PlaceValue → Type 0
+AreFreed old new =
+    EachComes (λ number before after. after ≡ record before { waits = false }) old new
+
+-- one is awake, and nothing else has changed
+abbrev pub WakesOne : ℕ → List PlaceValue → List PlaceValue → Type 0
+WakesOne line old new = EachComes (λ number before after.
+    after ≡ (if nat_eq number line then record before { awake = true } else before)) old new
 
 -- WHAT IS ASKED OF A LINE FREES ITS WIRE, where a call begins by it, on the leg of that call; and the peers of its legs are what that
 -- makes of them. Every other line is left as it was.
@@ -114,11 +139,14 @@ pub record IsLineAt (i : ℕ) (lines : List PlaceValue) (line : LineValue) : Typ
   pub there : slice_get lines i ≡ Some place
   pub line_is : place.line ≡ line
 
--- The moments of operations never go back, up to this one. To be woken has no moment.
+-- The moments of what is done with a line never go back, up to this one. To be woken has no moment.
+abbrev pub RiseTo : List Action → ℕ → Type 0
+RiseTo [] latest = Unit {0}
+RiseTo (Turns now ∷ earlier) latest = (now ≤ latest) × RiseTo earlier now
+RiseTo (Rests now ∷ earlier) latest = (now ≤ latest) × RiseTo earlier now
+RiseTo (Asks now what answer ∷ earlier) latest = (now ≤ latest) × RiseTo earlier now
+RiseTo (Wakes ∷ earlier) latest = RiseTo earlier latest
+
+-- So it is of each line.
 abbrev pub AreRising : List Operation → ℕ → Type 0
-AreRising [] latest = latest ≡ 0
-AreRising (TurnsSlot slot now rests ∷ earlier) latest =
-    (before : ℕ) × (before ≤ latest) × (now ≡ latest) × AreRising earlier before
-AreRising (AsksLine line now what answer ∷ earlier) latest =
-    (before : ℕ) × (before ≤ latest) × (now ≡ latest) × AreRising earlier before
-AreRising (WakesLine line ∷ earlier) latest = AreRising earlier latest
+AreRising operations latest = (line : ℕ) → RiseTo (actions_of line operations) latest

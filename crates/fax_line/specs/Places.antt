@@ -10,13 +10,14 @@ use Rattle.fax_gateway.specs.Restored.{RestoredCall}
 use Rattle.fax_wires.specs.holding.Holding.{StaysWhere}
 use Rattle.fax_line.specs.Actions.{Action, Asks, BeginsWith, Goes, LineValue, Rests, TellsTurn, Turns, Wakes}
 
--- the line, from when on something is due on it, whether it was woken since it was turned last, and whether it was turned in
--- the last turn of its slot
+-- the line, from when on something is due on it, whether it was woken since it was turned last, whether it was turned in the
+-- last turn of its slot, and whether what that turn came to waits to be stored
 pub record PlaceValue : Type 0 where
   pub line : LineValue
   pub due : Option ℕ
   pub awake : Bool
   pub turned : Bool
+  pub waits : Bool
 
 -- What is due on a line is what is due by its gateway, whatever trace led to it, or what its wire has to do: the earlier.
 pub record IsDueOn (due : Option ℕ) (line : LineValue) : Type 0 where
@@ -32,6 +33,30 @@ is_at_rest now place = not place.awake && not (is_due place.due now)
 abbrev pub visit_of : ℕ → Bool → Action
 visit_of now rests = if rests then Rests now else Turns now
 
+-- What is done with a line by the turn of a slot, or where what its turn came to is stored: nothing; or it was left at rest at this
+-- moment, or turned.
+pub data Visit : Type 0 where
+  Passes : Visit
+  RestsAt : (now : ℕ) → Visit
+  TurnsAt : (now : ℕ) → Visit
+
+abbrev pub actions_by : Visit → List Action
+actions_by Passes = []
+actions_by (RestsAt now) = Rests now ∷ []
+actions_by (TurnsAt now) = Turns now ∷ []
+
+abbrev pub is_turn : Visit → Bool
+is_turn Passes = false
+is_turn (RestsAt now) = false
+is_turn (TurnsAt now) = true
+
+-- Where its slot has its turn at this moment, or not: it is turned, or left at rest; but one that waits is passed over.
+abbrev pub visit_at : (in_slot waits rests : Bool) → ℕ → Visit
+visit_at false waits rests now = Passes
+visit_at true true rests now = Passes
+visit_at true false true now = RestsAt now
+visit_at true false false now = TurnsAt now
+
 -- what the wire of a line holds back stays, and so do the peers of its legs
 abbrev pub StaysHeld : PlaceValue → PlaceValue → Type 0
 StaysHeld old new = StaysWhere old.line.holding new.line.holding × (new.line.peers ≡ old.line.peers)
@@ -40,6 +65,16 @@ StaysHeld old new = StaysWhere old.line.holding new.line.holding × (new.line.pe
 abbrev pub TellsOrRests : ℕ → Bool → PlaceValue → PlaceValue → Type 0
 TellsOrRests now true old new = (new.turned ≡ false) × StaysHeld old new
 TellsOrRests now false old new = (new.turned ≡ true) × TellsTurn now old.line new.line
+
+-- What each visit tells; of a line that is passed over what its wire holds back stays.
+abbrev pub TellsVisit : Visit → PlaceValue → PlaceValue → Type 0
+TellsVisit Passes old new = StaysHeld old new
+TellsVisit (RestsAt now) old new = TellsOrRests now true old new
+TellsVisit (TurnsAt now) old new = TellsOrRests now false old new
+
+-- A line that waits stays as it is, and no other begins to.
+abbrev pub WaitsStill : PlaceValue → PlaceValue → Type 0
+WaitsStill old new = (new.waits ≡ old.waits) × (old.waits ≡ true → new ≡ old)
 
 -- whether it is awake after these actions: woken, and not turned since
 abbrev pub is_awake : Bool → List Action → Bool
@@ -58,16 +93,17 @@ RestsAsleep before (Rests now ∷ earlier) =
 RestsAsleep before (Asks now what answer ∷ earlier) = RestsAsleep before earlier
 RestsAsleep before (Wakes ∷ earlier) = RestsAsleep before earlier
 
--- By these actions a line came from the one state to the other, in its place.
+-- By these actions a line came from the one state to the other, in its place: it is awake where it was woken and not turned since.
 pub record GoesInPlace (actions : List Action) (old new : PlaceValue) : Type 0 where
   pub goes : Goes actions old.line new.line
-  pub awake : new.awake ≡ is_awake old.awake actions
+  pub awake : new.awake ≡ false → is_awake old.awake actions ≡ false
   pub asleep : RestsAsleep old.awake actions
 
 -- no event came to its line, which is restored with these calls, and it is turned in the first turn of its slot
 pub record BeginsInPlace (calls : List RestoredCall) (place : PlaceValue) : Type 0 where
   pub line : BeginsWith calls place.line
   pub awake : place.awake ≡ true
+  pub waits : place.waits ≡ false
 
 abbrev pub IsNewPlace : PlaceValue → Type 0
 IsNewPlace place = BeginsInPlace [] place

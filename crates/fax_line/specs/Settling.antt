@@ -1,6 +1,6 @@
--- What is stored of the pages that the turns of a slot confirmed, and what goes out after that. Lists have the oldest first, but
+-- What is stored of the pages that turns of lines confirmed, and what goes out after that. Lists have the oldest first, but
 -- those of operations. (This project's profile.)
-use Rattle.std.specs.Prelude.{◌≡◌, ◌<◌, ℕ, Bool, true, false, ◌&&◌, nat_eq, List, [], ◌∷◌, ◌++◌, length, slice_index_or, Option, Some, None, is_some, is_ok, ◌⊎◌}
+use Rattle.std.specs.Prelude.{◌≡◌, ◌<◌, ℕ, Bool, true, false, ◌&&◌, ◌||◌, nat_eq, List, [], ◌∷◌, ◌++◌, length, slice_index_or, Option, Some, None, is_some, is_ok, ◌⊎◌}
 use Rattle.std.specs.List.{All, AllPairs, list_any}
 use Rattle.fax_bits.specs.Writing.{IsPadded}
 use Rattle.fax_runcodes.specs.declared.format.Coding.TheVariants as codings
@@ -8,6 +8,7 @@ use Rattle.fax_pagestore.specs.Pages.{PageValue}
 use Rattle.fax_pagestore.specs.WrittenPages.{WritesPage}
 use Rattle.fax_jobs.specs.Newest.{newest_page}
 use Rattle.fax_gateway.specs.declared.given.Kept.{Kept}
+use Rattle.fax_gateway.specs.declared.turn_report.TurnReport.{TurnReport}
 use Rattle.fax_wires.specs.repeat.Policies.{IsToldAs}
 use Rattle.fax_wires.specs.holding.Holding.{HoldingValue}
 use Rattle.fax_wires.specs.holding.Storing.{HasDone, HoldsAfter, LegAction, Turn}
@@ -65,36 +66,58 @@ has_page pages number = list_any (is_of number) pages
 abbrev pub is_stored_in : SlotEnd → ℕ → Bool
 is_stored_in end number = has_page end.pages.items number && is_ok end.answer
 
--- whether the line of this number was turned in the last turn of this slot
-abbrev pub was_turned : ℕ → ℕ → PlaceValue → Bool
-was_turned slot number place = nat_eq (slot_of number) slot && place.turned
+-- ---- of the lines of which this is true, which were turned, and whose turns have not ended
 
--- a line of a slot confirmed this page in the slot's last turn
-pub record IsPageOf (slot : ℕ) (lines : List PlaceValue) (page : PageToStore) : Type 0 where
+-- one of them confirmed this page in its last turn
+pub record IsPageOf (ends : ℕ → Bool) (lines : List PlaceValue) (page : PageToStore) : Type 0 where
   pub there : page.line < length lines
-  pub turned : (other : PlaceValue)
-      → was_turned slot page.line (slice_index_or lines page.line other) ≡ true
+  pub turned : ends page.line ≡ true
   pub is_of_turn : (other : PlaceValue) → IsOfTurn (slice_index_or lines page.line other).line page
 
--- PAGES OF A SLOT'S TURN, in the order of its lines, one of a line at most
-pub record ArePagesOf (slot : ℕ) (lines : List PlaceValue) (pages : List PageToStore) : Type 0 where
-  pub each : All (IsPageOf slot lines) pages
+-- THE PAGES OF THEIR TURNS, in the order of the lines, one of a line at most
+pub record ArePagesOf (ends : ℕ → Bool) (lines : List PlaceValue) (pages : List PageToStore) :
+    Type 0 where
+  pub each : All (IsPageOf ends lines) pages
   pub in_order : AllPairs (λ page after. page.line < after.line) pages
 
--- where a line had a turn, that ends; else the line stays as it was
+-- where a line's turn ends, it does so; else the line stays as it was
 abbrev pub EndsWhere : Bool → Bool → PlaceValue → PlaceValue → Type 0
 EndsWhere true is_stored old new = EndsTurn is_stored old.line new.line × (new.turned ≡ old.turned)
 EndsWhere false is_stored old new = new ≡ old
 
--- THE END OF A SLOT'S TURN, where the pages of these lines are stored: the turn of each line that had one ends by itself, and no
--- other line is touched.
-abbrev pub EndsSlot : ℕ → (ℕ → Bool) → List PlaceValue → List PlaceValue → Type 0
-EndsSlot slot is_stored old new = EachComes
-    (λ number place. EndsWhere (was_turned slot number place) (is_stored number) place) old new
+-- THEIR TURNS END, where the pages of these lines are stored: each by itself, and no other line is touched.
+abbrev pub EndTurns : (ends is_stored : ℕ → Bool) → List PlaceValue → List PlaceValue → Type 0
+EndTurns ends is_stored old new =
+    EachComes (λ number place. EndsWhere (ends number) (is_stored number) place) old new
 
--- Where pages are not stored it ends as where all of them are: what each line gave goes out.
+-- Where pages are not stored they end as where all of them are: what each line gave goes out.
+abbrev pub LetOut : (ends : ℕ → Bool) → List PlaceValue → List PlaceValue → Type 0
+LetOut ends old new = EndTurns ends (λ number. true) old new
+
+-- whether the line of this number was turned in the last turn of this slot
+abbrev pub was_turned : ℕ → ℕ → PlaceValue → Bool
+was_turned slot number place = nat_eq (slot_of number) slot && place.turned
+
+-- what its lines gave goes out
 abbrev pub LetsOutSlot : ℕ → List PlaceValue → List PlaceValue → Type 0
-LetsOutSlot slot old new = EndsSlot slot (λ number. true) old new
+LetsOutSlot slot old new =
+    EachComes (λ number place. EndsWhere (was_turned slot number place) true place) old new
+
+-- whether something of a turn is to be stored: a page that it confirmed, or the end of a job
+abbrev pub is_to_store : TurnReport → Bool
+is_to_store told = is_some told.kept || is_some told.report
+
+-- After the turn of a slot each of its lines waits that was turned, and of whose turn something is to be stored; what the others gave
+-- goes out. One that waited before does so still.
+abbrev pub SetsAsideIf : (was_turned waits is_to_store : Bool) → PlaceValue → PlaceValue → Type 0
+SetsAsideIf false waits to_store old new = new ≡ old
+SetsAsideIf true true to_store old new = new ≡ old
+SetsAsideIf true false true old new = new ≡ record old { waits = true }
+SetsAsideIf true false false old new = EndsWhere true false old new × (new.waits ≡ false)
+
+abbrev pub SetAside : ℕ → List PlaceValue → List PlaceValue → Type 0
+SetAside slot old new = EachComes (λ number place. SetsAsideIf (was_turned slot number place)
+    place.waits (is_to_store place.line.turned) place) old new
 
 -- ---- before the pages are stored
 
@@ -126,6 +149,7 @@ WaitsOrEnds true false old new = EndsWhere true false old new
 WaitsOrEnds false true old new = ⊥
 WaitsOrEnds false false old new = new ≡ old
 
-abbrev pub HandsOverSlot : ℕ → List PageToStore → List PlaceValue → List PlaceValue → Type 0
-HandsOverSlot slot pages old new = EachComes (λ number place.
-    WaitsOrEnds (was_turned slot number place) (has_page pages number) place) old new
+abbrev pub HandOver : (ends : ℕ → Bool)
+    → List PageToStore → List PlaceValue → List PlaceValue → Type 0
+HandOver ends pages old new =
+    EachComes (λ number place. WaitsOrEnds (ends number) (has_page pages number) place) old new

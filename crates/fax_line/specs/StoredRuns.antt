@@ -1,14 +1,14 @@
 -- A run whose pages are stored: what becomes of its lines, and of what keeps their pages, order by order. Lists have the newest first,
 -- but those of pages. (This project's profile.)
-use Rattle.std.specs.Prelude.{◌≡◌, ◌≤◌, ℕ, zero, suc, max, Bool, true, false, is_ok, List, [], ◌∷◌, ◌++◌, length, slice_get, Option, Some, None}
+use Rattle.std.specs.Prelude.{◌≡◌, ◌⊎◌, ◌≤◌, ℕ, zero, suc, max, Bool, true, false, is_ok, List, [], ◌∷◌, ◌++◌, length, slice_get, Option, Some, None}
 use Rattle.fax_jobs.specs.declared.report.Report.{Report}
 use Rattle.fax_gateway.specs.declared.given.Kept.{Kept}
 use Rattle.fax_gateway.specs.declared.turn_report.TurnReport.{TurnReport as Told}
 use Rattle.fax_wires.specs.holding.Storing.{PutsIf}
-use Rattle.fax_line.specs.Operations.{AllStayHeld, AskFrees, AsksLine, LinesWent, SlotTells, TurnsSlot, WakesLine}
+use Rattle.fax_line.specs.Operations.{AllStayHeld, AreFree, AreFreed, AskFrees, AsksLine, EachComes, LinesWent, VisitsLines, VisitsTell, WaitAlike, WakesLine, waits_of}
 use Rattle.fax_line.specs.Places.{PlaceValue}
-use Rattle.fax_line.specs.Runs.{AskedOf, DoneOrder, Turned, Woken, latest, next_slot}
-use Rattle.fax_line.specs.Settling.{ArePagesOf, EndsSlot, LetsOutSlot, has_page, is_stored_in, was_turned}
+use Rattle.fax_line.specs.Runs.{AskedOf, DoneOrder, Stored, Turned, Woken, latest, turned_in}
+use Rattle.fax_line.specs.Settling.{ArePagesOf, EndTurns, EndsWhere, LetOut, LetsOutSlot, SetAside, has_page, is_stored_in, is_to_store}
 use Rattle.fax_line.specs.declared.settling.PageToStore.{PageToStore}
 use Rattle.fax_line.specs.declared.settling.SlotEnd.{SlotEnd}
 
@@ -41,103 +41,158 @@ TellsWhere notes ends number true told was_handed old new =
 TellsWhere notes ends number false told was_handed old new = new ≡ old
 
 abbrev pub TellsPlace : {K : Type 0} → (ℕ → ℕ → K → K → Type 0)
-    → (ℕ → Report → K → K → Type 0) → ℕ → List PageToStore → ℕ → Option PlaceValue → K → K → Type 0
-TellsPlace notes ends slot pages number None old new = new ≡ old
-TellsPlace notes ends slot pages number (Some place) old new = TellsWhere notes
-    ends number (was_turned slot number place) place.line.turned (has_page pages number) old new
+    → (ℕ → Report → K → K → Type 0)
+    → (ℕ → Bool) → List PageToStore → ℕ → Option PlaceValue → K → K → Type 0
+TellsPlace notes ends which pages number None old new = new ≡ old
+TellsPlace notes ends which pages number (Some place) old new =
+    TellsWhere notes ends number (which number) place.line.turned (has_page pages number) old new
 
--- of the first so many lines, one after the other, each where it had a turn in the last one of this slot
+-- of the first so many lines, one after the other, each where it is one of these
 abbrev pub TellsFirst : {K : Type 0} → (ℕ → ℕ → K → K → Type 0)
-    → (ℕ → Report → K → K → Type 0) → ℕ → List PageToStore → List PlaceValue → ℕ → K → K → Type 0
-TellsFirst notes ends slot pages lines zero old new = new ≡ old
-TellsFirst {K} notes ends slot pages lines (suc number) old new =
-    (between : K) × TellsFirst notes ends slot pages lines number old between
-    × TellsPlace notes ends slot pages number (slice_get lines number) between new
+    → (ℕ → Report → K → K → Type 0)
+    → (ℕ → Bool) → List PageToStore → List PlaceValue → ℕ → K → K → Type 0
+TellsFirst notes ends which pages lines zero old new = new ≡ old
+TellsFirst {K} notes ends which pages lines (suc number) old new =
+    (between : K) × TellsFirst notes ends which pages lines number old between
+    × TellsPlace notes ends which pages number (slice_get lines number) between new
 
 -- of all lines
-pub record TellsSlot {K : Type 0} (notes : ℕ → ℕ → K → K → Type 0)
-    (ends : ℕ → Report → K → K → Type 0)
-    (slot : ℕ) (pages : List PageToStore) (lines : List PlaceValue) (old new : K) : Type 0 where
+pub record TellsLines {K : Type 0} (notes : ℕ → ℕ → K → K → Type 0)
+    (ends : ℕ → Report → K → K → Type 0) (which : ℕ → Bool)
+    (pages : List PageToStore) (lines : List PlaceValue) (old new : K) : Type 0 where
   pub count : ℕ
   pub all : length lines ≤ count
-  pub told : TellsFirst notes ends slot pages lines count old new
+  pub told : TellsFirst notes ends which pages lines count old new
 
--- ---- the end of a slot's turn
+-- ---- what is to be stored of turns is stored
 
--- THE PAGES THAT A SLOT'S LINES CONFIRMED IN ITS TURN were put, all of them at once and in the order of the lines. What a line gave went
+-- THE PAGES THAT THESE LINES CONFIRMED IN THEIR TURNS were put, all of them at once and in the order of the lines. What a line gave went
 -- out where its page was among them and they were stored, or where it confirmed none. Then the store was told which pages were not
 -- handed over, and which jobs ended. Nothing else was done with it, but for what leaves what it keeps the same.
 pub record IsSettled {K : Type 0} (same : K → K → Type 0)
     (puts : List PageToStore → Bool → K → K → Type 0)
     (notes : ℕ → ℕ → K → K → Type 0) (ends : ℕ → Report → K → K → Type 0)
-    (slot : ℕ) (end : SlotEnd) (old new : List PlaceValue) (before after : K) : Type 0 where
-  pub pages : ArePagesOf slot old end.pages.items
+    (which : ℕ → Bool) (end : SlotEnd) (old new : List PlaceValue) (before after : K) :
+    Type 0 where
+  pub pages : ArePagesOf which old end.pages.items
   pub begun : K
   pub is_same : same before begun
   pub kept : K
   pub put : PutsIf puts end.pages.items (is_ok end.answer) begun kept
-  pub settled : EndsSlot slot (is_stored_in end) old new
-  pub told : TellsSlot notes ends slot end.pages.items new kept after
+  pub settled : EndTurns which (is_stored_in end) old new
+  pub told : TellsLines notes ends which end.pages.items new kept after
 
--- where there is a store
-abbrev pub IsSettledIf : {K : Type 0}
-    → (K → K → Type 0) → (List PageToStore → Bool → K → K → Type 0)
-    → (ℕ → ℕ → K → K → Type 0) → (ℕ → Report → K → K → Type 0)
+-- ---- the lines as they stand: those that wait
+
+-- What is to be stored of their turns is stored, and none waits any more; what it saw of the store as the jobs' ends were not noted yet
+-- is this.
+pub record Settles {K : Type 0} (same : K → K → Type 0)
+    (puts : List PageToStore → Bool → K → K → Type 0)
+    (notes : ℕ → ℕ → K → K → Type 0) (ends : ℕ → Report → K → K → Type 0) (saw : K → Type 0)
+    (old new : List PlaceValue) (before after : K) : Type 0 where
+  pub end : SlotEnd
+  pub left : List PlaceValue
+  pub is_settled : IsSettled same puts notes ends (waits_of old) end old left before after
+  pub freed : AreFreed left new
+  pub went : LinesWent [] old new
+  pub saw_stored : saw is_settled.kept
+
+-- where they were stored
+abbrev pub SettlesIf : {K : Type 0} → (K → K → Type 0)
+    → (List PageToStore → Bool → K → K → Type 0) → (ℕ → ℕ → K → K → Type 0)
+    → (ℕ → Report → K → K → Type 0) → List PlaceValue → List PlaceValue → K → K → Type 0
+SettlesIf same puts notes ends old new before after = ((new ≡ old) × (after ≡ before))
+    ⊎ Settles same puts notes ends (λ kept. Unit {0}) old new before after
+
+-- after a turn of a slot
+abbrev pub TurnEnds : {K : Type 0} → (K → K → Type 0)
+    → (List PageToStore → Bool → K → K → Type 0) → (ℕ → ℕ → K → K → Type 0)
+    → (ℕ → Report → K → K → Type 0)
     → ℕ → List PlaceValue → List PlaceValue → Option K → Option K → Type 0
-IsSettledIf same puts notes ends slot old new None after = (after ≡ None) × LetsOutSlot slot old new
-IsSettledIf {K} same puts notes ends slot old new (Some before) after =
-    (left : K) × (after ≡ Some left)
-    × (end : SlotEnd) × IsSettled same puts notes ends slot end old new before left
+TurnEnds same puts notes ends slot old new None after =
+    (after ≡ None) × LetsOutSlot slot old new × LinesWent [] old new × WaitAlike old new
+TurnEnds {K} same puts notes ends slot old new (Some before) after = (left : K)
+    × (after ≡ Some left) × (aside : List PlaceValue) × SetAside slot old aside
+    × LinesWent [] old aside × SettlesIf same puts notes ends aside new before left
+
+-- before something is asked of a line, or at the end of a run
+abbrev pub StoresIf : {K : Type 0} → (K → K → Type 0)
+    → (List PageToStore → Bool → K → K → Type 0) → (ℕ → ℕ → K → K → Type 0)
+    → (ℕ → Report → K → K → Type 0)
+    → List PlaceValue → List PlaceValue → Option K → Option K → Type 0
+StoresIf same puts notes ends old new None after = (after ≡ None) × (new ≡ old)
+StoresIf {K} same puts notes ends old new (Some before) after =
+    (left : K) × (after ≡ Some left) × SettlesIf same puts notes ends old new before left
+
+-- where there is a store none waits
+abbrev pub FreeWhere : {K : Type 0} → Option K → List PlaceValue → Type 0
+FreeWhere None lines = Unit {0}
+FreeWhere (Some k) lines = AreFree lines
+
+-- or this line does not
+abbrev pub IsFreeWhere : {K : Type 0} → Option K → ℕ → List PlaceValue → Type 0
+IsFreeWhere None line lines = Unit {0}
+IsFreeWhere (Some k) line lines = waits_of lines line ≡ false
+
+-- The turns of these lines end, of which nothing is to be stored.
+abbrev pub EndsUnstored : Bool → PlaceValue → PlaceValue → Type 0
+EndsUnstored true old new = (is_to_store old.line.turned ≡ false) × EndsWhere true false old new
+EndsUnstored false old new = new ≡ old
+
+abbrev pub EndUnstored : (which : ℕ → Bool) → List PlaceValue → List PlaceValue → Type 0
+EndUnstored which old new = EachComes (λ number. EndsUnstored (which number)) old new
 
 -- ---- a run
 
--- A RUN WITH A STORE, whose slots begin with this one: each turn of a slot is settled before anything else is done, and nothing else
--- touches the store. There is an end for each turn.
+-- A RUN WITH A STORE: a line of whose turn something is to be stored does nothing until that was done, for all such lines at once; the
+-- turns of the others end before anything else is done. Nothing else touches the store. There is an end for each time that was done.
 abbrev pub IsRun : {K : Type 0} → (K → K → Type 0) → (List PageToStore → Bool → K → K → Type 0)
     → (ℕ → ℕ → K → K → Type 0) → (ℕ → Report → K → K → Type 0)
-    → ℕ → List DoneOrder → List SlotEnd → List PlaceValue → List PlaceValue → K → K → Type 0
-IsRun same puts notes ends first [] [] old new before after = (new ≡ old) × (after ≡ before)
-IsRun same puts notes ends first [] (end ∷ settled) old new before after = ⊥
-IsRun same puts notes ends first (Turned now rests ∷ done) [] old new before after = ⊥
-IsRun {K} same puts notes ends first (Turned now rests ∷ done) (end
-    ∷ settled) old new before after = (mid : List PlaceValue) × (turned : List PlaceValue)
-    × (between : K) × IsRun same puts notes ends first done settled old mid before between
-    × LinesWent (TurnsSlot (next_slot first done) (max (latest done) now) rests ∷ []) mid turned
-    × SlotTells (next_slot first done) (max (latest done) now) rests mid turned
-    × IsSettled same puts notes ends (next_slot first done) end turned new between after
-IsRun same puts notes ends first (AskedOf line now what answer
-    ∷ done) settled old new before after =
-    (mid : List PlaceValue) × IsRun same puts notes ends first done settled old mid before after
+    → List DoneOrder → List SlotEnd → List PlaceValue → List PlaceValue → K → K → Type 0
+IsRun same puts notes ends [] [] old new before after = (new ≡ old) × (after ≡ before)
+IsRun same puts notes ends [] (end ∷ settled) old new before after = ⊥
+IsRun same puts notes ends (Turned now visits ∷ done) settled old new before after =
+    (mid : List PlaceValue) × (turned : List PlaceValue)
+    × IsRun same puts notes ends done settled old mid before after
+    × LinesWent (VisitsLines visits ∷ []) mid turned × VisitsTell visits mid turned
+    × EndUnstored (turned_in visits) turned new
+IsRun same puts notes ends (Stored visits ∷ done) [] old new before after = ⊥
+IsRun {K} same puts notes ends (Stored visits ∷ done) (end ∷ settled) old new before after =
+    (mid : List PlaceValue) × (turned : List PlaceValue)
+    × (between : K) × IsRun same puts notes ends done settled old mid before between
+    × LinesWent (VisitsLines visits ∷ []) mid turned × VisitsTell visits mid turned
+    × IsSettled same puts notes ends (turned_in visits) end turned new between after
+IsRun same puts notes ends (AskedOf line now what answer ∷ done) settled old new before after =
+    (mid : List PlaceValue) × IsRun same puts notes ends done settled old mid before after
     × LinesWent (AsksLine line (max (latest done) now) what answer ∷ []) mid new
     × AskFrees line what answer mid new
-IsRun same puts notes ends first (Woken line ∷ done) settled old new before after =
-    (mid : List PlaceValue) × IsRun same puts notes ends first done settled old mid before after
+IsRun same puts notes ends (Woken line ∷ done) settled old new before after =
+    (mid : List PlaceValue) × IsRun same puts notes ends done settled old mid before after
     × LinesWent (WakesLine line ∷ []) mid new × AllStayHeld mid new
 
 -- A RUN WITHOUT A STORE: what a turn of a slot gave goes out before anything else is done.
-abbrev pub RanWithout : ℕ → List DoneOrder → List PlaceValue → List PlaceValue → Type 0
-RanWithout first [] old new = new ≡ old
-RanWithout first (Turned now rests ∷ done) old new =
-    (mid : List PlaceValue) × (turned : List PlaceValue) × RanWithout first done old mid
-    × LinesWent (TurnsSlot (next_slot first done) (max (latest done) now) rests ∷ []) mid turned
-    × SlotTells (next_slot first done) (max (latest done) now) rests mid turned
-    × LetsOutSlot (next_slot first done) turned new
-RanWithout first (AskedOf line now what answer ∷ done) old new =
-    (mid : List PlaceValue) × RanWithout first done old mid
+abbrev pub RanWithout : List DoneOrder → List PlaceValue → List PlaceValue → Type 0
+RanWithout [] old new = new ≡ old
+RanWithout (Turned now visits ∷ done) old new =
+    (mid : List PlaceValue) × (turned : List PlaceValue) × RanWithout done old mid
+    × LinesWent (VisitsLines visits ∷ []) mid turned × VisitsTell visits mid turned
+    × LetOut (turned_in visits) turned new
+RanWithout (Stored visits ∷ done) old new = ⊥
+RanWithout (AskedOf line now what answer ∷ done) old new =
+    (mid : List PlaceValue) × RanWithout done old mid
     × LinesWent (AsksLine line (max (latest done) now) what answer ∷ []) mid new
     × AskFrees line what answer mid new
-RanWithout first (Woken line ∷ done) old new = (mid : List PlaceValue)
-    × RanWithout first done old mid × LinesWent (WakesLine line ∷ []) mid new × AllStayHeld mid new
+RanWithout (Woken line ∷ done) old new = (mid : List PlaceValue)
+    × RanWithout done old mid × LinesWent (WakesLine line ∷ []) mid new × AllStayHeld mid new
 
 -- where there is a store; a run that begins with none has none
 abbrev pub RanIf : {K : Type 0} → (K → K → Type 0) → (List PageToStore → Bool → K → K → Type 0)
     → (ℕ → ℕ → K → K → Type 0) → (ℕ → Report → K → K → Type 0)
-    → ℕ → List DoneOrder → List PlaceValue → List PlaceValue → Option K → Option K → Type 0
-RanIf same puts notes ends first done old new None after =
-    (after ≡ None) × RanWithout first done old new
-RanIf {K} same puts notes ends first done old new (Some before) after =
+    → List DoneOrder → List PlaceValue → List PlaceValue → Option K → Option K → Type 0
+RanIf same puts notes ends done old new None after = (after ≡ None) × RanWithout done old new
+RanIf {K} same puts notes ends done old new (Some before) after =
     (left : K) × (after ≡ Some left)
-    × (settled : List SlotEnd) × IsRun same puts notes ends first done settled old new before left
+    × (settled : List SlotEnd) × IsRun same puts notes ends done settled old new before left
 
 -- ---- what it comes to
 
@@ -164,7 +219,7 @@ RunStores {K} same puts notes ends keeps =
     → notes line call old new → keeps old pages → keeps new pages)
     → ((line : ℕ) (report : Report) (old new : K) (pages : List PageToStore)
     → ends line report old new → keeps old pages → keeps new pages)
-    → (first : ℕ) (done : List DoneOrder) (settled : List SlotEnd)
+    → (done : List DoneOrder) (settled : List SlotEnd)
     (old new : List PlaceValue) (before after : K) (pages : List PageToStore)
-    → IsRun same puts notes ends first done settled old new before after
+    → IsRun same puts notes ends done settled old new before after
     → keeps before pages → keeps after (pages ++ stored_pages settled)

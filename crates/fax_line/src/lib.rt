@@ -2,8 +2,8 @@
 //!
 //! What is done with a line, and what comes of it, is told in `specs/Actions`; when it is left at rest, in `specs/Places`; who
 //! the peers of its legs are, in `specs/LegPeers`, `specs/GivenPeers` and `specs/Connects`; what is done with all lines, in
-//! `specs/Operations`; what is ordered and answered in a whole run, in `specs/Runs`; what is stored of the pages that a slot's turns
-//! confirmed, before what confirms them goes out, in `specs/Settling`; and that a run does so after each turn, in
+//! `specs/Operations`; what is ordered and answered in a whole run, in `specs/Runs`; what is stored of the pages that turns
+//! confirmed, before what confirms them goes out, in `specs/Settling`; and that a run does so once in each round of the slots, in
 //! `specs/StoredRuns`.
 #![tactic(auto)]
 

@@ -1,12 +1,13 @@
 //! All lines of a server, in forty slots.
-ghost use Rattle.std.specs.Prelude.{◌≡◌, ◌≢◌, ◌+◌, ◌<◌, ◌&&◌, List, [], ◌∷◌, ◌++◌, ℕ, Bool, true, false, IsTrue, IfOk, OnOk, OnErr, IsSome, ◌≤◌, ◌↔◌, MatchOption, is_ok, length, map, nat_eq, slice_index_or, if◌then◌else◌};
+ghost use Rattle.std.specs.Prelude.{◌≡◌, ◌≢◌, ◌+◌, ◌<◌, List, [], ◌∷◌, ◌++◌, ℕ, Bool, true, false, IsTrue, IfOk, OnOk, OnErr, IsSome, ◌≤◌, ◌↔◌, MatchOption, is_ok, length, map, nat_eq, slice_index_or, if◌then◌else◌};
+ghost use Rattle.std.specs.List.{list_any};
 ghost use Rattle.fax_gateway.specs.Restored.{RestoredCall};
 ghost use Rattle.fax_wires.specs.holding.Storing.{PutsIf};
 ghost use Rattle.fax_line.specs.Actions.{Asks, BeginsWith, IsNew, Wakes};
-ghost use Rattle.fax_line.specs.Places.{StaysHeld, visit_of};
-ghost use Rattle.fax_line.specs.Operations.{AllStayHeld, AreBegun, AreNew, AskFrees, AsksLine, EachComes, EachGoes, IsAdded, IsLineAt, LinesWent, SlotTells, TurnsSlot, WakesLine, have_turned, most_slots, rests_at, slot_after, slot_before, slot_of};
-ghost use Rattle.fax_line.specs.StoredRuns.{EndsIf, NotesIf, TellsLine, TellsSlot, TellsWhere};
-ghost use Rattle.fax_line.specs.Settling.{ArePagesOf, EndsSlot, EndsWhere, HandsOverSlot, LetsOutSlot, has_page, is_stored_in};
+ghost use Rattle.fax_line.specs.Places.{StaysHeld, WaitsStill, actions_by};
+ghost use Rattle.fax_line.specs.Operations.{AllStayHeld, AllWaitStill, AreBegun, AreFreed, AreNew, AskFrees, AsksLine, EachComes, EachGoes, IsAdded, IsLineAt, LinesWent, VisitsLines, VisitsTell, WaitAlike, WakesLine, WakesOne, have_turned, most_slots, rests_at, slot_after, slot_before, slot_of, visits_at, waits_of};
+ghost use Rattle.fax_line.specs.StoredRuns.{EndsIf, NotesIf, TellsLine, TellsLines, TellsWhere};
+ghost use Rattle.fax_line.specs.Settling.{ArePagesOf, EndTurns, EndsWhere, HandOver, LetsOutSlot, SetAside, has_page, is_stored_in};
 ghost use Rattle.fax_line.specs.declared.settling.PageToStore.{PageToStore as ToStore};
 
 use crate::asked::{LineAnswer, LineRequest};
@@ -133,13 +134,31 @@ impl<W: LineWire + Drop> Lines<W> {
         self.slot
     }
 
-    /// The turn of the slot that is next: its lines are turned, or left at rest. The wires of the slot half a round away are told
-    /// the time, where something is due.
+    /// Whether line i was turned, and does nothing until what is to be stored of that turn is stored. `false`: there is no such line.
+    pub fn waits(&self, i: usize) -> bool
+        ensures { result ≡ waits_of self.now.lines i }
+    {
+        match self.places.get(i) {
+            Some(place) => place.waits(),
+            None => false,
+        }
+    }
+
+    /// Whether a line waits.
+    pub fn some_wait(&self) -> bool
+        ensures { result ≡ list_any (λ place. place.waits) self.now.lines }
+    {
+        self.places.iter().any(|place| place.waits())
+    }
+
+    /// The turn of the slot that is next: its lines are turned, or left at rest, but for those that wait. The wires of the slot half a round
+    /// away are told the time, where something is due.
     pub fn turn(&mut self, now: u64)
-        ensures went { LinesWent (TurnsSlot self.old.slot now (rests_at now self.old.lines)
-            ∷ []) self.old.lines self.new.lines }
-        ensures tells { SlotTells self.old.slot
-            now (rests_at now self.old.lines) self.old.lines self.new.lines }
+        ensures went { LinesWent (VisitsLines (visits_at self.old.slot now self.old.lines) ∷ [])
+            self.old.lines self.new.lines }
+        ensures tells { VisitsTell
+            (visits_at self.old.slot now self.old.lines) self.old.lines self.new.lines }
+        ensures waits { AllWaitStill self.old.lines self.new.lines }
         ensures slot { self.new.slot ≡ slot_after self.old.slot }
     {
         serve_slot(self.places.as_mut_slice(), &mut self.buffer, self.slot, now);
@@ -150,6 +169,7 @@ impl<W: LineWire + Drop> Lines<W> {
     pub fn ask(&mut self, i: usize, what: LineRequest, now: u64) -> Option<LineAnswer>
         ensures went { LinesWent (AsksLine i now what result ∷ []) self.old.lines self.new.lines }
         ensures frees { AskFrees i what result self.old.lines self.new.lines }
+        ensures waits { WaitAlike self.old.lines self.new.lines }
         ensures there { IsSome result ↔ (i < length self.old.lines) }
         ensures slot { self.new.slot ≡ self.old.slot }
     {
@@ -160,39 +180,59 @@ impl<W: LineWire + Drop> Lines<W> {
     pub fn wake(&mut self, i: usize)
         ensures went { LinesWent (WakesLine i ∷ []) self.old.lines self.new.lines }
         ensures stays { AllStayHeld self.old.lines self.new.lines }
+        ensures woken { WakesOne i self.old.lines self.new.lines }
         ensures slot { self.new.slot ≡ self.old.slot }
     {
         wake_one(self.places.as_mut_slice(), i);
     }
 
-    /// After the end of the turn of the slot that had the last one: a store is told which of the pages that its lines confirmed were
-    /// not handed over, and which jobs ended, line by line.
+    /// After the turns of lines that wait have ended: a store is told which of the pages that they confirmed were not handed over, and which
+    /// jobs ended, line by line.
     pub fn tell_store<K: RunStore>(&self, end: &SlotEnd, store: &mut K)
-        ensures { TellsSlot K.notes K.ends (slot_before self.now.slot)
+        ensures { TellsLines K.notes K.ends (waits_of self.now.lines)
             end.now.pages.items self.now.lines store.old store.new }
     {
-        let slot = slot_before(self.slot);
-        tell_places(self.places.as_slice(), end.pages.as_slice(), slot, store);
+        tell_places(self.places.as_slice(), end.pages.as_slice(), store);
     }
 }
 
 impl<W: TimedWire + Drop> Lines<HoldingWire<W>> {
-    /// The end of the turn of the slot that had the last one. The pages that its lines confirmed are stored, all of them at once; then
-    /// what these lines gave on their calling legs goes out. Where the pages were not stored none of that does, and these legs are silenced
-    /// until the next calls begin on them; where memory was refused for a page's text that is so of its line alone. What a line gave
-    /// that confirmed none goes out before. A line of the slot that was left at rest, and a line of another slot, is not touched.
-    pub fn settle_slot<K: PageStore<PageToStore>>(&mut self, store: &mut K) -> SlotEnd
+    /// After the turn of the slot that had the last one: each of its lines waits that was turned, and of whose turn something is to be stored;
+    /// what the others gave on their calling legs goes out.
+    pub fn set_aside(&mut self)
+        ensures went { LinesWent [] self.old.lines self.new.lines }
+        ensures aside { SetAside (slot_before self.old.slot) self.old.lines self.new.lines }
+        ensures slot { self.new.slot ≡ self.old.slot }
+    {
+        let slot = slot_before(self.slot);
+        set_aside_slot(self.places.as_mut_slice(), slot);
+    }
+
+    /// The turns of the lines that wait end. The pages that they confirmed are stored, all of them at once; then what these lines gave on
+    /// their calling legs goes out. Where the pages were not stored none of that does, and these legs are silenced until the next calls
+    /// begin on them; where memory was refused for a page's text that is so of its line alone. What a line gave that confirmed none goes
+    /// out before. No other line is touched.
+    pub fn settle<K: PageStore<PageToStore>>(&mut self, store: &mut K) -> SlotEnd
         ensures went { LinesWent [] self.old.lines self.new.lines }
         ensures slot { self.new.slot ≡ self.old.slot }
-        ensures pages { ArePagesOf (slot_before self.old.slot) self.old.lines result.pages.items }
+        ensures waits { WaitAlike self.old.lines self.new.lines }
+        ensures pages { ArePagesOf (waits_of self.old.lines) self.old.lines result.pages.items }
         ensures kept { OnOk result.answer ((before : List ToStore)
             → K.keeps store.old before → K.keeps store.new (before ++ result.pages.items)) }
-        ensures settled { EndsSlot (slot_before self.old.slot)
+        ensures settled { EndTurns (waits_of self.old.lines)
             (is_stored_in result) self.old.lines self.new.lines }
         ensures put { PutsIf K.puts result.pages.items (is_ok result.answer) store.old store.new }
     {
-        let slot = slot_before(self.slot);
-        settle_places(self.places.as_mut_slice(), self.alloc, slot, store)
+        settle_places(self.places.as_mut_slice(), self.alloc, store)
+    }
+
+    /// What is to be stored of the turns of lines is stored: none waits any more.
+    pub fn free(&mut self)
+        ensures went { LinesWent [] self.old.lines self.new.lines }
+        ensures frees { AreFreed self.old.lines self.new.lines }
+        ensures slot { self.new.slot ≡ self.old.slot }
+    {
+        free_places(self.places.as_mut_slice());
     }
 
     /// The end of the turn of the slot that had the last one, where pages are not stored: what its lines gave on their calling legs
@@ -200,6 +240,7 @@ impl<W: TimedWire + Drop> Lines<HoldingWire<W>> {
     pub fn let_out_slot(&mut self)
         ensures ends { LetsOutSlot (slot_before self.old.slot) self.old.lines self.new.lines }
         ensures went { LinesWent [] self.old.lines self.new.lines }
+        ensures waits { WaitAlike self.old.lines self.new.lines }
         ensures slot { self.new.slot ≡ self.old.slot }
     {
         let slot = slot_before(self.slot);
@@ -242,15 +283,16 @@ fn serve_slot<W: LineWire + Drop>(
     now: u64,
 )
     requires { slot < most_slots }
-    ensures went { LinesWent (TurnsSlot slot now (rests_at now places.old)
-        ∷ []) places.old places.new }
-    ensures tells { SlotTells slot now (rests_at now places.old) places.old places.new }
+    ensures went { LinesWent (VisitsLines (visits_at slot now places.old) ∷ [])
+        places.old places.new }
+    ensures tells { VisitsTell (visits_at slot now places.old) places.old places.new }
+    ensures waits { AllWaitStill places.old places.new }
 {
     turn_slot(places, buffer, slot, now);
     tell_slot(places, slot_across(slot), now);
 }
 
-/// A turn of each line of a slot, but for those that are left at rest.
+/// A turn of each line of a slot, but for those that are left at rest, and those that wait.
 fn turn_slot<W: LineWire + Drop>(
     places: &mut [Place<W>],
     buffer: &mut Buffer,
@@ -258,9 +300,10 @@ fn turn_slot<W: LineWire + Drop>(
     now: u64,
 )
     requires { slot < most_slots }
-    ensures goes { EachGoes (λ i. if nat_eq (slot_of i) slot
-        then visit_of now (rests_at now places.old i) ∷ [] else []) places.old places.new }
-    ensures tells { SlotTells slot now (rests_at now places.old) places.old places.new }
+    ensures goes { EachGoes (λ i. actions_by (visits_at slot now places.old i))
+        places.old places.new }
+    ensures tells { VisitsTell (visits_at slot now places.old) places.old places.new }
+    ensures waits { AllWaitStill places.old places.new }
 {
     let rounds = places.len() / SLOTS + 1;
     for round in 0..rounds {
@@ -276,7 +319,7 @@ fn tell_slot<W: LineWire + Drop>(places: &mut [Place<W>], slot: usize, now: u64)
     requires { slot < most_slots }
     ensures goes { EachGoes (λ i. []) places.old places.new }
     ensures others { EachComes (λ i before after. (nat_eq (slot_of i) slot ≡ false → after ≡ before)
-        × StaysHeld before after) places.old places.new }
+        × (StaysHeld before after × WaitsStill before after)) places.old places.new }
 {
     let rounds = places.len() / SLOTS + 1;
     for round in 0..rounds {
@@ -297,6 +340,7 @@ fn ask_one<W: LineWire + Drop>(
     ensures went { EachGoes
         (λ line. if nat_eq line i then Asks now what result ∷ [] else []) places.old places.new }
     ensures frees { AskFrees i what result places.old places.new }
+    ensures waits { WaitAlike places.old places.new }
     ensures there { IsSome result ↔ (i < length places.old) }
 {
     if i >= places.len() {
@@ -310,74 +354,92 @@ fn wake_one<W: LineWire + Drop>(places: &mut [Place<W>], i: usize)
     ensures went { EachGoes
         (λ line. if nat_eq line i then Wakes ∷ [] else []) places.old places.new }
     ensures stays { AllStayHeld places.old places.new }
+    ensures woken { WakesOne i places.old places.new }
 {
     if i < places.len() {
         places[i].wake();
     }
 }
 
-/// The end of a slot's turn.
-fn settle_places<K: PageStore<PageToStore>, W: TimedWire + Drop>(
-    places: &mut [Place<HoldingWire<W>>],
-    alloc: Global,
-    slot: usize,
-    store: &mut K,
-) -> SlotEnd
+/// Each line of a slot waits that was turned, and of whose turn something is to be stored; what the others gave goes out.
+fn set_aside_slot<W: TimedWire + Drop>(places: &mut [Place<HoldingWire<W>>], slot: usize)
     requires { slot < most_slots }
     ensures went { EachGoes (λ i. []) places.old places.new }
-    ensures pages { ArePagesOf slot places.old result.pages.items }
-    ensures kept { OnOk result.answer ((before : List ToStore)
-        → K.keeps store.old before → K.keeps store.new (before ++ result.pages.items)) }
-    ensures settled { EndsSlot slot (is_stored_in result) places.old places.new }
-    ensures put { PutsIf K.puts result.pages.items (is_ok result.answer) store.old store.new }
+    ensures aside { SetAside slot places.old places.new }
 {
-    let pages = hand_over_slot(places, alloc, slot);
-    let answer = store_pages(store, pages.as_slice());
-    end_slot(places, pages.as_slice(), slot, answer.is_ok());
-    SlotEnd { pages, answer }
-}
-
-/// The pages that the lines of a slot confirmed in its turn, one after the other. The lines that confirmed none, and those whose
-/// pages memory was refused for, end their turns.
-fn hand_over_slot<W: TimedWire + Drop>(
-    places: &mut [Place<HoldingWire<W>>],
-    alloc: Global,
-    slot: usize,
-) -> Vec<PageToStore>
-    requires { slot < most_slots }
-    ensures went { EachGoes (λ i. []) places.old places.new }
-    ensures pages { ArePagesOf slot places.old result.items }
-    ensures hands { HandsOverSlot slot result.items places.old places.new }
-{
-    let mut pages = Vec::new(alloc);
     let rounds = places.len() / SLOTS + 1;
     for round in 0..rounds {
         let i = round * SLOTS + slot;
         if i < places.len() {
-            places[i].hand_over(alloc, i, &mut pages);
+            places[i].set_aside();
         }
+    }
+}
+
+/// The turns of the lines that wait end.
+fn settle_places<K: PageStore<PageToStore>, W: TimedWire + Drop>(
+    places: &mut [Place<HoldingWire<W>>],
+    alloc: Global,
+    store: &mut K,
+) -> SlotEnd
+    ensures went { EachGoes (λ i. []) places.old places.new }
+    ensures waits { WaitAlike places.old places.new }
+    ensures pages { ArePagesOf (waits_of places.old) places.old result.pages.items }
+    ensures kept { OnOk result.answer ((before : List ToStore)
+        → K.keeps store.old before → K.keeps store.new (before ++ result.pages.items)) }
+    ensures settled { EndTurns (waits_of places.old)
+        (is_stored_in result) places.old places.new }
+    ensures put { PutsIf K.puts result.pages.items (is_ok result.answer) store.old store.new }
+{
+    let pages = hand_over_all(places, alloc);
+    let answer = store_pages(store, pages.as_slice());
+    end_turns(places, pages.as_slice(), answer.is_ok());
+    SlotEnd { pages, answer }
+}
+
+/// The pages that the lines which wait confirmed, one after the other. The turns of those that confirmed none end, and of those whose pages
+/// memory was refused for.
+fn hand_over_all<W: TimedWire + Drop>(
+    places: &mut [Place<HoldingWire<W>>],
+    alloc: Global,
+) -> Vec<PageToStore>
+    ensures went { EachGoes (λ i. []) places.old places.new }
+    ensures waits { WaitAlike places.old places.new }
+    ensures pages { ArePagesOf (waits_of places.old) places.old result.items }
+    ensures hands { HandOver (waits_of places.old) result.items places.old places.new }
+{
+    let mut pages = Vec::new(alloc);
+    for i in 0..places.len() {
+        places[i].hand_over(alloc, i, &mut pages);
     }
     pages
 }
 
-/// The lines of a slot that wait for these pages end their turns.
-fn end_slot<W: TimedWire + Drop>(
+/// The turns of the lines end whose pages these are.
+fn end_turns<W: TimedWire + Drop>(
     places: &mut [Place<HoldingWire<W>>],
     pages: &[PageToStore],
-    slot: usize,
     is_stored: bool,
 )
-    requires { slot < most_slots }
     ensures went { EachGoes (λ i. []) places.old places.new }
-    ensures ends { EachComes (λ i. EndsWhere (nat_eq (slot_of i) slot
-        && has_page pages.now i) is_stored) places.old places.new }
+    ensures waits { WaitAlike places.old places.new }
+    ensures ends { EachComes
+        (λ i. EndsWhere (has_page pages.now i) is_stored) places.old places.new }
 {
-    let rounds = places.len() / SLOTS + 1;
-    for round in 0..rounds {
-        let i = round * SLOTS + slot;
-        if i < places.len() && has_page(pages, i) {
+    for i in 0..places.len() {
+        if has_page(pages, i) {
             places[i].end_turn(is_stored);
         }
+    }
+}
+
+/// No line waits any more.
+fn free_places<W: TimedWire + Drop>(places: &mut [Place<HoldingWire<W>>])
+    ensures went { EachGoes (λ i. []) places.old places.new }
+    ensures frees { AreFreed places.old places.new }
+{
+    for i in 0..places.len() {
+        places[i].free();
     }
 }
 
@@ -386,6 +448,7 @@ fn let_out_places<W: TimedWire + Drop>(places: &mut [Place<HoldingWire<W>>], slo
     requires { slot < most_slots }
     ensures goes { EachGoes (λ i. []) places.old places.new }
     ensures ends { LetsOutSlot slot places.old places.new }
+    ensures waits { WaitAlike places.old places.new }
 {
     let rounds = places.len() / SLOTS + 1;
     for round in 0..rounds {
@@ -396,26 +459,21 @@ fn let_out_places<W: TimedWire + Drop>(places: &mut [Place<HoldingWire<W>>], slo
     }
 }
 
-/// A store is told of the turns of a slot's lines, one after the other.
+/// A store is told of the turns of the lines that wait, one after the other.
 fn tell_places<W: LineWire + Drop, K: RunStore>(
     places: &[Place<W>],
     pages: &[PageToStore],
-    slot: usize,
     store: &mut K,
 )
-    requires { slot < most_slots }
-    ensures { TellsSlot K.notes K.ends slot pages.now places.now store.old store.new }
+    ensures { TellsLines K.notes K.ends
+        (waits_of places.now) pages.now places.now store.old store.new }
 {
-    let rounds = places.len() / SLOTS + 1;
-    for round in 0..rounds {
-        let i = round * SLOTS + slot;
-        if let Some(place) = places.get(i) {
-            tell_place(i, place, has_page(pages, i), store);
-        }
+    for i in 0..places.len() {
+        tell_place(i, &places[i], has_page(pages, i), store);
     }
 }
 
-/// A store is told of the turn of a line, where it had one, whose page was handed over or not.
+/// A store is told of the turn of a line that waits, whose page was handed over or not.
 fn tell_place<W: LineWire + Drop, K: RunStore>(
     number: usize,
     place: &Place<W>,
@@ -423,9 +481,9 @@ fn tell_place<W: LineWire + Drop, K: RunStore>(
     store: &mut K,
 )
     ensures { TellsWhere K.notes K.ends number
-        place.now.turned place.now.line.turned was_handed store.old store.new }
+        place.now.waits place.now.line.turned was_handed store.old store.new }
 {
-    if place.has_turned() {
+    if place.waits() {
         tell_turn(number, place.line().turned(), was_handed, store);
     }
 }

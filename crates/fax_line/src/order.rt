@@ -1,5 +1,5 @@
 //! What gives the orders.
-ghost use Rattle.std.specs.Prelude.{◌≡◌, ℕ, List, [], ◌∷◌, Option, option_copied};
+ghost use Rattle.std.specs.Prelude.{◌≡◌, ℕ, List, [], ◌∷◌, Option};
 ghost use Rattle.fax_gateway.specs.Wires.{Grows};
 ghost use Rattle.fax_line.specs.Words.{Answers, Asks, Word};
 ghost use Rattle.fax_line.specs.declared.asked.LineAnswer.{LineAnswer as AnsweredShown};
@@ -48,17 +48,22 @@ pub trait Pace<W: LineWire + Drop, K: RunStore> {
     /// What is made of it where it sees what a turn came to. By default nothing is told of that.
     ghost sees: { Self → Self → Type 0 } = { λ old new. Unit {0} };
 
-    /// What is made of it where it sees the end of a turn, and with it what keeps the pages as that is then. By default nothing is
-    /// told of that.
-    ghost sees_stored: { Option K → Self → Self → Type 0 } = { λ store old new. Unit {0} };
+    /// What is made of it where it sees that turns have ended of which something was stored, and with it what keeps the pages as that is
+    /// then. By default nothing is told of that.
+    ghost sees_stored: { K → Self → Self → Type 0 } = { λ store old new. Unit {0} };
 
     /// What is to be done next, once it is due. `None`: the run ends.
     fn next(&mut self, lines: &Lines<W>, store: Option<&K>) -> Option<Order>
         ensures words { Grows (Asks result ∷ []) (words self.old) (words self.new) }
         ensures gives { gives result self.old self.new };
 
-    /// A slot had its turn, and the pages that its lines confirmed are about to be put. What goes with them, as the tags of their
-    /// calls, may be told to the store.
+    /// A slot had its turn. A line of it that was turned, and waits, is shown once what is to be stored of its turn was stored.
+    fn turned(&mut self, lines: &Lines<W>, store: Option<&K>)
+        ensures words { words self.new ≡ words self.old }
+        ensures sees { sees self.old self.new };
+
+    /// The pages that the lines which wait confirmed are about to be put. What goes with them, as the tags of their calls, may be told to
+    /// the store.
     fn before_put(&mut self, lines: &Lines<W>, store: &mut K)
         ensures same { K.is_same store.old store.new }
         ensures words { words self.new ≡ words self.old }
@@ -69,11 +74,11 @@ pub trait Pace<W: LineWire + Drop, K: RunStore> {
         ensures words { words self.new ≡ words self.old }
         ensures sees { sees self.old self.new };
 
-    /// The turn of a slot has ended. The jobs that ended in it wait on the store still.
-    fn turned(&mut self, lines: &Lines<W>, store: Option<&K>)
+    /// The turns of the lines that wait have ended. The jobs that ended in them wait on the store still.
+    fn stored(&mut self, lines: &Lines<W>, store: &K)
         ensures words { words self.new ≡ words self.old }
         ensures sees { sees self.old self.new }
-        ensures sees_stored { sees_stored (option_copied store.entry) self.old self.new };
+        ensures sees_stored { sees_stored store.now self.old self.new };
 
     /// What was asked of a line by an order is done, and the line answered so. `None`: there is no such line.
     fn done(&mut self, line: usize, answer: Option<LineAnswer>)

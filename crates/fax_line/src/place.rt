@@ -5,13 +5,13 @@ ghost use Rattle.fax_gateway.specs.Restored.{RestoredCall};
 ghost use Rattle.fax_wires.specs.holding.Holding.{IsToldTimeWhere};
 ghost use Rattle.fax_line.specs.Actions.{Asks, BeginsWith, Frees, Wakes, leg_begun};
 ghost use Rattle.fax_line.specs.LegPeers.{peers_after};
-ghost use Rattle.fax_line.specs.Places.{BeginsInPlace, GoesInPlace, StaysHeld, TellsOrRests, is_at_rest, visit_of};
-ghost use Rattle.fax_line.specs.Settling.{EndsTurn, HandsOver};
+ghost use Rattle.fax_line.specs.Places.{BeginsInPlace, GoesInPlace, StaysHeld, TellsOrRests, TellsVisit, WaitsStill, actions_by, is_at_rest, visit_at, visit_of};
+ghost use Rattle.fax_line.specs.Settling.{EndsTurn, HandsOver, SetsAsideIf, is_to_store};
 
 use crate::asked::{LineAnswer, LineRequest};
 use crate::line::Line;
 use crate::settling::PageToStore;
-use fax_gateway::Buffer;
+use fax_gateway::{Buffer, TurnReport};
 use fax_wires::holding::{HoldingWire, LineWire};
 use fax_wires::repeat::TimedWire;
 use std::alloc::{AllocError, Global};
@@ -26,6 +26,8 @@ pub(crate) struct Place<W: LineWire + Drop> {
     is_awake: bool,
     /// Whether it was turned in the last turn of its slot.
     has_turned: bool,
+    /// Whether it was turned, and does nothing until what is to be stored of that turn is stored.
+    waits: bool,
     line: Box<Line<W>>,
 }
 
@@ -35,6 +37,7 @@ impl<W: LineWire + Drop> Drop for Place<W> {
             due: _due,
             is_awake: _is_awake,
             has_turned: _has_turned,
+            waits: _waits,
             line: _line,
         } = self;
     }
@@ -45,8 +48,13 @@ impl<W: LineWire + Drop> Model for Place<W> {
 
     ghost Value = { PlaceValue };
 
-    ghost view = { λ p.
-        record { line = p.line.value; due = p.due; awake = p.is_awake; turned = p.has_turned } };
+    ghost view = { λ p. record {
+      line = p.line.value;
+      due = p.due;
+      awake = p.is_awake;
+      turned = p.has_turned;
+      waits = p.waits;
+    } };
 
     ghost invariant = { λ p. IsDueOn p.due p.line.value };
 }
@@ -56,6 +64,7 @@ impl<W: LineWire + Drop> Place<W> {
     pub fn new(alloc: Global, line: Line<W>) -> Result<Self, AllocError>
         ensures line { IfOk result (λ place. place.line ≡ line) }
         ensures awake { IfOk result (λ place. place.awake ≡ true) }
+        ensures waits { IfOk result (λ place. place.waits ≡ false) }
         ensures begins { (calls : List RestoredCall)
             → BeginsWith calls line → IfOk result (λ place. BeginsInPlace calls place) }
     {
@@ -65,6 +74,7 @@ impl<W: LineWire + Drop> Place<W> {
             due,
             is_awake: true,
             has_turned: false,
+            waits: false,
             line,
         })
     }
@@ -90,12 +100,34 @@ impl<W: LineWire + Drop> Place<W> {
         !self.is_awake && !has_come(self.due, now)
     }
 
-    /// The turn of its slot: it is turned, with this buffer, or left at rest.
+    /// Whether it was turned, and does nothing until what is to be stored of that turn is stored.
+    pub fn waits(&self) -> bool
+        ensures { result ≡ self.now.waits }
+    {
+        self.waits
+    }
+
+    /// The turn of its slot: it is turned, with this buffer, or left at rest; but one that waits is passed over.
     pub fn visit(&mut self, buffer: &mut Buffer, now: u64)
+        ensures goes { GoesInPlace
+            (actions_by (visit_at true self.old.waits (is_at_rest now self.old) now))
+            self.old self.new }
+        ensures tells { TellsVisit
+            (visit_at true self.old.waits (is_at_rest now self.old) now) self.old self.new }
+        ensures waits { WaitsStill self.old self.new }
+    {
+        if !self.waits {
+            self.turn_or_rest(buffer, now);
+        }
+    }
+
+    /// It is turned, or left at rest.
+    fn turn_or_rest(&mut self, buffer: &mut Buffer, now: u64)
         ensures goes { GoesInPlace (visit_of now (is_at_rest now self.old) ∷ []) self.old self.new }
         ensures turned { self.new.turned ≡ not (is_at_rest now self.old) }
         ensures tells { TellsOrRests now (is_at_rest now self.old) self.old self.new }
         ensures rests { is_at_rest now self.old ≡ true → self.new.line ≡ self.old.line }
+        ensures waits { self.new.waits ≡ self.old.waits }
     {
         if self.is_at_rest(now) {
             self.has_turned = false;
@@ -107,15 +139,16 @@ impl<W: LineWire + Drop> Place<W> {
         }
     }
 
-    /// Its wire is told the time, between two turns, where something is due.
+    /// Its wire is told the time, between two turns, where something is due, and it does not wait.
     pub fn tell_time(&mut self, now: u64)
         ensures goes { GoesInPlace [] self.old self.new }
-        ensures time { is_due self.old.due now ≡ true
+        ensures time { self.old.waits ≡ false → is_due self.old.due now ≡ true
             → IsToldTimeWhere now self.old.line.holding self.new.line.holding }
+        ensures waits { WaitsStill self.old self.new }
         ensures stays { StaysHeld self.old self.new }
         ensures turned { self.new.turned ≡ self.old.turned }
     {
-        if has_come(self.due, now) {
+        if !self.waits && has_come(self.due, now) {
             self.line.tell_time(now);
             self.due = self.line.next_due();
         }
@@ -128,6 +161,7 @@ impl<W: LineWire + Drop> Place<W> {
             self.old.line.holding self.new.line.holding }
         ensures peers { self.new.line.peers ≡ peers_after what (Some result) self.old.line.peers }
         ensures turned { self.new.turned ≡ self.old.turned }
+        ensures waits { self.new.waits ≡ self.old.waits }
     {
         let answer = self.line.ask(what, now);
         self.due = self.line.next_due();
@@ -137,23 +171,47 @@ impl<W: LineWire + Drop> Place<W> {
     /// Something may have come over its wire.
     pub fn wake(&mut self)
         ensures goes { GoesInPlace (Wakes ∷ []) self.old self.new }
-        ensures same { self.new.line ≡ self.old.line }
-        ensures turned { self.new.turned ≡ self.old.turned }
+        ensures woken { self.new ≡ record self.old { awake = true } }
     {
         self.is_awake = true;
     }
 }
 
 impl<W: TimedWire + Drop> Place<HoldingWire<W>> {
-    /// The page that the turn of the line confirmed joins those that are to be stored, as that of the line of this number. Where it
-    /// confirmed none, or memory was refused for it, the turn ends at once.
+    /// After a turn of its slot: where something of a turn of the line is to be stored it waits; what another gave goes out. One that
+    /// waits does so still.
+    pub fn set_aside(&mut self)
+        ensures goes { GoesInPlace [] self.old self.new }
+        ensures aside { SetsAsideIf self.old.turned
+            self.old.waits (is_to_store self.old.line.turned) self.old self.new }
+    {
+        if !self.has_turned || self.waits {
+            return;
+        }
+        if is_to_store(self.line.turned()) {
+            self.waits = true;
+        } else {
+            self.end_turn(false);
+        }
+    }
+
+    /// What was to be stored of its turn is stored, where it waited for that.
+    pub fn free(&mut self)
+        ensures goes { GoesInPlace [] self.old self.new }
+        ensures frees { self.new ≡ record self.old { waits = false } }
+    {
+        self.waits = false;
+    }
+
+    /// The page that the turn of the line confirmed joins those that are to be stored, as that of the line of this number, where it waits
+    /// for that. Where it confirmed none, or memory was refused for it, the turn ends at once.
     pub fn hand_over(&mut self, alloc: Global, number: usize, pages: &mut Vec<PageToStore>)
         ensures goes { GoesInPlace [] self.old self.new }
-        ensures turned { self.new.turned ≡ self.old.turned }
-        ensures hands { HandsOver self.old.turned
+        ensures waits { self.new.waits ≡ self.old.waits }
+        ensures hands { HandsOver self.old.waits
             number self.old self.new pages.old.items pages.new.items }
     {
-        if !self.has_turned {
+        if !self.waits {
             return;
         }
         if let Ok(Some(page)) = self.line.page_to_store(alloc, number)
@@ -169,6 +227,7 @@ impl<W: TimedWire + Drop> Place<HoldingWire<W>> {
         ensures ends { EndsTurn is_stored self.old.line self.new.line }
         ensures goes { GoesInPlace [] self.old self.new }
         ensures turned { self.new.turned ≡ self.old.turned }
+        ensures waits { self.new.waits ≡ self.old.waits }
     {
         self.line.end_turn(is_stored);
         self.due = self.line.next_due();
@@ -179,10 +238,18 @@ impl<W: TimedWire + Drop> Place<HoldingWire<W>> {
         ensures ends { EndsTurn true self.old.line self.new.line }
         ensures goes { GoesInPlace [] self.old self.new }
         ensures turned { self.new.turned ≡ self.old.turned }
+        ensures waits { self.new.waits ≡ self.old.waits }
     {
         self.line.let_out();
         self.due = self.line.next_due();
     }
+}
+
+/// Whether something of a turn that told this is to be stored.
+fn is_to_store(told: TurnReport) -> bool
+    ensures { result ≡ is_to_store told }
+{
+    told.kept.is_some() || told.report.is_some()
 }
 
 /// Whether a moment has come, where there is one.

@@ -1,4 +1,4 @@
-//! The end of a slot's turn: the pages that its lines confirmed are stored, before what confirms them goes out.
+//! What is stored of turns: the pages that they confirmed, before what confirms them goes out.
 ghost use Rattle.std.specs.Prelude.{◌≡◌, IfOk};
 ghost use Rattle.fax_jobs.specs.Newest.{newest_page};
 ghost use Rattle.fax_line.specs.Settling.{IsStoredAs, has_page, is_stored_in};
@@ -20,7 +20,7 @@ pub struct PageToStore {
     pub text: Octets,
 }
 
-/// What came of the pages that the lines of a slot confirmed in its turn.
+/// What came of the pages of the lines that waited, as they were put.
 #[derive(Drop)]
 pub struct SlotEnd {
     /// Those that were handed to the store, in the order of their lines. A page whose text memory was refused for is not among them.

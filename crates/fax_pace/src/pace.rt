@@ -54,7 +54,7 @@ pub struct RealPace<'a, C: Clock, R: RedialSide + Drop, S: SipSide + Drop> {
     desk: Desk,
     waking: Waking,
     teller: Teller,
-    /// When the pages of a slot were handed to the spool, in microseconds, where that is to be told.
+    /// When pages of lines were handed to the spool, in microseconds, where that is to be told.
     put_from: Option<u64>,
     visiting: Visiting,
     /// SIP, where that is configured.
@@ -473,28 +473,23 @@ impl<
     }
 
     fn before_put(&mut self, lines: &Lines<W>, store: &mut PairedStore<D, U>) {
-        self.waking.begin_slot();
-        let Some(slot) = self.rounds.turned else {
-            return;
-        };
-        store.begin_slot();
+        self.waking.begin_put();
+        store.begin_put();
         let day = self.clock.day();
         let seen = Seen::<W, D, U> { lines, store: None };
         self.see_stored(day, store, &seen);
-        set_causes(store, day, &self.desk, slot, &seen);
-        if set_tags(store, &self.desk, slot, &seen) {
+        set_causes(store, day, &self.desk, &seen);
+        if set_tags(store, &self.desk, &seen) {
             self.put_from = Some(self.clock.micros().unwrap_or(0));
         }
     }
 
     fn after_put(&mut self, lines: &Lines<W>, end: &SlotEnd) {
-        if let Some(slot) = self.rounds.turned
-            && let Some(before) = self.put_from.take()
-        {
+        if let Some(before) = self.put_from.take() {
             let after = self.clock.micros().unwrap_or(0);
             self.teller.count_put(after.saturating_sub(before));
             let seen = Seen::<W, D, U> { lines, store: None };
-            self.waking.note_lost(slot, end, &seen);
+            self.waking.note_lost(end, &seen);
         }
     }
 
@@ -504,6 +499,13 @@ impl<
         self.hold_turned(&seen);
         self.tell_turned(&seen);
         self.see_held(&seen);
+    }
+
+    fn stored(&mut self, lines: &Lines<W>, store: &PairedStore<D, U>) {
+        let store = Some(store);
+        let seen = Seen { lines, store };
+        self.read_clock();
+        self.tell_stored(&seen);
     }
 
     fn done(&mut self, line: usize, answer: Option<LineAnswer>) {

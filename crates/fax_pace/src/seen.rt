@@ -23,6 +23,9 @@ pub trait SeenLines: View {
     /// Whether line i was turned in the last turn of its slot.
     fn has_turned(&self, i: usize) -> bool;
 
+    /// Whether it waits until what is to be stored of that turn is stored.
+    fn waits(&self, i: usize) -> bool;
+
     /// What its turn told, where it was turned then.
     fn turned(&self, i: usize) -> Option<TurnReport>;
 

@@ -1,29 +1,27 @@
-//! What a store is told of the lines of a slot before their pages are stored.
+//! What a store is told of the lines that wait before their pages are stored.
 ghost use Rattle.std.specs.Prelude.{◌≡◌};
 ghost use Rattle.fax_queue.specs.SpoolStorage.{IsUnchanged};
 
 use crate::seen::SeenLines;
 use fax_desk::{Desk, Tag};
 use fax_jobs::Outcome;
-use fax_line::SLOTS;
 use fax_undelivered::PairedStore;
 use sqlite_disk::Disk;
 
-/// The tags of the calls in which lines of a slot confirmed pages in its last turn are noted. It answers whether one did.
+/// The tags of the calls in which the lines that wait confirmed pages are noted. It answers whether one did.
 pub(crate) fn set_tags<L: SeenLines, D: Disk, U: Disk>(
     store: &mut PairedStore<D, U>,
     desk: &Desk,
-    slot: usize,
     seen: &L,
 ) -> bool
     ensures { IsUnchanged store.old.storage.queues.items
         store.new.storage.queues.items store.old.storage.spool store.new.storage.spool }
 {
     let mut confirms = false;
-    let rounds = seen.len() / SLOTS + 1;
-    for round in 0..rounds {
-        let i = round.saturating_mul(SLOTS).saturating_add(slot);
-        if let Some(call) = confirmed_in(seen, i) {
+    for i in 0..seen.len() {
+        if seen.waits(i)
+            && let Some(call) = confirmed_in(seen, i)
+        {
             confirms = true;
             set_tag(store, i, desk.tag(i, call));
         }
@@ -47,22 +45,19 @@ fn set_tag<D: Disk, U: Disk>(store: &mut PairedStore<D, U>, i: usize, tag: Optio
     }
 }
 
-/// What is told of the jobs that ended in the last turn of a slot is noted: the second since 1970, where the clock tells it, and of each job
+/// What is told of the jobs of the lines that wait which ended is noted: the second since 1970, where the clock tells it, and of each job
 /// whose call was not placed for what cause.
 pub(crate) fn set_causes<L: SeenLines, D: Disk, U: Disk>(
     store: &mut PairedStore<D, U>,
     day: Option<u64>,
     desk: &Desk,
-    slot: usize,
     seen: &L,
 )
     ensures { store.new.storage ≡ store.old.storage }
 {
     store.set_day(day.unwrap_or(0));
-    let rounds = seen.len() / SLOTS + 1;
-    for round in 0..rounds {
-        let i = round.saturating_mul(SLOTS).saturating_add(slot);
-        if has_ended_undelivered(seen, i) {
+    for i in 0..seen.len() {
+        if seen.waits(i) && has_ended_undelivered(seen, i) {
             set_cause(store, desk, i);
         }
     }

@@ -193,7 +193,7 @@ impl Teller {
         }
     }
 
-    /// The pages of a slot's turn were handed to the spool at once, which took so many microseconds.
+    /// Pages of lines were handed to the spool at once, which took so many microseconds.
     pub(crate) fn count_put(&mut self, micros: u64) {
         self.counters.puts = self.counters.puts.saturating_add(1);
         self.counters.put_micros = self.counters.put_micros.saturating_add(micros);

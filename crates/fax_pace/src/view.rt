@@ -62,6 +62,10 @@ impl<'a, W: SocketLegs + Drop, D: Disk, U: Disk> SeenLines for Seen<'a, W, D, U>
         self.lines.has_turned(i)
     }
 
+    fn waits(&self, i: usize) -> bool {
+        self.lines.waits(i)
+    }
+
     fn turned(&self, i: usize) -> Option<TurnReport> {
         match self.lines.line(i) {
             Some(line) if self.lines.has_turned(i) => Some(line.turned()),

@@ -2,7 +2,7 @@
 use crate::seen::SeenLines;
 use crate::watch::Watch;
 use fax_gateway::Leg;
-use fax_line::{SLOTS, SlotEnd};
+use fax_line::SlotEnd;
 use std::alloc::{AllocError, Global};
 
 /// What is to be done on lines before their next turns.
@@ -13,7 +13,7 @@ pub(crate) struct Waking {
     pub woken: Vec<usize>,
     /// The lines whose questions are to be looked at: one is to be asked, or its time is over.
     pub to_ask: Vec<usize>,
-    /// The lines whose pages could not be stored in the turn that was ordered.
+    /// The lines whose pages could not be stored, as pages were put last.
     not_stored: Vec<usize>,
 }
 
@@ -36,7 +36,7 @@ impl Waking {
         lines: usize,
     ) -> Result<Self, AllocError> {
         let mut not_stored = Vec::new(alloc);
-        not_stored.reserve(lines / SLOTS + 1)?;
+        not_stored.reserve(lines)?;
         Ok(Waking {
             watch,
             woken: Vec::new(alloc),
@@ -52,8 +52,8 @@ impl Waking {
         }
     }
 
-    /// The pages of a slot are to be stored: none could not be so far.
-    pub(crate) fn begin_slot(&mut self) {
+    /// Pages of lines are to be stored: none could not be so far.
+    pub(crate) fn begin_put(&mut self) {
         self.not_stored.clear();
     }
 
@@ -62,12 +62,10 @@ impl Waking {
         !self.not_stored.contains(&i)
     }
 
-    /// Notes the lines of a slot whose pages were confirmed in its turn and not kept.
-    pub(crate) fn note_lost<S: SeenLines>(&mut self, slot: usize, end: &SlotEnd, seen: &S) {
-        let rounds = seen.len() / SLOTS + 1;
-        for round in 0..rounds {
-            let i = round.saturating_mul(SLOTS).saturating_add(slot);
-            if has_confirmed(seen, i) && !end.is_stored(i) {
+    /// Notes the lines that wait whose pages were not stored.
+    pub(crate) fn note_lost<S: SeenLines>(&mut self, end: &SlotEnd, seen: &S) {
+        for i in 0..seen.len() {
+            if seen.waits(i) && has_confirmed(seen, i) && !end.is_stored(i) {
                 let _ = self.not_stored.push(i);
             }
         }

@@ -1,5 +1,5 @@
 -- What the wire of a line did in a run, order by order.
-use Rattle.std.proofs.Common.{◌≡◌, ◌∙◌, ℕ, zero, suc, ◌<◌, ◌⊎◌, inl, inr, Bool, true, false, ◌&&◌, ◌||◌, nat_eq, List, [], ◌∷◌, ◌++◌, All, AllPairs, Option, Some, None, is_ok, is_some, slice_index_or, arith, refl, sym, ap, subst, append-nil}
+use Rattle.std.proofs.Common.{◌≡◌, ◌∙◌, ℕ, zero, suc, ◌<◌, ◌⊎◌, inl, inr, Bool, true, false, ◌&&◌, ◌||◌, nat_eq, List, [], ◌∷◌, ◌++◌, All, AllPairs, Option, Some, None, is_some, slice_index_or, arith, refl, sym, ap, subst, append-nil}
 use Rattle.std.proofs.lemmas.Bool.{eqb-true}
 use Rattle.fax_pagestore.specs.PageLaws.{PagesAreUnique}
 use Rattle.fax_pagestore.specs.Pages.{PageValue}
@@ -14,9 +14,8 @@ use Rattle.fax_wires.proofs.holding.Held.{begins_where, ceases_beside, done_wher
 use Rattle.fax_line.specs.Actions.{LineValue}
 use Rattle.fax_line.specs.StoredRuns.{kept_if}
 use Rattle.fax_line.specs.Places.{PlaceValue}
-use Rattle.fax_line.specs.Settling.{EndsTurn, IsOfTurn, IsPageOf, has_page, is_stored_in}
+use Rattle.fax_line.specs.Settling.{EndsTurn, IsOfTurn, IsPageOf, has_page}
 use Rattle.fax_line.specs.declared.settling.PageToStore.{PageToStore}
-use Rattle.fax_line.specs.declared.settling.SlotEnd.{SlotEnd}
 use Rattle.fax_queue.specs.Histories.{AreStoredOf, IsStoredPage}
 use Rattle.fax_queue.specs.OnLeg.{AreOnLeg, HasDoneOn, IsTurnOnLeg, UnputPagesLetNothingOut}
 use Rattle.fax_spool.specs.RecordOctets as spool
@@ -87,39 +86,39 @@ none_some : (k : Kept) → None ≡ Some k → ⊥
 none_some k e = cc
 
 -- a line that confirmed none has none
-none_first : (slot number : ℕ) (lines : List PlaceValue) (other : PlaceValue) (page : PageToStore) (pages : List PageToStore) → IsPageOf slot lines page → (slice_index_or lines number other).line.turned.kept ≡ None
+none_first : (which : ℕ → Bool) (number : ℕ) (lines : List PlaceValue) (other : PlaceValue) (page : PageToStore) (pages : List PageToStore) → IsPageOf which lines page → (slice_index_or lines number other).line.turned.kept ≡ None
     → has_page pages number ≡ false → (b : Bool) → nat_eq page.line number ≡ b → (b || has_page pages number) ≡ false
-none_first slot number lines other page pages first none rest true is =
+none_first which number lines other page pages first none rest true is =
     let its : IsOfTurn (slice_index_or lines number other).line page = subst (λ (n : ℕ). IsOfTurn (slice_index_or lines n other).line page) (eqb-true page.line number is) (first.is_of_turn other) in
     absurd (none_some its.kept (sym none ∙ its.told))
-none_first slot number lines other page pages first none rest false is = rest
+none_first which number lines other page pages first none rest false is = rest
 
-none_has : (slot number : ℕ) (lines : List PlaceValue) (other : PlaceValue) (pages : List PageToStore) → All (IsPageOf slot lines) pages → (slice_index_or lines number other).line.turned.kept ≡ None → has_page pages number ≡ false
-none_has slot number lines other [] all none = refl
-none_has slot number lines other (page ∷ pages) all none =
-    none_first slot number lines other page pages (all zero page (omega arith)) none (none_has slot number lines other pages (λ k d low. all (suc k) d (omega (arith, low))) none) (nat_eq page.line number) refl
+none_has : (which : ℕ → Bool) (number : ℕ) (lines : List PlaceValue) (other : PlaceValue) (pages : List PageToStore) → All (IsPageOf which lines) pages → (slice_index_or lines number other).line.turned.kept ≡ None → has_page pages number ≡ false
+none_has which number lines other [] all none = refl
+none_has which number lines other (page ∷ pages) all none =
+    none_first which number lines other page pages (all zero page (omega arith)) none (none_has which number lines other pages (λ k d low. all (suc k) d (omega (arith, low))) none) (nat_eq page.line number) refl
 
-record Own (slot number : ℕ) (lines : List PlaceValue) (other : PlaceValue) (pages : List PageToStore) : Type 0 where
+record Own (which : ℕ → Bool) (number : ℕ) (lines : List PlaceValue) (other : PlaceValue) (pages : List PageToStore) : Type 0 where
   page : PageToStore
   its : IsOfTurn (slice_index_or lines number other).line page
   kept : (p : CallPage) → IsStoredPage page p → AreStoredOf number pages (p ∷ [])
 
-own_first : (slot number : ℕ) (lines : List PlaceValue) (other : PlaceValue) (page : PageToStore) (pages : List PageToStore) → IsPageOf slot lines page → AllPairs (λ page after. page.line < after.line) (page ∷ pages)
-    → (b : Bool) → nat_eq page.line number ≡ b → (b || has_page pages number) ≡ true → (has_page pages number ≡ true → Own slot number lines other pages) → Own slot number lines other (page ∷ pages)
-own_first slot number lines other page pages first rising true is has rest = record {
+own_first : (which : ℕ → Bool) (number : ℕ) (lines : List PlaceValue) (other : PlaceValue) (page : PageToStore) (pages : List PageToStore) → IsPageOf which lines page → AllPairs (λ page after. page.line < after.line) (page ∷ pages)
+    → (b : Bool) → nat_eq page.line number ≡ b → (b || has_page pages number) ≡ true → (has_page pages number ≡ true → Own which number lines other pages) → Own which number lines other (page ∷ pages)
+own_first which number lines other page pages first rising true is has rest = record {
   page = page;
   its = subst (λ (n : ℕ). IsOfTurn (slice_index_or lines n other).line page) (eqb-true page.line number is) (first.is_of_turn other);
   kept = λ p its. inl (eqb-true page.line number is, its, kept_none number pages (after_none page pages number (eqb-true page.line number is) rising));
 }
-own_first slot number lines other page pages first rising false is has rest =
-    let own : Own slot number lines other pages = rest has in record { page = own.page; its = own.its; kept = λ p its. inr (not_eq page.line number is, own.kept p its) }
+own_first which number lines other page pages first rising false is has rest =
+    let own : Own which number lines other pages = rest has in record { page = own.page; its = own.its; kept = λ p its. inr (not_eq page.line number is, own.kept p its) }
 
-own_of : (slot number : ℕ) (lines : List PlaceValue) (other : PlaceValue) (pages : List PageToStore) → All (IsPageOf slot lines) pages → AllPairs (λ page after. page.line < after.line) pages → has_page pages number ≡ true
-    → Own slot number lines other pages
-own_of slot number lines other [] all rising has = let no : false ≡ true = has in cc
-own_of slot number lines other (page ∷ pages) all rising has =
-    own_first slot number lines other page pages (all zero page (omega arith)) rising (nat_eq page.line number) refl has
-    (λ rest. own_of slot number lines other pages (λ k d low. all (suc k) d (omega (arith, low))) (λ i j d less low. rising (suc i) (suc j) d (omega (arith, less)) (omega (arith, low))) rest)
+own_of : (which : ℕ → Bool) (number : ℕ) (lines : List PlaceValue) (other : PlaceValue) (pages : List PageToStore) → All (IsPageOf which lines) pages → AllPairs (λ page after. page.line < after.line) pages → has_page pages number ≡ true
+    → Own which number lines other pages
+own_of which number lines other [] all rising has = let no : false ≡ true = has in cc
+own_of which number lines other (page ∷ pages) all rising has =
+    own_first which number lines other page pages (all zero page (omega arith)) rising (nat_eq page.line number) refl has
+    (λ rest. own_of which number lines other pages (λ k d low. all (suc k) d (omega (arith, low))) (λ i j d less low. rising (suc i) (suc j) d (omega (arith, less)) (omega (arith, low))) rest)
 
 none_kept : (number : ℕ) (pages : List PageToStore) (is_stored : Bool) → has_page pages number ≡ false → AreStoredOf number (kept_if is_stored pages) []
 none_kept number pages true none = kept_of_none number pages none
@@ -127,7 +126,7 @@ none_kept number pages false none = refl
 
 -- ---- a turn of the line, and its end
 
--- after it, by the pages of the slot that were put
+-- after it, by the pages that were put at once
 pub record LegSo (setup : Setup) (trace : List Event) (holding : Option HoldingValue) (kept : List CallPage) (number : ℕ) (pages : List PageToStore) : Type 0 where
   pub more : List CallPage
   pub are_put : AreStoredOf number pages more
@@ -138,57 +137,57 @@ nothing_put : (setup : Setup) (trace : List Event) (holding : Option HoldingValu
 nothing_put setup trace holding kept number pages are leg = record { more = []; are_put = are; leg = subst (λ (k : List CallPage). Leg setup trace holding k) (sym (append-nil kept)) leg }
 
 pub leg_ended :
-    (setup : Setup) (older newer : List Event) (handed : Option (List ℕ)) (slot number : ℕ) (end : SlotEnd) (lines : List PlaceValue) (other : PlaceValue) (mid : Option HoldingValue) (new : LineValue) (kept : List CallPage)
-    → ActionOfTurn setup handed older newer (slice_index_or lines number other).line → All (IsPageOf slot lines) end.pages.items → AllPairs (λ page after. page.line < after.line) end.pages.items
-    → EndsTurn (is_stored_in end number) (slice_index_or lines number other).line new
+    (setup : Setup) (older newer : List Event) (handed : Option (List ℕ)) (which : ℕ → Bool) (number : ℕ) (pages : List PageToStore) (is_ok : Bool) (lines : List PlaceValue) (other : PlaceValue) (mid : Option HoldingValue) (new : LineValue) (kept : List CallPage)
+    → ActionOfTurn setup handed older newer (slice_index_or lines number other).line → All (IsPageOf which lines) pages → AllPairs (λ page after. page.line < after.line) pages
+    → EndsTurn (has_page pages number && is_ok) (slice_index_or lines number other).line new
     → ((actions : List LegAction) → HasDoneWhere actions mid → HoldsAfterWhere actions handed (slice_index_or lines number other).line.holding) → Leg setup older mid kept
-    → LegSo setup newer new.holding kept number (kept_if (is_ok end.answer) end.pages.items)
-leg_ended setup older newer handed slot number end lines other mid new kept action each rising ends holds was = by action
+    → LegSo setup newer new.holding kept number (kept_if is_ok pages)
+leg_ended setup older newer handed which number pages is_ok lines other mid new kept action each rising ends holds was = by action
   where
     own : LineValue
     own = (slice_index_or lines number other).line
 
-    did : HasDoneOn (Turn handed (is_some own.turned.kept) (is_stored_in end number) ∷ was.actions) new.holding
-    did = ended handed was.actions (is_stored_in end number) own new ends (holds was.actions (done_where was.actions mid was.did))
+    did : HasDoneOn (Turn handed (is_some own.turned.kept) (has_page pages number && is_ok) ∷ was.actions) new.holding
+    did = ended handed was.actions (has_page pages number && is_ok) own new ends (holds was.actions (done_where was.actions mid was.did))
 
-    nothing : own.turned.kept ≡ None → AreStoredOf number (kept_if (is_ok end.answer) end.pages.items) []
-    nothing none = none_kept number end.pages.items (is_ok end.answer) (none_has slot number lines other end.pages.items each none)
+    nothing : own.turned.kept ≡ None → AreStoredOf number (kept_if is_ok pages) []
+    nothing none = none_kept number pages is_ok (none_has which number lines other pages each none)
 
     of_page : (page : CallPage) → ((to_store : PageToStore) → IsOfTurn own to_store → IsStoredPage to_store page)
         → ((actions : List LegAction) (before : List CallPage) → AreOnLeg setup actions older before → AreOnLeg setup (Turn handed true true ∷ actions) newer (before ++ page ∷ []))
         → ((actions : List LegAction) (before : List CallPage) → AreOnLeg setup actions older before → AreOnLeg setup (Turn handed true false ∷ actions) newer before)
-        → (has ok : Bool) → has_page end.pages.items number ≡ has → is_ok end.answer ≡ ok → HasDoneOn (Turn handed true (has && ok) ∷ was.actions) new.holding
-        → LegSo setup newer new.holding kept number (kept_if (is_ok end.answer) end.pages.items)
+        → (has ok : Bool) → has_page pages number ≡ has → is_ok ≡ ok → HasDoneOn (Turn handed true (has && ok) ∷ was.actions) new.holding
+        → LegSo setup newer new.holding kept number (kept_if is_ok pages)
     of_page page means put refused true true has ok done =
-        let its : Own slot number lines other end.pages.items = own_of slot number lines other end.pages.items each rising has in record {
+        let its : Own which number lines other pages = own_of which number lines other pages each rising has in record {
           more = page ∷ [];
-          are_put = subst (λ (b : Bool). AreStoredOf number (kept_if b end.pages.items) (page ∷ [])) (sym ok) (its.kept page (means its.page its.its));
+          are_put = subst (λ (b : Bool). AreStoredOf number (kept_if b pages) (page ∷ [])) (sym ok) (its.kept page (means its.page its.its));
           leg = record { actions = Turn handed true true ∷ was.actions; did = done; on_leg = put was.actions kept was.on_leg };
         }
     of_page page means put refused true false has ok done =
-        nothing_put setup newer new.holding kept number (kept_if (is_ok end.answer) end.pages.items) (subst (λ (b : Bool). AreStoredOf number (kept_if b end.pages.items) []) (sym ok) refl)
+        nothing_put setup newer new.holding kept number (kept_if is_ok pages) (subst (λ (b : Bool). AreStoredOf number (kept_if b pages) []) (sym ok) refl)
         (record { actions = Turn handed true false ∷ was.actions; did = done; on_leg = refused was.actions kept was.on_leg })
     of_page page means put refused false ok has is_ok_so done =
-        nothing_put setup newer new.holding kept number (kept_if (is_ok end.answer) end.pages.items) (none_kept number end.pages.items (is_ok end.answer) has)
+        nothing_put setup newer new.holding kept number (kept_if is_ok pages) (none_kept number pages is_ok has)
         (record { actions = Turn handed true false ∷ was.actions; did = done; on_leg = refused was.actions kept was.on_leg })
 
-    by : ActionOfTurn setup handed older newer own → LegSo setup newer new.holding kept number (kept_if (is_ok end.answer) end.pages.items)
+    by : ActionOfTurn setup handed older newer own → LegSo setup newer new.holding kept number (kept_if is_ok pages)
     by (NoTick none nothing_handed goes) =
-        nothing_put setup newer new.holding kept number (kept_if (is_ok end.answer) end.pages.items) (nothing none) (record {
+        nothing_put setup newer new.holding kept number (kept_if is_ok pages) (nothing none) (record {
           actions = was.actions;
-          did = no_turn_on was.actions (is_stored_in end number) new.holding
-              (subst (λ (h : Option (List ℕ)). HasDoneOn (Turn h false (is_stored_in end number) ∷ was.actions) new.holding) nothing_handed
-              (confirming handed was.actions (is_stored_in end number) new.holding own.turned.kept None none did));
+          did = no_turn_on was.actions (has_page pages number && is_ok) new.holding
+              (subst (λ (h : Option (List ℕ)). HasDoneOn (Turn h false (has_page pages number && is_ok) ∷ was.actions) new.holding) nothing_handed
+              (confirming handed was.actions (has_page pages number && is_ok) new.holding own.turned.kept None none did));
           on_leg = goes was.actions kept was.on_leg;
         })
     by (NoPage none goes) =
-        nothing_put setup newer new.holding kept number (kept_if (is_ok end.answer) end.pages.items) (nothing none) (record {
-          actions = Turn handed false (is_stored_in end number) ∷ was.actions;
-          did = confirming handed was.actions (is_stored_in end number) new.holding own.turned.kept None none did;
-          on_leg = goes (is_stored_in end number) was.actions kept was.on_leg;
+        nothing_put setup newer new.holding kept number (kept_if is_ok pages) (nothing none) (record {
+          actions = Turn handed false (has_page pages number && is_ok) ∷ was.actions;
+          did = confirming handed was.actions (has_page pages number && is_ok) new.holding own.turned.kept None none did;
+          on_leg = goes (has_page pages number && is_ok) was.actions kept was.on_leg;
         })
     by (OnePage kept_own some page means put refused) =
-        of_page page means put refused (has_page end.pages.items number) (is_ok end.answer) refl refl (confirming handed was.actions (is_stored_in end number) new.holding own.turned.kept (Some kept_own) some did)
+        of_page page means put refused (has_page pages number) is_ok refl refl (confirming handed was.actions (has_page pages number && is_ok) new.holding own.turned.kept (Some kept_own) some did)
 
 -- ---- which pages were put is told once
 

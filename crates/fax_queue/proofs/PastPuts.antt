@@ -1,4 +1,4 @@
--- What becomes of a line's past where the pages of a slot are put.
+-- What becomes of a line's past where pages of lines are put at once.
 use Rattle.std.proofs.Common.{◌≡◌, ◌≢◌, ◌∙◌, ℕ, zero, suc, ◌<◌, inl, inr, Bool, true, false, not, ◌&&◌, ◌||◌, nat_eq, List, [], ◌∷◌, ◌++◌, length, All, AllPairs, Option, Some, slice_get, slice_index_or, arith, refl, sym, ap, subst, append_assoc, append-nil}
 use Rattle.std.specs.Prelude.{slice_set}
 use Rattle.std.proofs.lemmas.Bool.{eqb-true}

@@ -1,5 +1,5 @@
 -- A run makes history: what becomes of a line and its past, order by order.
-use Rattle.std.proofs.Common.{◌≡◌, ◌≢◌, ◌∙◌, ℕ, zero, suc, max, ◌<◌, ◌≤◌, inl, inr, Bool, true, false, ◌&&◌, ◌||◌, nat_eq, if◌then◌else◌, List, [], ◌∷◌, ◌++◌, length, All, AllPairs, Option, Some, None, Result, Ok, Err, is_ok, slice_get, slice_index_or, arith, refl, sym, ap, subst, append_assoc, append-nil}
+use Rattle.std.proofs.Common.{◌≡◌, ◌≢◌, ◌∙◌, ℕ, zero, suc, max, ◌<◌, ◌≤◌, inl, inr, Bool, true, false, ◌||◌, nat_eq, if◌then◌else◌, List, [], ◌∷◌, ◌++◌, length, All, AllPairs, Option, Some, None, Result, Ok, Err, is_ok, is_some, slice_get, slice_index_or, arith, refl, sym, ap, subst, append_assoc, append-nil}
 use Rattle.std.proofs.lemmas.Bool.{eqb-true}
 use Rattle.fax_pagestore.specs.PageLaws.{PagesAreUnique, PagesAreWritten, WrittenPagesMean}
 use Rattle.fax_jobs.specs.declared.report.Report.{Report}
@@ -23,11 +23,11 @@ use Rattle.fax_line.specs.declared.asked.LineAnswer.TheVariants as answered
 use Rattle.fax_line.specs.declared.asked.LineRequest.{LineRequest}
 use Rattle.fax_line.specs.declared.asked.LineRequest.TheVariants as asked
 use Rattle.fax_line.specs.Actions.{Action, Asks, Frees, Goes, IsAsked, IsPlaced, IsRung, LineValue, Rests, TellsTurn, Turns, Wakes, leg_begun}
-use Rattle.fax_line.specs.Operations.{AllStayHeld, AskFrees, AsksLine, IsFreed, LinesWent, SlotTells, TellsInSlot, TurnsSlot, WakesLine, actions_of, slot_of}
-use Rattle.fax_line.specs.Places.{PlaceValue, StaysHeld, TellsOrRests}
-use Rattle.fax_line.specs.Runs.{AskedOf, DoneOrder, Turned, Woken, latest, next_slot}
-use Rattle.fax_line.specs.StoredRuns.{EndsIf, IsRun, IsSettled, NotesIf, TellsFirst, TellsPlace, TellsWhere, kept_if, stored_pages}
-use Rattle.fax_line.specs.Settling.{EndsTurn, EndsWhere, IsOfTurn, IsPageOf, has_page, is_stored_in, was_turned}
+use Rattle.fax_line.specs.Operations.{AllStayHeld, AskFrees, AsksLine, IsFreed, LinesWent, VisitsLines, VisitsTell, WakesLine, actions_of}
+use Rattle.fax_line.specs.Places.{Passes, PlaceValue, RestsAt, StaysHeld, TellsOrRests, TellsVisit, TurnsAt, Visit, actions_by, is_turn}
+use Rattle.fax_line.specs.Runs.{AskedOf, DoneOrder, Stored, Turned, Woken, latest, turned_in}
+use Rattle.fax_line.specs.StoredRuns.{EndUnstored, EndsIf, EndsUnstored, IsRun, IsSettled, NotesIf, TellsFirst, TellsPlace, TellsWhere, kept_if, stored_pages}
+use Rattle.fax_line.specs.Settling.{EndsTurn, EndsWhere, IsOfTurn, IsPageOf, has_page, is_stored_in, is_to_store}
 use Rattle.fax_line.specs.declared.settling.PageToStore.{PageToStore}
 use Rattle.fax_line.specs.declared.settling.SlotEnd.{SlotEnd}
 use Rattle.fax_spool.specs.RecordOctets as spool
@@ -232,21 +232,17 @@ nat_self : (n : ℕ) → nat_eq n n ≡ true
 nat_self n = grind (arith)
 
 -- no page is of a line that had no turn
-turned_so : (slot number line : ℕ) (lines : List PlaceValue) (other : PlaceValue) → line ≡ number → was_turned slot line (slice_index_or lines line other) ≡ true → was_turned slot number (slice_index_or lines number other) ≡ true
-turned_so slot number line lines other same on = subst (λ (n : ℕ). was_turned slot n (slice_index_or lines n other) ≡ true) same on
-
-none_first : (slot number : ℕ) (lines : List PlaceValue) (other : PlaceValue) (page : PageToStore) (pages : List PageToStore) → IsPageOf slot lines page → was_turned slot number (slice_index_or lines number other) ≡ false
-    → has_page pages number ≡ false → (b : Bool) → nat_eq page.line number ≡ b → (b || has_page pages number) ≡ false
-none_first slot number lines other page pages first none rest true is =
-    let on : was_turned slot number (slice_index_or lines number other) ≡ true = turned_so slot number page.line lines other (eqb-true page.line number is) (first.turned other) in
+none_first : (which : ℕ → Bool) (number : ℕ) (lines : List PlaceValue) (page : PageToStore) (pages : List PageToStore) → IsPageOf which lines page → which number ≡ false → has_page pages number ≡ false
+    → (b : Bool) → nat_eq page.line number ≡ b → (b || has_page pages number) ≡ false
+none_first which number lines page pages first none rest true is =
+    let on : which number ≡ true = subst (λ (n : ℕ). which n ≡ true) (eqb-true page.line number is) first.turned in
     let wrong : true ≡ false = sym on ∙ none in absurd (let no_way : true ≡ false = wrong in cc)
-none_first slot number lines other page pages first none rest false is = rest
+none_first which number lines page pages first none rest false is = rest
 
-none_turned : (slot number : ℕ) (lines : List PlaceValue) (other : PlaceValue) (pages : List PageToStore) → All (IsPageOf slot lines) pages → was_turned slot number (slice_index_or lines number other) ≡ false
-    → has_page pages number ≡ false
-none_turned slot number lines other [] all none = refl
-none_turned slot number lines other (page ∷ pages) all none =
-    none_first slot number lines other page pages (all zero page (omega arith)) none (none_turned slot number lines other pages (λ k d low. all (suc k) d (omega (arith, low))) none) (nat_eq page.line number) refl
+none_turned : (which : ℕ → Bool) (number : ℕ) (lines : List PlaceValue) (pages : List PageToStore) → All (IsPageOf which lines) pages → which number ≡ false → has_page pages number ≡ false
+none_turned which number lines [] all none = refl
+none_turned which number lines (page ∷ pages) all none =
+    none_first which number lines page pages (all zero page (omega arith)) none (none_turned which number lines pages (λ k d low. all (suc k) d (omega (arith, low))) none) (nat_eq page.line number) refl
 
 -- ---- of the pages that were put, those of one line
 
@@ -261,7 +257,7 @@ kept_if_none : (number : ℕ) (pages : List PageToStore) (is_stored : Bool) → 
 kept_if_none number pages true none = kept_of_none number pages none
 kept_if_none number pages false none = refl
 
--- ---- a slot's turn
+-- ---- what is told of turns
 
 -- what a store makes of its queues and its spool; and where this holds each answer is an Ok, and no page is left out
 abbrev PutsAre : {D K : Type 0} → (D → List ℕ) → (D → List ℕ → Type 0) → (D → Bool) → (K → List QueueValue) → (K → Spool D) → ℕ → Type 0 → (List PageToStore → Bool → K → K → Type 0) → Type 0
@@ -314,43 +310,43 @@ module _
       ended None is was = holds_same t q between l is was
       ended (Some r) is was = other_ended seen may_leave is_usable A number line names alone low_number t q place r (queues_of between) (queues_of l) (spool_of between) (spool_of l) unlike low (ends_are place r between l is).0 was
 
-  other_place : (t : List BookEntry) (q : List CallPage) (slot : ℕ) (pages : List PageToStore) (place : ℕ) (o : Option PlaceValue) (k l : K) → place ≢ number → ((p : PlaceValue) → o ≡ Some p → place < length names)
-      → TellsPlace Notes Ends slot pages place o k l → Holds t q k → Holds t q l
-  other_place t q slot pages place None k l unlike low is held = holds_same t q k l is held
-  other_place t q slot pages place (Some p) k l unlike low is held = by (was_turned slot place p) is
+  other_place : (t : List BookEntry) (q : List CallPage) (which : ℕ → Bool) (pages : List PageToStore) (place : ℕ) (o : Option PlaceValue) (k l : K) → place ≢ number → ((p : PlaceValue) → o ≡ Some p → place < length names)
+      → TellsPlace Notes Ends which pages place o k l → Holds t q k → Holds t q l
+  other_place t q which pages place None k l unlike low is held = holds_same t q k l is held
+  other_place t q which pages place (Some p) k l unlike low is held = by (which place) is
     where
       by : (b : Bool) → TellsWhere Notes Ends place b p.line.turned (has_page pages place) k l → Holds t q l
       by true told = other_line t q place p.line.turned.kept p.line.turned.report (has_page pages place) k told.0 l unlike (low p refl) told.1 told.2 held
       by false told = holds_same t q k l told held
 
-  module _ (slot : ℕ) (pages : List PageToStore) (lines : List PlaceValue) (as_many : length lines ≡ length names) where
+  module _ (which : ℕ → Bool) (pages : List PageToStore) (lines : List PlaceValue) (as_many : length lines ≡ length names) where
     low_so : (place : ℕ) (p : PlaceValue) → slice_get lines place ≡ Some p → place < length names
     low_so place p is = let less : place < length lines = get_low lines place p is in omega (arith, less, as_many)
 
-    -- what each line of the slot tells, up to this one and after it
-    first_before : (t : List BookEntry) (q : List CallPage) (count : ℕ) (k l : K) → count ≤ number → TellsFirst Notes Ends slot pages lines count k l → Holds t q k → Holds t q l
+    -- what each of the lines tells, up to this one and after it
+    first_before : (t : List BookEntry) (q : List CallPage) (count : ℕ) (k l : K) → count ≤ number → TellsFirst Notes Ends which pages lines count k l → Holds t q k → Holds t q l
     first_before t q zero k l low is held = holds_same t q k l is held
     first_before t q (suc count) k l low is held =
-        other_place t q slot pages count (slice_get lines count) is.0 l (λ same. omega (arith, low, same)) (λ p at. low_so count p at) is.2 (first_before t q count k is.0 (omega (arith, low)) is.1 held)
+        other_place t q which pages count (slice_get lines count) is.0 l (λ same. omega (arith, low, same)) (λ p at. low_so count p at) is.2 (first_before t q count k is.0 (omega (arith, low)) is.1 held)
 
     differs : (count : ℕ) → nat_eq count number ≡ false → count ≢ number
     differs count none same = let on : true ≡ false = sym (nat_self number) ∙ ap (λ (n : ℕ). nat_eq n number) (sym same) ∙ none in cc
 
-    after_one : (t u : List BookEntry) (q : List CallPage) (count : ℕ) (k mid l : K) → ((a b : K) → TellsPlace Notes Ends slot pages number (slice_get lines number) a b → Holds t q a → Holds u q b) → number < suc count
-        → TellsFirst Notes Ends slot pages lines count k mid → TellsPlace Notes Ends slot pages count (slice_get lines count) mid l → Holds t q k → (number < count → Holds u q mid)
+    after_one : (t u : List BookEntry) (q : List CallPage) (count : ℕ) (k mid l : K) → ((a b : K) → TellsPlace Notes Ends which pages number (slice_get lines number) a b → Holds t q a → Holds u q b) → number < suc count
+        → TellsFirst Notes Ends which pages lines count k mid → TellsPlace Notes Ends which pages count (slice_get lines count) mid l → Holds t q k → (number < count → Holds u q mid)
         → (b : Bool) → nat_eq count number ≡ b → Holds u q l
     after_one t u q count k mid l own low first last held rest true on =
         let same : count ≡ number = eqb-true count number on in
-        own mid l (subst (λ (n : ℕ). TellsPlace Notes Ends slot pages n (slice_get lines n) mid l) same last) (first_before t q count k mid (omega (arith, same)) first held)
+        own mid l (subst (λ (n : ℕ). TellsPlace Notes Ends which pages n (slice_get lines n) mid l) same last) (first_before t q count k mid (omega (arith, same)) first held)
     after_one t u q count k mid l own low first last held rest false off =
-        let differ : count ≢ number = differs count off in other_place u q slot pages count (slice_get lines count) mid l differ (λ p at. low_so count p at) last (rest (omega (arith, low, differ)))
+        let differ : count ≢ number = differs count off in other_place u q which pages count (slice_get lines count) mid l differ (λ p at. low_so count p at) last (rest (omega (arith, low, differ)))
 
-    first_after : (t u : List BookEntry) (q : List CallPage) (count : ℕ) (k l : K) → ((a b : K) → TellsPlace Notes Ends slot pages number (slice_get lines number) a b → Holds t q a → Holds u q b) → number < count
-        → TellsFirst Notes Ends slot pages lines count k l → Holds t q k → Holds u q l
+    first_after : (t u : List BookEntry) (q : List CallPage) (count : ℕ) (k l : K) → ((a b : K) → TellsPlace Notes Ends which pages number (slice_get lines number) a b → Holds t q a → Holds u q b) → number < count
+        → TellsFirst Notes Ends which pages lines count k l → Holds t q k → Holds u q l
     first_after t u q zero k l own low is held = absurd (omega (arith, low))
     first_after t u q (suc count) k l own low is held = after_one t u q count k is.0 l own low is.1 is.2 held (λ less. first_after t u q count k is.0 own less is.1 held) (nat_eq count number) refl
 
-  -- ---- the pages of a slot are put
+  -- ---- pages are put
 
   put_others : (t : List BookEntry) (q : List CallPage) (pages : List PageToStore) (is_stored : Bool) (k l : K) → PutsIf Puts pages is_stored k l → All (λ page. page.line < length (queues_of k)) pages → has_page pages number ≡ false → Holds t q k → Holds t q l
   put_others t q [] is_stored k l put low none held = holds_same t q k l put.1 held
@@ -393,9 +389,9 @@ module _
       as_so : HasPage seen may_leave is_usable A number line q [] R (queues_of k) (queues_of l) (spool_of l) → HoldsSo R q [] l
       as_so it = (it.entries, it.puts, it.right, it.are_put, record { queue = it.queue; there = it.there; named = it.named; lines = it.lines ∙ held.lines; waits = it.waits })
 
-  -- ---- the end of a slot's turn, of a line that had none
+  -- ---- what turns came to is stored: of a line that had none
 
-  module _ (slot : ℕ) (end : SlotEnd) (turned lines : List PlaceValue) (k l : K) (settled : IsSettled Same Puts Notes Ends slot end turned lines k l) (many : length turned ≡ length names) where
+  module _ (which : ℕ → Bool) (end : SlotEnd) (turned lines : List PlaceValue) (k l : K) (settled : IsSettled Same Puts Notes Ends which end turned lines k l) (many : length turned ≡ length names) where
     pages_low : (t : List BookEntry) (q : List CallPage) → Holds t q settled.begun → All (λ page. page.line < length (queues_of settled.begun)) end.pages.items
     pages_low t q held = λ i d less.
         let there : (slice_index_or end.pages.items i d).line < length turned = (settled.pages.each i d less).there in
@@ -413,24 +409,23 @@ module _
     low_count : number < settled.told.count
     low_count = let low : number < length lines = low_left in let all : length lines ≤ settled.told.count = settled.told.all in omega (arith, low, all)
 
-    ends_where : (other : PlaceValue) → EndsWhere (was_turned slot number (slice_index_or turned number other)) (is_stored_in end number) (slice_index_or turned number other) (slice_index_or lines number other)
+    ends_where : (other : PlaceValue) → EndsWhere (which number) (is_stored_in end number) (slice_index_or turned number other) (slice_index_or lines number other)
     ends_where other = settled.settled.each number other low_turned
 
     -- what a line of this number tells, by what it is
-    tells_at : (other : PlaceValue) (a b : K) → TellsPlace Notes Ends slot end.pages.items number (slice_get lines number) a b
-        → TellsWhere Notes Ends number (was_turned slot number (slice_index_or lines number other)) (slice_index_or lines number other).line.turned (has_page end.pages.items number) a b
-    tells_at other a b told = subst (λ (o : Option PlaceValue). TellsPlace Notes Ends slot end.pages.items number o a b) (get_or lines number other low_left) told
+    tells_at : (other : PlaceValue) (a b : K) → TellsPlace Notes Ends which end.pages.items number (slice_get lines number) a b
+        → TellsWhere Notes Ends number (which number) (slice_index_or lines number other).line.turned (has_page end.pages.items number) a b
+    tells_at other a b told = subst (λ (o : Option PlaceValue). TellsPlace Notes Ends which end.pages.items number o a b) (get_or lines number other low_left) told
 
-    settles_still : (other : PlaceValue) (t : List BookEntry) (q : List CallPage) → was_turned slot number (slice_index_or turned number other) ≡ false → Holds t q k → Holds t q l × (slice_index_or lines number other ≡ slice_index_or turned number other)
+    settles_still : (other : PlaceValue) (t : List BookEntry) (q : List CallPage) → which number ≡ false → Holds t q k → Holds t q l × (slice_index_or lines number other ≡ slice_index_or turned number other)
     settles_still other t q none held =
         let same : slice_index_or lines number other ≡ slice_index_or turned number other =
         subst (λ (b : Bool). EndsWhere b (is_stored_in end number) (slice_index_or turned number other) (slice_index_or lines number other)) none (ends_where other) in
         let begun : Holds t q settled.begun = holds_still t q k settled.begun settled.is_same held in
         let put : Holds t q settled.kept =
-        put_others t q end.pages.items (is_ok end.answer) settled.begun settled.kept settled.put (pages_low t q begun) (none_turned slot number turned other end.pages.items settled.pages.each none) begun in
-        let off : was_turned slot number (slice_index_or lines number other) ≡ false = ap (λ (p : PlaceValue). was_turned slot number p) same ∙ none in (
-          first_after slot end.pages.items lines many_left t t q settled.told.count settled.kept l
-              (λ a b told. holds_same t q a b (subst (λ (c : Bool). TellsWhere Notes Ends number c (slice_index_or lines number other).line.turned (has_page end.pages.items number) a b) off (tells_at other a b told)))
+        put_others t q end.pages.items (is_ok end.answer) settled.begun settled.kept settled.put (pages_low t q begun) (none_turned which number turned end.pages.items settled.pages.each none) begun in (
+          first_after which end.pages.items lines many_left t t q settled.told.count settled.kept l
+              (λ a b told. holds_same t q a b (subst (λ (c : Bool). TellsWhere Notes Ends number c (slice_index_or lines number other).line.turned (has_page end.pages.items number) a b) none (tells_at other a b told)))
               low_count settled.told.told put,
           same,
         )
@@ -439,7 +434,7 @@ module _
 
     module _
         (tell_both : TurnsTellBoth) (newest : ConfirmsTheNewest) (origins : JobsAreOfTheirCalls) (written : PagesAreWritten) (setup : Setup) (writes : Writing) (before t : List BookEntry) (other : PlaceValue)
-        (on : was_turned slot number (slice_index_or turned number other) ≡ true) (so : TurnsSo setup writes before t (slice_index_or turned number other).line) where
+        (on : which number ≡ true) (so : TurnsSo setup writes before t (slice_index_or turned number other).line) where
       abbrev own_line : LineValue
       own_line = (slice_index_or turned number other).line
 
@@ -466,7 +461,7 @@ module _
       told_page : (at : ℕ) (page : PageToStore) (value : spool.PageValue) → at < length end.pages.items → ((d : PageToStore) → slice_index_or end.pages.items at d ≡ page) → page.line ≡ number → IsRecordOf page (Page value)
           → (u : List BookEntry) × IsTold u × IsConfirmed seen may_leave is_usable t u value
       told_page at page value less is_at same recorded =
-          let of : IsPageOf slot turned page = subst (λ (p : PageToStore). IsPageOf slot turned p) (is_at page) (settled.pages.each at page less) in
+          let of : IsPageOf which turned page = subst (λ (p : PageToStore). IsPageOf which turned p) (is_at page) (settled.pages.each at page less) in
           let its : IsOfTurn own_line page = subst (λ (n : ℕ). IsOfTurn (slice_index_or turned n other).line page) same (of.is_of_turn other) in told_put page value its recorded
 
       -- a page that was not handed over
@@ -498,15 +493,12 @@ module _
       ended_so : EndsTurn (is_stored_in end number) own_line (slice_index_or lines number other).line × ((slice_index_or lines number other).turned ≡ (slice_index_or turned number other).turned)
       ended_so = subst (λ (b : Bool). EndsWhere b (is_stored_in end number) (slice_index_or turned number other) (slice_index_or lines number other)) on (ends_where other)
 
-      still_on : was_turned slot number (slice_index_or lines number other) ≡ true
-      still_on = ap (λ (b : Bool). nat_eq (slot_of number) slot && b) ended_so.1 ∙ on
-
       -- what the line tells its store
-      told_line : (a b : K) → TellsPlace Notes Ends slot end.pages.items number (slice_get lines number) a b
+      told_line : (a b : K) → TellsPlace Notes Ends which end.pages.items number (slice_get lines number) a b
           → (between : K) × NotesIf Notes number own_line.turned.kept (has_page end.pages.items number) a between × EndsIf Ends number own_line.turned.report between b
       told_line a b told =
           subst (λ (x : Told). TellsWhere Notes Ends number true x (has_page end.pages.items number) a b) ended_so.0.told
-          (subst (λ (c : Bool). TellsWhere Notes Ends number c (slice_index_or lines number other).line.turned (has_page end.pages.items number) a b) still_on (tells_at other a b told))
+          (subst (λ (c : Bool). TellsWhere Notes Ends number c (slice_index_or lines number other).line.turned (has_page end.pages.items number) a b) on (tells_at other a b told))
 
       -- after its turn all that the line told is told, and what was put with an Ok is put
       settles_turned : (q : List CallPage) → Holds t q k → (r : List CallPage) × AreStoredOf number (kept_if (is_ok end.answer) end.pages.items) r × Holds (told_in setup so.newer before) (q ++ r) l
@@ -515,9 +507,9 @@ module _
           begun : Holds t q settled.begun
           begun = holds_still t q k settled.begun settled.is_same held
 
-          after : (u : List BookEntry) (r : List CallPage) → ((a b : K) → TellsPlace Notes Ends slot end.pages.items number (slice_get lines number) a b → Holds u r a → Holds (told_in setup so.newer before) r b) → Holds u r settled.kept
+          after : (u : List BookEntry) (r : List CallPage) → ((a b : K) → TellsPlace Notes Ends which end.pages.items number (slice_get lines number) a b → Holds u r a → Holds (told_in setup so.newer before) r b) → Holds u r settled.kept
               → Holds (told_in setup so.newer before) r l
-          after u r own put = first_after slot end.pages.items lines many_left u (told_in setup so.newer before) r settled.told.count settled.kept l own low_count settled.told.told put
+          after u r own put = first_after which end.pages.items lines many_left u (told_in setup so.newer before) r settled.told.count settled.kept l own low_count settled.told.told put
 
           -- what was put is told already
           reported : (u : List BookEntry) (r : List CallPage) → IsTold u → ((a between : K) → NotesIf Notes number own_line.turned.kept (has_page end.pages.items number) a between → between ≡ a) → Holds u r settled.kept
@@ -581,15 +573,15 @@ module _
     low_in : (lines : List PlaceValue) → length lines ≡ length names → number < length lines
     low_in lines many = let low : number < length names = low_number in omega (arith, low, many)
 
-    -- nothing is done with it in this turn
-    rests_on : (q : List CallPage) (ends : List SlotEnd) (slot : ℕ) (end : SlotEnd) (t : List BookEntry) (puts p : List CallPage) (turned lines : List PlaceValue) (k l : K) → length turned ≡ length names
-        → was_turned slot number (slice_index_or turned number other) ≡ false → IsSettled Same Puts Notes Ends slot end turned lines k l → AreStoredOf number (stored_pages ends) puts
+    -- nothing is stored of it
+    rests_on : (q : List CallPage) (ends : List SlotEnd) (which : ℕ → Bool) (end : SlotEnd) (t : List BookEntry) (puts p : List CallPage) (turned lines : List PlaceValue) (k l : K) → length turned ≡ length names
+        → which number ≡ false → IsSettled Same Puts Notes Ends which end turned lines k l → AreStoredOf number (stored_pages ends) puts
         → AreStoredOf number (stored_pages ends) p → Reaches setup writes before t p (slice_index_or turned number other).line → Holds t (q ++ puts) k → Stands q (end ∷ ends) lines l
-    rests_on q ends slot end t puts p turned lines k l many off settled are on reach held =
+    rests_on q ends which end t puts p turned lines k l many off settled are on reach held =
         let none : AreStoredOf number (kept_if (is_ok end.answer) end.pages.items) [] =
-        kept_if_none number end.pages.items (is_ok end.answer) (none_turned slot number turned other end.pages.items settled.pages.each off) in
-        let still = settles_still slot end turned lines k l settled many other t (q ++ puts) off held in record {
-          many = many_left slot end turned lines k l settled many;
+        kept_if_none number end.pages.items (is_ok end.answer) (none_turned which number turned end.pages.items settled.pages.each off) in
+        let still = settles_still which end turned lines k l settled many other t (q ++ puts) off held in record {
+          many = many_left which end turned lines k l settled many;
           entries = t;
           puts = puts ++ [];
           are_put = kept_both number (stored_pages ends) (kept_if (is_ok end.answer) end.pages.items) puts [] are none;
@@ -600,18 +592,18 @@ module _
           held = subst (λ (p : List CallPage). Holds t (q ++ p) l) (sym (append-nil puts)) still.0;
         }
 
-    turns_on : (q : List CallPage) (ends : List SlotEnd) (slot now : ℕ) (end : SlotEnd) (t : List BookEntry) (puts p : List CallPage) (mid turned lines : List PlaceValue) (k l : K) → length turned ≡ length names
-        → was_turned slot number (slice_index_or turned number other) ≡ true → TellsTurn now (slice_index_or mid number other).line (slice_index_or turned number other).line
-        → IsSettled Same Puts Notes Ends slot end turned lines k l → AreStoredOf number (stored_pages ends) puts → AreStoredOf number (stored_pages ends) p → Reaches setup writes before t p (slice_index_or mid number other).line → Holds t (q ++ puts) k
+    turns_on : (q : List CallPage) (ends : List SlotEnd) (which : ℕ → Bool) (now : ℕ) (end : SlotEnd) (t : List BookEntry) (puts p : List CallPage) (mid turned lines : List PlaceValue) (k l : K) → length turned ≡ length names
+        → which number ≡ true → TellsTurn now (slice_index_or mid number other).line (slice_index_or turned number other).line
+        → IsSettled Same Puts Notes Ends which end turned lines k l → AreStoredOf number (stored_pages ends) puts → AreStoredOf number (stored_pages ends) p → Reaches setup writes before t p (slice_index_or mid number other).line → Holds t (q ++ puts) k
         → Stands q (end ∷ ends) lines l
-    turns_on q ends slot now end t puts p mid turned lines k l many on tells settled are on_leg reach held =
+    turns_on q ends which now end t puts p mid turned lines k l many on tells settled are on_leg reach held =
         let its = goes_turned setup writes before t p now (slice_index_or mid number other).line (slice_index_or turned number other).line writing tells reach in
         let so : TurnsSo setup writes before t (slice_index_or turned number other).line = its.so in
-        let ended = ended_so slot end turned lines k l settled many tell_both newest origins written setup writes before t other on so in
-        let left = settles_turned slot end turned lines k l settled many tell_both newest origins written setup writes before t other on so (q ++ puts) held in
-        let leg = leg_ended setup so.older so.newer (handed_by so.ends.log) slot number end turned other (slice_index_or mid number other).line.holding (slice_index_or lines number other).line p
+        let ended = ended_so which end turned lines k l settled many tell_both newest origins written setup writes before t other on so in
+        let left = settles_turned which end turned lines k l settled many tell_both newest origins written setup writes before t other on so (q ++ puts) held in
+        let leg = leg_ended setup so.older so.newer (handed_by so.ends.log) which number end.pages.items (is_ok end.answer) turned other (slice_index_or mid number other).line.holding (slice_index_or lines number other).line p
         (action_of_turn newest origins mean setup writes so.older so.newer (slice_index_or turned number other).line so.ends) settled.pages.each settled.pages.in_order ended.0 its.holds its.leg in record {
-          many = many_left slot end turned lines k l settled many;
+          many = many_left which end turned lines k l settled many;
           entries = told_in setup so.newer before;
           puts = puts ++ left.0;
           are_put = kept_both number (stored_pages ends) (kept_if (is_ok end.answer) end.pages.items) puts left.0 are left.1;
@@ -621,9 +613,10 @@ module _
           held = subst (λ (p : List CallPage). Holds (told_in setup so.newer before) p l) (append_assoc q puts left.0) left.2;
         }
 
-    turn_on : (q : List CallPage) (ends : List SlotEnd) (slot now : ℕ) (rests : ℕ → Bool) (end : SlotEnd) (mid turned lines : List PlaceValue) (k l : K) → LinesWent (TurnsSlot slot now rests ∷ []) mid turned → SlotTells slot now rests mid turned
-        → IsSettled Same Puts Notes Ends slot end turned lines k l → Stands q ends mid k → Stands q (end ∷ ends) lines l
-    turn_on q ends slot now rests end mid turned lines k l went tells settled was = by (nat_eq (slot_of number) slot) refl (rests number) refl
+    -- a line has its turn, or none, by visits of which what they came to was stored
+    stored_on : (q : List CallPage) (ends : List SlotEnd) (visits : ℕ → Visit) (end : SlotEnd) (mid turned lines : List PlaceValue) (k l : K) → LinesWent (VisitsLines visits ∷ []) mid turned → VisitsTell visits mid turned
+        → IsSettled Same Puts Notes Ends (turned_in visits) end turned lines k l → Stands q ends mid k → Stands q (end ∷ ends) lines l
+    stored_on q ends visits end mid turned lines k l went tells settled was = by (visits number) refl
       where
         old : PlaceValue
         old = slice_index_or mid number other
@@ -637,31 +630,124 @@ module _
         many : length turned ≡ length names
         many = went.as_many ∙ was.many
 
-        goes : Goes (actions_of number (TurnsSlot slot now rests ∷ [])) old.line new.line
+        goes : Goes (actions_by (visits number) ++ []) old.line new.line
         goes = (went.each number other low).goes
 
-        told : TellsInSlot (nat_eq (slot_of number) slot) now (rests number) old new
+        told : TellsVisit (visits number) old new
         told = tells.each number other low
 
-        told_so : (b r : Bool) → nat_eq (slot_of number) slot ≡ b → rests number ≡ r → TellsInSlot b now r old new
-        told_so b r is rest = subst (λ (c : Bool). TellsInSlot c now r old new) is (subst (λ (c : Bool). TellsInSlot (nat_eq (slot_of number) slot) now c old new) rest told)
-
-        by : (b : Bool) → nat_eq (slot_of number) slot ≡ b → (r : Bool) → rests number ≡ r → Stands q (end ∷ ends) lines l
-        by false is r rest =
-            let stays : StaysHeld old new = told_so false r is rest in
-            let quiet : Goes [] old.line new.line = subst (λ (c : Bool). Goes (if c then (if rests number then Rests now else Turns now) ∷ [] else []) old.line new.line) is goes in
-            rests_on q ends slot end was.entries was.puts was.on_leg turned lines k l many (ap (λ (c : Bool). c && new.turned) is) settled was.are_put was.are_on_leg
+        by : (v : Visit) → visits number ≡ v → Stands q (end ∷ ends) lines l
+        by Passes is =
+            let stays : StaysHeld old new = subst (λ (v : Visit). TellsVisit v old new) is told in
+            let quiet : Goes [] old.line new.line = subst (λ (v : Visit). Goes (actions_by v ++ []) old.line new.line) is goes in
+            rests_on q ends (turned_in visits) end was.entries was.puts was.on_leg turned lines k l many (ap is_turn is) settled was.are_put was.are_on_leg
             (goes_still setup writes before was.entries was.on_leg old.line new.line writing quiet stays.0 was.reaches) was.held
-        by true is true rest =
-            let quiet : Goes (Rests now ∷ []) old.line new.line =
-            subst (λ (r : Bool). Goes ((if r then Rests now else Turns now) ∷ []) old.line new.line) rest
-            (subst (λ (c : Bool). Goes (if c then (if rests number then Rests now else Turns now) ∷ [] else []) old.line new.line) is goes) in
-            let none : TellsOrRests now true old new = told_so true true is rest in
-            rests_on q ends slot end was.entries was.puts was.on_leg turned lines k l many (ap (λ (c : Bool). c && new.turned) is ∙ none.0) settled was.are_put was.are_on_leg
+        by (RestsAt now) is =
+            let quiet : Goes (Rests now ∷ []) old.line new.line = subst (λ (v : Visit). Goes (actions_by v ++ []) old.line new.line) is goes in
+            let none : TellsOrRests now true old new = subst (λ (v : Visit). TellsVisit v old new) is told in
+            rests_on q ends (turned_in visits) end was.entries was.puts was.on_leg turned lines k l many (ap is_turn is) settled was.are_put was.are_on_leg
             (goes_with setup writes before was.entries was.on_leg old.line new.line (Rests now) tt writing quiet none.1.0 was.reaches) was.held
-        by true is false rest =
-            let turns : TellsOrRests now false old new = told_so true false is rest in
-            turns_on q ends slot now end was.entries was.puts was.on_leg mid turned lines k l many (ap (λ (c : Bool). c && new.turned) is ∙ turns.0) turns.1 settled was.are_put was.are_on_leg was.reaches was.held
+        by (TurnsAt now) is =
+            let turns : TellsOrRests now false old new = subst (λ (v : Visit). TellsVisit v old new) is told in
+            turns_on q ends (turned_in visits) now end was.entries was.puts was.on_leg mid turned lines k l many (ap is_turn is) turns.1 settled was.are_put was.are_on_leg was.reaches was.held
+
+    -- nothing is to be stored of its turn
+    none_kept : (told : Told) → is_to_store told ≡ false → told.kept ≡ None
+    none_kept told none = by told.kept refl
+      where
+        by : (o : Option Kept) → told.kept ≡ o → told.kept ≡ None
+        by None is = is
+        by (Some kept) is = let no : (is_some (Some kept) || is_some told.report) ≡ false = subst (λ (o : Option Kept). (is_some o || is_some told.report) ≡ false) is none in absurd (cc)
+
+    none_reported : (told : Told) → is_to_store told ≡ false → told.report ≡ None
+    none_reported told none = by told.report refl told.kept none
+      where
+        by : (o : Option Report) → told.report ≡ o → (p : Option Kept) → (is_some p || is_some told.report) ≡ false → told.report ≡ None
+        by None is p off = is
+        by (Some report) is None off = let no : (is_some (Some report)) ≡ false = subst (λ (o : Option Report). is_some o ≡ false) is off in absurd (cc)
+        by (Some report) is (Some kept) off = absurd (cc)
+
+    -- and its turn ends
+    ends_on : (q : List CallPage) (ends : List SlotEnd) (now : ℕ) (mid turned lines : List PlaceValue) (k : K) → TellsTurn now (slice_index_or mid number other).line (slice_index_or turned number other).line
+        → is_to_store (slice_index_or turned number other).line.turned ≡ false → EndsTurn false (slice_index_or turned number other).line (slice_index_or lines number other).line → length lines ≡ length names → Stands q ends mid k
+        → Stands q ends lines k
+    ends_on q ends now mid turned lines k tells none ended many was =
+        let line : LineValue = (slice_index_or turned number other).line in
+        let its = goes_turned setup writes before was.entries was.on_leg now (slice_index_or mid number other).line line writing tells was.reaches in
+        let so : TurnsSo setup writes before was.entries line = its.so in
+        let both : TellsBoth setup so.older so.newer line = tell_both setup writes so.older so.newer line so.ends in
+        let told : told_in setup so.newer before ≡ was.entries =
+        both.none (none_kept line.turned none) before ∙ ap (λ (r : Option Report). reports r (told_in setup so.older before)) (none_reported line.turned none) ∙ so.was in
+        let leg = leg_ended setup so.older so.newer (handed_by so.ends.log) (λ n. false) number [] false turned other (slice_index_or mid number other).line.holding (slice_index_or lines number other).line was.on_leg
+        (action_of_turn newest origins mean setup writes so.older so.newer line so.ends) (λ i d low. absurd (omega (arith, low))) (λ i j d low below. absurd (omega (arith, low, below))) ended its.holds its.leg in
+        let nothing : leg.more ≡ [] = leg.are_put in record {
+          many = many;
+          entries = told_in setup so.newer before;
+          puts = was.puts;
+          are_put = was.are_put;
+          on_leg = was.on_leg;
+          are_on_leg = was.are_on_leg;
+          reaches = turn_ended setup writes before was.entries was.on_leg line (slice_index_or lines number other).line so ended.gateway ended.driver
+              (subst (λ (p : List CallPage). Leg setup so.newer (slice_index_or lines number other).line.holding p) (ap (λ (l : List CallPage). was.on_leg ++ l) nothing ∙ append-nil was.on_leg) leg.leg);
+          held = subst (λ (t : List BookEntry). Holds t (q ++ was.puts) k) (sym told) was.held;
+        }
+
+    -- a turn of a slot, of which nothing is to be stored
+    turn_on : (q : List CallPage) (ends : List SlotEnd) (visits : ℕ → Visit) (mid turned lines : List PlaceValue) (k : K) → LinesWent (VisitsLines visits ∷ []) mid turned → VisitsTell visits mid turned
+        → EndUnstored (turned_in visits) turned lines → Stands q ends mid k → Stands q ends lines k
+    turn_on q ends visits mid turned lines k went tells unstored was = by (visits number) refl
+      where
+        old : PlaceValue
+        old = slice_index_or mid number other
+
+        new : PlaceValue
+        new = slice_index_or turned number other
+
+        left : PlaceValue
+        left = slice_index_or lines number other
+
+        low : number < length mid
+        low = low_in mid was.many
+
+        low_turned : number < length turned
+        low_turned = let many : length turned ≡ length mid = went.as_many in let less : number < length mid = low in omega (arith, many, less)
+
+        many : length lines ≡ length names
+        many = unstored.as_many ∙ went.as_many ∙ was.many
+
+        goes : Goes (actions_by (visits number) ++ []) old.line new.line
+        goes = (went.each number other low).goes
+
+        told : TellsVisit (visits number) old new
+        told = tells.each number other low
+
+        ended : EndsUnstored (is_turn (visits number)) new left
+        ended = unstored.each number other low_turned
+
+        still : left ≡ new → Reaches setup writes before was.entries was.on_leg new.line → Stands q ends lines k
+        still same reaches = record {
+          many = many;
+          entries = was.entries;
+          puts = was.puts;
+          are_put = was.are_put;
+          on_leg = was.on_leg;
+          are_on_leg = was.are_on_leg;
+          reaches = subst (λ (p : PlaceValue). Reaches setup writes before was.entries was.on_leg p.line) (sym same) reaches;
+          held = was.held;
+        }
+
+        by : (v : Visit) → visits number ≡ v → Stands q ends lines k
+        by Passes is =
+            let stays : StaysHeld old new = subst (λ (v : Visit). TellsVisit v old new) is told in
+            let quiet : Goes [] old.line new.line = subst (λ (v : Visit). Goes (actions_by v ++ []) old.line new.line) is goes in
+            still (subst (λ (v : Visit). EndsUnstored (is_turn v) new left) is ended) (goes_still setup writes before was.entries was.on_leg old.line new.line writing quiet stays.0 was.reaches)
+        by (RestsAt now) is =
+            let quiet : Goes (Rests now ∷ []) old.line new.line = subst (λ (v : Visit). Goes (actions_by v ++ []) old.line new.line) is goes in
+            let none : TellsOrRests now true old new = subst (λ (v : Visit). TellsVisit v old new) is told in
+            still (subst (λ (v : Visit). EndsUnstored (is_turn v) new left) is ended) (goes_with setup writes before was.entries was.on_leg old.line new.line (Rests now) tt writing quiet none.1.0 was.reaches)
+        by (TurnsAt now) is =
+            let turns : TellsOrRests now false old new = subst (λ (v : Visit). TellsVisit v old new) is told in
+            let its : EndsUnstored true new left = subst (λ (v : Visit). EndsUnstored (is_turn v) new left) is ended in ends_on q ends now mid turned lines k turns.1 its.0 its.1.0 many was
 
     ask_on : (q : List CallPage) (ends : List SlotEnd) (of now : ℕ) (what : LineRequest) (answer : Option LineAnswer) (mid lines : List PlaceValue) (k : K) → LinesWent (AsksLine of now what answer ∷ []) mid lines → AskFrees of what answer mid lines → Stands q ends mid k
         → Stands q ends lines k
@@ -706,15 +792,15 @@ module _
         by true is = goes_with setup writes before was.entries was.on_leg old.line new.line Wakes tt writing (subst (λ (c : Bool). Goes (if c then Wakes ∷ [] else []) old.line new.line) is goes) held.0 was.reaches
         by false is = goes_still setup writes before was.entries was.on_leg old.line new.line writing (subst (λ (c : Bool). Goes (if c then Wakes ∷ [] else []) old.line new.line) is goes) held.0 was.reaches
 
-    run_on : (q : List CallPage) (first : ℕ) (done : List DoneOrder) (settled : List SlotEnd) (begun left : List PlaceValue) (k l : K) → IsRun Same Puts Notes Ends first done settled begun left k l → Stands q [] begun k → Stands q settled left l
-    run_on q first [] [] begun left k l ran was = subst (λ (m : K). Stands q [] left m) (sym ran.1) (subst (λ (p : List PlaceValue). Stands q [] p k) (sym ran.0) was)
-    run_on q first [] (end ∷ settled) begun left k l ran was = absurd ran
-    run_on q first (Turned now rests ∷ done) [] begun left k l ran was = absurd ran
-    run_on q first (Turned now rests ∷ done) (end ∷ settled) begun left k l ran was =
-        turn_on q settled (next_slot first done) (max (latest done) now) rests end ran.0 ran.1 left ran.2 l ran.4 ran.5 ran.6 (run_on q first done settled begun ran.0 k ran.2 ran.3 was)
-    run_on q first (AskedOf line now what answer ∷ done) settled begun left k l ran was =
-        ask_on q settled line (max (latest done) now) what answer ran.0 left l ran.2 ran.3 (run_on q first done settled begun ran.0 k l ran.1 was)
-    run_on q first (Woken woken ∷ done) settled begun left k l ran was = wake_on q settled woken ran.0 left l ran.2 ran.3 (run_on q first done settled begun ran.0 k l ran.1 was)
+    run_on : (q : List CallPage) (done : List DoneOrder) (settled : List SlotEnd) (begun left : List PlaceValue) (k l : K) → IsRun Same Puts Notes Ends done settled begun left k l → Stands q [] begun k → Stands q settled left l
+    run_on q [] [] begun left k l ran was = subst (λ (m : K). Stands q [] left m) (sym ran.1) (subst (λ (p : List PlaceValue). Stands q [] p k) (sym ran.0) was)
+    run_on q [] (end ∷ settled) begun left k l ran was = absurd ran
+    run_on q (Turned now visits ∷ done) settled begun left k l ran was = turn_on q settled visits ran.0 ran.1 left l ran.3 ran.4 ran.5 (run_on q done settled begun ran.0 k l ran.2 was)
+    run_on q (Stored visits ∷ done) [] begun left k l ran was = absurd ran
+    run_on q (Stored visits ∷ done) (end ∷ settled) begun left k l ran was = stored_on q settled visits end ran.0 ran.1 left ran.2 l ran.4 ran.5 ran.6 (run_on q done settled begun ran.0 k ran.2 ran.3 was)
+    run_on q (AskedOf line now what answer ∷ done) settled begun left k l ran was =
+        ask_on q settled line (max (latest done) now) what answer ran.0 left l ran.2 ran.3 (run_on q done settled begun ran.0 k l ran.1 was)
+    run_on q (Woken woken ∷ done) settled begun left k l ran was = wake_on q settled woken ran.0 left l ran.2 ran.3 (run_on q done settled begun ran.0 k l ran.1 was)
 
 -- ---- a run makes history
 
@@ -747,11 +833,11 @@ module _ {D K : Type 0} (seen : D → List ℕ) (may_leave : D → List ℕ → 
 
   leaves_as : (A : Type 0) (number : ℕ) (Puts : List PageToStore → Bool → K → K → Type 0) (Notes : ℕ → ℕ → K → K → Type 0) (Ends : ℕ → Report → K → K → Type 0) → PutsAre seen may_leave is_usable queues_of spool_of number A Puts
       → NotesAre queues_of spool_of number A Notes → EndsAre seen may_leave is_usable queues_of spool_of number A Ends → TurnsTellBoth → ConfirmsTheNewest → JobsAreOfTheirCalls → PagesAreWritten → WrittenPagesMean → PagesAreUnique → OwedIsRestored
-      → (writes : Writing) (line : List ℕ) (pages : List spool.PageValue) (lives : List Life) (puts : List CallPage) (setup : Setup) (first : ℕ) (done : List DoneOrder) (settled : List SlotEnd) (begun left : List PlaceValue) (k l : K)
+      → (writes : Writing) (line : List ℕ) (pages : List spool.PageValue) (lives : List Life) (puts : List CallPage) (setup : Setup) (done : List DoneOrder) (settled : List SlotEnd) (begun left : List PlaceValue) (k l : K)
       → IsWriting writes → (past : HasPast writes line lives puts pages) → (A → AllIsPut past.actions) → BeginsRun seen may_leave is_usable number line pages setup begun (queues_of k) (spool_of k)
-      → IsRun (λ (old new : K). IsUnchanged (queues_of old) (queues_of new) (spool_of old) (spool_of new)) Puts Notes Ends first done settled begun left k l
+      → IsRun (λ (old new : K). IsUnchanged (queues_of old) (queues_of new) (spool_of old) (spool_of new)) Puts Notes Ends done settled begun left k l
       → LeavesAs A writes number line lives puts setup settled left (spool_of l)
-  leaves_as A number Puts Notes Ends puts_are notes_are ends_are tell_both newest origins written mean unique owed_is writes line pages lives puts setup first done settled begun left k l writing past all begins ran =
+  leaves_as A number Puts Notes Ends puts_are notes_are ends_are tell_both newest origins written mean unique owed_is writes line pages lives puts setup done settled begun left k l writing past all begins ran =
       let names : List (List ℕ) = lines_of (queues_of k) in
       let alone : AreOtherNames number line names = same_names number line (queues_of k) begins.alone in
       let named : begins.restored.queue.line ≡ line = begins.restores.are.named in
@@ -793,7 +879,7 @@ module _ {D K : Type 0} (seen : D → List ℕ) (may_leave : D → List ℕ → 
         told = refl;
         leg = leg_fresh setup (slice_index_or begun number begins.place).line.holding (subst (λ (p : PlaceValue). HasDoneOn [] p.line.holding) (sym place_is) begins.fresh);
       } in
-      let stands = run_on seen may_leave is_usable queues_of spool_of number line names alone low A Puts Notes Ends puts_are notes_are ends_are tell_both newest origins written mean setup writes before writing begins.place puts first done settled begun left k l ran
+      let stands = run_on seen may_leave is_usable queues_of spool_of number line names alone low A Puts Notes Ends puts_are notes_are ends_are tell_both newest origins written mean setup writes before writing begins.place puts done settled begun left k l ran
       (record { many = sym begins.as_many ∙ sym many_names; entries = first_told; puts = []; are_put = refl; on_leg = []; are_on_leg = refl; reaches = reaches; held = held }) in
       let once : stands.on_leg ≡ stands.puts = kept_once unique number (stored_pages settled) stands.on_leg stands.puts stands.are_on_leg stands.are_put in
       let life : Life = record { setup = setup; trace = stands.reaches.trace } in
@@ -839,19 +925,19 @@ module _ {D K : Type 0} (seen : D → List ℕ) (may_leave : D → List ℕ → 
       low_left number names lines many low = omega (arith, many, low)
 
   pub runs_make_history : TurnsTellBoth → ConfirmsTheNewest → JobsAreOfTheirCalls → PagesAreWritten → WrittenPagesMean → PagesAreUnique → OwedIsRestored → RunsMakeHistory seen may_leave is_usable queues_of spool_of
-  runs_make_history tell_both newest origins written mean unique owed_is writes number line pages lives puts setup first done settled begun left k l writing past begins ran =
+  runs_make_history tell_both newest origins written mean unique owed_is writes number line pages lives puts setup done settled begun left k l writing past begins ran =
       let it =
       leaves_as ⊥ number (λ (pages : List PageToStore) (is_stored : Bool) (old new : K). PutsPages seen may_leave is_usable pages is_stored (queues_of old) (queues_of new) (spool_of old) (spool_of new))
       (λ (place call : ℕ) (old new : K). NotesPage place call (queues_of old) (queues_of new) (spool_of old) (spool_of new))
       (λ (place : ℕ) (report : Report) (old new : K). EndsJobIf seen may_leave is_usable place report (queues_of old) (queues_of new) (spool_of old) (spool_of new)) (λ p b o n is. (is, λ no. absurd no)) (λ p c o n is. (is, λ no. absurd no))
-      (λ p r o n is. (is, λ no. absurd no)) tell_both newest origins written mean unique owed_is writes line pages lives puts setup first done settled begun left k l writing past (λ no. absurd no) begins ran in it.leaves
+      (λ p r o n is. (is, λ no. absurd no)) tell_both newest origins written mean unique owed_is writes line pages lives puts setup done settled begun left k l writing past (λ no. absurd no) begins ran in it.leaves
 
   pub runs_note_all : TurnsTellBoth → ConfirmsTheNewest → JobsAreOfTheirCalls → PagesAreWritten → WrittenPagesMean → PagesAreUnique → OwedIsRestored → RunsNoteAll seen may_leave is_usable queues_of spool_of
-  runs_note_all tell_both newest origins written mean unique owed_is writes number line pages lives puts setup first done settled begun left k l writing past begins ran =
+  runs_note_all tell_both newest origins written mean unique owed_is writes number line pages lives puts setup done settled begun left k l writing past begins ran =
       let it =
       leaves_as (Unit {0}) number (λ (pages : List PageToStore) (is_stored : Bool) (old new : K). PutsWithOk seen may_leave is_usable number pages is_stored (queues_of old) (queues_of new) (spool_of old) (spool_of new)) (λ (place call : ℕ) (old new : K). NotesOther number place call (queues_of old) (queues_of new) (spool_of old) (spool_of new))
       (λ (place : ℕ) (report : Report) (old new : K). EndsNoted seen may_leave is_usable number place report (queues_of old) (queues_of new) (spool_of old) (spool_of new)) (λ p b o n is. (is.1, λ a. is.0)) (λ p c o n is. (is.1, λ a. is.0))
-      (λ p r o n is. (is.0, λ a. is.1)) tell_both newest origins written mean unique owed_is writes line pages lives puts setup first done settled begun left k l writing past.past (λ a. past.all) begins ran in record {
+      (λ p r o n is. (is.0, λ a. is.1)) tell_both newest origins written mean unique owed_is writes line pages lives puts setup done settled begun left k l writing past.past (λ a. past.all) begins ran in record {
         leaves = it.leaves;
         whole = wait_map seen may_leave is_usable (spool_of l) (PastIf (Unit {0}) writes line (record { setup = setup; trace = it.leaves.trace } ∷ lives) (puts ++ it.leaves.kept))
             (HasWholePast writes line (record { setup = setup; trace = it.leaves.trace } ∷ lives) (puts ++ it.leaves.kept)) (λ told p. record { past = p.past; all = p.all tt }) it.whole;

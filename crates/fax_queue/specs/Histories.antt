@@ -115,7 +115,7 @@ pub record LeavesRun {D : Type 0} (seen : D → List ℕ)
 -- a run whose pages are stored in a spool, by what has these queues and this spool
 abbrev pub RanOnDisk : {D K : Type 0}
     → (D → List ℕ) → (D → List ℕ → Type 0) → (D → Bool) → (K → List QueueValue) → (K → Spool D)
-    → ℕ → List DoneOrder → List SlotEnd → List PlaceValue → List PlaceValue → K → K → Type 0
+    → List DoneOrder → List SlotEnd → List PlaceValue → List PlaceValue → K → K → Type 0
 RanOnDisk {D} {K} seen may_leave is_usable queues_of spool_of = IsRun
     (λ (old new : K). IsUnchanged (queues_of old) (queues_of new) (spool_of old) (spool_of new))
     (λ (pages : List PageToStore) (is_stored : Bool) (old new : K).
@@ -131,10 +131,10 @@ abbrev pub RunsMakeHistory : {D K : Type 0} → (D → List ℕ)
     → (D → List ℕ → Type 0) → (D → Bool) → (K → List QueueValue) → (K → Spool D) → Type 0
 RunsMakeHistory {D} {K} seen may_leave is_usable queues_of spool_of =
     (writes : Writing) (number : ℕ) (line : List ℕ) (pages : List spool.PageValue)
-    (lives : List Life) (puts : List CallPage) (setup : Setup) (first : ℕ) (done : List DoneOrder)
+    (lives : List Life) (puts : List CallPage) (setup : Setup) (done : List DoneOrder)
     (settled : List SlotEnd) (begun left : List PlaceValue) (before after : K)
     → IsWriting writes → HasPast writes line lives puts pages
     → BeginsRun seen may_leave is_usable number line pages setup begun (queues_of before)
     (spool_of before) → RanOnDisk seen may_leave
-    is_usable queues_of spool_of first done settled begun left before after → LeavesRun seen
+    is_usable queues_of spool_of done settled begun left before after → LeavesRun seen
     may_leave is_usable writes number line lives puts setup settled left (spool_of after)

@@ -246,7 +246,7 @@ abbrev pub EachIsQueued : List PageToStore
     → List spool.PageValue → List QueueValue → List QueueValue → Type 0
 EachIsQueued pages values olds news = EachIsPlaced true pages values olds news
 
--- Pages of lines one each, as a slot's turn hands them over (`ArePagesOf`): each is put as if it were alone, and no other queue changes.
+-- Pages of lines one each, as they are handed over (`ArePagesOf`): each is put as if it were alone, and no other queue changes.
 abbrev pub SlotsArePuts : Type 0
 SlotsArePuts =
     (pages : List PageToStore) (values : List spool.PageValue) (olds news : List QueueValue)

@@ -47,7 +47,7 @@ EndsNoted seen may_leave is_usable number line report olds news before after =
 -- A RUN IN WHICH ALL PUTS OF A LINE'S PAGES AND ALL ENDS OF ITS JOBS ANSWERED OK, whatever became of other lines.
 abbrev pub RanWithOks : {D K : Type 0} → (D → List ℕ)
     → (D → List ℕ → Type 0) → (D → Bool) → (K → List QueueValue) → (K → Spool D) → (number : ℕ)
-    → ℕ → List DoneOrder → List SlotEnd → List PlaceValue → List PlaceValue → K → K → Type 0
+    → List DoneOrder → List SlotEnd → List PlaceValue → List PlaceValue → K → K → Type 0
 RanWithOks {D} {K} seen may_leave is_usable queues_of spool_of number = IsRun
     (λ (old new : K). IsUnchanged (queues_of old) (queues_of new) (spool_of old) (spool_of new))
     (λ (pages : List PageToStore) (is_stored : Bool) (old new : K).
@@ -82,12 +82,12 @@ abbrev pub RunsNoteAll : {D K : Type 0} → (D → List ℕ)
     → (D → List ℕ → Type 0) → (D → Bool) → (K → List QueueValue) → (K → Spool D) → Type 0
 RunsNoteAll {D} {K} seen may_leave is_usable queues_of spool_of =
     (writes : Writing) (number : ℕ) (line : List ℕ) (pages : List spool.PageValue)
-    (lives : List Life) (puts : List CallPage) (setup : Setup) (first : ℕ) (done : List DoneOrder)
+    (lives : List Life) (puts : List CallPage) (setup : Setup) (done : List DoneOrder)
     (settled : List SlotEnd) (begun left : List PlaceValue) (before after : K)
     → IsWriting writes → HasWholePast writes line lives puts pages
     → BeginsRun seen may_leave is_usable number line pages setup begun (queues_of before)
     (spool_of before) → RanWithOks seen may_leave is_usable
-    queues_of spool_of number first done settled begun left before after → LeavesWhole seen
+    queues_of spool_of number done settled begun left before after → LeavesWhole seen
     may_leave is_usable writes number line lives puts setup settled left (spool_of after)
 
 -- The pages of the calls that a life begins with are those that the gateway's book had left; and in front of them those of the jobs that

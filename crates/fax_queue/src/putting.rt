@@ -1,4 +1,4 @@
-//! The pages that the lines of a slot confirmed are put on the disk, all of them at once.
+//! The pages that lines confirmed are put on the disk, all of them at once.
 ghost use Rattle.std.specs.Prelude.{◌≡◌, ◌⊎◌, Some, IfOk, IfSome, IsErr, OnOk, OnErr, slice_get};
 ghost use Rattle.fax_spool.specs.Calls.{Refuses};
 ghost use Rattle.fax_queue.specs.Storing.{AreRecordsUnder, IsRecordUnder, PutsRecords};

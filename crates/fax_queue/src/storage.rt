@@ -146,8 +146,8 @@ impl<D: Disk> Storage<D> {
         }
     }
 
-    /// The pages of another turn of a slot are stored next.
-    pub fn begin_slot(&mut self)
+    /// Pages of lines are stored next, all of them at once.
+    pub fn begin_put(&mut self)
         ensures spool { self.new.spool ≡ self.old.spool }
         ensures life { self.new.life ≡ self.old.life }
         ensures queues { self.new.queues.items ≡ self.old.queues.items }

@@ -22,13 +22,13 @@ impl<D: Disk + Drop> Drop for SpoolStore<D> {
 }
 
 impl<D: Disk> SpoolStore<D> {
-    /// The pages of another turn of a slot are put next.
-    pub fn begin_slot(&mut self)
+    /// Pages of lines are put next, all of them at once.
+    pub fn begin_put(&mut self)
         ensures tags { self.new.storage.tags.items ≡ [] }
         ensures unchanged { IsUnchanged self.old.storage.queues.items
             self.new.storage.queues.items self.old.storage.spool self.new.storage.spool }
     {
-        self.storage.begin_slot();
+        self.storage.begin_put();
     }
 
     /// One of them came in a call of line i that has this tag.

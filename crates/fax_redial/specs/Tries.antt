@@ -6,9 +6,9 @@ use Rattle.fax_gateway.specs.declared.turn_report.TurnReport.{TurnReport}
 use Rattle.fax_jobs.specs.Books.{Book}
 use Rattle.fax_jobs.specs.declared.report.Report.{Report}
 use Rattle.fax_line.specs.Actions.{BeginsWith, LineValue}
-use Rattle.fax_line.specs.Operations.{LinesValue, LinesWent}
-use Rattle.fax_line.specs.Places.{PlaceValue}
-use Rattle.fax_line.specs.Runs.{AskedOf, DoneOrder, Turned, Woken, latest, next_slot, operations_of}
+use Rattle.fax_line.specs.Operations.{AreFree, LinesValue, LinesWent}
+use Rattle.fax_line.specs.Places.{PlaceValue, Visit}
+use Rattle.fax_line.specs.Runs.{AreServed, AskedOf, DoneOrder, Turned, Woken, latest, next_slot, none_waits, operations_of}
 use Rattle.fax_line.specs.StoredRuns.{RanWithout}
 use Rattle.fax_line.specs.declared.asked.LineAnswer.{LineAnswer}
 use Rattle.fax_line.specs.declared.asked.LineRequest.{LineRequest}
@@ -27,13 +27,16 @@ pub record TryValue : Type 0 where
   pub total : TryTotal
 
 -- WHAT A TRY SENDS. Its line began with these calls, no event had come to it, and by itself it went through this since, and through nothing
--- else; what its turns gave went out at once. So each law of a line that is restored holds of it, and of a run without a store.
+-- else; it had its turn in each one of its slot, and what that gave went out at once: it waits for nothing. So each law of a line that is
+-- restored holds of it, and of a run without a store.
 pub record IsTried (calls : List RestoredCall) (done : List DoneOrder) (held : TryValue) :
     Type 0 where
   pub place : PlaceValue
   pub begins : BeginsWith calls place.line
-  pub went : LinesWent (operations_of 0 done) (place ∷ []) held.lines.lines
-  pub ran : RanWithout 0 done (place ∷ []) held.lines.lines
+  pub went : LinesWent (operations_of done) (place ∷ []) held.lines.lines
+  pub ran : RanWithout done (place ∷ []) held.lines.lines
+  pub served : AreServed 0 done none_waits
+  pub free : AreFree held.lines.lines
   pub slot : held.lines.slot ≡ next_slot 0 done
   pub moment : held.moment ≡ latest done
 
@@ -70,8 +73,8 @@ report_of (Some turned) = turned.report
 -- Where a job is reported in it, that counts, with the cause for which its call was not placed.
 pub record Turns (now : ℕ) (cause : Option Cause) (old new : TryValue) : Type 0 where
   pub job : new.job ≡ old.job
-  pub rests : ℕ → Bool
-  pub goes : GoesOn (Turned now rests ∷ Woken 0 ∷ []) old new
+  pub visits : ℕ → Visit
+  pub goes : GoesOn (Turned now visits ∷ Woken 0 ∷ []) old new
   pub total : new.total ≡ total_if (report_of (told_by old new)) cause old.total
 
 -- ---- something is asked of its line

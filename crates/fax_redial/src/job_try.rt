@@ -1,6 +1,7 @@
 //! A try of a job.
-ghost use Rattle.std.specs.Prelude.{◌≡◌, ◌≤◌, ℕ, Bool, [], ◌∷◌, IfOk, MatchOption, length, slice_get};
+ghost use Rattle.std.specs.Prelude.{◌≡◌, ◌≤◌, ℕ, [], ◌∷◌, IfOk, MatchOption, length, slice_get};
 ghost use Rattle.fax_line.specs.Operations.{IsLineAt};
+ghost use Rattle.fax_line.specs.Places.{Visit};
 ghost use Rattle.fax_line.specs.Runs.{Turned, Woken};
 ghost use Rattle.fax_redial.specs.Tries.{Begins, GoesOn, IsAsked, end_of, is_over, same_name, told_by, turned_of};
 ghost use Rattle.fax_redial.specs.Totals.{end_if, total_if};
@@ -82,8 +83,8 @@ impl<W: TimedWire + Drop> JobTry<W> {
     /// The next slot of its lines has its turn, and what that gave goes out. In the turn of slot 0, of which it answers what the line told,
     /// that is turned, whatever came for it.
     pub fn turn(&mut self, now: u64) -> Option<TurnReport>
-        ensures goes { (rests : ℕ → Bool)
-            × GoesOn (Turned now rests ∷ Woken 0 ∷ []) self.old self.new }
+        ensures goes { (visits : ℕ → Visit)
+            × GoesOn (Turned now visits ∷ Woken 0 ∷ []) self.old self.new }
         ensures told { result ≡ told_by self.old self.new }
         ensures job { self.new.job ≡ self.old.job }
         ensures total { self.new.total ≡ self.old.total }

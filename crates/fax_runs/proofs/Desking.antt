@@ -1,8 +1,8 @@
 -- What the lines of a run were asked is what the desk gave.
 use Rattle.std.proofs.Common.{◌≡◌, List, [], ◌∷◌, ◌++◌, Option, None, inl, inr, refl, sym, ◌∙◌, ap, subst}
 use Rattle.fax_line.specs.declared.asked.LineAnswer.{LineAnswer}
-use Rattle.fax_line.specs.Pacing.{IsPaced, PacedToEnd, SeesTurn}
-use Rattle.fax_line.specs.Runs.{AskedOf, DoneOrder, Turned, Woken}
+use Rattle.fax_line.specs.Pacing.{IsPaced, PacedToEnd, SeesStored, SeesTurn}
+use Rattle.fax_line.specs.Runs.{AskedOf, DoneOrder, Stored, Turned, Woken}
 use Rattle.fax_desk.specs.declared.desk.Waits.{Waits}
 use Rattle.fax_desk.specs.declared.next.Next.TheVariants as next
 use Rattle.fax_desk.specs.Laws.{DeskEvent, Lapsed, Passes, Said, Told, told_of}
@@ -54,24 +54,38 @@ passes_on given told done now_done before after far passing orders_are answers_a
 far_with : (done : List DoneOrder) (pace : PaceValue) (words : WordsAreDone done) → words.waits ≡ pace.waits → pace.waits ≡ None → SoFar done pace
 far_with done pace words same free = record { passed = words.passed; passes = subst (λ (w : Option Waits). Passes words.passed w) same words.passes; free = free; orders = words.orders; answers = words.answers }
 
+stored_same : (old new : PaceValue) → SeesStored SeesNothing old new → new.waits ≡ old.waits
+stored_same old new (inl same) = ap (λ (p : PaceValue). p.waits) same
+stored_same old new (inr (put, kept, first, second, third)) = third ∙ second ∙ first
+
 sees_same : (old new : PaceValue) → SeesTurn SeesNothing old new → new.waits ≡ old.waits
-sees_same old new (inl same) = same
-sees_same old new (inr (put, kept, first, second, third)) = third ∙ second ∙ first
+sees_same old new (seen, sees, stored) = stored_same seen new stored ∙ sees
+
+-- and that changes nothing of what passes at the desk
+passes_same : (given : List LineAsked) (told : List (Option LineAnswer)) (old between new : PaceValue) → PassesDesk given told between new → between.waits ≡ old.waits → PassesDesk given told old new
+passes_same given told old between new passing same = record {
+  passed = passing.passed;
+  passes = λ earlier before. passing.passes earlier (subst (λ (w : Option Waits). Passes earlier w) (sym same) before);
+  orders = passing.orders;
+  told_is = passing.told_is;
+}
 
 so_far : (done : List DoneOrder) (old new : PaceValue) → old.waits ≡ None → IsPaced GivesOrder (λ line. Hears) SeesNothing done old new → SoFar done new
 so_far [] old new free same = subst (λ (p : PaceValue). SoFar [] p) (sym same) (record { passed = []; passes = free; free = free; orders = refl; answers = refl })
-so_far (Turned now rests ∷ done) old new free (before, given, paced, gives, sees) =
+so_far (Turned now visits ∷ done) old new free (before, given, paced, gives, sees) =
     let far = so_far done old before free paced in
     let here = gives far.free in
-    let words = passes_on [] [] done (Turned now rests ∷ done) before given far here.0 refl refl in
+    let words = passes_on [] [] done (Turned now visits ∷ done) before given far here.0 refl refl in
     let same = sees_same given new sees in
-    far_with (Turned now rests ∷ done) new words (sym same) (same ∙ here.1 refl)
-so_far (AskedOf line now what answer ∷ done) old new free (before, given, paced, gives, hears) =
+    far_with (Turned now visits ∷ done) new words (sym same) (same ∙ here.1 refl)
+so_far (Stored visits ∷ done) old new free paced =
+    let far = so_far done old new free paced in record { passed = far.passed; passes = far.passes; free = far.free; orders = far.orders; answers = far.answers }
+so_far (AskedOf line now what answer ∷ done) old new free (before, given, seen, paced, gives, sees, hears) =
     let far = so_far done old before free paced in
     let here = gives far.free in
     let order : LineAsked = record { line = line; what = what } in
     let asked = here.0 in
-    let told = hears.0 in
+    let told = passes_same [] (answer ∷ []) given seen new hears.0 (stored_same given seen sees) in
     record {
       passed = told.passed ++ (asked.passed ++ far.passed);
       passes = told.passes (asked.passed ++ far.passed) (asked.passes far.passed far.passes);
@@ -88,7 +102,7 @@ so_far (Woken line ∷ done) old new free (before, paced, gives) =
     far_with (Woken line ∷ done) new words refl (here.1 refl)
 
 pub paces_do_words : (done : List DoneOrder) (old new : PaceValue) → old.waits ≡ None → PacedToEnd GivesOrder (λ line. Hears) SeesNothing done old new → WordsAreDone done
-paces_do_words done old new free (inl (last, paced, gives)) =
-    let far = so_far done old last free paced in passes_on [] [] done done last new far (gives far.free).0 refl refl
-paces_do_words done old new free (inr (many, paced)) =
-    let far = so_far done old new free paced in record { passed = far.passed; waits = new.waits; passes = far.passes; orders = far.orders; answers = far.answers }
+paces_do_words done old new free (last, sees, inl (before, paced, gives)) =
+    let far = so_far done old before free paced in passes_on [] [] done done before last far (gives far.free).0 refl refl
+paces_do_words done old new free (last, sees, inr (many, paced)) =
+    let far = so_far done old last free paced in record { passed = far.passed; waits = last.waits; passes = far.passes; orders = far.orders; answers = far.answers }

@@ -115,7 +115,7 @@ module _ {D K : Type 0} (seen : D → List ℕ) (may_leave : D → List ℕ → 
       (restore (string_bytes config.name) served.opened.torn.items served.opened.pages.items mine.is.restored whole mine.is.restores) in
       let same : place ≡ mine.place = same_place place mine.place (sym there ∙ mine.there) in
       let name = config_low configs number config at in
-      runs writes number (string_bytes config.name) pages lives puts setup served.run.first served.run.done served.run.settled served.begun served.run.left served.store served.run.after writing past
+      runs writes number (string_bytes config.name) pages lives puts setup served.run.done served.run.settled served.begun served.run.left served.store served.run.after writing past
       (record {
         waits = subst (λ (s : Spool D). PagesWait seen may_leave is_usable s pages) (sym served.spool_is) opened.wait;
         restored = mine.is.restored;
@@ -130,7 +130,7 @@ module _ {D K : Type 0} (seen : D → List ℕ) (may_leave : D → List ℕ → 
         alone = λ other queue is differs same_name.
             let its_name = named_at told configs served.begun (queues_of served.store) other queue served.restored is in
             apart configs unlike number other (string_bytes config.name) queue its_name.0 (its_name.1 []) name.0 (name.1 []) differs same_name;
-      }) (weaker_run _ _ _ _ _ _ _ _ on_disk.unchanged on_disk.put on_disk.noted on_disk.ended served.run.first served.run.done served.run.settled served.begun served.run.left served.store served.run.after served.run.ran)
+      }) (weaker_run _ _ _ _ _ _ _ _ on_disk.unchanged on_disk.put on_disk.noted on_disk.ended served.run.done served.run.settled served.begun served.run.left served.store served.run.after served.run.ran)
 
   -- what a run of the server was to a line
   pub was_run : WholeLinesAreRestored → (line : List ℕ) (ran : ServedLine seen may_leave is_usable queues_of spool_of same stores notes ends line) → WasRun seen may_leave is_usable queues_of spool_of line (run_of ran)
@@ -155,5 +155,5 @@ module _ {D K : Type 0} (seen : D → List ℕ) (may_leave : D → List ℕ → 
         alone = λ other queue is differs same_name.
             let its_name = named_at pages ran.configs ran.served.begun (queues_of ran.served.store) other queue ran.served.restored is in
             apart ran.configs ran.unlike ran.number other line queue its_name.0 (its_name.1 []) name.0 (name.1 [] ∙ ran.named) differs same_name;
-        ran = weaker_run _ _ _ _ _ _ _ _ on_disk.unchanged on_disk.put on_disk.noted on_disk.ended ran.served.run.first ran.served.run.done ran.served.run.settled ran.served.begun ran.served.run.left ran.served.store ran.served.run.after ran.served.run.ran;
+        ran = weaker_run _ _ _ _ _ _ _ _ on_disk.unchanged on_disk.put on_disk.noted on_disk.ended ran.served.run.done ran.served.run.settled ran.served.begun ran.served.run.left ran.served.store ran.served.run.after ran.served.run.ran;
       }

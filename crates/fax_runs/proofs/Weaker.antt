@@ -5,9 +5,9 @@ use Rattle.fax_gateway.specs.declared.given.Kept.{Kept}
 use Rattle.fax_gateway.specs.declared.turn_report.TurnReport.{TurnReport as Told}
 use Rattle.fax_wires.specs.holding.Storing.{PutsIf}
 use Rattle.fax_line.specs.Places.{PlaceValue}
-use Rattle.fax_line.specs.Runs.{AskedOf, DoneOrder, Turned, Woken}
-use Rattle.fax_line.specs.Settling.{has_page, was_turned}
-use Rattle.fax_line.specs.StoredRuns.{EndsIf, NotesIf, IsRun, IsSettled, TellsFirst, TellsLine, TellsPlace, TellsSlot, TellsWhere}
+use Rattle.fax_line.specs.Runs.{AskedOf, DoneOrder, Stored, Turned, Woken}
+use Rattle.fax_line.specs.Settling.{has_page}
+use Rattle.fax_line.specs.StoredRuns.{EndsIf, NotesIf, IsRun, IsSettled, TellsFirst, TellsLine, TellsPlace, TellsWhere}
 use Rattle.fax_line.specs.declared.settling.PageToStore.{PageToStore}
 use Rattle.fax_line.specs.declared.settling.SlotEnd.{SlotEnd}
 
@@ -30,34 +30,35 @@ module _ {K : Type 0} (same is_same : K → K → Type 0) (puts has_put : List P
   tells_where number true told was_handed old new is = tells_line number told was_handed old new is
   tells_where number false told was_handed old new is = is
 
-  tells_place : (slot : ℕ) (pages : List PageToStore) (number : ℕ) (place : Option PlaceValue) (old new : K) → TellsPlace notes ends slot pages number place old new → TellsPlace has_noted has_ended slot pages number place old new
-  tells_place slot pages number None old new is = is
-  tells_place slot pages number (Some place) old new is = tells_where number (was_turned slot number place) place.line.turned (has_page pages number) old new is
+  tells_place : (which : ℕ → Bool) (pages : List PageToStore) (number : ℕ) (place : Option PlaceValue) (old new : K) → TellsPlace notes ends which pages number place old new → TellsPlace has_noted has_ended which pages number place old new
+  tells_place which pages number None old new is = is
+  tells_place which pages number (Some place) old new is = tells_where number (which number) place.line.turned (has_page pages number) old new is
 
-  tells_first : (slot : ℕ) (pages : List PageToStore) (lines : List PlaceValue) (count : ℕ) (old new : K) → TellsFirst notes ends slot pages lines count old new → TellsFirst has_noted has_ended slot pages lines count old new
-  tells_first slot pages lines zero old new is = is
-  tells_first slot pages lines (suc number) old new is = (is.0, tells_first slot pages lines number old is.0 is.1, tells_place slot pages number (slice_get lines number) is.0 new is.2)
+  tells_first : (which : ℕ → Bool) (pages : List PageToStore) (lines : List PlaceValue) (count : ℕ) (old new : K) → TellsFirst notes ends which pages lines count old new → TellsFirst has_noted has_ended which pages lines count old new
+  tells_first which pages lines zero old new is = is
+  tells_first which pages lines (suc number) old new is = (is.0, tells_first which pages lines number old is.0 is.1, tells_place which pages number (slice_get lines number) is.0 new is.2)
 
   puts_if : (pages : List PageToStore) (is_stored : Bool) (old new : K) → PutsIf puts pages is_stored old new → PutsIf has_put pages is_stored old new
   puts_if [] is_stored old new is = is
   puts_if (page ∷ pages) is_stored old new is = two (page ∷ pages) is_stored old new is
 
-  settled_so : (slot : ℕ) (end : SlotEnd) (old new : List PlaceValue) (before after : K) → IsSettled same puts notes ends slot end old new before after → IsSettled is_same has_put has_noted has_ended slot end old new before after
-  settled_so slot end old new before after is = record {
+  settled_so : (which : ℕ → Bool) (end : SlotEnd) (old new : List PlaceValue) (before after : K) → IsSettled same puts notes ends which end old new before after → IsSettled is_same has_put has_noted has_ended which end old new before after
+  settled_so which end old new before after is = record {
     pages = is.pages;
     begun = is.begun;
     is_same = one before is.begun is.is_same;
     kept = is.kept;
     put = puts_if _ _ _ _ is.put;
     settled = is.settled;
-    told = record { count = is.told.count; all = is.told.all; told = tells_first slot end.pages.items new is.told.count is.kept after is.told.told };
+    told = record { count = is.told.count; all = is.told.all; told = tells_first which end.pages.items new is.told.count is.kept after is.told.told };
   }
 
-  pub weaker_run : (first : ℕ) (done : List DoneOrder) (settled : List SlotEnd) (old new : List PlaceValue) (before after : K) → IsRun same puts notes ends first done settled old new before after → IsRun is_same has_put has_noted has_ended first done settled old new before after
-  weaker_run first [] [] old new before after is = is
-  weaker_run first [] (end ∷ settled) old new before after is = absurd is
-  weaker_run first (Turned now rests ∷ done) [] old new before after is = absurd is
-  weaker_run first (Turned now rests ∷ done) (end ∷ settled) old new before after is =
-      (is.0, is.1, is.2, weaker_run first done settled old is.0 before is.2 is.3, is.4, is.5, settled_so _ end is.1 new is.2 after is.6)
-  weaker_run first (AskedOf line now what answer ∷ done) settled old new before after is = (is.0, weaker_run first done settled old is.0 before after is.1, is.2, is.3)
-  weaker_run first (Woken line ∷ done) settled old new before after is = (is.0, weaker_run first done settled old is.0 before after is.1, is.2, is.3)
+  pub weaker_run : (done : List DoneOrder) (settled : List SlotEnd) (old new : List PlaceValue) (before after : K) → IsRun same puts notes ends done settled old new before after → IsRun is_same has_put has_noted has_ended done settled old new before after
+  weaker_run [] [] old new before after is = is
+  weaker_run [] (end ∷ settled) old new before after is = absurd is
+  weaker_run (Turned now visits ∷ done) settled old new before after is = (is.0, is.1, weaker_run done settled old is.0 before after is.2, is.3, is.4, is.5)
+  weaker_run (Stored visits ∷ done) [] old new before after is = absurd is
+  weaker_run (Stored visits ∷ done) (end ∷ settled) old new before after is =
+      (is.0, is.1, is.2, weaker_run done settled old is.0 before is.2 is.3, is.4, is.5, settled_so _ end is.1 new is.2 after is.6)
+  weaker_run (AskedOf line now what answer ∷ done) settled old new before after is = (is.0, weaker_run done settled old is.0 before after is.1, is.2, is.3)
+  weaker_run (Woken line ∷ done) settled old new before after is = (is.0, weaker_run done settled old is.0 before after is.1, is.2, is.3)

@@ -54,7 +54,6 @@ run_of ran = record {
   opened = ran.served.opened;
   number = ran.number;
   setup = ran.setup;
-  first = ran.served.run.first;
   done = ran.served.run.done;
   settled = ran.served.run.settled;
   begun = ran.served.begun;

@@ -4,7 +4,7 @@ use Rattle.fax_line.specs.declared.asked.LineAnswer.{LineAnswer}
 use Rattle.fax_line.specs.declared.asked.LineRequest.{LineRequest}
 use Rattle.fax_line.specs.declared.order.Order.{Order as LoopOrder}
 use Rattle.fax_line.specs.declared.order.Order.TheVariants as order
-use Rattle.fax_line.specs.Runs.{AskedOf, DoneOrder, Turned, Woken}
+use Rattle.fax_line.specs.Runs.{AskedOf, DoneOrder, Stored, Turned, Woken}
 use Rattle.fax_desk.specs.declared.desk.Waits.{Waits}
 use Rattle.fax_desk.specs.declared.next.Order.{Order}
 use Rattle.fax_desk.specs.Laws.{DeskEvent, Passes, orders_of, told_of}
@@ -29,14 +29,16 @@ ordered passed = map asked_by (orders_of passed)
 
 abbrev pub lines_asked : List DoneOrder → List LineAsked
 lines_asked [] = []
-lines_asked (Turned now rests ∷ earlier) = lines_asked earlier
+lines_asked (Turned now visits ∷ earlier) = lines_asked earlier
+lines_asked (Stored visits ∷ earlier) = lines_asked earlier
 lines_asked (AskedOf line now what answer ∷ earlier) =
     record { line = line; what = what } ∷ lines_asked earlier
 lines_asked (Woken line ∷ earlier) = lines_asked earlier
 
 abbrev pub lines_answered : List DoneOrder → List (Option LineAnswer)
 lines_answered [] = []
-lines_answered (Turned now rests ∷ earlier) = lines_answered earlier
+lines_answered (Turned now visits ∷ earlier) = lines_answered earlier
+lines_answered (Stored visits ∷ earlier) = lines_answered earlier
 lines_answered (AskedOf line now what answer ∷ earlier) = answer ∷ lines_answered earlier
 lines_answered (Woken line ∷ earlier) = lines_answered earlier
 
@@ -66,7 +68,7 @@ GivesOrder given old new = old.waits ≡ None
 abbrev pub Hears : Option LineAnswer → PaceValue → PaceValue → Type 0
 Hears answer old new = PassesDesk [] (answer ∷ []) old new × (new.waits ≡ None)
 
--- a turn is nothing to it
+-- a turn is nothing to it, and neither is what is stored
 abbrev pub SeesNothing : PaceValue → PaceValue → Type 0
 SeesNothing old new = new.waits ≡ old.waits
 

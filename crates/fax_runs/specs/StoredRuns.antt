@@ -1,10 +1,10 @@
 -- A whole run of a server whose pages are stored on a disk (this project's profile).
-use Rattle.std.specs.Prelude.{◌≡◌, ℕ, Bool, List, [], ◌∷◌}
+use Rattle.std.specs.Prelude.{◌≡◌, ℕ, Bool, List}
 use Rattle.fax_config.specs.declared.config.LineConfig.{LineConfig}
 use Rattle.fax_jobs.specs.declared.report.Report.{Report}
 use Rattle.fax_line.specs.StoredRuns.{IsRun}
 use Rattle.fax_line.specs.Places.{PlaceValue}
-use Rattle.fax_line.specs.Runs.{DoneOrder}
+use Rattle.fax_line.specs.Runs.{AreServed, DoneOrder, none_waits}
 use Rattle.fax_line.specs.declared.settling.PageToStore.{PageToStore}
 use Rattle.fax_line.specs.declared.settling.SlotEnd.{SlotEnd}
 use Rattle.fax_spool.specs.RecordOctets as spool
@@ -17,9 +17,9 @@ use Rattle.fax_queue.specs.Queues.{QueueValue}
 use Rattle.fax_runs.specs.Desking.{WordsAreDone}
 use Rattle.fax_opening.specs.Openings.{AreRestored}
 
--- A run went on from these lines and this store, with slot 0 first: after each turn of a slot, before anything else was done, the pages
--- that its lines confirmed were put at once, and what confirms them went out where the answer was Ok (`IsSettled`). What lines were asked
--- is what words ordered.
+-- A run went on from these lines and this store, with slot 0 first: a line that confirmed a page in its turn, or a job of which ended, did
+-- nothing more until that was stored. The pages of all such lines were put at once, and what confirms them went out where the answer was
+-- Ok (`IsSettled`). What lines were asked is what words ordered.
 pub record RunIsStored {K : Type 0} (same : K → K → Type 0)
     (puts : List PageToStore → Bool → K → K → Type 0) (notes : ℕ → ℕ → K → K → Type 0)
     (ends : ℕ → Report → K → K → Type 0) (begun : List PlaceValue) (before : K) : Type 0 where
@@ -27,10 +27,9 @@ pub record RunIsStored {K : Type 0} (same : K → K → Type 0)
   pub after : K
   pub done : List DoneOrder
   pub settled : List SlotEnd
-  pub first : ℕ
-  pub first_is : first ≡ 0
+  pub served : AreServed 0 done none_waits
   pub words : WordsAreDone done
-  pub ran : IsRun same puts notes ends first done settled begun left before after
+  pub ran : IsRun same puts notes ends done settled begun left before after
 
 -- A SERVER WITH A SPOOL RAN: the spool was opened, each line began with the pages of its own that waited in it, but for calls that lack a
 -- page, and its queue with just these; and so they went on.

@@ -80,6 +80,10 @@ impl<W: LineWire + Drop, K: RunStore, P: Pace<W, K> + EndingPace, M: Supervisor>
         self.ordering.turned(lines, store);
     }
 
+    fn stored(&mut self, lines: &Lines<W>, store: &K) {
+        self.ordering.stored(lines, store);
+    }
+
     fn done(&mut self, line: usize, answer: Option<LineAnswer>) {
         self.ordering.done(line, answer);
     }

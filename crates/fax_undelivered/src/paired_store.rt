@@ -92,8 +92,8 @@ impl<D: Disk, U: Disk> PairedStore<D, U> {
         }
     }
 
-    /// The pages of another turn of a slot are put next, and its jobs end.
-    pub fn begin_slot(&mut self)
+    /// Pages of lines are put next, all of them at once, and then their jobs end.
+    pub fn begin_put(&mut self)
         ensures tags { self.new.storage.tags.items ≡ [] }
         ensures causes { self.new.causes.items ≡ [] }
         ensures day { self.new.day ≡ self.old.day }
@@ -101,7 +101,7 @@ impl<D: Disk, U: Disk> PairedStore<D, U> {
         ensures unchanged { IsUnchanged self.old.storage.queues.items
             self.new.storage.queues.items self.old.storage.spool self.new.storage.spool }
     {
-        self.storage.begin_slot();
+        self.storage.begin_put();
         self.causes.clear();
     }
 

@@ -55,7 +55,7 @@ fn store(storage: &mut Storage<Memory>, alloc: Global, call: u32) -> Result<(), 
 fn store_two(storage: &mut Storage<Memory>, alloc: Global) -> Result<(), Fail> {
     storage.set_tag(0, "first");
     store(storage, alloc, 0)?;
-    storage.begin_slot();
+    storage.begin_put();
     storage.set_tag(0, "second");
     store(storage, alloc, 1)?;
     storage.end(0, REPORT)?;
@@ -101,7 +101,7 @@ fn large_page(alloc: Global, call: u32) -> Result<PageToStore, AllocError> {
 
 /// The page of this call of the second line is stored, and its job ends.
 fn pass(storage: &mut Storage<Memory>, alloc: Global, call: u32) -> Result<(), Fail> {
-    storage.begin_slot();
+    storage.begin_put();
     storage.store_all(&[large_page(alloc, call)?])?;
     let report = Report { call, ..REPORT };
     storage.end(1, report)?;

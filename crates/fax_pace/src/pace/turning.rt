@@ -11,7 +11,7 @@ use fax_line::SLOTS;
 use std::rt::Clock;
 
 impl<'a, C: Clock, R: RedialSide + Drop, S: SipSide + Drop> RealPace<'a, C, R, S> {
-    /// Tells what the turn that was ordered came to, of each line that was not left at rest in it.
+    /// Tells what the turn that was ordered came to, of each line that was not left at rest in it, and does not wait.
     pub(super) fn tell_turned<L: SeenLines>(&mut self, seen: &L)
         ensures { self.new ≡ self.old }
     {
@@ -23,22 +23,44 @@ impl<'a, C: Clock, R: RedialSide + Drop, S: SipSide + Drop> RealPace<'a, C, R, S
         for round in 0..rounds {
             let i = round.saturating_mul(SLOTS).saturating_add(slot);
             if i < seen.len() {
-                self.tell_line(i, looks, seen);
+                self.see_line(i, looks, seen);
             }
         }
     }
 
-    /// Tells what the turn of line i came to, where it had one. Where something may come over its legs still, and where they are to be
-    /// asked, it is to be woken; and where its question is to be looked at, that is noted.
-    fn tell_line<L: SeenLines>(&mut self, i: usize, looks: bool, seen: &L)
+    /// Tells what the turns of the lines that wait came to, of which what is to be stored was put.
+    pub(super) fn tell_stored<L: SeenLines>(&mut self, seen: &L)
+        ensures { self.new ≡ self.old }
+    {
+        for i in 0..seen.len() {
+            if seen.waits(i) {
+                let is_stored = self.waking.is_stored(i);
+                self.tell_line(i, false, is_stored, seen);
+            }
+        }
+    }
+
+    /// Tells what the turn of its slot came to for line i, where it does not wait. Where something may come over its legs still, and where
+    /// they are to be asked, it is to be woken.
+    fn see_line<L: SeenLines>(&mut self, i: usize, looks: bool, seen: &L)
+        ensures { self.new ≡ self.old }
+    {
+        if !seen.waits(i) {
+            self.tell_line(i, looks, true, seen);
+        }
+        self.tell_frames(i, seen);
+        self.waking.see(i, looks, seen);
+    }
+
+    /// Tells what the turn of line i came to, where it had one, whose page was stored or not, where it confirmed one. Where its question
+    /// is to be looked at, that is noted.
+    fn tell_line<L: SeenLines>(&mut self, i: usize, looks: bool, is_stored: bool, seen: &L)
         ensures { self.new ≡ self.old }
     {
         let has_turned = seen.has_turned(i);
         if has_turned {
-            self.tell_turn(i, seen);
+            self.tell_turn(i, is_stored, seen);
         }
-        self.tell_frames(i, seen);
-        self.waking.see(i, looks, seen);
         let asks_for_a_call = (has_turned || looks) && seen.asks_for_a_call(i);
         if self.desk.is_due(i, asks_for_a_call) {
             let _ = self.waking.to_ask.push(i);
@@ -56,12 +78,12 @@ impl<'a, C: Clock, R: RedialSide + Drop, S: SipSide + Drop> RealPace<'a, C, R, S
         }
     }
 
-    /// Tells what the turn of line i came to.
-    fn tell_turn<L: SeenLines>(&mut self, i: usize, seen: &L)
+    /// Tells what the turn of line i came to, whose page was stored or not.
+    fn tell_turn<L: SeenLines>(&mut self, i: usize, is_stored: bool, seen: &L)
         ensures { self.new ≡ self.old }
     {
         let now = self.rounds.now;
-        if let Some(turn) = seen.turn(i, self.waking.is_stored(i)) {
+        if let Some(turn) = seen.turn(i, is_stored) {
             tell_turn(&mut self.desk, i, turn, now, &mut self.teller);
         }
         tell_sip(&mut self.sip, &mut self.teller, now, i);

@@ -54,7 +54,7 @@ module _ {D : Type 0} (seen : D → List ℕ) (may_leave : D → List ℕ → Ty
     runs_cross find history leave writes line lives puts older newer one other run writing past both is was =
         let found : WasOpened seen may_leave is_usable run.opened past.pages = find older newer one other past.pages run.opened past.tell both is in
         let left : LeavesRun seen may_leave is_usable writes run.number line lives puts run.setup run.settled run.left (spool_of run.after) =
-        history writes run.number line past.pages lives puts run.setup run.first run.done run.settled run.begun run.left run.before run.after writing past.past
+        history writes run.number line past.pages lives puts run.setup run.done run.settled run.begun run.left run.before run.after writing past.past
         (begins line past.pages run found was) was.ran in
         record {
           life = record { setup = run.setup; trace = left.trace };

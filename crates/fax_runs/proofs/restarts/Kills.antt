@@ -3,7 +3,7 @@ use Rattle.std.proofs.Common.{◌≡◌, ℕ, Bool, List, [], ◌∷◌, ◌++�
 use Rattle.fax_jobs.specs.declared.report.Report.{Report}
 use Rattle.fax_line.specs.StoredRuns.{IsRun}
 use Rattle.fax_line.specs.Places.{PlaceValue}
-use Rattle.fax_line.specs.Runs.{AskedOf, DoneOrder, Turned, Woken}
+use Rattle.fax_line.specs.Runs.{AskedOf, DoneOrder, Stored, Turned, Woken}
 use Rattle.fax_line.specs.declared.settling.PageToStore.{PageToStore}
 use Rattle.fax_line.specs.declared.settling.SlotEnd.{SlotEnd}
 use Rattle.fax_spool.specs.Opened.{IsOpened}
@@ -12,40 +12,39 @@ use Rattle.fax_spool.specs.declared.spool.Spool.{Spool}
 use Rattle.fax_queue.specs.Histories.{RanOnDisk}
 use Rattle.fax_queue.specs.Queues.{QueueValue}
 use Rattle.fax_runs.specs.restarts.Crossings.{RunsCross}
-use Rattle.fax_runs.specs.restarts.Kills.{IsCut, KilledRunsCross, RunsCanBeCut}
-use Rattle.fax_runs.specs.restarts.Runs.{OneRun, WasRun}
+use Rattle.fax_runs.specs.restarts.Kills.{KilledRunsCross, RunsCanBeCut}
+use Rattle.fax_runs.specs.restarts.Runs.{OneRun}
 
 module _ {K : Type 0} (same : K → K → Type 0) (puts : List PageToStore → Bool → K → K → Type 0) (notes : ℕ → ℕ → K → K → Type 0) (ends : ℕ → Report → K → K → Type 0) where
   -- how far a run had come after these of its orders
-  record SoFar (first : ℕ) (earlier : List DoneOrder) (settled : List SlotEnd) (old : List PlaceValue) (before : K) : Type 0 where
+  record SoFar (earlier : List DoneOrder) (settled : List SlotEnd) (old : List PlaceValue) (before : K) : Type 0 where
     later : List SlotEnd
     ended : List SlotEnd
     are : settled ≡ later ++ ended
     left : List PlaceValue
     after : K
-    ran : IsRun same puts notes ends first earlier ended old left before after
+    ran : IsRun same puts notes ends earlier ended old left before after
 
-  so_far : (first : ℕ) (later earlier : List DoneOrder) (settled : List SlotEnd) (old new : List PlaceValue) (before after : K) → IsRun same puts notes ends first (later ++ earlier) settled old new before after
-      → SoFar first earlier settled old before
-  so_far first [] earlier settled old new before after ran = record { later = []; ended = settled; are = refl; left = new; after = after; ran = ran }
-  so_far first (Turned now rests ∷ later) earlier [] old new before after ran = absurd ran
-  so_far first (Turned now rests ∷ later) earlier (end ∷ settled) old new before after ran =
-      let it : SoFar first earlier settled old before = so_far first later earlier settled old ran.0 before ran.2 ran.3 in
+  so_far : (later earlier : List DoneOrder) (settled : List SlotEnd) (old new : List PlaceValue) (before after : K) → IsRun same puts notes ends (later ++ earlier) settled old new before after → SoFar earlier settled old before
+  so_far [] earlier settled old new before after ran = record { later = []; ended = settled; are = refl; left = new; after = after; ran = ran }
+  so_far (Turned now visits ∷ later) earlier settled old new before after ran = so_far later earlier settled old ran.0 before after ran.2
+  so_far (Stored visits ∷ later) earlier [] old new before after ran = absurd ran
+  so_far (Stored visits ∷ later) earlier (end ∷ settled) old new before after ran =
+      let it : SoFar earlier settled old before = so_far later earlier settled old ran.0 before ran.2 ran.3 in
       record { later = end ∷ it.later; ended = it.ended; are = ap (λ (l : List SlotEnd). end ∷ l) it.are; left = it.left; after = it.after; ran = it.ran }
-  so_far first (AskedOf line now what answer ∷ later) earlier settled old new before after ran = so_far first later earlier settled old ran.0 before after ran.1
-  so_far first (Woken line ∷ later) earlier settled old new before after ran = so_far first later earlier settled old ran.0 before after ran.1
+  so_far (AskedOf line now what answer ∷ later) earlier settled old new before after ran = so_far later earlier settled old ran.0 before after ran.1
+  so_far (Woken line ∷ later) earlier settled old new before after ran = so_far later earlier settled old ran.0 before after ran.1
 
 module _ {D K : Type 0} (seen : D → List ℕ) (may_leave : D → List ℕ → Type 0) (is_usable : D → Bool) (queues_of : K → List QueueValue) (spool_of : K → Spool D) where
   pub runs_can_be_cut : RunsCanBeCut seen may_leave is_usable queues_of spool_of
   runs_can_be_cut line run later earlier was done =
-      let whole : RanOnDisk seen may_leave is_usable queues_of spool_of run.first (later ++ earlier) run.settled run.begun run.left run.before run.after =
-      subst (λ (d : List DoneOrder). RanOnDisk seen may_leave is_usable queues_of spool_of run.first d run.settled run.begun run.left run.before run.after) done was.ran in
-      let it = so_far _ _ _ _ run.first later earlier run.settled run.begun run.left run.before run.after whole in
+      let whole : RanOnDisk seen may_leave is_usable queues_of spool_of (later ++ earlier) run.settled run.begun run.left run.before run.after =
+      subst (λ (d : List DoneOrder). RanOnDisk seen may_leave is_usable queues_of spool_of d run.settled run.begun run.left run.before run.after) done was.ran in
+      let it = so_far _ _ _ _ later earlier run.settled run.begun run.left run.before run.after whole in
       let cut : OneRun D K = record {
         opened = run.opened;
         number = run.number;
         setup = run.setup;
-        first = run.first;
         done = earlier;
         settled = it.ended;
         begun = run.begun;
@@ -54,7 +53,7 @@ module _ {D K : Type 0} (seen : D → List ℕ) (may_leave : D → List ℕ → 
         after = it.after;
       } in (
         cut,
-        record { opened = refl; number = refl; setup = refl; first = refl; begun = refl; before = refl; done = refl; ends = it.later; settled = it.are },
+        record { opened = refl; number = refl; setup = refl; begun = refl; before = refl; done = refl; ends = it.later; settled = it.are },
         record {
           spool_is = was.spool_is;
           restored = was.restored;

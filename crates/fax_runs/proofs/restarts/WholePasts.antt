@@ -36,7 +36,7 @@ module _ {D : Type 0} (seen : D → List ℕ) (may_leave : D → List ℕ → Ty
     whole_runs_cross find note leave writes line lives puts older newer one other run writing past both is ran =
         let found : WasOpened seen may_leave is_usable run.opened past.pages = find older newer one other past.pages run.opened past.tell both is in
         let it : LeavesWhole seen may_leave is_usable writes run.number line lives puts run.setup run.settled run.left (spool_of run.after) =
-        note writes run.number line past.pages lives puts run.setup run.first run.done run.settled run.begun run.left run.before run.after writing past.past
+        note writes run.number line past.pages lives puts run.setup run.done run.settled run.begun run.left run.before run.after writing past.past
         (begins seen may_leave is_usable queues_of spool_of line past.pages run found ran.was) ran.oks in
         let left = it.leaves in
         record {

@@ -1,6 +1,6 @@
 -- A RUN WHOSE PROCESS WAS KILLED between two of its orders: it had done the earlier ones, and nothing after them. (Where it is killed
--- within an order, the calls of the disk from there on are as ones that answer an `Err`, and change nothing: so that is a run too.) Lists
--- of orders and of the ends of slots' turns have the newest first. (This project's profile.)
+-- within an order, or while lines wait, the calls of the disk from there on are as ones that answer an `Err`, and change nothing: so that
+-- is a run too.) Lists of orders, and of what was stored each time, have the newest first. (This project's profile.)
 use Rattle.std.specs.Prelude.{◌≡◌, ℕ, Bool, List, ◌++◌}
 use Rattle.fax_call.specs.Writings.{IsWriting, Writing}
 use Rattle.fax_gateway.specs.Restored.{CallPage}
@@ -19,7 +19,6 @@ pub record IsCut {D K : Type 0} (run : OneRun D K) (earlier : List DoneOrder) (c
   pub opened : cut.opened ≡ run.opened
   pub number : cut.number ≡ run.number
   pub setup : cut.setup ≡ run.setup
-  pub first : cut.first ≡ run.first
   pub begun : cut.begun ≡ run.begun
   pub before : cut.before ≡ run.before
   pub done : cut.done ≡ earlier

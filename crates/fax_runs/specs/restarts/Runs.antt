@@ -25,7 +25,6 @@ pub record OneRun (D K : Type 0) : Type 0 where
   pub opened : OpenedSpool D
   pub number : ℕ
   pub setup : Setup
-  pub first : ℕ
   pub done : List DoneOrder
   pub settled : List SlotEnd
   pub begun : List PlaceValue
@@ -51,10 +50,10 @@ pub record WasRun {D K : Type 0} (seen : D → List ℕ)
   pub alone : (other : ℕ) (queue : QueueValue)
       → slice_get (queues_of run.before) other ≡ Some queue → other ≢ run.number → queue.line ≢ line
   pub ran : RanOnDisk seen may_leave is_usable
-      queues_of spool_of run.first run.done run.settled run.begun run.left run.before run.after
+      queues_of spool_of run.done run.settled run.begun run.left run.before run.after
 
--- what there was of it, whatever its files are of: the number of the line, the setup of its gateway, the ends of its slots' turns, and
--- the lines after it
+-- what there was of it, whatever its files are of: the number of the line, the setup of its gateway, what was stored each time, and the
+-- lines after it
 pub record RunTold : Type 0 where
   pub number : ℕ
   pub setup : Setup

@@ -42,7 +42,7 @@ pub record WasRunWithOks {D K : Type 0} (seen : D → List ℕ)
     (spool_of : K → Spool D) (line : List ℕ) (run : OneRun D K) : Type 0 where
   pub was : WasRun seen may_leave is_usable queues_of spool_of line run
   pub oks : RanWithOks seen may_leave is_usable queues_of
-      spool_of run.number run.first run.done run.settled run.begun run.left run.before run.after
+      spool_of run.number run.done run.settled run.begun run.left run.before run.after
 
 -- what such a run was to a line: one life more, in which all was put and noted, whatever a crash leaves of its files
 pub record LeavesWholeOver {D K : Type 0} (may_leave : D → List ℕ → Type 0)

@@ -1,4 +1,4 @@
-use Rattle.std.proofs.Common.{◌≡◌, ◌≢◌, ℕ, Bool, true, false, ◌∷◌, [], Option, Some, None, nat_eq, refl, slice_index_or, sym, subst}
+use Rattle.std.proofs.Common.{◌≡◌, Bool, true, false, ◌∷◌, [], Option, Some, None, nat_eq, refl, slice_index_or, sym, subst}
 use Rattle.std.proofs.lemmas.Bool.{eq-eqb, ne_eqb}
 use Rattle.std.proofs.lemmas.List.{get_or_default}
 use Rattle.fax_wires.proofs.holding.Held.{stays_same}
@@ -38,3 +38,12 @@ returns-clause-frees g c =
     (λ d. subst (λ (b : Bool). IsFreed b c.args.what (Some c.ask.result) (slice_index_or c.args.places.now c.args.i d) c.ask.new.self) (sym (eq-eqb c.args.i c.args.i refl))
     (subst (λ (l : PlaceValue). IsFreed true c.args.what (Some c.ask.result) l c.ask.new.self) (get_or_default c.args.places.now c.args.i c.index-places-i.result d c.if-i-places.false) (c.ask.ensures.frees, c.ask.ensures.peers)))
     (λ number place other. other_freed (nat_eq number c.args.i) c.args.what (Some c.ask.result) place (ne_eqb number c.args.i other))
+
+pub returns-then-i-places-clause-waits : goal.returns-then-i-places-clause-waits
+returns-then-i-places-clause-waits g c = all_come (λ number before after. after.waits ≡ before.waits) c.args.places.now (λ number place. refl)
+
+pub returns-clause-waits : goal.returns-clause-waits
+returns-clause-waits g c =
+    one_comes (λ number before after. after.waits ≡ before.waits) c.args.i c.args.places.now c.ask.new.self c.if-i-places.false
+    (λ d. subst (λ (l : PlaceValue). c.ask.new.self.waits ≡ l.waits) (get_or_default c.args.places.now c.args.i c.index-places-i.result d c.if-i-places.false) c.ask.ensures.waits)
+    (λ number place other. refl)

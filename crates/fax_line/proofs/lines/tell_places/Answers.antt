@@ -1,37 +1,24 @@
-use Rattle.std.proofs.Common.{◌≡◌, ◌+◌, ◌*◌, Bool, Option, Some, None, arith, refl, slice_get, sym, subst}
-use Rattle.std.proofs.lemmas.Grind.{common_steps}
-use Rattle.std.proofs.lemmas.Option.{gets}
-use Rattle.fax_line.specs.StoredRuns.{TellsFirst, TellsPlace, TellsWhere}
+use Rattle.std.proofs.Common.{◌≡◌, ◌∙◌, ◌<◌, Bool, Some, length, arith, ap, refl, sym, slice_get, subst}
+use Rattle.fax_line.specs.StoredRuns.{TellsWhere}
 use Rattle.fax_line.specs.Places.{PlaceValue}
-use Rattle.fax_line.proofs.Telling.{tells_place, tells_round}
+use Rattle.fax_line.proofs.Telling.{tells_next, there_at}
 use Rattle.fax_line.proofs.lines.tell_places.Goals as goal
-use Rattle.fax_line.proofs.lines.tell_places.Goals.{in-Some, in_default}
 
-pub loop-round-init : goal.loop-round-init
-loop-round-init g c = refl
+pub loop-i-init : goal.loop-i-init
+loop-i-init g c = refl
 
-pub loop-round-preserved : goal.loop-round-preserved
-loop-round-preserved g c =
-    let slot = c.args.slot in
+pub loop-i-preserved : goal.loop-i-preserved
+loop-i-preserved g c =
     let pages = c.args.pages.now in
     let lines = c.args.places.now in
-    let round = c.loop-round.round in
-    let at = round * 40 + slot in
+    let at = c.loop-i.i in
     let notes = g.K.RunStore.notes in
     let ends = g.K.RunStore.ends in
-    let first = c.args.store.now in
-    let before = c.loop-round.store in
-    elim c.match-get.branch [
-      | in-Some w ↦
-          let there : slice_get lines at ≡ Some w.in-Some.place.now = grind (arith, common_steps, gets, c.get.ensures.lookup, w.in-Some.is) in
-          let told = subst (λ (b : Bool). TellsWhere notes ends at w.in-Some.place.now.turned w.in-Some.place.now.line.turned b before w.tell_place.new.store) w.has_page.ensures w.tell_place.ensures in
-          subst (λ k. TellsFirst notes ends slot pages lines ((round + 1) * 40) first k) (sym w.store-is)
-          (tells_round g.row.K.Denot notes ends slot pages lines round first before w.tell_place.new.store c.requires
-          (subst (λ (o : Option PlaceValue). TellsPlace notes ends slot pages at o before w.tell_place.new.store) (sym there)
-          (tells_place g.row.K.Denot notes ends slot pages round w.in-Some.place.now before w.tell_place.new.store c.requires told)) c.loop-round.invariant)
-      | in_default w ↦
-          let none : slice_get lines at ≡ None = grind (arith, common_steps, gets, c.get.ensures.lookup, w.in_default.not-Some) in
-          subst (λ k. TellsFirst notes ends slot pages lines ((round + 1) * 40) first k) (sym w.store-is)
-          (tells_round g.row.K.Denot notes ends slot pages lines round first before before c.requires
-          (subst (λ (o : Option PlaceValue). TellsPlace notes ends slot pages at o before before) (sym none) refl) c.loop-round.invariant)
-    ]
+    let place : PlaceValue = c.index-places-i.result in
+    let inside : at < length lines = c.loop-i-test.true in
+    let there : slice_get lines at ≡ Some place = there_at lines at place inside ∙ ap (λ (p : PlaceValue). Some p) (sym c.index-places-i.is) in
+    let told = subst (λ (b : Bool). TellsWhere notes ends at place.waits place.line.turned b c.loop-i.store c.tell_place.new.store) c.has_page.ensures c.tell_place.ensures in
+    tells_next g.row.K.Denot notes ends pages lines at place c.args.store.now c.loop-i.store c.tell_place.new.store inside there c.index-places-i.is told c.loop-i.invariant
+
+pub returns : goal.returns
+returns g c = record { count = c.loop-i.i; all = omega arith; told = c.loop-i.invariant }

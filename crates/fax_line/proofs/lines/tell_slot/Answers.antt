@@ -24,7 +24,7 @@ loop-round-preserved g c =
         told_on at olds places w.tell_time.new.self w.if-i-places.true
             (λ d. subst (λ (l : PlaceValue). GoesInPlace [] l w.tell_time.new.self) (get_or_default places at w.index-places-i.result d w.if-i-places.true) w.tell_time.ensures.goes) before.0,
         stays_on slot round at olds places (slice_index_or places at w.index-places-i.result) w.tell_time.new.self refl c.requires w.if-i-places.true
-            (λ d. get_or_default places at w.index-places-i.result d w.if-i-places.true) before.1 w.tell_time.ensures.stays,
+            (λ d. get_or_default places at w.index-places-i.result d w.if-i-places.true) before.1 w.tell_time.ensures.stays w.tell_time.ensures.waits,
       )
       | else-i-places w ↦ subst (λ (l : List PlaceValue). EachGoes (λ i. []) olds l × Rounds (stays_if slot) (round + 1) olds l) (sym w.places-is)
           (before.0, off_round (stays_if slot) slot round at olds places refl w.if-i-places.false (stays_passes slot round) before.1)

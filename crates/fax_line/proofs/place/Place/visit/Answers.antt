@@ -1,14 +1,13 @@
-use Rattle.std.proofs.Common.{◌≡◌, true, false, [], ◌∷◌, ◌∙◌, sym, subst}
-use Rattle.fax_line.specs.Actions.{Rests}
-use Rattle.fax_line.specs.Places.{GoesInPlace, PlaceValue, is_at_rest}
-use Rattle.fax_line.proofs.Places.{place_of, place_rests, visit_rests}
+use Rattle.std.proofs.Common.{◌≡◌, ◌∙◌, ℕ, Bool, true, false, sym, ap, subst}
+use Rattle.fax_line.specs.Places.{GoesInPlace, PlaceValue, actions_by, is_at_rest, visit_at}
+use Rattle.fax_line.proofs.Places.{place_none}
 use Rattle.fax_line.proofs.place.Place.visit.Goals as goal
 
-pub returns-then-is_at_rest-clause-goes : goal.returns-then-is_at_rest-clause-goes
-returns-then-is_at_rest-clause-goes g c =
-    let old = c.self.inside in
-    let now = c.args.now in
-    let new : PlaceValue = place_of old.line.value old.due old.is_awake false in
-    let rests : is_at_rest now c.args.self.now ≡ true = sym c.is_at_rest.ensures ∙ c.if-is_at_rest.true in
-    let goes = place_rests now old.line.value old.due old.is_awake old.has_turned false c.self.invariant (subst (λ (p : PlaceValue). is_at_rest now p ≡ true) (sym c.self.view_is) rests) in
-    visit_rests now (is_at_rest now c.args.self.now) c.args.self.now new rests (subst (λ (p : PlaceValue). GoesInPlace (Rests now ∷ []) p new) c.self.view_is goes)
+-- one that waits is passed over
+passed_over : (place : PlaceValue) (rests : Bool) (now : ℕ) → place.waits ≡ true → GoesInPlace (actions_by (visit_at true place.waits rests now)) place place
+passed_over place rests now waits = subst (λ (w : Bool). GoesInPlace (actions_by (visit_at true w rests now)) place place) (sym waits) (place_none place)
+
+pub returns-else-not-self-clause-goes : goal.returns-else-not-self-clause-goes
+returns-else-not-self-clause-goes g c =
+    passed_over c.args.self.now (is_at_rest c.args.now c.args.self.now) c.args.now
+    (ap (λ (p : PlaceValue). p.waits) (sym c.self.view_is) ∙ c.if-not-self.false)

@@ -7,5 +7,5 @@ use Rattle.fax_line.proofs.place.Place.wake.Goals as goal
 pub returns-clause-goes : goal.returns-clause-goes
 returns-clause-goes g c =
     let old = c.self.inside in
-    subst (λ (p : PlaceValue). GoesInPlace (Wakes ∷ []) p (place_of old.line.value old.due true old.has_turned)) c.self.view_is
-    (place_wakes old.line.value old.due old.is_awake old.has_turned)
+    subst (λ (p : PlaceValue). GoesInPlace (Wakes ∷ []) p (place_of old.line.value old.due true old.has_turned old.waits)) c.self.view_is
+    (place_wakes old.line.value old.due old.is_awake old.has_turned old.waits)

@@ -12,6 +12,6 @@ returns g c =
     let new : TryValue = record { job = inside.job; lines = left; moment = now; total = inside.total } in
     subst (λ (t : TryValue). IsAsked c.args.now c.args.what c.ask.result t new) c.self.view_is record {
       job = refl;
-      goes = tried_asked c.args.now c.args.what c.ask.result old new c.max-self-inside.ensures c.ask.ensures.went c.ask.ensures.frees c.ask.ensures.slot;
+      goes = tried_asked c.args.now c.args.what c.ask.result old new c.max-self-inside.ensures c.ask.ensures.went c.ask.ensures.frees c.ask.ensures.waits c.ask.ensures.slot;
       total = refl;
     }

@@ -15,5 +15,6 @@ returns g c =
       total = c.new-2.ensures;
       pages = c.restored.invariant;
       tried = λ calls begins.
-          tried_new calls inside.line held lines begins (ap (λ (l : LinesValue). l.lines) c.in_ok-lines.ensures) (ap (λ (l : LinesValue). l.slot) c.in_ok-lines.ensures) c.in_ok-add.ensures.added c.add.ensures.slot refl;
+          tried_new calls inside.line held lines begins (ap (λ (l : LinesValue). l.lines) c.in_ok-lines.ensures) (ap (λ (l : LinesValue). l.slot) c.in_ok-lines.ensures) c.in_ok-add.ensures.added
+          (λ are. c.add.ensures.begun calls are begins) c.add.ensures.slot refl;
     })

@@ -1,5 +1,5 @@
 use Rattle.std.proofs.Common.{[], ◌∷◌, ◌∙◌, ℕ, ap, subst}
-use Rattle.fax_line.specs.Operations.{LinesWent, SlotTells, TurnsSlot, rests_at, slot_after, slot_before}
+use Rattle.fax_line.specs.Operations.{LinesWent, VisitsLines, VisitsTell, slot_after, slot_before, visits_at}
 use Rattle.fax_line.specs.Runs.{Turned, Woken}
 use Rattle.fax_line.specs.Settling.{LetsOutSlot}
 use Rattle.fax_redial.specs.Tries.{GoesOn, TryValue}
@@ -13,17 +13,16 @@ returns-then-is_first-clause-goes g c =
     let woken = c.wake.new.self in
     let turned = c.turn.new.self in
     let left = c.let_out_slot.new.self in
-    let rests = rests_at now woken.lines in
     let woke = c.wake.ensures.slot in
     let old : TryValue = record { job = inside.job; lines = inside.lines; moment = inside.moment; total = inside.total } in
     let new : TryValue = record { job = inside.job; lines = left; moment = now; total = inside.total } in (
-      rests,
-      subst (λ (t : TryValue). GoesOn (Turned c.args.now rests ∷ Woken 0 ∷ []) t new) c.self.view_is
-          (tried_turned c.args.now rests old new woken.lines turned.lines c.max-self-inside.ensures c.wake.ensures.went c.wake.ensures.stays
-          (subst (λ (s : ℕ). LinesWent (TurnsSlot s now rests ∷ []) woken.lines turned.lines) woke c.turn.ensures.went)
-          (subst (λ (s : ℕ). SlotTells s now rests woken.lines turned.lines) woke c.turn.ensures.tells) c.let_out_slot.ensures.went
+      visits_at inside.lines.slot now woken.lines,
+      subst (λ (t : TryValue). GoesOn (Turned c.args.now (visits_at inside.lines.slot now woken.lines) ∷ Woken 0 ∷ []) t new) c.self.view_is
+          (tried_turned c.args.now old new woken.lines turned.lines c.max-self-inside.ensures c.wake.ensures.went c.wake.ensures.stays c.wake.ensures.woken
+          (subst (λ (s : ℕ). LinesWent (VisitsLines (visits_at s now woken.lines) ∷ []) woken.lines turned.lines) woke c.turn.ensures.went)
+          (subst (λ (s : ℕ). VisitsTell (visits_at s now woken.lines) woken.lines turned.lines) woke c.turn.ensures.tells) c.turn.ensures.waits c.let_out_slot.ensures.went
           (subst (λ (s : ℕ). LetsOutSlot s turned.lines left.lines) (ap slot_before c.turn.ensures.slot ∙ (slot_back woken.slot ∙ woke)) c.let_out_slot.ensures.ends)
-          (c.let_out_slot.ensures.slot ∙ (c.turn.ensures.slot ∙ ap slot_after woke))),
+          c.let_out_slot.ensures.waits (c.let_out_slot.ensures.slot ∙ (c.turn.ensures.slot ∙ ap slot_after woke))),
     )
 
 pub returns-else-is_first-clause-goes : goal.returns-else-is_first-clause-goes
@@ -33,15 +32,14 @@ returns-else-is_first-clause-goes g c =
     let woken = c.wake.new.self in
     let turned = c.turn.new.self in
     let left = c.let_out_slot.new.self in
-    let rests = rests_at now woken.lines in
     let woke = c.wake.ensures.slot in
     let old : TryValue = record { job = inside.job; lines = inside.lines; moment = inside.moment; total = inside.total } in
     let new : TryValue = record { job = inside.job; lines = left; moment = now; total = inside.total } in (
-      rests,
-      subst (λ (t : TryValue). GoesOn (Turned c.args.now rests ∷ Woken 0 ∷ []) t new) c.self.view_is
-          (tried_turned c.args.now rests old new woken.lines turned.lines c.max-self-inside.ensures c.wake.ensures.went c.wake.ensures.stays
-          (subst (λ (s : ℕ). LinesWent (TurnsSlot s now rests ∷ []) woken.lines turned.lines) woke c.turn.ensures.went)
-          (subst (λ (s : ℕ). SlotTells s now rests woken.lines turned.lines) woke c.turn.ensures.tells) c.let_out_slot.ensures.went
+      visits_at inside.lines.slot now woken.lines,
+      subst (λ (t : TryValue). GoesOn (Turned c.args.now (visits_at inside.lines.slot now woken.lines) ∷ Woken 0 ∷ []) t new) c.self.view_is
+          (tried_turned c.args.now old new woken.lines turned.lines c.max-self-inside.ensures c.wake.ensures.went c.wake.ensures.stays c.wake.ensures.woken
+          (subst (λ (s : ℕ). LinesWent (VisitsLines (visits_at s now woken.lines) ∷ []) woken.lines turned.lines) woke c.turn.ensures.went)
+          (subst (λ (s : ℕ). VisitsTell (visits_at s now woken.lines) woken.lines turned.lines) woke c.turn.ensures.tells) c.turn.ensures.waits c.let_out_slot.ensures.went
           (subst (λ (s : ℕ). LetsOutSlot s turned.lines left.lines) (ap slot_before c.turn.ensures.slot ∙ (slot_back woken.slot ∙ woke)) c.let_out_slot.ensures.ends)
-          (c.let_out_slot.ensures.slot ∙ (c.turn.ensures.slot ∙ ap slot_after woke))),
+          c.let_out_slot.ensures.waits (c.let_out_slot.ensures.slot ∙ (c.turn.ensures.slot ∙ ap slot_after woke))),
     )
