@@ -23,12 +23,15 @@ def run(*a, **k):
     while True:
         words = crate.words(["--jobs", "1", *[x for p in paths for x in ("--only", p)]], keeps=False)
         done = REAL([*(m.rtlib.guarded() or []), m.rtlib.RATTLE, "check", *words], cwd=folder, stdin=subprocess.DEVNULL, stdout=subprocess.PIPE, stderr=subprocess.STDOUT, errors="replace", check=False)
-        # a method of a trait, or of some instances of a type alone, has a longer name: its own is the end of that
+        # a method that stands in another file than its type has that one's name; one of a trait, or of some instances of a type alone,
+        # has a longer name, whose end is its own; one that a trait only names has none
         said = done.stdout if isinstance(done.stdout, str) else done.stdout.decode(errors="replace")
-        lacks = re.search(r"has no function `([^`]*::)([^`]*)`", said)
+        lacks = re.search(r"has no function `([^`]*)`", said)
         several = re.search(r"several functions are named `([^`]*)`: help: write one of (.*)", said)
-        if lacks and lacks.group(1) + lacks.group(2) in paths:
-            paths[paths.index(lacks.group(1) + lacks.group(2))] = lacks.group(2)
+        if lacks and lacks.group(1) in paths and len(paths) + lacks.group(1).count("::") > 1:
+            parts = lacks.group(1).split("::")
+            paths[paths.index(lacks.group(1))] = "::".join(parts[-2:] if len(parts) > 2 else parts[1:])
+            paths[:] = [p for p in paths if p]
         elif several and several.group(1) in paths:
             paths[:] = [p for p in paths if p != several.group(1)] + re.findall(r"`([^`]*)`", several.group(2))
         else:
