@@ -13,7 +13,7 @@ use Rattle.fax_wires.specs.holding.Storing.{HasDone, HoldsAfter, LegAction, Turn
 use Rattle.fax_line.specs.declared.settling.PageToStore.{PageToStore}
 use Rattle.fax_line.specs.Actions.{LineValue}
 use Rattle.fax_line.specs.Places.{PlaceValue}
-use Rattle.fax_line.specs.Operations.{EachComes, waits_of}
+use Rattle.fax_line.specs.Operations.{AwakeAlike, EachComes, WaitAlike, waits_of}
 use Rattle.fax_line.specs.Settling.{EndsTurn, EndsWhere, HandsOver, IsOfTurn, IsPageOf, SetsAsideIf, WaitsOrEnds, has_page, is_of, is_to_store, was_turned}
 
 -- by what ends the turn of its wire
@@ -181,38 +181,45 @@ still_first comes at olds lines here before = record {
   to_come = λ i d far. before.to_come i d (omega arith);
 }
 
--- ---- who waits
+-- ---- who waits, and who is awake
 
 abbrev pub alike : ℕ → PlaceValue → PlaceValue → Type 0
-alike number before after = after.waits ≡ before.waits
+alike number before after = (after.waits ≡ before.waits) × (after.awake ≡ before.awake)
 
 pub alike_on :
-    (at : ℕ) (olds lines : List PlaceValue) (old new : PlaceValue) → at < length lines → ((d : PlaceValue) → old ≡ slice_index_or lines at d) → new.waits ≡ old.waits
+    (at : ℕ) (olds lines : List PlaceValue) (old new : PlaceValue) → at < length lines → ((d : PlaceValue) → old ≡ slice_index_or lines at d) → alike at old new
     → Firsts alike at olds lines → Firsts alike (at + 1) olds (slice_set lines at new)
 alike_on at olds lines old new inside was same before =
     next_first alike at olds lines new inside before (λ d. subst (λ (p : PlaceValue). alike at p new) (was d ∙ before.to_come at d (omega arith)) same)
 
 pub alike_off : (at : ℕ) (olds lines : List PlaceValue) → Firsts alike at olds lines → Firsts alike (at + 1) olds lines
-alike_off at olds lines before = still_first alike at olds lines (λ d. refl) before
+alike_off at olds lines before = still_first alike at olds lines (λ d. (refl, refl)) before
 
-pub alike_more : (olds mids news : List PlaceValue) → EachComes alike olds mids → EachComes alike mids news → EachComes alike olds news
-alike_more olds mids news first then = record {
+pub comes_more : (flag : PlaceValue → Bool) (olds mids news : List PlaceValue) → EachComes (λ number before after. flag after ≡ flag before) olds mids
+    → EachComes (λ number before after. flag after ≡ flag before) mids news → EachComes (λ number before after. flag after ≡ flag before) olds news
+comes_more flag olds mids news first then = record {
   as_many = then.as_many ∙ first.as_many;
   each = λ i d there. then.each i d (omega (arith, there, first.as_many)) ∙ first.each i d there;
 }
 
-alike_passes : (slot round : ℕ) → PassesOver alike slot round
-alike_passes slot round i place far off = refl
+pub alike_waits : (olds news : List PlaceValue) → EachComes alike olds news → WaitAlike olds news
+alike_waits olds news come = record { as_many = come.as_many; each = λ i d there. (come.each i d there).0 }
+
+pub alike_awake : (olds news : List PlaceValue) → EachComes alike olds news → AwakeAlike olds news
+alike_awake olds news come = record { as_many = come.as_many; each = λ i d there. (come.each i d there).1 }
+
+pub alike_passes : (slot round : ℕ) → PassesOver alike slot round
+alike_passes slot round i place far off = (refl, refl)
 
 pub alike_round :
     (slot round at : ℕ) (olds lines : List PlaceValue) (old new : PlaceValue) → at ≡ round * 40 + slot → slot < 40 → at < length lines
-    → ((d : PlaceValue) → old ≡ slice_index_or lines at d) → new.waits ≡ old.waits → Rounds alike round olds lines → Rounds alike (round + 1) olds (slice_set lines at new)
+    → ((d : PlaceValue) → old ≡ slice_index_or lines at d) → alike at old new → Rounds alike round olds lines → Rounds alike (round + 1) olds (slice_set lines at new)
 alike_round slot round at olds lines old new is low inside was same before =
     on_round alike slot round at olds lines new is low inside (alike_passes slot round) before
     (λ d. subst (λ (p : PlaceValue). alike at p new) (was d ∙ before.to_come at d (omega (arith, is))) same)
 
 pub alike_still : (slot round at : ℕ) (olds lines : List PlaceValue) → at ≡ round * 40 + slot → Rounds alike round olds lines → Rounds alike (round + 1) olds lines
-alike_still slot round at olds lines is before = still_round alike slot round at olds lines is (alike_passes slot round) (λ d. refl) before
+alike_still slot round at olds lines is before = still_round alike slot round at olds lines is (alike_passes slot round) (λ d. (refl, refl)) before
 
 abbrev pub freed : ℕ → PlaceValue → PlaceValue → Type 0
 freed number before after = after ≡ record before { waits = false }

@@ -4,8 +4,8 @@ use Rattle.std.proofs.lemmas.Bool.{eqb-false, eqb-true, ne_eqb}
 use Rattle.std.proofs.lemmas.Grind.{get_or-set_at}
 use Rattle.std.proofs.lemmas.List.{get_or-map, get_or-set_other, length-set}
 use Rattle.fax_wires.proofs.holding.Held.{stays_more, stays_same}
-use Rattle.fax_line.specs.Operations.{AllWaitStill, EachComes, VisitsTell, rests_at, visits_at, waits_of}
-use Rattle.fax_line.specs.Places.{GoesInPlace, Passes, PlaceValue, StaysHeld, TellsVisit, Visit, WaitsStill, actions_by, is_at_rest, visit_at}
+use Rattle.fax_line.specs.Operations.{AllWaitStill, AwakeAfter, AwakeAlike, EachComes, VisitsTell, rests_at, visits_at, waits_of}
+use Rattle.fax_line.specs.Places.{GoesInPlace, IsAwakeAfter, Passes, PlaceValue, StaysHeld, TellsVisit, Visit, WaitsStill, actions_by, is_at_rest, visit_at}
 use Rattle.fax_line.proofs.Places.{place_none}
 use Rattle.fax_line.proofs.Slots.{PassesOver, Rounds, of_slot, on_round, waits_is}
 
@@ -23,9 +23,10 @@ pub record Visited (visit : Visit) (old new : PlaceValue) : Type 0 where
   pub goes : GoesInPlace (actions_by visit) old new
   pub tells : TellsVisit visit old new
   pub waits : WaitsStill old new
+  pub awake : IsAwakeAfter (actions_by visit) old new
 
 passed : (place : PlaceValue) → Visited Passes place place
-passed place = record { goes = place_none place; tells = still_held place; waits = (refl, λ is. refl) }
+passed place = record { goes = place_none place; tells = still_held place; waits = (refl, λ is. refl); awake = refl }
 
 -- in the turn of a slot, whose lines were so before it
 abbrev pub visits_if : ℕ → ℕ → List PlaceValue → ℕ → PlaceValue → PlaceValue → Type 0
@@ -107,6 +108,16 @@ pub waits_still :
 waits_still across olds mids news first then = record {
   as_many = then.as_many ∙ first.as_many;
   each = λ i d there. waits_more (slice_index_or olds i d) (slice_index_or mids i d) (slice_index_or news i d) (first.each i d there) (then.each i d (omega (arith, first.as_many))).1.1;
+}
+
+-- and who is awake
+awake_so : (visit : Visit) (old mid new : PlaceValue) → IsAwakeAfter (actions_by visit) old mid → new.awake ≡ mid.awake → IsAwakeAfter (actions_by visit) old new
+awake_so visit old mid new first then = then ∙ first
+
+pub awake_still : (visits : ℕ → Visit) (olds mids news : List PlaceValue) → AwakeAfter visits olds mids → AwakeAlike mids news → AwakeAfter visits olds news
+awake_still visits olds mids news first then = record {
+  as_many = then.as_many ∙ first.as_many;
+  each = λ i d there. awake_so (visits i) (slice_index_or olds i d) (slice_index_or mids i d) (slice_index_or news i d) (first.each i d there) (then.each i d (omega (arith, first.as_many)));
 }
 
 -- ---- one line alone

@@ -6,7 +6,7 @@ use Rattle.fax_line.specs.declared.asked.LineAnswer.{LineAnswer}
 use Rattle.fax_line.specs.declared.asked.LineRequest.{LineRequest}
 use Rattle.fax_line.specs.Actions.{Action, Asks, Frees, LineValue, Rests, Turns, Wakes, leg_begun}
 use Rattle.fax_line.specs.LegPeers.{peers_after}
-use Rattle.fax_line.specs.Places.{GoesInPlace, IsBegun, IsNewPlace, PlaceValue, StaysHeld, TellsVisit, Visit, WaitsStill, actions_by, is_at_rest, visit_at}
+use Rattle.fax_line.specs.Places.{GoesInPlace, IsAwakeAfter, IsBegun, IsNewPlace, PlaceValue, StaysHeld, TellsVisit, Visit, WaitsStill, actions_by, is_at_rest, visit_at}
 
 -- the lines, in the order in which they were added, and the slot that has the next turn
 pub record LinesValue : Type 0 where
@@ -89,6 +89,14 @@ AllWaitStill old new = EachComes (λ number. WaitsStill) old new
 -- the same lines wait
 abbrev pub WaitAlike : List PlaceValue → List PlaceValue → Type 0
 WaitAlike old new = EachComes (λ number before after. after.waits ≡ before.waits) old new
+
+-- the same lines are awake
+abbrev pub AwakeAlike : List PlaceValue → List PlaceValue → Type 0
+AwakeAlike old new = EachComes (λ number before after. after.awake ≡ before.awake) old new
+
+-- After these visits a line is awake that was, and was not turned.
+abbrev pub AwakeAfter : (ℕ → Visit) → List PlaceValue → List PlaceValue → Type 0
+AwakeAfter visits old new = EachComes (λ number. IsAwakeAfter (actions_by (visits number))) old new
 
 -- none waits
 abbrev pub AreFree : List PlaceValue → Type 0

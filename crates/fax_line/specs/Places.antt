@@ -93,7 +93,12 @@ RestsAsleep before (Rests now ∷ earlier) =
 RestsAsleep before (Asks now what answer ∷ earlier) = RestsAsleep before earlier
 RestsAsleep before (Wakes ∷ earlier) = RestsAsleep before earlier
 
--- By these actions a line came from the one state to the other, in its place: it is awake where it was woken and not turned since.
+-- These actions were all that was done: it is awake where it was woken and not turned since.
+abbrev pub IsAwakeAfter : List Action → PlaceValue → PlaceValue → Type 0
+IsAwakeAfter actions old new = new.awake ≡ is_awake old.awake actions
+
+-- By these actions a line came from the one state to the other, in its place: where it is not awake, it was not woken since it was turned
+-- last. It may have been woken besides, since one that waits is so before its turn is recorded.
 pub record GoesInPlace (actions : List Action) (old new : PlaceValue) : Type 0 where
   pub goes : Goes actions old.line new.line
   pub awake : new.awake ≡ false → is_awake old.awake actions ≡ false

@@ -113,7 +113,8 @@ abbrev pub SetsAsideIf : (was_turned waits is_to_store : Bool) → PlaceValue �
 SetsAsideIf false waits to_store old new = new ≡ old
 SetsAsideIf true true to_store old new = new ≡ old
 SetsAsideIf true false true old new = new ≡ record old { waits = true }
-SetsAsideIf true false false old new = EndsWhere true false old new × (new.waits ≡ false)
+SetsAsideIf true false false old new =
+    EndsWhere true false old new × (new.waits ≡ false) × (new.awake ≡ old.awake)
 
 abbrev pub SetAside : ℕ → List PlaceValue → List PlaceValue → Type 0
 SetAside slot old new = EachComes (λ number place. SetsAsideIf (was_turned slot number place)

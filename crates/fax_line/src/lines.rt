@@ -5,7 +5,7 @@ ghost use Rattle.fax_gateway.specs.Restored.{RestoredCall};
 ghost use Rattle.fax_wires.specs.holding.Storing.{PutsIf};
 ghost use Rattle.fax_line.specs.Actions.{Asks, BeginsWith, IsNew, Wakes};
 ghost use Rattle.fax_line.specs.Places.{StaysHeld, WaitsStill, actions_by};
-ghost use Rattle.fax_line.specs.Operations.{AllStayHeld, AllWaitStill, AreBegun, AreFreed, AreNew, AskFrees, AsksLine, EachComes, EachGoes, IsAdded, IsLineAt, LinesWent, VisitsLines, VisitsTell, WaitAlike, WakesLine, WakesOne, have_turned, most_slots, rests_at, slot_after, slot_before, slot_of, visits_at, waits_of};
+ghost use Rattle.fax_line.specs.Operations.{AllStayHeld, AllWaitStill, AreBegun, AreFreed, AreNew, AskFrees, AsksLine, AwakeAfter, AwakeAlike, EachComes, EachGoes, IsAdded, IsLineAt, LinesWent, VisitsLines, VisitsTell, WaitAlike, WakesLine, WakesOne, have_turned, most_slots, rests_at, slot_after, slot_before, slot_of, visits_at, waits_of};
 ghost use Rattle.fax_line.specs.StoredRuns.{EndsIf, NotesIf, TellsLine, TellsLines, TellsWhere};
 ghost use Rattle.fax_line.specs.Settling.{ArePagesOf, EndTurns, EndsWhere, HandOver, LetsOutSlot, SetAside, has_page, is_stored_in};
 ghost use Rattle.fax_line.specs.declared.settling.PageToStore.{PageToStore as ToStore};
@@ -159,6 +159,8 @@ impl<W: LineWire + Drop> Lines<W> {
         ensures tells { VisitsTell
             (visits_at self.old.slot now self.old.lines) self.old.lines self.new.lines }
         ensures waits { AllWaitStill self.old.lines self.new.lines }
+        ensures awake { AwakeAfter
+            (visits_at self.old.slot now self.old.lines) self.old.lines self.new.lines }
         ensures slot { self.new.slot ≡ slot_after self.old.slot }
     {
         serve_slot(self.places.as_mut_slice(), &mut self.buffer, self.slot, now);
@@ -170,6 +172,7 @@ impl<W: LineWire + Drop> Lines<W> {
         ensures went { LinesWent (AsksLine i now what result ∷ []) self.old.lines self.new.lines }
         ensures frees { AskFrees i what result self.old.lines self.new.lines }
         ensures waits { WaitAlike self.old.lines self.new.lines }
+        ensures awake { AwakeAlike self.old.lines self.new.lines }
         ensures there { IsSome result ↔ (i < length self.old.lines) }
         ensures slot { self.new.slot ≡ self.old.slot }
     {
@@ -216,6 +219,7 @@ impl<W: TimedWire + Drop> Lines<HoldingWire<W>> {
         ensures went { LinesWent [] self.old.lines self.new.lines }
         ensures slot { self.new.slot ≡ self.old.slot }
         ensures waits { WaitAlike self.old.lines self.new.lines }
+        ensures awake { AwakeAlike self.old.lines self.new.lines }
         ensures pages { ArePagesOf (waits_of self.old.lines) self.old.lines result.pages.items }
         ensures kept { OnOk result.answer ((before : List ToStore)
             → K.keeps store.old before → K.keeps store.new (before ++ result.pages.items)) }
@@ -241,6 +245,7 @@ impl<W: TimedWire + Drop> Lines<HoldingWire<W>> {
         ensures ends { LetsOutSlot (slot_before self.old.slot) self.old.lines self.new.lines }
         ensures went { LinesWent [] self.old.lines self.new.lines }
         ensures waits { WaitAlike self.old.lines self.new.lines }
+        ensures awake { AwakeAlike self.old.lines self.new.lines }
         ensures slot { self.new.slot ≡ self.old.slot }
     {
         let slot = slot_before(self.slot);
@@ -287,6 +292,7 @@ fn serve_slot<W: LineWire + Drop>(
         places.old places.new }
     ensures tells { VisitsTell (visits_at slot now places.old) places.old places.new }
     ensures waits { AllWaitStill places.old places.new }
+    ensures awake { AwakeAfter (visits_at slot now places.old) places.old places.new }
 {
     turn_slot(places, buffer, slot, now);
     tell_slot(places, slot_across(slot), now);
@@ -304,6 +310,7 @@ fn turn_slot<W: LineWire + Drop>(
         places.old places.new }
     ensures tells { VisitsTell (visits_at slot now places.old) places.old places.new }
     ensures waits { AllWaitStill places.old places.new }
+    ensures awake { AwakeAfter (visits_at slot now places.old) places.old places.new }
 {
     let rounds = places.len() / SLOTS + 1;
     for round in 0..rounds {
@@ -320,6 +327,7 @@ fn tell_slot<W: LineWire + Drop>(places: &mut [Place<W>], slot: usize, now: u64)
     ensures goes { EachGoes (λ i. []) places.old places.new }
     ensures others { EachComes (λ i before after. (nat_eq (slot_of i) slot ≡ false → after ≡ before)
         × (StaysHeld before after × WaitsStill before after)) places.old places.new }
+    ensures awake { AwakeAlike places.old places.new }
 {
     let rounds = places.len() / SLOTS + 1;
     for round in 0..rounds {
@@ -341,6 +349,7 @@ fn ask_one<W: LineWire + Drop>(
         (λ line. if nat_eq line i then Asks now what result ∷ [] else []) places.old places.new }
     ensures frees { AskFrees i what result places.old places.new }
     ensures waits { WaitAlike places.old places.new }
+    ensures awake { AwakeAlike places.old places.new }
     ensures there { IsSome result ↔ (i < length places.old) }
 {
     if i >= places.len() {
@@ -384,6 +393,7 @@ fn settle_places<K: PageStore<PageToStore>, W: TimedWire + Drop>(
 ) -> SlotEnd
     ensures went { EachGoes (λ i. []) places.old places.new }
     ensures waits { WaitAlike places.old places.new }
+    ensures awake { AwakeAlike places.old places.new }
     ensures pages { ArePagesOf (waits_of places.old) places.old result.pages.items }
     ensures kept { OnOk result.answer ((before : List ToStore)
         → K.keeps store.old before → K.keeps store.new (before ++ result.pages.items)) }
@@ -405,6 +415,7 @@ fn hand_over_all<W: TimedWire + Drop>(
 ) -> Vec<PageToStore>
     ensures went { EachGoes (λ i. []) places.old places.new }
     ensures waits { WaitAlike places.old places.new }
+    ensures awake { AwakeAlike places.old places.new }
     ensures pages { ArePagesOf (waits_of places.old) places.old result.items }
     ensures hands { HandOver (waits_of places.old) result.items places.old places.new }
 {
@@ -423,6 +434,7 @@ fn end_turns<W: TimedWire + Drop>(
 )
     ensures went { EachGoes (λ i. []) places.old places.new }
     ensures waits { WaitAlike places.old places.new }
+    ensures awake { AwakeAlike places.old places.new }
     ensures ends { EachComes
         (λ i. EndsWhere (has_page pages.now i) is_stored) places.old places.new }
 {
@@ -449,6 +461,7 @@ fn let_out_places<W: TimedWire + Drop>(places: &mut [Place<HoldingWire<W>>], slo
     ensures goes { EachGoes (λ i. []) places.old places.new }
     ensures ends { LetsOutSlot slot places.old places.new }
     ensures waits { WaitAlike places.old places.new }
+    ensures awake { AwakeAlike places.old places.new }
 {
     let rounds = places.len() / SLOTS + 1;
     for round in 0..rounds {

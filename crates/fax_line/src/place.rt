@@ -5,7 +5,7 @@ ghost use Rattle.fax_gateway.specs.Restored.{RestoredCall};
 ghost use Rattle.fax_wires.specs.holding.Holding.{IsToldTimeWhere};
 ghost use Rattle.fax_line.specs.Actions.{Asks, BeginsWith, Frees, Wakes, leg_begun};
 ghost use Rattle.fax_line.specs.LegPeers.{peers_after};
-ghost use Rattle.fax_line.specs.Places.{BeginsInPlace, GoesInPlace, StaysHeld, TellsOrRests, TellsVisit, WaitsStill, actions_by, is_at_rest, visit_at, visit_of};
+ghost use Rattle.fax_line.specs.Places.{BeginsInPlace, GoesInPlace, IsAwakeAfter, StaysHeld, TellsOrRests, TellsVisit, WaitsStill, actions_by, is_at_rest, visit_at, visit_of};
 ghost use Rattle.fax_line.specs.Settling.{EndsTurn, HandsOver, SetsAsideIf, is_to_store};
 
 use crate::asked::{LineAnswer, LineRequest};
@@ -115,6 +115,9 @@ impl<W: LineWire + Drop> Place<W> {
         ensures tells { TellsVisit
             (visit_at true self.old.waits (is_at_rest now self.old) now) self.old self.new }
         ensures waits { WaitsStill self.old self.new }
+        ensures awake { IsAwakeAfter
+            (actions_by (visit_at true self.old.waits (is_at_rest now self.old) now))
+            self.old self.new }
     {
         if !self.waits {
             self.turn_or_rest(buffer, now);
@@ -128,6 +131,8 @@ impl<W: LineWire + Drop> Place<W> {
         ensures tells { TellsOrRests now (is_at_rest now self.old) self.old self.new }
         ensures rests { is_at_rest now self.old ≡ true → self.new.line ≡ self.old.line }
         ensures waits { self.new.waits ≡ self.old.waits }
+        ensures awake { IsAwakeAfter
+            (visit_of now (is_at_rest now self.old) ∷ []) self.old self.new }
     {
         if self.is_at_rest(now) {
             self.has_turned = false;
@@ -145,6 +150,7 @@ impl<W: LineWire + Drop> Place<W> {
         ensures time { self.old.waits ≡ false → is_due self.old.due now ≡ true
             → IsToldTimeWhere now self.old.line.holding self.new.line.holding }
         ensures waits { WaitsStill self.old self.new }
+        ensures awake { self.new.awake ≡ self.old.awake }
         ensures stays { StaysHeld self.old self.new }
         ensures turned { self.new.turned ≡ self.old.turned }
     {
@@ -162,6 +168,7 @@ impl<W: LineWire + Drop> Place<W> {
         ensures peers { self.new.line.peers ≡ peers_after what (Some result) self.old.line.peers }
         ensures turned { self.new.turned ≡ self.old.turned }
         ensures waits { self.new.waits ≡ self.old.waits }
+        ensures awake { self.new.awake ≡ self.old.awake }
     {
         let answer = self.line.ask(what, now);
         self.due = self.line.next_due();
@@ -208,6 +215,7 @@ impl<W: TimedWire + Drop> Place<HoldingWire<W>> {
     pub fn hand_over(&mut self, alloc: Global, number: usize, pages: &mut Vec<PageToStore>)
         ensures goes { GoesInPlace [] self.old self.new }
         ensures waits { self.new.waits ≡ self.old.waits }
+        ensures awake { self.new.awake ≡ self.old.awake }
         ensures hands { HandsOver self.old.waits
             number self.old self.new pages.old.items pages.new.items }
     {
@@ -228,6 +236,7 @@ impl<W: TimedWire + Drop> Place<HoldingWire<W>> {
         ensures goes { GoesInPlace [] self.old self.new }
         ensures turned { self.new.turned ≡ self.old.turned }
         ensures waits { self.new.waits ≡ self.old.waits }
+        ensures awake { self.new.awake ≡ self.old.awake }
     {
         self.line.end_turn(is_stored);
         self.due = self.line.next_due();
@@ -239,6 +248,7 @@ impl<W: TimedWire + Drop> Place<HoldingWire<W>> {
         ensures goes { GoesInPlace [] self.old self.new }
         ensures turned { self.new.turned ≡ self.old.turned }
         ensures waits { self.new.waits ≡ self.old.waits }
+        ensures awake { self.new.awake ≡ self.old.awake }
     {
         self.line.let_out();
         self.due = self.line.next_due();

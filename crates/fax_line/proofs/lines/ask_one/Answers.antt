@@ -42,6 +42,15 @@ returns-clause-frees g c =
 pub returns-then-i-places-clause-waits : goal.returns-then-i-places-clause-waits
 returns-then-i-places-clause-waits g c = all_come (λ number before after. after.waits ≡ before.waits) c.args.places.now (λ number place. refl)
 
+pub returns-then-i-places-clause-awake : goal.returns-then-i-places-clause-awake
+returns-then-i-places-clause-awake g c = all_come (λ number before after. after.awake ≡ before.awake) c.args.places.now (λ number place. refl)
+
+pub returns-clause-awake : goal.returns-clause-awake
+returns-clause-awake g c =
+    one_comes (λ number before after. after.awake ≡ before.awake) c.args.i c.args.places.now c.ask.new.self c.if-i-places.false
+    (λ d. subst (λ (l : PlaceValue). c.ask.new.self.awake ≡ l.awake) (get_or_default c.args.places.now c.args.i c.index-places-i.result d c.if-i-places.false) c.ask.ensures.awake)
+    (λ number place other. refl)
+
 pub returns-clause-waits : goal.returns-clause-waits
 returns-clause-waits g c =
     one_comes (λ number before after. after.waits ≡ before.waits) c.args.i c.args.places.now c.ask.new.self c.if-i-places.false

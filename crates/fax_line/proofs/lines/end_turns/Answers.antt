@@ -2,7 +2,7 @@ use Rattle.std.proofs.Common.{◌≡◌, ◌+◌, ◌∙◌, [], List, slice_ind
 use Rattle.std.proofs.lemmas.List.{get_or_default}
 use Rattle.fax_line.specs.Operations.{EachGoes}
 use Rattle.fax_line.specs.Places.{GoesInPlace, PlaceValue}
-use Rattle.fax_line.proofs.Slots.{Firsts, alike, alike_off, alike_on, all_firsts, ends_if, ends_off, ends_on, no_firsts}
+use Rattle.fax_line.proofs.Slots.{Firsts, alike, alike_awake, alike_off, alike_on, alike_waits, all_firsts, ends_if, ends_off, ends_on, no_firsts}
 use Rattle.fax_line.proofs.Stepping.{each_none, told_on}
 use Rattle.fax_line.proofs.lines.end_turns.Goals as goal
 use Rattle.fax_line.proofs.lines.end_turns.Goals.{then-has_page, else-has_page}
@@ -28,7 +28,7 @@ loop-i-preserved g c =
           subst (λ (l : List PlaceValue). EachGoes (λ i. []) olds l × Firsts (ends_if pages is_stored) (at + 1) olds l × Firsts alike (at + 1) olds l) (sym w.places-is) (
             told_on at olds places new inside (λ d. subst (λ (l : PlaceValue). GoesInPlace [] l new) (is_old d) w.end_turn.ensures.goes) before.0,
             ends_on at olds places old new pages is_stored inside is_old before.1 (sym c.has_page.ensures ∙ w.if-has_page.true) (w.end_turn.ensures.ends, w.end_turn.ensures.turned),
-            alike_on at olds places old new inside is_old w.end_turn.ensures.waits before.2,
+            alike_on at olds places old new inside is_old (w.end_turn.ensures.waits, w.end_turn.ensures.awake) before.2,
           )
       | else-has_page w ↦
           subst (λ (l : List PlaceValue). EachGoes (λ i. []) olds l × Firsts (ends_if pages is_stored) (at + 1) olds l × Firsts alike (at + 1) olds l) (sym w.places-is)
@@ -39,4 +39,9 @@ pub returns-clause-ends : goal.returns-clause-ends
 returns-clause-ends g c = all_firsts (ends_if c.args.pages.now c.args.is_stored) c.loop-i.i c.args.places.now c.loop-i.places (omega arith) c.loop-i.invariant.1
 
 pub returns-clause-waits : goal.returns-clause-waits
-returns-clause-waits g c = all_firsts alike c.loop-i.i c.args.places.now c.loop-i.places (omega arith) c.loop-i.invariant.2
+returns-clause-waits g c =
+    alike_waits c.args.places.now c.loop-i.places (all_firsts alike c.loop-i.i c.args.places.now c.loop-i.places (omega arith) c.loop-i.invariant.2)
+
+pub returns-clause-awake : goal.returns-clause-awake
+returns-clause-awake g c =
+    alike_awake c.args.places.now c.loop-i.places (all_firsts alike c.loop-i.i c.args.places.now c.loop-i.places (omega arith) c.loop-i.invariant.2)

@@ -2,7 +2,7 @@ use Rattle.std.proofs.Common.{◌≡◌, ◌+◌, ◌*◌, ◌∙◌, [], List, 
 use Rattle.std.proofs.lemmas.List.{get_or_default}
 use Rattle.fax_line.specs.Operations.{EachGoes}
 use Rattle.fax_line.specs.Places.{GoesInPlace, PlaceValue}
-use Rattle.fax_line.proofs.Slots.{Rounds, alike, alike_round, alike_still, all_rounds, no_rounds, off_round, out_if, out_off, out_on, out_passes}
+use Rattle.fax_line.proofs.Slots.{Rounds, alike, alike_awake, alike_round, alike_still, alike_waits, all_rounds, no_rounds, off_round, out_if, out_off, out_on, out_passes}
 use Rattle.fax_line.proofs.Stepping.{each_none, told_on}
 use Rattle.fax_line.proofs.lines.let_out_places.Goals as goal
 use Rattle.fax_line.proofs.lines.let_out_places.Goals.{then-i-places+then-has_turned, else-i-places, else-i-places-via-then-i-places+else-has_turned, else-i-places-via-else-i-places}
@@ -26,7 +26,7 @@ loop-round-preserved g c =
           subst (λ (l : List PlaceValue). EachGoes (λ i. []) olds l × Rounds (out_if slot) (round + 1) olds l × Rounds alike (round + 1) olds l) (sym w.places-is) (
             told_on at olds places new w.if-i-places.true (λ d. subst (λ (l : PlaceValue). GoesInPlace [] l new) (is_old d) w.let_out.ensures.goes) before.0,
             out_on slot round at olds places old new refl c.requires w.if-i-places.true is_old before.1 (ap (λ (p : PlaceValue). p.turned) (is_old w.index-places-i.result) ∙ (sym w.has_turned.ensures ∙ w.if-has_turned.true)) (w.let_out.ensures.ends, w.let_out.ensures.turned),
-            alike_round slot round at olds places old new refl c.requires w.if-i-places.true is_old w.let_out.ensures.waits before.2,
+            alike_round slot round at olds places old new refl c.requires w.if-i-places.true is_old (w.let_out.ensures.waits, w.let_out.ensures.awake) before.2,
           )
       | else-i-places w ↦
           subst (λ (l : List PlaceValue). EachGoes (λ i. []) olds l × Rounds (out_if slot) (round + 1) olds l × Rounds alike (round + 1) olds l) (sym w.places-is) (
@@ -45,4 +45,9 @@ pub returns-clause-ends : goal.returns-clause-ends
 returns-clause-ends g c = all_rounds (out_if c.args.slot) c.loop-round.round c.args.places.now c.loop-round.places (omega arith) c.loop-round.invariant.1
 
 pub returns-clause-waits : goal.returns-clause-waits
-returns-clause-waits g c = all_rounds alike c.loop-round.round c.args.places.now c.loop-round.places (omega arith) c.loop-round.invariant.2
+returns-clause-waits g c =
+    alike_waits c.args.places.now c.loop-round.places (all_rounds alike c.loop-round.round c.args.places.now c.loop-round.places (omega arith) c.loop-round.invariant.2)
+
+pub returns-clause-awake : goal.returns-clause-awake
+returns-clause-awake g c =
+    alike_awake c.args.places.now c.loop-round.places (all_rounds alike c.loop-round.round c.args.places.now c.loop-round.places (omega arith) c.loop-round.invariant.2)

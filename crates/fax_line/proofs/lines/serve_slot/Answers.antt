@@ -2,7 +2,7 @@ use Rattle.std.proofs.Common.{[], ◌++◌}
 use Rattle.fax_line.specs.Operations.{visits_at}
 use Rattle.fax_line.specs.Places.{actions_by}
 use Rattle.fax_line.proofs.Stepping.{actions_nil, each_more, each_with}
-use Rattle.fax_line.proofs.Turning.{tells_still, waits_still}
+use Rattle.fax_line.proofs.Turning.{awake_still, tells_still, waits_still}
 use Rattle.fax_line.proofs.lines.serve_slot.Goals as goal
 use Rattle.std.proofs.Common.{sym}
 
@@ -20,3 +20,7 @@ returns-clause-tells g c =
 pub returns-clause-waits : goal.returns-clause-waits
 returns-clause-waits g c =
     waits_still c.slot_across.result c.args.places.now c.turn_slot.new.places c.tell_slot.new.places c.turn_slot.ensures.waits c.tell_slot.ensures.others
+
+pub returns-clause-awake : goal.returns-clause-awake
+returns-clause-awake g c =
+    awake_still (visits_at c.args.slot c.args.now c.args.places.now) c.args.places.now c.turn_slot.new.places c.tell_slot.new.places c.turn_slot.ensures.awake c.tell_slot.ensures.awake

@@ -1,7 +1,7 @@
 use Rattle.std.proofs.Common.{Bool, [], List, is_ok, subst}
 use Rattle.fax_line.specs.declared.settling.PageToStore.{PageToStore}
 use Rattle.fax_line.specs.Operations.{EachComes}
-use Rattle.fax_line.proofs.Slots.{alike_more, ends_if, turns_end}
+use Rattle.fax_line.proofs.Slots.{comes_more, ends_if, turns_end}
 use Rattle.fax_line.proofs.Stepping.{each_more}
 use Rattle.fax_line.proofs.lines.settle_places.Goals as goal
 
@@ -9,7 +9,10 @@ pub returns-clause-went : goal.returns-clause-went
 returns-clause-went g c = each_more (λ i. []) (λ i. []) c.args.places.now c.hand_over_all-pages.new.places c.end_turns.new.places c.hand_over_all-pages.ensures.went c.end_turns.ensures.went
 
 pub returns-clause-waits : goal.returns-clause-waits
-returns-clause-waits g c = alike_more c.args.places.now c.hand_over_all-pages.new.places c.end_turns.new.places c.hand_over_all-pages.ensures.waits c.end_turns.ensures.waits
+returns-clause-waits g c = comes_more (λ p. p.waits) c.args.places.now c.hand_over_all-pages.new.places c.end_turns.new.places c.hand_over_all-pages.ensures.waits c.end_turns.ensures.waits
+
+pub returns-clause-awake : goal.returns-clause-awake
+returns-clause-awake g c = comes_more (λ p. p.awake) c.args.places.now c.hand_over_all-pages.new.places c.end_turns.new.places c.hand_over_all-pages.ensures.awake c.end_turns.ensures.awake
 
 pub returns-clause-settled : goal.returns-clause-settled
 returns-clause-settled g c =

@@ -1,7 +1,7 @@
 use Rattle.std.proofs.Common.{◌+◌, ◌*◌, slice_index_or, List, refl, sym, subst, arith}
 use Rattle.std.proofs.lemmas.List.{get_or_default}
 use Rattle.fax_line.specs.Operations.{EachComes, visits_at}
-use Rattle.fax_line.specs.Places.{PlaceValue, TellsVisit, WaitsStill, actions_by}
+use Rattle.fax_line.specs.Places.{IsAwakeAfter, PlaceValue, TellsVisit, WaitsStill, actions_by}
 use Rattle.fax_line.proofs.Slots.{Rounds, all_rounds, no_rounds, off_round}
 use Rattle.fax_line.proofs.Stepping.{comes_of, goes_of}
 use Rattle.fax_line.proofs.Turning.{visits_if, visits_on, visits_passes}
@@ -25,7 +25,7 @@ loop-round-preserved g c =
           let new = w.visit.new.self in
           subst (λ (l : List PlaceValue). Rounds (visits_if slot now olds) (round + 1) olds l) (sym w.places-is)
           (visits_on slot round at now olds places old new refl c.requires w.if-i-places.true (λ d. get_or_default places at w.index-places-i.result d w.if-i-places.true) c.loop-round.invariant
-          (record { goes = w.visit.ensures.goes; tells = w.visit.ensures.tells; waits = w.visit.ensures.waits }))
+          (record { goes = w.visit.ensures.goes; tells = w.visit.ensures.tells; waits = w.visit.ensures.waits; awake = w.visit.ensures.awake }))
       | else-i-places w ↦
           subst (λ (l : List PlaceValue). Rounds (visits_if slot now olds) (round + 1) olds l) (sym w.places-is)
           (off_round (visits_if slot now olds) slot round at olds places refl w.if-i-places.false (visits_passes slot round now olds) c.loop-round.invariant)
@@ -51,3 +51,10 @@ returns-clause-waits g c =
     let all : EachComes (visits_if c.args.slot c.args.now olds) olds c.loop-round.places =
     all_rounds (visits_if c.args.slot c.args.now olds) c.loop-round.round olds c.loop-round.places (omega arith) c.loop-round.invariant in
     comes_of (visits_if c.args.slot c.args.now olds) (λ i. WaitsStill) olds c.loop-round.places (λ i old new is. is.waits) all
+
+pub returns-clause-awake : goal.returns-clause-awake
+returns-clause-awake g c =
+    let olds = c.args.places.now in
+    let all : EachComes (visits_if c.args.slot c.args.now olds) olds c.loop-round.places =
+    all_rounds (visits_if c.args.slot c.args.now olds) c.loop-round.round olds c.loop-round.places (omega arith) c.loop-round.invariant in
+    comes_of (visits_if c.args.slot c.args.now olds) (λ i. IsAwakeAfter (actions_by (visits_at c.args.slot c.args.now olds i))) olds c.loop-round.places (λ i old new is. is.awake) all
