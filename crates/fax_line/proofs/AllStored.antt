@@ -5,7 +5,7 @@ use Rattle.fax_gateway.specs.declared.given.Kept.{Kept}
 use Rattle.fax_gateway.specs.declared.turn_report.TurnReport.{TurnReport as Told}
 use Rattle.fax_wires.specs.holding.Storing.{PutsIf}
 use Rattle.fax_line.specs.declared.settling.PageToStore.{PageToStore}
-use Rattle.fax_line.specs.declared.settling.SlotEnd.{SlotEnd}
+use Rattle.fax_line.specs.declared.settling.PutResult.{PutResult}
 use Rattle.fax_line.specs.StoredRuns.{EndsIf, IsRun, IsSettled, NotesIf, TellsFirst, TellsPlace, TellsWhere, kept_if, stored_pages}
 use Rattle.fax_line.specs.Places.{PlaceValue}
 use Rattle.fax_line.specs.Runs.{AskedOf, DoneOrder, Stored, Turned, Woken, turned_in}
@@ -51,13 +51,13 @@ module _
   put_if [] false old new pages is kept = subst (λ (l : List PageToStore). keeps new l) (sym (nil_after pages)) (by_none old new pages is.1 kept)
   put_if (page ∷ put) is_stored old new pages is kept = by_puts (page ∷ put) is_stored old new pages is kept
 
-  settles : (which : ℕ → Bool) (end : SlotEnd) (old new : List PlaceValue) (before after : K) (pages : List PageToStore)
+  settles : (which : ℕ → Bool) (end : PutResult) (old new : List PlaceValue) (before after : K) (pages : List PageToStore)
       → IsSettled same puts notes ends which end old new before after → keeps before pages → keeps after (pages ++ kept_if (is_ok end.answer) end.pages.items)
   settles which end old new before after pages is kept =
       told_first which end.pages.items new is.told.count is.kept after (pages ++ kept_if (is_ok end.answer) end.pages.items) is.told.told
       (put_if end.pages.items (is_ok end.answer) is.begun is.kept pages is.put (by_same before is.begun pages is.is_same kept))
 
-  pub run_keeps : (done : List DoneOrder) (settled : List SlotEnd) (old new : List PlaceValue) (before after : K) (pages : List PageToStore)
+  pub run_keeps : (done : List DoneOrder) (settled : List PutResult) (old new : List PlaceValue) (before after : K) (pages : List PageToStore)
       → IsRun same puts notes ends done settled old new before after → keeps before pages → keeps after (pages ++ stored_pages settled)
   run_keeps [] [] old new before after pages ran kept = subst (λ (l : List PageToStore). keeps after l) (sym (nil_after pages)) (by_none before after pages ran.1 kept)
   run_keeps [] (end ∷ settled) old new before after pages ran kept = absurd ran

@@ -17,7 +17,7 @@ use Rattle.fax_line.specs.declared.asked.LineAnswer.TheVariants as answered
 use Rattle.fax_line.specs.declared.asked.LineRequest.{LineRequest}
 use Rattle.fax_line.specs.declared.asked.LineRequest.TheVariants as asked
 use Rattle.fax_line.specs.declared.settling.PageToStore.{PageToStore}
-use Rattle.fax_line.specs.declared.settling.SlotEnd.{SlotEnd}
+use Rattle.fax_line.specs.declared.settling.PutResult.{PutResult}
 use Rattle.fax_line.specs.Actions.{Action, Goes, LineValue}
 use Rattle.fax_line.specs.Operations.{AllStayHeld, AskFrees, AsksLine, IsFreed, LinesWent, VisitsLines, VisitsTell, WakesLine, actions_of}
 use Rattle.fax_line.specs.GivenPeers.{CalledPeersAreGiven, CalledPeersAreGivenWithout, IsAddressOf, IsGiven, IsGivenAs, IsSomewhere, given_after, given_by, given_in, given_on, given_without, has_reported}
@@ -238,7 +238,7 @@ module _ (setup : Setup) (writes : Writing) (writing : IsWriting writes) (number
   }
 
   module _ (K : Type 0) (same : K → K → Type 0) (puts : List PageToStore → Bool → K → K → Type 0) (notes : ℕ → ℕ → K → K → Type 0) (ends : ℕ → Report → K → K → Type 0) (start : Option Peer) where
-    stands_in : (done : List DoneOrder) (settled : List SlotEnd) (old new : List PlaceValue) (k l : K) (ran : IsRun same puts notes ends done settled old new k l) → Stands start old
+    stands_in : (done : List DoneOrder) (settled : List PutResult) (old new : List PlaceValue) (k l : K) (ran : IsRun same puts notes ends done settled old new k l) → Stands start old
         → Stands (given_in same puts notes ends number other start done settled old new k l ran) new
     stands_in [] [] old new k l ran was = subst (λ (p : List PlaceValue). Stands start p) (sym ran.0) was
     stands_in [] (end ∷ settled) old new k l ran was = absurd ran

@@ -10,7 +10,7 @@ use Rattle.fax_line.specs.Runs.{IsServed, turned_in, visit_stored}
 use Rattle.fax_line.specs.Settling.{EndsTurn, EndsWhere, IsPageOf, LetOut, LetsOutSlot, SetAside, SetsAsideIf, has_page, is_stored_in, is_to_store}
 use Rattle.fax_line.specs.StoredRuns.{EndUnstored, EndsUnstored, IsSettled, TellsFirst, TellsPlace, TellsWhere}
 use Rattle.fax_line.specs.declared.settling.PageToStore.{PageToStore}
-use Rattle.fax_line.specs.declared.settling.SlotEnd.{SlotEnd}
+use Rattle.fax_line.specs.declared.settling.PutResult.{PutResult}
 use Rattle.fax_jobs.specs.declared.report.Report.{Report}
 use Rattle.fax_line.proofs.Places.{place_none, place_wakes}
 use Rattle.fax_line.proofs.Slots.{waits_is}
@@ -620,7 +620,7 @@ freed_get (l ∷ left) (p ∷ lines) freed (suc i) =
     freed_get left lines (record { as_many = omega (arith, freed.as_many); each = λ k d low. freed.each (suc k) d (omega (arith, low)) }) i
 
 pub settled_recorded : {K : Type 0} (same : K → K → Type 0) (puts : List PageToStore → Bool → K → K → Type 0) (notes : ℕ → ℕ → K → K → Type 0) (ends : ℕ → Report → K → K → Type 0)
-    (visits : ℕ → Visit) (end : SlotEnd) (actual left lines : List PlaceValue) (k l : K) → ((i : ℕ) → turned_in visits i ≡ waits_of actual i)
+    (visits : ℕ → Visit) (end : PutResult) (actual left lines : List PlaceValue) (k l : K) → ((i : ℕ) → turned_in visits i ≡ waits_of actual i)
     → IsSettled same puts notes ends (waits_of actual) end actual left k l → AreFreed left lines → IsSettled same puts notes ends (turned_in visits) end actual lines k l
 settled_recorded same puts notes ends visits end actual left lines k l alike is freed = record {
   pages = record { each = λ i d low. which_so visits (waits_of actual) alike actual (slice_index_or end.pages.items i d) (is.pages.each i d low); in_order = is.pages.in_order };

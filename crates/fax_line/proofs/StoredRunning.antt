@@ -8,7 +8,7 @@ use Rattle.fax_line.specs.declared.asked.LineRequest.{LineRequest}
 use Rattle.fax_line.specs.declared.order.Order.{Order}
 use Rattle.fax_line.specs.declared.order.Order.TheVariants as order
 use Rattle.fax_line.specs.declared.settling.PageToStore.{PageToStore}
-use Rattle.fax_line.specs.declared.settling.SlotEnd.{SlotEnd}
+use Rattle.fax_line.specs.declared.settling.PutResult.{PutResult}
 use Rattle.fax_line.specs.Operations.{AllStayHeld, AllWaitStill, AreFree, AreRising, AskFrees, AsksLine, LinesValue, LinesWent, VisitsLines, VisitsTell, WaitAlike, WakesLine, WakesOne, slot_after, slot_before, slot_of, visits_at, waits_of}
 use Rattle.fax_line.specs.Pacing.{IsPaced}
 use Rattle.fax_line.specs.StoredRuns.{EndUnstored, FreeWhere, IsFreeWhere, IsSettled, RanIf, Settles, StoresIf, TurnEnds}
@@ -45,7 +45,7 @@ module _ (K : Type 0) (same : K → K → Type 0) (puts : List PageToStore → B
   ran_none lines None = (refl, refl)
   ran_none lines (Some k) = (k, refl, [], (refl, refl))
 
-  stored_ran : (visits : ℕ → Visit) (end : SlotEnd) (done : List DoneOrder) (a shown actual lines : List PlaceValue) (k : Option K) (l m : K) → RanIf same puts notes ends done a shown k (Some l)
+  stored_ran : (visits : ℕ → Visit) (end : PutResult) (done : List DoneOrder) (a shown actual lines : List PlaceValue) (k : Option K) (l m : K) → RanIf same puts notes ends done a shown k (Some l)
       → LinesWent (VisitsLines visits ∷ []) shown actual → VisitsTell visits shown actual → IsSettled same puts notes ends (turned_in visits) end actual lines l m
       → RanIf same puts notes ends (Stored visits ∷ done) a lines k (Some m)
   stored_ran visits end done a shown actual lines None l m (is, ran) went tells settled = absurd (no_some l is)

@@ -18,7 +18,7 @@ use Rattle.fax_line.specs.declared.asked.LineAnswer.TheVariants as answered
 use Rattle.fax_line.specs.declared.asked.LineRequest.{LineRequest}
 use Rattle.fax_line.specs.declared.asked.LineRequest.TheVariants as asked
 use Rattle.fax_line.specs.declared.settling.PageToStore.{PageToStore}
-use Rattle.fax_line.specs.declared.settling.SlotEnd.{SlotEnd}
+use Rattle.fax_line.specs.declared.settling.PutResult.{PutResult}
 use Rattle.fax_line.specs.Actions.{LineValue}
 use Rattle.fax_line.specs.StoredRuns.{IsRun, RanWithout}
 use Rattle.fax_line.specs.Places.{PlaceValue, Visit, is_turn}
@@ -52,7 +52,7 @@ abbrev pub given_in :
     {K : Type 0} (same : K → K → Type 0) (puts : List PageToStore → Bool → K → K → Type 0)
     (notes : ℕ → ℕ → K → K → Type 0) (ends : ℕ → Report → K → K → Type 0)
     (number : ℕ) (other : PlaceValue) (start : Option Peer)
-    (done : List DoneOrder) (settled : List SlotEnd) (old new : List PlaceValue) (before after : K)
+    (done : List DoneOrder) (settled : List PutResult) (old new : List PlaceValue) (before after : K)
     → IsRun same puts notes ends done settled old new before after → Option Peer
 given_in same puts notes ends number other start [] [] old new before after ran = start
 given_in same puts notes ends number other start [] (end ∷ settled) old new before after ran =
@@ -104,7 +104,7 @@ abbrev pub CalledPeersAreGiven : {K : Type 0}
     → (ℕ → ℕ → K → K → Type 0) → (ℕ → Report → K → K → Type 0) → Type 0
 CalledPeersAreGiven {K} same puts notes ends = (setup : Setup) (writes : Writing)
     (number : ℕ) (other : PlaceValue) (start : Option Peer) (done : List DoneOrder)
-    (settled : List SlotEnd) (old new : List PlaceValue) (before after : K) → IsWriting writes
+    (settled : List PutResult) (old new : List PlaceValue) (before after : K) → IsWriting writes
     → number < length old → IsSomewhere setup writes (slice_index_or old number other).line
     → IsGiven start (slice_index_or old number other).line.peers.called
     → (ran : IsRun same puts notes ends done settled old new before after)

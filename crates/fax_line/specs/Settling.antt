@@ -16,7 +16,7 @@ use Rattle.fax_line.specs.Actions.{LineValue}
 use Rattle.fax_line.specs.Places.{PlaceValue}
 use Rattle.fax_line.specs.Operations.{EachComes, slot_of}
 use Rattle.fax_line.specs.declared.settling.PageToStore.{PageToStore}
-use Rattle.fax_line.specs.declared.settling.SlotEnd.{SlotEnd}
+use Rattle.fax_line.specs.declared.settling.PutResult.{PutResult}
 
 -- what the turn told of it, and its text in two-dimensional coding, without fill: it is the newest page of the gateway's book
 pub record IsStoredAs (kept : Kept) (newest : Option PageValue) (to_store : PageToStore) :
@@ -63,7 +63,7 @@ abbrev pub has_page : List PageToStore → ℕ → Bool
 has_page pages number = list_any (is_of number) pages
 
 -- a page was stored where it was handed to the store, and that stored what it was handed
-abbrev pub is_stored_in : SlotEnd → ℕ → Bool
+abbrev pub is_stored_in : PutResult → ℕ → Bool
 is_stored_in end number = has_page end.pages.items number && is_ok end.answer
 
 -- ---- of the lines of which this is true, which were turned, and whose turns have not ended

@@ -10,7 +10,7 @@ use Rattle.fax_line.specs.Places.{PlaceValue}
 use Rattle.fax_line.specs.Runs.{AskedOf, DoneOrder, Stored, Turned, Woken, latest, turned_in}
 use Rattle.fax_line.specs.Settling.{ArePagesOf, EndTurns, EndsWhere, LetOut, LetsOutSlot, SetAside, has_page, is_stored_in, is_to_store}
 use Rattle.fax_line.specs.declared.settling.PageToStore.{PageToStore}
-use Rattle.fax_line.specs.declared.settling.SlotEnd.{SlotEnd}
+use Rattle.fax_line.specs.declared.settling.PutResult.{PutResult}
 
 -- ---- what a store is told of a line's turn, which is known by what is made of it then
 
@@ -72,7 +72,7 @@ pub record TellsLines {K : Type 0} (notes : ℕ → ℕ → K → K → Type 0)
 pub record IsSettled {K : Type 0} (same : K → K → Type 0)
     (puts : List PageToStore → Bool → K → K → Type 0)
     (notes : ℕ → ℕ → K → K → Type 0) (ends : ℕ → Report → K → K → Type 0)
-    (which : ℕ → Bool) (end : SlotEnd) (old new : List PlaceValue) (before after : K) :
+    (which : ℕ → Bool) (end : PutResult) (old new : List PlaceValue) (before after : K) :
     Type 0 where
   pub pages : ArePagesOf which old end.pages.items
   pub begun : K
@@ -90,7 +90,7 @@ pub record Settles {K : Type 0} (same : K → K → Type 0)
     (puts : List PageToStore → Bool → K → K → Type 0)
     (notes : ℕ → ℕ → K → K → Type 0) (ends : ℕ → Report → K → K → Type 0) (saw : K → Type 0)
     (old new : List PlaceValue) (before after : K) : Type 0 where
-  pub end : SlotEnd
+  pub end : PutResult
   pub left : List PlaceValue
   pub is_settled : IsSettled same puts notes ends (waits_of old) end old left before after
   pub freed : AreFreed left new
@@ -148,7 +148,7 @@ EndUnstored which old new = EachComes (λ number. EndsUnstored (which number)) o
 -- turns of the others end before anything else is done. Nothing else touches the store. There is an end for each time that was done.
 abbrev pub IsRun : {K : Type 0} → (K → K → Type 0) → (List PageToStore → Bool → K → K → Type 0)
     → (ℕ → ℕ → K → K → Type 0) → (ℕ → Report → K → K → Type 0)
-    → List DoneOrder → List SlotEnd → List PlaceValue → List PlaceValue → K → K → Type 0
+    → List DoneOrder → List PutResult → List PlaceValue → List PlaceValue → K → K → Type 0
 IsRun same puts notes ends [] [] old new before after = (new ≡ old) × (after ≡ before)
 IsRun same puts notes ends [] (end ∷ settled) old new before after = ⊥
 IsRun same puts notes ends (Turned now visits ∷ done) settled old new before after =
@@ -192,7 +192,7 @@ abbrev pub RanIf : {K : Type 0} → (K → K → Type 0) → (List PageToStore �
 RanIf same puts notes ends done old new None after = (after ≡ None) × RanWithout done old new
 RanIf {K} same puts notes ends done old new (Some before) after =
     (left : K) × (after ≡ Some left)
-    × (settled : List SlotEnd) × IsRun same puts notes ends done settled old new before left
+    × (settled : List PutResult) × IsRun same puts notes ends done settled old new before left
 
 -- ---- what it comes to
 
@@ -202,7 +202,7 @@ kept_if true pages = pages
 kept_if false pages = []
 
 -- of a whole run
-abbrev pub stored_pages : List SlotEnd → List PageToStore
+abbrev pub stored_pages : List PutResult → List PageToStore
 stored_pages [] = []
 stored_pages (end ∷ earlier) = stored_pages earlier ++ kept_if (is_ok end.answer) end.pages.items
 
@@ -219,7 +219,7 @@ RunStores {K} same puts notes ends keeps =
     → notes line call old new → keeps old pages → keeps new pages)
     → ((line : ℕ) (report : Report) (old new : K) (pages : List PageToStore)
     → ends line report old new → keeps old pages → keeps new pages)
-    → (done : List DoneOrder) (settled : List SlotEnd)
+    → (done : List DoneOrder) (settled : List PutResult)
     (old new : List PlaceValue) (before after : K) (pages : List PageToStore)
     → IsRun same puts notes ends done settled old new before after
     → keeps before pages → keeps after (pages ++ stored_pages settled)

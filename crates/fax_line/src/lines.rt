@@ -13,7 +13,7 @@ ghost use Rattle.fax_line.specs.declared.settling.PageToStore.{PageToStore as To
 use crate::asked::{LineAnswer, LineRequest};
 use crate::line::Line;
 use crate::place::Place;
-use crate::settling::{PageToStore, SlotEnd, has_page};
+use crate::settling::{PageToStore, PutResult, has_page};
 use crate::store::RunStore;
 use fax_bits::NoMemory;
 use fax_gateway::{Buffer, Kept, TurnReport};
@@ -191,7 +191,7 @@ impl<W: LineWire + Drop> Lines<W> {
 
     /// After the turns of lines that wait have ended: a store is told which of the pages that they confirmed were not handed over, and which
     /// jobs ended, line by line.
-    pub fn tell_store<K: RunStore>(&self, end: &SlotEnd, store: &mut K)
+    pub fn tell_store<K: RunStore>(&self, end: &PutResult, store: &mut K)
         ensures { TellsLines K.notes K.ends (waits_of self.now.lines)
             end.now.pages.items self.now.lines store.old store.new }
     {
@@ -215,7 +215,7 @@ impl<W: TimedWire + Drop> Lines<HoldingWire<W>> {
     /// their calling legs goes out. Where the pages were not stored none of that does, and these legs are silenced until the next calls
     /// begin on them; where memory was refused for a page's text that is so of its line alone. What a line gave that confirmed none goes
     /// out before. No other line is touched.
-    pub fn settle<K: PageStore<PageToStore>>(&mut self, store: &mut K) -> SlotEnd
+    pub fn settle<K: PageStore<PageToStore>>(&mut self, store: &mut K) -> PutResult
         ensures went { LinesWent [] self.old.lines self.new.lines }
         ensures slot { self.new.slot ≡ self.old.slot }
         ensures waits { WaitAlike self.old.lines self.new.lines }
@@ -390,7 +390,7 @@ fn settle_places<K: PageStore<PageToStore>, W: TimedWire + Drop>(
     places: &mut [Place<HoldingWire<W>>],
     alloc: Global,
     store: &mut K,
-) -> SlotEnd
+) -> PutResult
     ensures went { EachGoes (λ i. []) places.old places.new }
     ensures waits { WaitAlike places.old places.new }
     ensures awake { AwakeAlike places.old places.new }
@@ -404,7 +404,7 @@ fn settle_places<K: PageStore<PageToStore>, W: TimedWire + Drop>(
     let pages = hand_over_all(places, alloc);
     let answer = store_pages(store, pages.as_slice());
     end_turns(places, pages.as_slice(), answer.is_ok());
-    SlotEnd { pages, answer }
+    PutResult { pages, answer }
 }
 
 /// The pages that the lines which wait confirmed, one after the other. The turns of those that confirmed none end, and of those whose pages

@@ -7,7 +7,7 @@ ghost use Rattle.fax_line.specs.declared.order.Order.{Order as OrderShown};
 
 use crate::asked::{LineAnswer, LineRequest};
 use crate::lines::Lines;
-use crate::settling::SlotEnd;
+use crate::settling::PutResult;
 use crate::store::RunStore;
 use fax_wires::holding::LineWire;
 
@@ -70,7 +70,7 @@ pub trait Pace<W: LineWire + Drop, K: RunStore> {
         ensures sees { sees self.old self.new };
 
     /// They were put, and what came of that.
-    fn after_put(&mut self, lines: &Lines<W>, end: &SlotEnd)
+    fn after_put(&mut self, lines: &Lines<W>, end: &PutResult)
         ensures words { words self.new ≡ words self.old }
         ensures sees { sees self.old self.new };
 

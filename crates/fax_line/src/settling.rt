@@ -20,16 +20,16 @@ pub struct PageToStore {
     pub text: Octets,
 }
 
-/// What came of the pages of the lines that waited, as they were put.
+/// The pages of the lines that waited, as they were put, and what came of that.
 #[derive(Drop)]
-pub struct SlotEnd {
+pub struct PutResult {
     /// Those that were handed to the store, in the order of their lines. A page whose text memory was refused for is not among them.
     pub pages: Vec<PageToStore>,
     /// What the store answered to all of them at once.
     pub answer: Result<(), StoreFault>,
 }
 
-impl SlotEnd {
+impl PutResult {
     /// Whether a page of this line was handed to the store.
     pub fn has_page(&self, line: usize) -> bool
         ensures { result ≡ has_page self.now.pages.items line }

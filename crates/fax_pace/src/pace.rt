@@ -29,7 +29,7 @@ use fax_control::{Answer, Refusal};
 use fax_desk::{Damage, Desk, RunEnd};
 use fax_gateway::Settings;
 use fax_http::visitors::Visitors;
-use fax_line::{LineAnswer, Lines, Order, Pace, SlotEnd};
+use fax_line::{LineAnswer, Lines, Order, Pace, PutResult};
 use fax_opening::{SocketLegs, Stopwatch};
 use fax_queue::Queue;
 use fax_spool::{CallName, WaitingPage};
@@ -484,7 +484,7 @@ impl<
         }
     }
 
-    fn after_put(&mut self, lines: &Lines<W>, end: &SlotEnd) {
+    fn after_put(&mut self, lines: &Lines<W>, end: &PutResult) {
         if let Some(before) = self.put_from.take() {
             let after = self.clock.micros().unwrap_or(0);
             self.teller.count_put(after.saturating_sub(before));

@@ -2,7 +2,7 @@
 use crate::seen::SeenLines;
 use crate::watch::Watch;
 use fax_gateway::Leg;
-use fax_line::SlotEnd;
+use fax_line::PutResult;
 use std::alloc::{AllocError, Global};
 
 /// What is to be done on lines before their next turns.
@@ -63,7 +63,7 @@ impl Waking {
     }
 
     /// Notes the lines that wait whose pages were not stored.
-    pub(crate) fn note_lost<S: SeenLines>(&mut self, end: &SlotEnd, seen: &S) {
+    pub(crate) fn note_lost<S: SeenLines>(&mut self, end: &PutResult, seen: &S) {
         for i in 0..seen.len() {
             if seen.waits(i) && has_confirmed(seen, i) && !end.is_stored(i) {
                 let _ = self.not_stored.push(i);

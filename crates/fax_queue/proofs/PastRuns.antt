@@ -29,7 +29,7 @@ use Rattle.fax_line.specs.Runs.{AskedOf, DoneOrder, Stored, Turned, Woken, lates
 use Rattle.fax_line.specs.StoredRuns.{EndUnstored, EndsIf, EndsUnstored, IsRun, IsSettled, NotesIf, TellsFirst, TellsPlace, TellsWhere, kept_if, stored_pages}
 use Rattle.fax_line.specs.Settling.{EndsTurn, EndsWhere, IsOfTurn, IsPageOf, has_page, is_stored_in, is_to_store}
 use Rattle.fax_line.specs.declared.settling.PageToStore.{PageToStore}
-use Rattle.fax_line.specs.declared.settling.SlotEnd.{SlotEnd}
+use Rattle.fax_line.specs.declared.settling.PutResult.{PutResult}
 use Rattle.fax_spool.specs.RecordOctets as spool
 use Rattle.fax_spool.specs.Opened.{closed}
 use Rattle.fax_spool.specs.declared.spool.Spool.{Spool}
@@ -391,7 +391,7 @@ module _
 
   -- ---- what turns came to is stored: of a line that had none
 
-  module _ (which : ℕ → Bool) (end : SlotEnd) (turned lines : List PlaceValue) (k l : K) (settled : IsSettled Same Puts Notes Ends which end turned lines k l) (many : length turned ≡ length names) where
+  module _ (which : ℕ → Bool) (end : PutResult) (turned lines : List PlaceValue) (k l : K) (settled : IsSettled Same Puts Notes Ends which end turned lines k l) (many : length turned ≡ length names) where
     pages_low : (t : List BookEntry) (q : List CallPage) → Holds t q settled.begun → All (λ page. page.line < length (queues_of settled.begun)) end.pages.items
     pages_low t q held = λ i d less.
         let there : (slice_index_or end.pages.items i d).line < length turned = (settled.pages.each i d less).there in
@@ -560,7 +560,7 @@ module _
       (tell_both : TurnsTellBoth) (newest : ConfirmsTheNewest) (origins : JobsAreOfTheirCalls) (written : PagesAreWritten) (mean : WrittenPagesMean) (setup : Setup) (writes : Writing) (before : List BookEntry)
       (writing : IsWriting writes) (other : PlaceValue) where
     -- the line, and what is stored of its pages, tell the same; and by the ends of the run's turns these were put
-    record Stands (q : List CallPage) (ends : List SlotEnd) (lines : List PlaceValue) (k : K) : Type 0 where
+    record Stands (q : List CallPage) (ends : List PutResult) (lines : List PlaceValue) (k : K) : Type 0 where
       many : length lines ≡ length names
       entries : List BookEntry
       puts : List CallPage
@@ -574,7 +574,7 @@ module _
     low_in lines many = let low : number < length names = low_number in omega (arith, low, many)
 
     -- nothing is stored of it
-    rests_on : (q : List CallPage) (ends : List SlotEnd) (which : ℕ → Bool) (end : SlotEnd) (t : List BookEntry) (puts p : List CallPage) (turned lines : List PlaceValue) (k l : K) → length turned ≡ length names
+    rests_on : (q : List CallPage) (ends : List PutResult) (which : ℕ → Bool) (end : PutResult) (t : List BookEntry) (puts p : List CallPage) (turned lines : List PlaceValue) (k l : K) → length turned ≡ length names
         → which number ≡ false → IsSettled Same Puts Notes Ends which end turned lines k l → AreStoredOf number (stored_pages ends) puts
         → AreStoredOf number (stored_pages ends) p → Reaches setup writes before t p (slice_index_or turned number other).line → Holds t (q ++ puts) k → Stands q (end ∷ ends) lines l
     rests_on q ends which end t puts p turned lines k l many off settled are on reach held =
@@ -592,7 +592,7 @@ module _
           held = subst (λ (p : List CallPage). Holds t (q ++ p) l) (sym (append-nil puts)) still.0;
         }
 
-    turns_on : (q : List CallPage) (ends : List SlotEnd) (which : ℕ → Bool) (now : ℕ) (end : SlotEnd) (t : List BookEntry) (puts p : List CallPage) (mid turned lines : List PlaceValue) (k l : K) → length turned ≡ length names
+    turns_on : (q : List CallPage) (ends : List PutResult) (which : ℕ → Bool) (now : ℕ) (end : PutResult) (t : List BookEntry) (puts p : List CallPage) (mid turned lines : List PlaceValue) (k l : K) → length turned ≡ length names
         → which number ≡ true → TellsTurn now (slice_index_or mid number other).line (slice_index_or turned number other).line
         → IsSettled Same Puts Notes Ends which end turned lines k l → AreStoredOf number (stored_pages ends) puts → AreStoredOf number (stored_pages ends) p → Reaches setup writes before t p (slice_index_or mid number other).line → Holds t (q ++ puts) k
         → Stands q (end ∷ ends) lines l
@@ -614,7 +614,7 @@ module _
         }
 
     -- a line has its turn, or none, by visits of which what they came to was stored
-    stored_on : (q : List CallPage) (ends : List SlotEnd) (visits : ℕ → Visit) (end : SlotEnd) (mid turned lines : List PlaceValue) (k l : K) → LinesWent (VisitsLines visits ∷ []) mid turned → VisitsTell visits mid turned
+    stored_on : (q : List CallPage) (ends : List PutResult) (visits : ℕ → Visit) (end : PutResult) (mid turned lines : List PlaceValue) (k l : K) → LinesWent (VisitsLines visits ∷ []) mid turned → VisitsTell visits mid turned
         → IsSettled Same Puts Notes Ends (turned_in visits) end turned lines k l → Stands q ends mid k → Stands q (end ∷ ends) lines l
     stored_on q ends visits end mid turned lines k l went tells settled was = by (visits number) refl
       where
@@ -668,7 +668,7 @@ module _
         by (Some report) is (Some kept) off = absurd (cc)
 
     -- and its turn ends
-    ends_on : (q : List CallPage) (ends : List SlotEnd) (now : ℕ) (mid turned lines : List PlaceValue) (k : K) → TellsTurn now (slice_index_or mid number other).line (slice_index_or turned number other).line
+    ends_on : (q : List CallPage) (ends : List PutResult) (now : ℕ) (mid turned lines : List PlaceValue) (k : K) → TellsTurn now (slice_index_or mid number other).line (slice_index_or turned number other).line
         → is_to_store (slice_index_or turned number other).line.turned ≡ false → EndsTurn false (slice_index_or turned number other).line (slice_index_or lines number other).line → length lines ≡ length names → Stands q ends mid k
         → Stands q ends lines k
     ends_on q ends now mid turned lines k tells none ended many was =
@@ -693,7 +693,7 @@ module _
         }
 
     -- a turn of a slot, of which nothing is to be stored
-    turn_on : (q : List CallPage) (ends : List SlotEnd) (visits : ℕ → Visit) (mid turned lines : List PlaceValue) (k : K) → LinesWent (VisitsLines visits ∷ []) mid turned → VisitsTell visits mid turned
+    turn_on : (q : List CallPage) (ends : List PutResult) (visits : ℕ → Visit) (mid turned lines : List PlaceValue) (k : K) → LinesWent (VisitsLines visits ∷ []) mid turned → VisitsTell visits mid turned
         → EndUnstored (turned_in visits) turned lines → Stands q ends mid k → Stands q ends lines k
     turn_on q ends visits mid turned lines k went tells unstored was = by (visits number) refl
       where
@@ -749,7 +749,7 @@ module _
             let turns : TellsOrRests now false old new = subst (λ (v : Visit). TellsVisit v old new) is told in
             let its : EndsUnstored true new left = subst (λ (v : Visit). EndsUnstored (is_turn v) new left) is ended in ends_on q ends now mid turned lines k turns.1 its.0 its.1.0 many was
 
-    ask_on : (q : List CallPage) (ends : List SlotEnd) (of now : ℕ) (what : LineRequest) (answer : Option LineAnswer) (mid lines : List PlaceValue) (k : K) → LinesWent (AsksLine of now what answer ∷ []) mid lines → AskFrees of what answer mid lines → Stands q ends mid k
+    ask_on : (q : List CallPage) (ends : List PutResult) (of now : ℕ) (what : LineRequest) (answer : Option LineAnswer) (mid lines : List PlaceValue) (k : K) → LinesWent (AsksLine of now what answer ∷ []) mid lines → AskFrees of what answer mid lines → Stands q ends mid k
         → Stands q ends lines k
     ask_on q ends of now what answer mid lines k went frees was = record { many = went.as_many ∙ was.many; entries = was.entries; puts = was.puts; are_put = was.are_put; on_leg = was.on_leg; are_on_leg = was.are_on_leg; reaches = by (nat_eq number of) refl; held = was.held }
       where
@@ -773,7 +773,7 @@ module _
             let same : new ≡ old = subst (λ (c : Bool). IsFreed c what answer old new) is freed in
             subst (λ (x : PlaceValue). Reaches setup writes before was.entries was.on_leg x.line) (sym same) was.reaches
 
-    wake_on : (q : List CallPage) (ends : List SlotEnd) (woken : ℕ) (mid lines : List PlaceValue) (k : K) → LinesWent (WakesLine woken ∷ []) mid lines → AllStayHeld mid lines → Stands q ends mid k → Stands q ends lines k
+    wake_on : (q : List CallPage) (ends : List PutResult) (woken : ℕ) (mid lines : List PlaceValue) (k : K) → LinesWent (WakesLine woken ∷ []) mid lines → AllStayHeld mid lines → Stands q ends mid k → Stands q ends lines k
     wake_on q ends woken mid lines k went stays was = record { many = went.as_many ∙ was.many; entries = was.entries; puts = was.puts; are_put = was.are_put; on_leg = was.on_leg; are_on_leg = was.are_on_leg; reaches = by (nat_eq number woken) refl; held = was.held }
       where
         old : PlaceValue
@@ -792,7 +792,7 @@ module _
         by true is = goes_with setup writes before was.entries was.on_leg old.line new.line Wakes tt writing (subst (λ (c : Bool). Goes (if c then Wakes ∷ [] else []) old.line new.line) is goes) held.0 was.reaches
         by false is = goes_still setup writes before was.entries was.on_leg old.line new.line writing (subst (λ (c : Bool). Goes (if c then Wakes ∷ [] else []) old.line new.line) is goes) held.0 was.reaches
 
-    run_on : (q : List CallPage) (done : List DoneOrder) (settled : List SlotEnd) (begun left : List PlaceValue) (k l : K) → IsRun Same Puts Notes Ends done settled begun left k l → Stands q [] begun k → Stands q settled left l
+    run_on : (q : List CallPage) (done : List DoneOrder) (settled : List PutResult) (begun left : List PlaceValue) (k l : K) → IsRun Same Puts Notes Ends done settled begun left k l → Stands q [] begun k → Stands q settled left l
     run_on q [] [] begun left k l ran was = subst (λ (m : K). Stands q [] left m) (sym ran.1) (subst (λ (p : List PlaceValue). Stands q [] p k) (sym ran.0) was)
     run_on q [] (end ∷ settled) begun left k l ran was = absurd ran
     run_on q (Turned now visits ∷ done) settled begun left k l ran was = turn_on q settled visits ran.0 ran.1 left l ran.3 ran.4 ran.5 (run_on q done settled begun ran.0 k l ran.2 was)
@@ -827,13 +827,13 @@ module _ {D K : Type 0} (seen : D → List ℕ) (may_leave : D → List ℕ → 
       by place name at (Some queue) is unlike = λ same. alone place queue is unlike (same_some queue.line name (sym (line_at queues place queue is) ∙ at) ∙ same)
 
   -- what a run leaves; and where this holds all is put and noted
-  record LeavesAs (A : Type 0) (writes : Writing) (number : ℕ) (line : List ℕ) (lives : List Life) (puts : List CallPage) (setup : Setup) (settled : List SlotEnd) (lines : List PlaceValue) (spool : Spool D) : Type 0 where
+  record LeavesAs (A : Type 0) (writes : Writing) (number : ℕ) (line : List ℕ) (lives : List Life) (puts : List CallPage) (setup : Setup) (settled : List PutResult) (lines : List PlaceValue) (spool : Spool D) : Type 0 where
     leaves : LeavesRun seen may_leave is_usable writes number line lives puts setup settled lines spool
     whole : WaitSo seen may_leave is_usable spool (PastIf A writes line (record { setup = setup; trace = leaves.trace } ∷ lives) (puts ++ leaves.kept))
 
   leaves_as : (A : Type 0) (number : ℕ) (Puts : List PageToStore → Bool → K → K → Type 0) (Notes : ℕ → ℕ → K → K → Type 0) (Ends : ℕ → Report → K → K → Type 0) → PutsAre seen may_leave is_usable queues_of spool_of number A Puts
       → NotesAre queues_of spool_of number A Notes → EndsAre seen may_leave is_usable queues_of spool_of number A Ends → TurnsTellBoth → ConfirmsTheNewest → JobsAreOfTheirCalls → PagesAreWritten → WrittenPagesMean → PagesAreUnique → OwedIsRestored
-      → (writes : Writing) (line : List ℕ) (pages : List spool.PageValue) (lives : List Life) (puts : List CallPage) (setup : Setup) (done : List DoneOrder) (settled : List SlotEnd) (begun left : List PlaceValue) (k l : K)
+      → (writes : Writing) (line : List ℕ) (pages : List spool.PageValue) (lives : List Life) (puts : List CallPage) (setup : Setup) (done : List DoneOrder) (settled : List PutResult) (begun left : List PlaceValue) (k l : K)
       → IsWriting writes → (past : HasPast writes line lives puts pages) → (A → AllIsPut past.actions) → BeginsRun seen may_leave is_usable number line pages setup begun (queues_of k) (spool_of k)
       → IsRun (λ (old new : K). IsUnchanged (queues_of old) (queues_of new) (spool_of old) (spool_of new)) Puts Notes Ends done settled begun left k l
       → LeavesAs A writes number line lives puts setup settled left (spool_of l)

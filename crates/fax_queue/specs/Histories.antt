@@ -17,7 +17,7 @@ use Rattle.fax_line.specs.Places.{PlaceValue}
 use Rattle.fax_line.specs.Runs.{DoneOrder}
 use Rattle.fax_line.specs.StoredRuns.{IsRun, stored_pages}
 use Rattle.fax_line.specs.declared.settling.PageToStore.{PageToStore}
-use Rattle.fax_line.specs.declared.settling.SlotEnd.{SlotEnd}
+use Rattle.fax_line.specs.declared.settling.PutResult.{PutResult}
 use Rattle.fax_spool.specs.RecordOctets as spool
 use Rattle.fax_spool.specs.Calls.{TellWaits}
 use Rattle.fax_spool.specs.Opened.{AreBoth, IsOpened, closed}
@@ -97,7 +97,7 @@ pub record BeginsRun {D : Type 0} (seen : D → List ℕ) (may_leave : D → Lis
 pub record LeavesRun {D : Type 0} (seen : D → List ℕ)
     (may_leave : D → List ℕ → Type 0) (is_usable : D → Bool) (writes : Writing)
     (number : ℕ) (line : List ℕ) (lives : List Life) (puts : List CallPage) (setup : Setup)
-    (settled : List SlotEnd) (lines : List PlaceValue) (spool : Spool D) : Type 0 where
+    (settled : List PutResult) (lines : List PlaceValue) (spool : Spool D) : Type 0 where
   pub place : PlaceValue
   pub there : slice_get lines number ≡ Some place
   pub trace : List Event
@@ -115,7 +115,7 @@ pub record LeavesRun {D : Type 0} (seen : D → List ℕ)
 -- a run whose pages are stored in a spool, by what has these queues and this spool
 abbrev pub RanOnDisk : {D K : Type 0}
     → (D → List ℕ) → (D → List ℕ → Type 0) → (D → Bool) → (K → List QueueValue) → (K → Spool D)
-    → List DoneOrder → List SlotEnd → List PlaceValue → List PlaceValue → K → K → Type 0
+    → List DoneOrder → List PutResult → List PlaceValue → List PlaceValue → K → K → Type 0
 RanOnDisk {D} {K} seen may_leave is_usable queues_of spool_of = IsRun
     (λ (old new : K). IsUnchanged (queues_of old) (queues_of new) (spool_of old) (spool_of new))
     (λ (pages : List PageToStore) (is_stored : Bool) (old new : K).
@@ -132,7 +132,7 @@ abbrev pub RunsMakeHistory : {D K : Type 0} → (D → List ℕ)
 RunsMakeHistory {D} {K} seen may_leave is_usable queues_of spool_of =
     (writes : Writing) (number : ℕ) (line : List ℕ) (pages : List spool.PageValue)
     (lives : List Life) (puts : List CallPage) (setup : Setup) (done : List DoneOrder)
-    (settled : List SlotEnd) (begun left : List PlaceValue) (before after : K)
+    (settled : List PutResult) (begun left : List PlaceValue) (before after : K)
     → IsWriting writes → HasPast writes line lives puts pages
     → BeginsRun seen may_leave is_usable number line pages setup begun (queues_of before)
     (spool_of before) → RanOnDisk seen may_leave

@@ -11,7 +11,7 @@ use Rattle.fax_line.specs.Runs.{DoneOrder}
 use Rattle.fax_line.specs.StoredRuns.{IsRun}
 use Rattle.fax_line.specs.Settling.{has_page}
 use Rattle.fax_line.specs.declared.settling.PageToStore.{PageToStore}
-use Rattle.fax_line.specs.declared.settling.SlotEnd.{SlotEnd}
+use Rattle.fax_line.specs.declared.settling.PutResult.{PutResult}
 use Rattle.fax_spool.specs.RecordOctets as spool
 use Rattle.fax_spool.specs.Opened.{closed}
 use Rattle.fax_spool.specs.declared.spool.Spool.{Spool}
@@ -47,7 +47,7 @@ EndsNoted seen may_leave is_usable number line report olds news before after =
 -- A RUN IN WHICH ALL PUTS OF A LINE'S PAGES AND ALL ENDS OF ITS JOBS ANSWERED OK, whatever became of other lines.
 abbrev pub RanWithOks : {D K : Type 0} → (D → List ℕ)
     → (D → List ℕ → Type 0) → (D → Bool) → (K → List QueueValue) → (K → Spool D) → (number : ℕ)
-    → List DoneOrder → List SlotEnd → List PlaceValue → List PlaceValue → K → K → Type 0
+    → List DoneOrder → List PutResult → List PlaceValue → List PlaceValue → K → K → Type 0
 RanWithOks {D} {K} seen may_leave is_usable queues_of spool_of number = IsRun
     (λ (old new : K). IsUnchanged (queues_of old) (queues_of new) (spool_of old) (spool_of new))
     (λ (pages : List PageToStore) (is_stored : Bool) (old new : K).
@@ -67,7 +67,7 @@ pub record HasWholePast (writes : Writing) (line : List ℕ)
 pub record LeavesWhole {D : Type 0} (seen : D → List ℕ)
     (may_leave : D → List ℕ → Type 0) (is_usable : D → Bool) (writes : Writing)
     (number : ℕ) (line : List ℕ) (lives : List Life) (puts : List CallPage) (setup : Setup)
-    (settled : List SlotEnd) (lines : List PlaceValue) (spool : Spool D) : Type 0 where
+    (settled : List PutResult) (lines : List PlaceValue) (spool : Spool D) : Type 0 where
   pub leaves :
       LeavesRun seen may_leave is_usable writes number line lives puts setup settled lines spool
   pub whole : WaitSo seen may_leave is_usable spool (HasWholePast writes line (record {
@@ -83,7 +83,7 @@ abbrev pub RunsNoteAll : {D K : Type 0} → (D → List ℕ)
 RunsNoteAll {D} {K} seen may_leave is_usable queues_of spool_of =
     (writes : Writing) (number : ℕ) (line : List ℕ) (pages : List spool.PageValue)
     (lives : List Life) (puts : List CallPage) (setup : Setup) (done : List DoneOrder)
-    (settled : List SlotEnd) (begun left : List PlaceValue) (before after : K)
+    (settled : List PutResult) (begun left : List PlaceValue) (before after : K)
     → IsWriting writes → HasWholePast writes line lives puts pages
     → BeginsRun seen may_leave is_usable number line pages setup begun (queues_of before)
     (spool_of before) → RanWithOks seen may_leave is_usable

@@ -9,7 +9,7 @@ use Rattle.fax_line.specs.Runs.{AskedOf, DoneOrder, Stored, Turned, Woken}
 use Rattle.fax_line.specs.Settling.{has_page}
 use Rattle.fax_line.specs.StoredRuns.{EndsIf, NotesIf, IsRun, IsSettled, TellsFirst, TellsLine, TellsPlace, TellsWhere}
 use Rattle.fax_line.specs.declared.settling.PageToStore.{PageToStore}
-use Rattle.fax_line.specs.declared.settling.SlotEnd.{SlotEnd}
+use Rattle.fax_line.specs.declared.settling.PutResult.{PutResult}
 
 module _ {K : Type 0} (same is_same : K → K → Type 0) (puts has_put : List PageToStore → Bool → K → K → Type 0) (notes has_noted : ℕ → ℕ → K → K → Type 0) (ends has_ended : ℕ → Report → K → K → Type 0)
     (one : (old new : K) → same old new → is_same old new) (two : (pages : List PageToStore) (is_stored : Bool) (old new : K) → puts pages is_stored old new → has_put pages is_stored old new)
@@ -42,7 +42,7 @@ module _ {K : Type 0} (same is_same : K → K → Type 0) (puts has_put : List P
   puts_if [] is_stored old new is = is
   puts_if (page ∷ pages) is_stored old new is = two (page ∷ pages) is_stored old new is
 
-  settled_so : (which : ℕ → Bool) (end : SlotEnd) (old new : List PlaceValue) (before after : K) → IsSettled same puts notes ends which end old new before after → IsSettled is_same has_put has_noted has_ended which end old new before after
+  settled_so : (which : ℕ → Bool) (end : PutResult) (old new : List PlaceValue) (before after : K) → IsSettled same puts notes ends which end old new before after → IsSettled is_same has_put has_noted has_ended which end old new before after
   settled_so which end old new before after is = record {
     pages = is.pages;
     begun = is.begun;
@@ -53,7 +53,7 @@ module _ {K : Type 0} (same is_same : K → K → Type 0) (puts has_put : List P
     told = record { count = is.told.count; all = is.told.all; told = tells_first which end.pages.items new is.told.count is.kept after is.told.told };
   }
 
-  pub weaker_run : (done : List DoneOrder) (settled : List SlotEnd) (old new : List PlaceValue) (before after : K) → IsRun same puts notes ends done settled old new before after → IsRun is_same has_put has_noted has_ended done settled old new before after
+  pub weaker_run : (done : List DoneOrder) (settled : List PutResult) (old new : List PlaceValue) (before after : K) → IsRun same puts notes ends done settled old new before after → IsRun is_same has_put has_noted has_ended done settled old new before after
   weaker_run [] [] old new before after is = is
   weaker_run [] (end ∷ settled) old new before after is = absurd is
   weaker_run (Turned now visits ∷ done) settled old new before after is = (is.0, is.1, weaker_run done settled old is.0 before after is.2, is.3, is.4, is.5)

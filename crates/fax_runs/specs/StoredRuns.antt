@@ -6,7 +6,7 @@ use Rattle.fax_line.specs.StoredRuns.{IsRun}
 use Rattle.fax_line.specs.Places.{PlaceValue}
 use Rattle.fax_line.specs.Runs.{AreServed, DoneOrder, none_waits}
 use Rattle.fax_line.specs.declared.settling.PageToStore.{PageToStore}
-use Rattle.fax_line.specs.declared.settling.SlotEnd.{SlotEnd}
+use Rattle.fax_line.specs.declared.settling.PutResult.{PutResult}
 use Rattle.fax_spool.specs.RecordOctets as spool
 use Rattle.fax_spool.specs.declared.opening.OpenedSpool.{OpenedSpool}
 use Rattle.fax_spool.specs.Opened.{IsOpened}
@@ -26,7 +26,7 @@ pub record RunIsStored {K : Type 0} (same : K → K → Type 0)
   pub left : List PlaceValue
   pub after : K
   pub done : List DoneOrder
-  pub settled : List SlotEnd
+  pub settled : List PutResult
   pub served : AreServed 0 done none_waits
   pub words : WordsAreDone done
   pub ran : IsRun same puts notes ends done settled begun left before after

@@ -5,7 +5,7 @@ ghost use Rattle.fax_notify.specs.Tellings.{ready_after};
 use crate::ending::EndingPace;
 use crate::supervisor::Supervisor;
 use fax_desk::RunEnd;
-use fax_line::{LineAnswer, Lines, Order, Pace, RunStore, SlotEnd};
+use fax_line::{LineAnswer, Lines, Order, Pace, PutResult, RunStore};
 use fax_notify::{Notice, ServiceManager};
 use fax_wires::holding::LineWire;
 use std::marker::Model;
@@ -72,7 +72,7 @@ impl<W: LineWire + Drop, K: RunStore, P: Pace<W, K> + EndingPace, M: Supervisor>
         self.ordering.before_put(lines, store);
     }
 
-    fn after_put(&mut self, lines: &Lines<W>, end: &SlotEnd) {
+    fn after_put(&mut self, lines: &Lines<W>, end: &PutResult) {
         self.ordering.after_put(lines, end);
     }
 

@@ -5,7 +5,7 @@ use Rattle.fax_line.specs.StoredRuns.{IsRun}
 use Rattle.fax_line.specs.Places.{PlaceValue}
 use Rattle.fax_line.specs.Runs.{AskedOf, DoneOrder, Stored, Turned, Woken}
 use Rattle.fax_line.specs.declared.settling.PageToStore.{PageToStore}
-use Rattle.fax_line.specs.declared.settling.SlotEnd.{SlotEnd}
+use Rattle.fax_line.specs.declared.settling.PutResult.{PutResult}
 use Rattle.fax_spool.specs.Opened.{IsOpened}
 use Rattle.fax_spool.specs.declared.opening.OpenedSpool.{OpenedSpool}
 use Rattle.fax_spool.specs.declared.spool.Spool.{Spool}
@@ -17,21 +17,21 @@ use Rattle.fax_runs.specs.restarts.Runs.{OneRun}
 
 module _ {K : Type 0} (same : K → K → Type 0) (puts : List PageToStore → Bool → K → K → Type 0) (notes : ℕ → ℕ → K → K → Type 0) (ends : ℕ → Report → K → K → Type 0) where
   -- how far a run had come after these of its orders
-  record SoFar (earlier : List DoneOrder) (settled : List SlotEnd) (old : List PlaceValue) (before : K) : Type 0 where
-    later : List SlotEnd
-    ended : List SlotEnd
+  record SoFar (earlier : List DoneOrder) (settled : List PutResult) (old : List PlaceValue) (before : K) : Type 0 where
+    later : List PutResult
+    ended : List PutResult
     are : settled ≡ later ++ ended
     left : List PlaceValue
     after : K
     ran : IsRun same puts notes ends earlier ended old left before after
 
-  so_far : (later earlier : List DoneOrder) (settled : List SlotEnd) (old new : List PlaceValue) (before after : K) → IsRun same puts notes ends (later ++ earlier) settled old new before after → SoFar earlier settled old before
+  so_far : (later earlier : List DoneOrder) (settled : List PutResult) (old new : List PlaceValue) (before after : K) → IsRun same puts notes ends (later ++ earlier) settled old new before after → SoFar earlier settled old before
   so_far [] earlier settled old new before after ran = record { later = []; ended = settled; are = refl; left = new; after = after; ran = ran }
   so_far (Turned now visits ∷ later) earlier settled old new before after ran = so_far later earlier settled old ran.0 before after ran.2
   so_far (Stored visits ∷ later) earlier [] old new before after ran = absurd ran
   so_far (Stored visits ∷ later) earlier (end ∷ settled) old new before after ran =
       let it : SoFar earlier settled old before = so_far later earlier settled old ran.0 before ran.2 ran.3 in
-      record { later = end ∷ it.later; ended = it.ended; are = ap (λ (l : List SlotEnd). end ∷ l) it.are; left = it.left; after = it.after; ran = it.ran }
+      record { later = end ∷ it.later; ended = it.ended; are = ap (λ (l : List PutResult). end ∷ l) it.are; left = it.left; after = it.after; ran = it.ran }
   so_far (AskedOf line now what answer ∷ later) earlier settled old new before after ran = so_far later earlier settled old ran.0 before after ran.1
   so_far (Woken line ∷ later) earlier settled old new before after ran = so_far later earlier settled old ran.0 before after ran.1
 

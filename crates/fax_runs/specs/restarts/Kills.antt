@@ -6,7 +6,7 @@ use Rattle.fax_call.specs.Writings.{IsWriting, Writing}
 use Rattle.fax_gateway.specs.Restored.{CallPage}
 use Rattle.fax_gateway.specs.Lives.{Life}
 use Rattle.fax_line.specs.Runs.{DoneOrder}
-use Rattle.fax_line.specs.declared.settling.SlotEnd.{SlotEnd}
+use Rattle.fax_line.specs.declared.settling.PutResult.{PutResult}
 use Rattle.fax_spool.specs.Opened.{AreBoth, IsOpened}
 use Rattle.fax_spool.specs.declared.spool.Spool.{Spool}
 use Rattle.fax_queue.specs.Queues.{QueueValue}
@@ -22,7 +22,7 @@ pub record IsCut {D K : Type 0} (run : OneRun D K) (earlier : List DoneOrder) (c
   pub begun : cut.begun ≡ run.begun
   pub before : cut.before ≡ run.before
   pub done : cut.done ≡ earlier
-  pub ends : List SlotEnd
+  pub ends : List PutResult
   pub settled : run.settled ≡ ends ++ cut.settled
 
 -- RUNS CAN BE CUT ANYWHERE: after each of its orders there was a run, which is what had been done so far.

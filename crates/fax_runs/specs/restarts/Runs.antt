@@ -10,7 +10,7 @@ use Rattle.fax_line.specs.Actions.{BeginsWith}
 use Rattle.fax_line.specs.Places.{PlaceValue}
 use Rattle.fax_line.specs.Runs.{DoneOrder}
 use Rattle.fax_line.specs.StoredRuns.{stored_pages}
-use Rattle.fax_line.specs.declared.settling.SlotEnd.{SlotEnd}
+use Rattle.fax_line.specs.declared.settling.PutResult.{PutResult}
 use Rattle.fax_spool.specs.declared.opening.OpenedSpool.{OpenedSpool}
 use Rattle.fax_spool.specs.declared.spool.Spool.{Spool}
 use Rattle.fax_queue.specs.Queues.{QueueValue}
@@ -26,7 +26,7 @@ pub record OneRun (D K : Type 0) : Type 0 where
   pub number : ℕ
   pub setup : Setup
   pub done : List DoneOrder
-  pub settled : List SlotEnd
+  pub settled : List PutResult
   pub begun : List PlaceValue
   pub left : List PlaceValue
   pub before : K
@@ -57,7 +57,7 @@ pub record WasRun {D K : Type 0} (seen : D → List ℕ)
 pub record RunTold : Type 0 where
   pub number : ℕ
   pub setup : Setup
-  pub settled : List SlotEnd
+  pub settled : List PutResult
   pub left : List PlaceValue
 
 abbrev pub told_of : {D K : Type 0} → OneRun D K → RunTold
