@@ -1,11 +1,11 @@
 -- A line that waits has had its turn in this round of the slots.
 use Rattle.std.proofs.Common.{◌≡◌, ◌≢◌, ◌∙◌, ℕ, ◌+◌, ◌<◌, ◌≤◌, ◌⊎◌, inl, inr, Bool, true, false, nat_eq, if◌then◌else◌, List, length, Option, Some, None, slice_index_or, refl, sym, ap, subst, arith}
 use Rattle.std.proofs.lemmas.Bool.{eqb-true}
-use Rattle.fax_jobs.specs.declared.report.Report.{Report}
 use Rattle.fax_line.specs.Operations.{AreFree, LinesValue, WaitAlike, slot_after, slot_of, waits_of}
 use Rattle.fax_line.specs.Places.{PlaceValue}
 use Rattle.fax_line.specs.Settling.{SetAside, SetsAsideIf, is_to_store, was_turned}
 use Rattle.fax_line.specs.StoredRuns.{FreeWhere, IsFreeWhere, StoresIf, TurnEnds}
+use Rattle.fax_line.specs.declared.settling.LineReport.{LineReport}
 use Rattle.fax_line.specs.declared.settling.PageToStore.{PageToStore}
 use Rattle.fax_line.proofs.Recorded.{and_both, flags_alike, freed_off, no_two, none_in, none_there, some_place, there_or}
 use Rattle.fax_line.proofs.Slots.{waits_is}
@@ -85,7 +85,7 @@ after_by slot false is = inr (omega arith)
 after_or : (slot : ℕ) → (slot_after slot ≡ 0) ⊎ (slot < slot_after slot)
 after_or slot = after_by slot (nat_eq slot 39) refl
 
-module _ (K : Type 0) (same : K → K → Type 0) (puts : List PageToStore → Bool → K → K → Type 0) (notes : ℕ → ℕ → K → K → Type 0) (ends : ℕ → Report → K → K → Type 0) where
+module _ (K : Type 0) (same : K → K → Type 0) (puts : List PageToStore → Bool → K → K → Type 0) (notes : ℕ → ℕ → K → K → Type 0) (ends : List LineReport → K → K → Type 0) where
   pub early_turned : (slot next : ℕ) (turned lines : List PlaceValue) (l m : Option K) → TurnEnds same puts notes ends slot turned lines l m → Early slot turned → next ≡ slot_after slot → (next ≡ 0 → FreeWhere l lines)
       → (l ≡ None → (i : ℕ) → waits_of lines i ≡ false) → Early next lines
   early_turned slot next turned lines None m turn early next_is free none = λ i on. absurd (no_two (waits_of lines i) on (none refl i))

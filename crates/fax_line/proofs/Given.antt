@@ -2,7 +2,6 @@
 use Rattle.std.proofs.Common.{◌≡◌, ◌<◌, ℕ, max, Bool, true, false, not, nat_eq, List, [], ◌∷◌, ◌++◌, length, slice_index_or, Option, Some, None, is_some, option_map, Ok, Err, refl, sym, subst, arith, inl, inr, if◌then◌else◌}
 use Rattle.std.specs.declared.net.socket_addr.SocketAddr.{SocketAddr}
 use Rattle.fax_call.specs.Writings.{IsWriting, Writing}
-use Rattle.fax_jobs.specs.declared.report.Report.{Report}
 use Rattle.fax_gateway.specs.declared.leg.Leg.{Leg}
 use Rattle.fax_gateway.specs.declared.leg.Leg.TheVariants as legs
 use Rattle.fax_gateway.specs.Driving.{DriverValue, HasMade, events}
@@ -16,6 +15,7 @@ use Rattle.fax_line.specs.declared.asked.LineAnswer.{LineAnswer}
 use Rattle.fax_line.specs.declared.asked.LineAnswer.TheVariants as answered
 use Rattle.fax_line.specs.declared.asked.LineRequest.{LineRequest}
 use Rattle.fax_line.specs.declared.asked.LineRequest.TheVariants as asked
+use Rattle.fax_line.specs.declared.settling.LineReport.{LineReport}
 use Rattle.fax_line.specs.declared.settling.PageToStore.{PageToStore}
 use Rattle.fax_line.specs.declared.settling.PutResult.{PutResult}
 use Rattle.fax_line.specs.Actions.{Action, Goes, LineValue}
@@ -237,7 +237,7 @@ module _ (setup : Setup) (writes : Writing) (writing : IsWriting writes) (number
         (stays.each number other was.there) was.has;
   }
 
-  module _ (K : Type 0) (same : K → K → Type 0) (puts : List PageToStore → Bool → K → K → Type 0) (notes : ℕ → ℕ → K → K → Type 0) (ends : ℕ → Report → K → K → Type 0) (start : Option Peer) where
+  module _ (K : Type 0) (same : K → K → Type 0) (puts : List PageToStore → Bool → K → K → Type 0) (notes : ℕ → ℕ → K → K → Type 0) (ends : List LineReport → K → K → Type 0) (start : Option Peer) where
     stands_in : (done : List DoneOrder) (settled : List PutResult) (old new : List PlaceValue) (k l : K) (ran : IsRun same puts notes ends done settled old new k l) → Stands start old
         → Stands (given_in same puts notes ends number other start done settled old new k l ran) new
     stands_in [] [] old new k l ran was = subst (λ (p : List PlaceValue). Stands start p) (sym ran.0) was
@@ -268,7 +268,7 @@ module _ (setup : Setup) (writes : Writing) (writing : IsWriting writes) (number
   stands_without start (Woken line ∷ done) old new ran was =
       stands_woken (given_without number other start done old ran.0 ran.1) line ran.0 new ran.2 ran.3 (stands_without start done old ran.0 ran.1 was)
 
-pub called_peers_are_given : {K : Type 0} (same : K → K → Type 0) (puts : List PageToStore → Bool → K → K → Type 0) (notes : ℕ → ℕ → K → K → Type 0) (ends : ℕ → Report → K → K → Type 0) → CalledPeersAreGiven same puts notes ends
+pub called_peers_are_given : {K : Type 0} (same : K → K → Type 0) (puts : List PageToStore → Bool → K → K → Type 0) (notes : ℕ → ℕ → K → K → Type 0) (ends : List LineReport → K → K → Type 0) → CalledPeersAreGiven same puts notes ends
 called_peers_are_given {K = K} same puts notes ends setup writes number other start done settled old new before after writing there somewhere given ran =
     (stands_in setup writes writing number other K same puts notes ends start done settled old new before after ran record { there = there; has = record { somewhere = somewhere; is_given = given } }).has.is_given
 

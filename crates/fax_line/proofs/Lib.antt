@@ -9,7 +9,7 @@ mod Missing
 mod Places
 mod Slots
 mod Stepping
-mod Telling
+pub mod Telling
 mod Turning
 pub mod Recorded
 pub mod Running

@@ -8,10 +8,10 @@ use Rattle.fax_line.specs.Operations.{AllStayHeld, AllWaitStill, AreFreed, AskFr
 use Rattle.fax_line.specs.Places.{GoesInPlace, Passes, PlaceValue, StaysHeld, TellsVisit, TurnsAt, Visit, WaitsStill, actions_by, is_turn, visit_at}
 use Rattle.fax_line.specs.Runs.{IsServed, turned_in, visit_stored}
 use Rattle.fax_line.specs.Settling.{EndsTurn, EndsWhere, IsPageOf, LetOut, LetsOutSlot, SetAside, SetsAsideIf, has_page, is_stored_in, is_to_store}
-use Rattle.fax_line.specs.StoredRuns.{EndUnstored, EndsUnstored, IsSettled, TellsFirst, TellsPlace, TellsWhere}
+use Rattle.fax_line.specs.StoredRuns.{EndUnstored, EndsUnstored, IsSettled, NotesFirst, NotesPlace, NotesWhere, report_if, report_list, reports_at}
+use Rattle.fax_line.specs.declared.settling.LineReport.{LineReport}
 use Rattle.fax_line.specs.declared.settling.PageToStore.{PageToStore}
 use Rattle.fax_line.specs.declared.settling.PutResult.{PutResult}
-use Rattle.fax_jobs.specs.declared.report.Report.{Report}
 use Rattle.fax_line.proofs.Places.{place_none, place_wakes}
 use Rattle.fax_line.proofs.Slots.{waits_is}
 use Rattle.fax_line.proofs.Stepping.{actions_nil}
@@ -598,18 +598,23 @@ end_freed true is_stored old left new on is ends = subst (λ (p : PlaceValue). E
 end_freed false is_stored old left new off is same =
     is ∙ (ap (λ (p : PlaceValue). record p { waits = false }) same ∙ ap (λ (w : Bool). record old { waits = w }) (sym off))
 
-module _ {K : Type 0} (notes : ℕ → ℕ → K → K → Type 0) (ends : ℕ → Report → K → K → Type 0) (visits : ℕ → Visit) (which : ℕ → Bool) (same : (i : ℕ) → turned_in visits i ≡ which i) (pages : List PageToStore) where
-  place_told : (number : ℕ) (o p : Option PlaceValue) (k l : K) → p ≡ option_map (λ (place : PlaceValue). record place { waits = false }) o → TellsPlace notes ends which pages number o k l → TellsPlace notes ends (turned_in visits) pages number p k l
-  place_told number None p k l is told = subst (λ (q : Option PlaceValue). TellsPlace notes ends (turned_in visits) pages number q k l) (sym is) told
+module _ {K : Type 0} (notes : ℕ → ℕ → K → K → Type 0) (visits : ℕ → Visit) (which : ℕ → Bool) (same : (i : ℕ) → turned_in visits i ≡ which i) (pages : List PageToStore) where
+  place_told : (number : ℕ) (o p : Option PlaceValue) (k l : K) → p ≡ option_map (λ (place : PlaceValue). record place { waits = false }) o → NotesPlace notes which pages number o k l → NotesPlace notes (turned_in visits) pages number p k l
+  place_told number None p k l is told = subst (λ (q : Option PlaceValue). NotesPlace notes (turned_in visits) pages number q k l) (sym is) told
   place_told number (Some place) p k l is told =
-      subst (λ (q : Option PlaceValue). TellsPlace notes ends (turned_in visits) pages number q k l) (sym is)
-      (subst (λ (b : Bool). TellsWhere notes ends number b place.line.turned (has_page pages number) k l) (sym (same number)) told)
+      subst (λ (q : Option PlaceValue). NotesPlace notes (turned_in visits) pages number q k l) (sym is)
+      (subst (λ (b : Bool). NotesWhere notes number b place.line.turned (has_page pages number) k l) (sym (same number)) told)
 
   first_told : (left lines : List PlaceValue) (number : ℕ) (k l : K) → ((i : ℕ) → slice_get lines i ≡ option_map (λ (place : PlaceValue). record place { waits = false }) (slice_get left i))
-      → TellsFirst notes ends which pages left number k l → TellsFirst notes ends (turned_in visits) pages lines number k l
+      → NotesFirst notes which pages left number k l → NotesFirst notes (turned_in visits) pages lines number k l
   first_told left lines zero k l is told = told
   first_told left lines (suc number) k l is told =
       (told.0, first_told left lines number k told.0 is told.1, place_told number (slice_get left number) (slice_get lines number) told.0 l (is number) told.2)
+
+reports_freed : (which other : ℕ → Bool) (line : ℕ) (o p : Option PlaceValue) → other line ≡ which line → p ≡ option_map (λ (place : PlaceValue). record place { waits = false }) o → reports_at which line o ≡ reports_at other line p
+reports_freed which other line None p same is = ap (λ (q : Option PlaceValue). reports_at other line q) (sym is)
+reports_freed which other line (Some place) p same is =
+    ap (λ (b : Bool). report_list (report_if b place.line.turned)) (sym same) ∙ ap (λ (q : Option PlaceValue). reports_at other line q) (sym is)
 
 freed_get : (left lines : List PlaceValue) → AreFreed left lines → (i : ℕ) → slice_get lines i ≡ option_map (λ (place : PlaceValue). record place { waits = false }) (slice_get left i)
 freed_get [] [] freed i = refl
@@ -619,7 +624,7 @@ freed_get (l ∷ left) (p ∷ lines) freed zero = ap (λ (x : PlaceValue). Some 
 freed_get (l ∷ left) (p ∷ lines) freed (suc i) =
     freed_get left lines (record { as_many = omega (arith, freed.as_many); each = λ k d low. freed.each (suc k) d (omega (arith, low)) }) i
 
-pub settled_recorded : {K : Type 0} (same : K → K → Type 0) (puts : List PageToStore → Bool → K → K → Type 0) (notes : ℕ → ℕ → K → K → Type 0) (ends : ℕ → Report → K → K → Type 0)
+pub settled_recorded : {K : Type 0} (same : K → K → Type 0) (puts : List PageToStore → Bool → K → K → Type 0) (notes : ℕ → ℕ → K → K → Type 0) (ends : List LineReport → K → K → Type 0)
     (visits : ℕ → Visit) (end : PutResult) (actual left lines : List PlaceValue) (k l : K) → ((i : ℕ) → turned_in visits i ≡ waits_of actual i)
     → IsSettled same puts notes ends (waits_of actual) end actual left k l → AreFreed left lines → IsSettled same puts notes ends (turned_in visits) end actual lines k l
 settled_recorded same puts notes ends visits end actual left lines k l alike is freed = record {
@@ -635,9 +640,17 @@ settled_recorded same puts notes ends visits end actual left lines k l alike is 
         (freed.each i d (omega (arith, there, is.settled.as_many))) (is.settled.each i d there));
   };
   told = record {
-    count = is.told.count;
-    all = let many = is.told.all in omega (arith, many, freed.as_many);
-    told = first_told notes ends visits (waits_of actual) alike end.pages.items left lines is.told.count is.kept l (freed_get left lines freed) is.told.told;
+    between = is.told.between;
+    noted = record {
+      count = is.told.noted.count;
+      all = let many = is.told.noted.all in omega (arith, many, freed.as_many);
+      told = first_told notes visits (waits_of actual) alike end.pages.items left lines is.told.noted.count is.kept is.told.between (freed_get left lines freed) is.told.noted.told;
+    };
+    ended = record {
+      batches = is.told.ended.batches;
+      once = λ line. is.told.ended.once line ∙ reports_freed (waits_of actual) (turned_in visits) line (slice_get left line) (slice_get lines line) (alike line) (freed_get left lines freed line);
+      told = is.told.ended.told;
+    };
   };
 }
 

@@ -1,12 +1,12 @@
 -- A run with a store goes on, or one without.
 use Rattle.std.proofs.Common.{◌≡◌, ◌≢◌, ◌+◌, ◌-◌, ◌≤◌, ◌⊎◌, ℕ, max, inl, inr, Bool, true, false, is_some, List, [], ◌∷◌, Option, Some, None, refl, sym, ◌∙◌, ap, subst, arith, nat_eq, if◌then◌else◌}
 use Rattle.std.proofs.lemmas.Bool.{eqb-true}
-use Rattle.fax_jobs.specs.declared.report.Report.{Report}
 use Rattle.fax_gateway.specs.Wires.{Grows}
 use Rattle.fax_line.specs.declared.asked.LineAnswer.{LineAnswer}
 use Rattle.fax_line.specs.declared.asked.LineRequest.{LineRequest}
 use Rattle.fax_line.specs.declared.order.Order.{Order}
 use Rattle.fax_line.specs.declared.order.Order.TheVariants as order
+use Rattle.fax_line.specs.declared.settling.LineReport.{LineReport}
 use Rattle.fax_line.specs.declared.settling.PageToStore.{PageToStore}
 use Rattle.fax_line.specs.declared.settling.PutResult.{PutResult}
 use Rattle.fax_line.specs.Operations.{AllStayHeld, AllWaitStill, AreFree, AreRising, AskFrees, AsksLine, LinesValue, LinesWent, VisitsLines, VisitsTell, WaitAlike, WakesLine, WakesOne, slot_after, slot_before, slot_of, visits_at, waits_of}
@@ -34,7 +34,7 @@ some_is : (o : Option ℕ) → o ≢ None → is_some o ≡ true
 some_is None some = absurd (some refl)
 some_is (Some moment) some = refl
 
-module _ (K : Type 0) (same : K → K → Type 0) (puts : List PageToStore → Bool → K → K → Type 0) (notes : ℕ → ℕ → K → K → Type 0) (ends : ℕ → Report → K → K → Type 0) where
+module _ (K : Type 0) (same : K → K → Type 0) (puts : List PageToStore → Bool → K → K → Type 0) (notes : ℕ → ℕ → K → K → Type 0) (ends : List LineReport → K → K → Type 0) where
   same_some : (l x : K) → Some l ≡ Some x → l ≡ x
   same_some l x is = cc
 

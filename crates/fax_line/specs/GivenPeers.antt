@@ -3,7 +3,6 @@
 use Rattle.std.specs.Prelude.{◌≡◌, ◌<◌, ℕ, Bool, true, false, ◌&&◌, nat_eq, List, [], ◌∷◌, length, slice_index_or, Option, Some, None, is_some, Ok, Err, if◌then◌else◌}
 use Rattle.std.specs.declared.net.socket_addr.SocketAddr.{SocketAddr}
 use Rattle.fax_call.specs.Writings.{IsWriting, Writing}
-use Rattle.fax_jobs.specs.declared.report.Report.{Report}
 use Rattle.fax_gateway.specs.declared.leg.Leg.{Leg}
 use Rattle.fax_gateway.specs.declared.leg.Leg.TheVariants as legs
 use Rattle.fax_gateway.specs.Driving.{Entry, HasMade}
@@ -17,6 +16,7 @@ use Rattle.fax_line.specs.declared.asked.LineAnswer.{LineAnswer}
 use Rattle.fax_line.specs.declared.asked.LineAnswer.TheVariants as answered
 use Rattle.fax_line.specs.declared.asked.LineRequest.{LineRequest}
 use Rattle.fax_line.specs.declared.asked.LineRequest.TheVariants as asked
+use Rattle.fax_line.specs.declared.settling.LineReport.{LineReport}
 use Rattle.fax_line.specs.declared.settling.PageToStore.{PageToStore}
 use Rattle.fax_line.specs.declared.settling.PutResult.{PutResult}
 use Rattle.fax_line.specs.Actions.{LineValue}
@@ -50,7 +50,7 @@ has_reported visit turned = is_turn visit && is_some turned.line.turned.report
 -- what it is given in a whole run, which begins with this
 abbrev pub given_in :
     {K : Type 0} (same : K → K → Type 0) (puts : List PageToStore → Bool → K → K → Type 0)
-    (notes : ℕ → ℕ → K → K → Type 0) (ends : ℕ → Report → K → K → Type 0)
+    (notes : ℕ → ℕ → K → K → Type 0) (ends : List LineReport → K → K → Type 0)
     (number : ℕ) (other : PlaceValue) (start : Option Peer)
     (done : List DoneOrder) (settled : List PutResult) (old new : List PlaceValue) (before after : K)
     → IsRun same puts notes ends done settled old new before after → Option Peer
@@ -101,7 +101,7 @@ IsSomewhere setup writes line = (trace : List Event) × (earlier : List Entry)
 -- OVER A RUN THE PEER OF A CALLED LEG IS THE ONE THAT IT WAS GIVEN last, with no report of a job since; else there is none.
 abbrev pub CalledPeersAreGiven : {K : Type 0}
     → (K → K → Type 0) → (List PageToStore → Bool → K → K → Type 0)
-    → (ℕ → ℕ → K → K → Type 0) → (ℕ → Report → K → K → Type 0) → Type 0
+    → (ℕ → ℕ → K → K → Type 0) → (List LineReport → K → K → Type 0) → Type 0
 CalledPeersAreGiven {K} same puts notes ends = (setup : Setup) (writes : Writing)
     (number : ℕ) (other : PlaceValue) (start : Option Peer) (done : List DoneOrder)
     (settled : List PutResult) (old new : List PlaceValue) (before after : K) → IsWriting writes

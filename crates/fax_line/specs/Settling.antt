@@ -15,6 +15,7 @@ use Rattle.fax_wires.specs.holding.Storing.{HasDone, HoldsAfter, LegAction, Turn
 use Rattle.fax_line.specs.Actions.{LineValue}
 use Rattle.fax_line.specs.Places.{PlaceValue}
 use Rattle.fax_line.specs.Operations.{EachComes, slot_of}
+use Rattle.fax_line.specs.declared.settling.LineReport.{LineReport}
 use Rattle.fax_line.specs.declared.settling.PageToStore.{PageToStore}
 use Rattle.fax_line.specs.declared.settling.PutResult.{PutResult}
 
@@ -54,6 +55,10 @@ pub record EndsTurn (is_stored : Bool) (old new : LineValue) : Type 0 where
   pub wire : IsToldAs old.wire new.wire
   pub peers : new.peers ≡ old.peers
   pub told : new.turned ≡ old.turned
+
+-- in the order of their lines, one of a line at most
+abbrev pub RiseByLine : List LineReport → Type 0
+RiseByLine reports = AllPairs (λ report after. report.line < after.line) reports
 
 -- whether a page is of the line of this number, and whether one of these is
 abbrev pub is_of : ℕ → PageToStore → Bool

@@ -1,6 +1,6 @@
 -- A run whose pages are stored: what becomes of its lines, and of what keeps their pages, order by order. Lists have the newest first,
 -- but those of pages. (This project's profile.)
-use Rattle.std.specs.Prelude.{◌≡◌, ◌⊎◌, ◌≤◌, ℕ, zero, suc, max, Bool, true, false, is_ok, List, [], ◌∷◌, ◌++◌, length, slice_get, Option, Some, None}
+use Rattle.std.specs.Prelude.{◌≡◌, ◌⊎◌, ◌≤◌, ℕ, zero, suc, max, nat_eq, Bool, true, false, is_ok, List, [], ◌∷◌, ◌++◌, length, slice_get, Option, Some, None, if◌then◌else◌}
 use Rattle.fax_jobs.specs.declared.report.Report.{Report}
 use Rattle.fax_gateway.specs.declared.given.Kept.{Kept}
 use Rattle.fax_gateway.specs.declared.turn_report.TurnReport.{TurnReport as Told}
@@ -9,60 +9,103 @@ use Rattle.fax_line.specs.Operations.{AllStayHeld, AreFree, AreFreed, AskFrees, 
 use Rattle.fax_line.specs.Places.{PlaceValue}
 use Rattle.fax_line.specs.Runs.{AskedOf, DoneOrder, Stored, Turned, Woken, latest, turned_in}
 use Rattle.fax_line.specs.Settling.{ArePagesOf, EndTurns, EndsWhere, LetOut, LetsOutSlot, SetAside, has_page, is_stored_in, is_to_store}
+use Rattle.fax_line.specs.declared.settling.LineReport.{LineReport}
 use Rattle.fax_line.specs.declared.settling.PageToStore.{PageToStore}
 use Rattle.fax_line.specs.declared.settling.PutResult.{PutResult}
 
--- ---- what a store is told of a line's turn, which is known by what is made of it then
+-- ---- what a store is told of turns, which is known by what is made of it then
 
--- of the page that it confirmed, where that was not handed over,
+-- of the page that a line confirmed, where that was not handed over,
 abbrev pub NotesIf : {K : Type 0}
     → (ℕ → ℕ → K → K → Type 0) → ℕ → Option Kept → Bool → K → K → Type 0
 NotesIf notes number None was_handed old new = new ≡ old
 NotesIf notes number (Some kept) true old new = new ≡ old
 NotesIf notes number (Some kept) false old new = notes number kept.call old new
 
--- and then of the job that ended in it.
-abbrev pub EndsIf : {K : Type 0}
-    → (ℕ → Report → K → K → Type 0) → ℕ → Option Report → K → K → Type 0
-EndsIf ends number None old new = new ≡ old
-EndsIf ends number (Some report) old new = ends number report old new
+-- where it had a turn;
+abbrev pub NotesWhere : {K : Type 0}
+    → (ℕ → ℕ → K → K → Type 0) → ℕ → Bool → Told → Bool → K → K → Type 0
+NotesWhere notes number true told was_handed old new =
+    NotesIf notes number told.kept was_handed old new
+NotesWhere notes number false told was_handed old new = new ≡ old
 
-abbrev pub TellsLine : {K : Type 0}
-    → (ℕ → ℕ → K → K → Type 0) → (ℕ → Report → K → K → Type 0) → ℕ → Told → Bool → K → K → Type 0
-TellsLine {K} notes ends number told was_handed old new =
-    (between : K) × NotesIf notes number told.kept was_handed old between
-    × EndsIf ends number told.report between new
-
--- where it had one
-abbrev pub TellsWhere : {K : Type 0} → (ℕ → ℕ → K → K → Type 0)
-    → (ℕ → Report → K → K → Type 0) → ℕ → Bool → Told → Bool → K → K → Type 0
-TellsWhere notes ends number true told was_handed old new =
-    TellsLine notes ends number told was_handed old new
-TellsWhere notes ends number false told was_handed old new = new ≡ old
-
-abbrev pub TellsPlace : {K : Type 0} → (ℕ → ℕ → K → K → Type 0)
-    → (ℕ → Report → K → K → Type 0)
+abbrev pub NotesPlace : {K : Type 0} → (ℕ → ℕ → K → K → Type 0)
     → (ℕ → Bool) → List PageToStore → ℕ → Option PlaceValue → K → K → Type 0
-TellsPlace notes ends which pages number None old new = new ≡ old
-TellsPlace notes ends which pages number (Some place) old new =
-    TellsWhere notes ends number (which number) place.line.turned (has_page pages number) old new
+NotesPlace notes which pages number None old new = new ≡ old
+NotesPlace notes which pages number (Some place) old new =
+    NotesWhere notes number (which number) place.line.turned (has_page pages number) old new
 
--- of the first so many lines, one after the other, each where it is one of these
-abbrev pub TellsFirst : {K : Type 0} → (ℕ → ℕ → K → K → Type 0)
-    → (ℕ → Report → K → K → Type 0)
+-- so of the first so many lines, one after the other, each where it is one of these,
+abbrev pub NotesFirst : {K : Type 0} → (ℕ → ℕ → K → K → Type 0)
     → (ℕ → Bool) → List PageToStore → List PlaceValue → ℕ → K → K → Type 0
-TellsFirst notes ends which pages lines zero old new = new ≡ old
-TellsFirst {K} notes ends which pages lines (suc number) old new =
-    (between : K) × TellsFirst notes ends which pages lines number old between
-    × TellsPlace notes ends which pages number (slice_get lines number) between new
+NotesFirst notes which pages lines zero old new = new ≡ old
+NotesFirst {K} notes which pages lines (suc number) old new =
+    (between : K) × NotesFirst notes which pages lines number old between
+    × NotesPlace notes which pages number (slice_get lines number) between new
 
--- of all lines
-pub record TellsLines {K : Type 0} (notes : ℕ → ℕ → K → K → Type 0)
-    (ends : ℕ → Report → K → K → Type 0) (which : ℕ → Bool)
+-- and of all lines.
+pub record NotesLines {K : Type 0} (notes : ℕ → ℕ → K → K → Type 0) (which : ℕ → Bool)
     (pages : List PageToStore) (lines : List PlaceValue) (old new : K) : Type 0 where
   pub count : ℕ
   pub all : length lines ≤ count
-  pub told : TellsFirst notes ends which pages lines count old new
+  pub told : NotesFirst notes which pages lines count old new
+
+-- And then of jobs that ended, of some at once, where there are any;
+abbrev pub EndsIf : {K : Type 0}
+    → (List LineReport → K → K → Type 0) → List LineReport → K → K → Type 0
+EndsIf ends [] old new = new ≡ old
+EndsIf ends (ended ∷ others) old new = ends (ended ∷ others) old new
+
+-- and of some after others.
+abbrev pub EndsEach : {K : Type 0}
+    → (List LineReport → K → K → Type 0) → List (List LineReport) → K → K → Type 0
+EndsEach ends [] old new = new ≡ old
+EndsEach {K} ends (ended ∷ later) old new =
+    (between : K) × EndsIf ends ended old between × EndsEach ends later between new
+
+-- the reports of a line among these, and among all of these
+abbrev pub reports_of : ℕ → List LineReport → List Report
+reports_of line [] = []
+reports_of line (ended ∷ others) =
+    if nat_eq ended.line line then ended.report ∷ reports_of line others else reports_of line others
+
+abbrev pub reports_in : ℕ → List (List LineReport) → List Report
+reports_in line [] = []
+reports_in line (ended ∷ later) = reports_of line ended ++ reports_in line later
+
+-- what its turn told of a job, where it had one
+abbrev pub report_if : Bool → Told → Option Report
+report_if true told = told.report
+report_if false told = None
+
+abbrev pub report_list : Option Report → List Report
+report_list None = []
+report_list (Some report) = report ∷ []
+
+abbrev pub reports_at : (which : ℕ → Bool) → ℕ → Option PlaceValue → List Report
+reports_at which line None = []
+reports_at which line (Some place) = report_list (report_if (which line) place.line.turned)
+
+-- EACH JOB THAT ENDED in the turns of these lines is among those of which the store was told, once, and no other is.
+pub record EndsLines {K : Type 0} (ends : List LineReport → K → K → Type 0) (which : ℕ → Bool)
+    (lines : List PlaceValue) (old new : K) : Type 0 where
+  pub batches : List (List LineReport)
+  pub once : (line : ℕ) → reports_in line batches ≡ reports_at which line (slice_get lines line)
+  pub told : EndsEach ends batches old new
+
+-- One job more joins those of which a store is to be told; or it was told of these, and then of that one.
+abbrev pub EndsWith : {K : Type 0} → (List LineReport → K → K → Type 0)
+    → LineReport → (before after : List LineReport) → K → K → Type 0
+EndsWith {K} ends one before after old new = ((after ≡ before ++ one ∷ []) × (new ≡ old))
+    ⊎ ((after ≡ []) × ((between : K) × EndsIf ends before old between × ends (one ∷ []) between new))
+
+-- of both
+pub record TellsLines {K : Type 0} (notes : ℕ → ℕ → K → K → Type 0)
+    (ends : List LineReport → K → K → Type 0) (which : ℕ → Bool)
+    (pages : List PageToStore) (lines : List PlaceValue) (old new : K) : Type 0 where
+  pub between : K
+  pub noted : NotesLines notes which pages lines old between
+  pub ended : EndsLines ends which lines between new
 
 -- ---- what is to be stored of turns is stored
 
@@ -71,7 +114,7 @@ pub record TellsLines {K : Type 0} (notes : ℕ → ℕ → K → K → Type 0)
 -- handed over, and which jobs ended. Nothing else was done with it, but for what leaves what it keeps the same.
 pub record IsSettled {K : Type 0} (same : K → K → Type 0)
     (puts : List PageToStore → Bool → K → K → Type 0)
-    (notes : ℕ → ℕ → K → K → Type 0) (ends : ℕ → Report → K → K → Type 0)
+    (notes : ℕ → ℕ → K → K → Type 0) (ends : List LineReport → K → K → Type 0)
     (which : ℕ → Bool) (end : PutResult) (old new : List PlaceValue) (before after : K) :
     Type 0 where
   pub pages : ArePagesOf which old end.pages.items
@@ -88,7 +131,7 @@ pub record IsSettled {K : Type 0} (same : K → K → Type 0)
 -- is this.
 pub record Settles {K : Type 0} (same : K → K → Type 0)
     (puts : List PageToStore → Bool → K → K → Type 0)
-    (notes : ℕ → ℕ → K → K → Type 0) (ends : ℕ → Report → K → K → Type 0) (saw : K → Type 0)
+    (notes : ℕ → ℕ → K → K → Type 0) (ends : List LineReport → K → K → Type 0) (saw : K → Type 0)
     (old new : List PlaceValue) (before after : K) : Type 0 where
   pub end : PutResult
   pub left : List PlaceValue
@@ -100,14 +143,14 @@ pub record Settles {K : Type 0} (same : K → K → Type 0)
 -- where they were stored
 abbrev pub SettlesIf : {K : Type 0} → (K → K → Type 0)
     → (List PageToStore → Bool → K → K → Type 0) → (ℕ → ℕ → K → K → Type 0)
-    → (ℕ → Report → K → K → Type 0) → List PlaceValue → List PlaceValue → K → K → Type 0
+    → (List LineReport → K → K → Type 0) → List PlaceValue → List PlaceValue → K → K → Type 0
 SettlesIf same puts notes ends old new before after = ((new ≡ old) × (after ≡ before))
     ⊎ Settles same puts notes ends (λ kept. Unit {0}) old new before after
 
 -- after a turn of a slot
 abbrev pub TurnEnds : {K : Type 0} → (K → K → Type 0)
     → (List PageToStore → Bool → K → K → Type 0) → (ℕ → ℕ → K → K → Type 0)
-    → (ℕ → Report → K → K → Type 0)
+    → (List LineReport → K → K → Type 0)
     → ℕ → List PlaceValue → List PlaceValue → Option K → Option K → Type 0
 TurnEnds same puts notes ends slot old new None after =
     (after ≡ None) × LetsOutSlot slot old new × LinesWent [] old new × WaitAlike old new
@@ -118,7 +161,7 @@ TurnEnds {K} same puts notes ends slot old new (Some before) after = (left : K)
 -- before something is asked of a line, or at the end of a run
 abbrev pub StoresIf : {K : Type 0} → (K → K → Type 0)
     → (List PageToStore → Bool → K → K → Type 0) → (ℕ → ℕ → K → K → Type 0)
-    → (ℕ → Report → K → K → Type 0)
+    → (List LineReport → K → K → Type 0)
     → List PlaceValue → List PlaceValue → Option K → Option K → Type 0
 StoresIf same puts notes ends old new None after = (after ≡ None) × (new ≡ old)
 StoresIf {K} same puts notes ends old new (Some before) after =
@@ -147,7 +190,7 @@ EndUnstored which old new = EachComes (λ number. EndsUnstored (which number)) o
 -- A RUN WITH A STORE: a line of whose turn something is to be stored does nothing until that was done, for all such lines at once; the
 -- turns of the others end before anything else is done. Nothing else touches the store. There is an end for each time that was done.
 abbrev pub IsRun : {K : Type 0} → (K → K → Type 0) → (List PageToStore → Bool → K → K → Type 0)
-    → (ℕ → ℕ → K → K → Type 0) → (ℕ → Report → K → K → Type 0)
+    → (ℕ → ℕ → K → K → Type 0) → (List LineReport → K → K → Type 0)
     → List DoneOrder → List PutResult → List PlaceValue → List PlaceValue → K → K → Type 0
 IsRun same puts notes ends [] [] old new before after = (new ≡ old) × (after ≡ before)
 IsRun same puts notes ends [] (end ∷ settled) old new before after = ⊥
@@ -187,7 +230,7 @@ RanWithout (Woken line ∷ done) old new = (mid : List PlaceValue)
 
 -- where there is a store; a run that begins with none has none
 abbrev pub RanIf : {K : Type 0} → (K → K → Type 0) → (List PageToStore → Bool → K → K → Type 0)
-    → (ℕ → ℕ → K → K → Type 0) → (ℕ → Report → K → K → Type 0)
+    → (ℕ → ℕ → K → K → Type 0) → (List LineReport → K → K → Type 0)
     → List DoneOrder → List PlaceValue → List PlaceValue → Option K → Option K → Type 0
 RanIf same puts notes ends done old new None after = (after ≡ None) × RanWithout done old new
 RanIf {K} same puts notes ends done old new (Some before) after =
@@ -210,15 +253,15 @@ stored_pages (end ∷ earlier) = stored_pages earlier ++ kept_if (is_ok end.answ
 -- and loses none of it by anything else that it is told.
 abbrev pub RunStores : {K : Type 0}
     → (K → K → Type 0) → (List PageToStore → Bool → K → K → Type 0) → (ℕ → ℕ → K → K → Type 0)
-    → (ℕ → Report → K → K → Type 0) → (K → List PageToStore → Type 0) → Type 0
+    → (List LineReport → K → K → Type 0) → (K → List PageToStore → Type 0) → Type 0
 RunStores {K} same puts notes ends keeps =
     ((old new : K) (pages : List PageToStore) → same old new → keeps old pages → keeps new pages)
     → ((put : List PageToStore) (is_stored : Bool) (old new : K) (pages : List PageToStore)
     → puts put is_stored old new → keeps old pages → keeps new (pages ++ kept_if is_stored put))
     → ((line call : ℕ) (old new : K) (pages : List PageToStore)
     → notes line call old new → keeps old pages → keeps new pages)
-    → ((line : ℕ) (report : Report) (old new : K) (pages : List PageToStore)
-    → ends line report old new → keeps old pages → keeps new pages)
+    → ((ended : List LineReport) (old new : K) (pages : List PageToStore)
+    → ends ended old new → keeps old pages → keeps new pages)
     → (done : List DoneOrder) (settled : List PutResult)
     (old new : List PlaceValue) (before after : K) (pages : List PageToStore)
     → IsRun same puts notes ends done settled old new before after

@@ -22,5 +22,5 @@ pub use line::Line;
 pub use lines::{Lines, SLOTS};
 pub use order::{Order, Pace};
 pub use run::serve;
-pub use settling::{PageToStore, PutResult};
+pub use settling::{LineReport, PageToStore, PutResult};
 pub use store::RunStore;

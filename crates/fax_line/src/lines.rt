@@ -6,17 +6,17 @@ ghost use Rattle.fax_wires.specs.holding.Storing.{PutsIf};
 ghost use Rattle.fax_line.specs.Actions.{Asks, BeginsWith, IsNew, Wakes};
 ghost use Rattle.fax_line.specs.Places.{StaysHeld, WaitsStill, actions_by};
 ghost use Rattle.fax_line.specs.Operations.{AllStayHeld, AllWaitStill, AreBegun, AreFreed, AreNew, AskFrees, AsksLine, AwakeAfter, AwakeAlike, EachComes, EachGoes, IsAdded, IsLineAt, LinesWent, VisitsLines, VisitsTell, WaitAlike, WakesLine, WakesOne, have_turned, most_slots, rests_at, slot_after, slot_before, slot_of, visits_at, waits_of};
-ghost use Rattle.fax_line.specs.StoredRuns.{EndsIf, NotesIf, TellsLine, TellsLines, TellsWhere};
-ghost use Rattle.fax_line.specs.Settling.{ArePagesOf, EndTurns, EndsWhere, HandOver, LetsOutSlot, SetAside, has_page, is_stored_in};
+ghost use Rattle.fax_line.specs.StoredRuns.{EndsIf, EndsLines, EndsWith, NotesIf, NotesLines, NotesWhere, TellsLines, report_if};
+ghost use Rattle.fax_line.specs.Settling.{ArePagesOf, EndTurns, EndsWhere, HandOver, LetsOutSlot, RiseByLine, SetAside, has_page, is_stored_in};
 ghost use Rattle.fax_line.specs.declared.settling.PageToStore.{PageToStore as ToStore};
 
 use crate::asked::{LineAnswer, LineRequest};
 use crate::line::Line;
 use crate::place::Place;
-use crate::settling::{PageToStore, PutResult, has_page};
+use crate::settling::{LineReport, PageToStore, PutResult, has_page};
 use crate::store::RunStore;
 use fax_bits::NoMemory;
-use fax_gateway::{Buffer, Kept, TurnReport};
+use fax_gateway::{Buffer, Kept};
 use fax_jobs::Report;
 use fax_wires::holding::{HoldingWire, LineWire, PageStore, store_pages};
 use fax_wires::repeat::TimedWire;
@@ -195,7 +195,9 @@ impl<W: LineWire + Drop> Lines<W> {
         ensures { TellsLines K.notes K.ends (waits_of self.now.lines)
             end.now.pages.items self.now.lines store.old store.new }
     {
-        tell_places(self.places.as_slice(), end.pages.as_slice(), store);
+        let places = self.places.as_slice();
+        note_places(places, end.pages.as_slice(), store);
+        end_jobs(places, self.alloc, store);
     }
 }
 
@@ -472,45 +474,36 @@ fn let_out_places<W: TimedWire + Drop>(places: &mut [Place<HoldingWire<W>>], slo
     }
 }
 
-/// A store is told of the turns of the lines that wait, one after the other.
-fn tell_places<W: LineWire + Drop, K: RunStore>(
+/// A store is told which pages of the lines that wait were not handed over, one after the other.
+fn note_places<W: LineWire + Drop, K: RunStore>(
     places: &[Place<W>],
     pages: &[PageToStore],
     store: &mut K,
 )
-    ensures { TellsLines K.notes K.ends
-        (waits_of places.now) pages.now places.now store.old store.new }
+    ensures { NotesLines K.notes (waits_of places.now) pages.now places.now store.old store.new }
 {
     for i in 0..places.len() {
-        tell_place(i, &places[i], has_page(pages, i), store);
+        note_place(i, &places[i], has_page(pages, i), store);
     }
 }
 
-/// A store is told of the turn of a line that waits, whose page was handed over or not.
-fn tell_place<W: LineWire + Drop, K: RunStore>(
+/// The same of a line, where it waits.
+fn note_place<W: LineWire + Drop, K: RunStore>(
     number: usize,
     place: &Place<W>,
     was_handed: bool,
     store: &mut K,
 )
-    ensures { TellsWhere K.notes K.ends number
+    ensures { NotesWhere K.notes number
         place.now.waits place.now.line.turned was_handed store.old store.new }
 {
     if place.waits() {
-        tell_turn(number, place.line().turned(), was_handed, store);
+        note_kept(number, place.line().turned().kept, was_handed, store);
     }
 }
 
-/// A store is told of what the turn of a line told.
-fn tell_turn<K: RunStore>(number: usize, turned: TurnReport, was_handed: bool, store: &mut K)
-    ensures { TellsLine K.notes K.ends number turned was_handed store.old store.new }
-{
-    tell_kept(number, turned.kept, was_handed, store);
-    tell_report(number, turned.report, store);
-}
-
 /// A store is told of a page that was confirmed, where it was not handed over.
-fn tell_kept<K: RunStore>(number: usize, kept: Option<Kept>, was_handed: bool, store: &mut K)
+fn note_kept<K: RunStore>(number: usize, kept: Option<Kept>, was_handed: bool, store: &mut K)
     ensures { NotesIf K.notes number kept was_handed store.old store.new }
 {
     match kept {
@@ -523,12 +516,48 @@ fn tell_kept<K: RunStore>(number: usize, kept: Option<Kept>, was_handed: bool, s
     }
 }
 
-/// A store is told of a job that ended.
-fn tell_report<K: RunStore>(number: usize, report: Option<Report>, store: &mut K)
-    ensures { EndsIf K.ends number report store.old store.new }
+/// A store is told which jobs ended in the turns of the lines that wait: of all of them at once, but as memory is refused.
+fn end_jobs<W: LineWire + Drop, K: RunStore>(places: &[Place<W>], alloc: Global, store: &mut K)
+    ensures { EndsLines K.ends (waits_of places.now) places.now store.old store.new }
 {
-    match report {
-        Some(report) => store.end_job(number, report),
-        None => {}
+    let mut ended = Vec::new(alloc);
+    for i in 0..places.len() {
+        if let Some(report) = report_of(&places[i]) {
+            end_with(&mut ended, LineReport { line: i, report }, store);
+        }
+    }
+    end_some(ended.as_slice(), store);
+}
+
+/// What the turn of a line told of a job, where it waits.
+fn report_of<W: LineWire + Drop>(place: &Place<W>) -> Option<Report>
+    ensures { result ≡ report_if place.now.waits place.now.line.turned }
+{
+    if place.waits() {
+        place.line().turned().report
+    } else {
+        None
+    }
+}
+
+/// One job more joins those of which a store is to be told. Without memory for it the store is told of these now, and of that one.
+fn end_with<K: RunStore>(ended: &mut Vec<LineReport>, one: LineReport, store: &mut K)
+    requires { RiseByLine ended.old.items }
+    ensures { EndsWith K.ends one ended.old.items ended.new.items store.old store.new }
+{
+    if ended.push(one).is_err() {
+        end_some(ended.as_slice(), store);
+        ended.clear();
+        store.end_jobs(&[one]);
+    }
+}
+
+/// A store is told of jobs that ended, where there are any.
+fn end_some<K: RunStore>(ended: &[LineReport], store: &mut K)
+    requires { RiseByLine ended.now }
+    ensures { EndsIf K.ends ended.now store.old store.new }
+{
+    if !ended.is_empty() {
+        store.end_jobs(ended);
     }
 }

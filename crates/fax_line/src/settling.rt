@@ -5,6 +5,7 @@ ghost use Rattle.fax_line.specs.Settling.{IsStoredAs, has_page, is_stored_in};
 
 use fax_bits::Octets;
 use fax_gateway::{Gateway, Kept};
+use fax_jobs::Report;
 use fax_pagestore::{Coding, PackedRows, write_page};
 use fax_wires::holding::StoreFault;
 use std::alloc::Global;
@@ -18,6 +19,15 @@ pub struct PageToStore {
     pub kept: Kept,
     /// Its text in two-dimensional coding, without fill.
     pub text: Octets,
+}
+
+/// The report of a job that ended in the turn of a line.
+#[derive(Clone, Copy)]
+pub struct LineReport {
+    /// The line, counted from 0.
+    pub line: usize,
+    /// What became of the job.
+    pub report: Report,
 }
 
 /// The pages of the lines that waited, as they were put, and what came of that.

@@ -27,3 +27,4 @@ mod Tagging
 mod Tags
 mod Tidying
 mod ReadBack
+mod Together

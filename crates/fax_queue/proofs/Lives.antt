@@ -109,7 +109,7 @@ commute_one {X} p q x xs true false is too rest = rest ∙ sym (ap (λ (c : Bool
 commute_one {X} p q x xs false true is too rest = ap (λ (c : Bool). cond c (x ∷ filter p (filter q xs)) (filter p (filter q xs))) is ∙ rest
 commute_one {X} p q x xs false false is too rest = rest
 
-commute : {X : Type 0} (p q : X → Bool) (xs : List X) → filter p (filter q xs) ≡ filter q (filter p xs)
+pub commute : {X : Type 0} (p q : X → Bool) (xs : List X) → filter p (filter q xs) ≡ filter q (filter p xs)
 commute p q [] = refl
 commute p q (x ∷ xs) = commute_one p q x xs (p x) (q x) refl refl (commute p q xs)
 

@@ -1,28 +1,32 @@
 -- What becomes of a line's past where pages that were not handed over are noted, and where jobs end.
-use Rattle.std.proofs.Common.{◌≡◌, ◌≢◌, ◌∙◌, ℕ, zero, suc, ◌<◌, inl, inr, Bool, true, false, List, [], ◌∷◌, length, drop, Option, Some, None, slice_get, arith, refl, sym, ap, subst}
+use Rattle.std.proofs.Common.{◌≡◌, ◌≢◌, ◌∙◌, ℕ, zero, suc, ◌<◌, inl, inr, ◌⊎◌, Bool, true, false, not, ◌&&◌, bytes_eq, List, [], ◌∷◌, ◌++◌, length, drop, Option, Some, None, slice_get, arith, refl, sym, ap, subst}
 use Rattle.std.specs.Prelude.{slice_set}
 use Rattle.std.proofs.lemmas.Option.{slice_get_within}
 use Rattle.fax_jobs.specs.declared.report.Report.{Report}
-use Rattle.fax_spool.specs.RecordOctets.{PageValue}
-use Rattle.fax_spool.specs.Calls.{Refuses}
-use Rattle.fax_spool.specs.Waits.{without}
+use Rattle.fax_line.specs.StoredRuns.{reports_of}
+use Rattle.fax_line.specs.declared.settling.LineReport.{LineReport}
+use Rattle.fax_spool.specs.RecordOctets.{EndedValue, PageValue}
+use Rattle.fax_spool.specs.Calls.{Refuses, refuses_now}
+use Rattle.fax_spool.specs.Waits.{ends, name_of, without, without_all}
 use Rattle.fax_spool.specs.declared.spool.Spool.{Spool}
 use Rattle.fax_queue.specs.Restorations.{own_pages}
 use Rattle.fax_queue.specs.Queues.{IsQueued, QueueValue, left_by, lines_of}
 use Rattle.fax_queue.specs.declared.queue.QueuedPage.{QueuedPage}
-use Rattle.fax_queue.specs.Jobs.{EndsJob, EndsJobAt, WaitSo}
+use Rattle.fax_queue.specs.Jobs.{EndsJob, EndsJobAt, PagesWait, WaitSo}
 use Rattle.fax_queue.specs.Storing.{AddsTo, placed_as}
 use Rattle.fax_queue.specs.Lives.{NotesStill, state_of}
 use Rattle.fax_queue.specs.Refusals.{EndsSomehow, EndsSomehowAt, IsAnEnd, notes_of}
 use Rattle.fax_queue.specs.SpoolStorage.{EndsJobIf, NotesPage}
+use Rattle.fax_queue.specs.Together.{AreOfOthers, EndsOne, EndsTogether, HasRecord, LetsGo, StaysUnnoted}
 use Rattle.fax_gateway.specs.Restored.{CallPage}
 use Rattle.fax_queue.specs.Book.{BookEntry, Reports}
-use Rattle.fax_queue.proofs.Lives.{others_are_beside}
+use Rattle.fax_queue.proofs.Lives.{commute, others_are_beside}
 use Rattle.fax_queue.proofs.Pasts.{PastAs, past_beside, past_ends, past_noted, past_refuses, wait_map}
 use Rattle.fax_queue.proofs.PastPuts.{AreOtherNames, IsConfirmed, line_at, notes_before, notes_so, set_line, still_refuses}
-use Rattle.fax_queue.proofs.Refusing.{refusing}
+use Rattle.fax_queue.proofs.Refusing.{refusing, sure_so}
 use Rattle.fax_queue.proofs.Queueing.{set_at}
 use Rattle.fax_queue.proofs.Slots.{set_other}
+use Rattle.fax_queue.proofs.Together.{without_split}
 
 no_both : (b : Bool) → b ≡ true → b ≡ false → ⊥
 no_both b on off = let no : true ≡ false = sym on ∙ off in cc
@@ -221,3 +225,153 @@ module _ {D : Type 0} (seen : D → List ℕ) (may_leave : D → List ℕ → Ty
       where
         as_page : (value : PageValue) (life call its : ℕ) → value.life ≡ life → value.call ≡ call → value.number ≡ its → placed_as value false ≡ record { life = life; call = call; number = its; is_stored = false }
         as_page value life call its a b c = cc
+
+    -- ---- many at once
+
+    -- records of other lines leave what is there of this one
+    without_others : (olds : List QueueValue) (kept : List EndedValue) (told : List PageValue) → lines_of olds ≡ names → AreOfOthers (lines_of olds) number kept → own_pages line (without_all kept told) ≡ own_pages line told
+    without_others olds [] told lines others = refl
+    without_others olds (e ∷ kept) told lines others =
+        without_others olds kept (without e told) lines others.1
+        ∙ ((others_are_beside line (the_queue e) true told).1 e (other others.0.0 e.line (ap (λ (l : List (List ℕ)). slice_get l others.0.0) (sym lines) ∙ others.0.2) others.0.1)).same
+      where
+        the_queue : EndedValue → QueueValue
+        the_queue e = record { line = e.line; waits = []; is_whole = true; tags = []; aside = []; newest = None }
+
+    -- whether they are of this line depends on those of this line alone
+    own_without : (e : EndedValue) (told more : List PageValue) → own_pages line more ≡ own_pages line told → own_pages line (without e more) ≡ own_pages line (without e told)
+    own_without e told more same =
+        commute (λ (p : PageValue). bytes_eq p.line line) (λ (p : PageValue). not (ends e (name_of p))) more ∙ ap (λ (l : List PageValue). without e l) same
+        ∙ sym (commute (λ (p : PageValue). bytes_eq p.line line) (λ (p : PageValue). not (ends e (name_of p))) told)
+
+    -- among them one of its own
+    own_among : (olds : List QueueValue) (pages : ℕ) (kept : List EndedValue) (old new : QueueValue) (told : List PageValue) → lines_of olds ≡ names → (has : HasRecord (lines_of olds) pages number kept old new)
+        → own_pages line (without_all kept told) ≡ own_pages line (without has.ended told)
+    own_among olds pages kept old new told lines has =
+        ap (λ (l : List EndedValue). own_pages line (without_all l told)) has.is
+        ∙ ap (λ (l : List PageValue). own_pages line l) (without_split has.before has.after has.ended told)
+        ∙ without_others olds has.after (without has.ended (without_all has.before told)) lines has.alone.1
+        ∙ own_without has.ended told (without_all has.before told) (without_others olds has.before told lines has.alone.0)
+
+    module _ (jobs : List LineReport) (olds news : List QueueValue) (before after : Spool D) (e : EndsTogether seen may_leave is_usable jobs olds news before after) where
+      -- what each crash tells of the line
+      together_waits : (P Q : List PageValue → Type 0) → (Refuses before → (told : List PageValue) → P told → Q told) → (e.is_ok ≡ false → (told : List PageValue) → P told → Q told)
+          → (refuses_now before ≡ false → (told : List PageValue) → P told → Q (without_all e.kept told)) → WaitSo seen may_leave is_usable before P → WaitSo seen may_leave is_usable after Q
+      together_waits P Q refused still gone was = by (refuses_now before) refl was
+        where
+          put : refuses_now before ≡ false → (told : List PageValue) → PagesWait seen may_leave is_usable before told → P told → (b : Bool) → e.is_ok ≡ b → WaitSo seen may_leave is_usable after Q
+          put accepts told wait past true ok = wait_map seen may_leave is_usable after (λ more. more ≡ without_all e.kept told) Q (λ more same. subst Q (sym same) (gone accepts told past)) (e.wait ok told wait)
+          put accepts told wait past false err = wait_map seen may_leave is_usable after (λ more. (more ≡ told) ⊎ (more ≡ without_all e.kept told)) Q
+              (λ more some. elim some [ inl same ↦ subst Q (sym same) (still err told past) | inr same ↦ subst Q (sym same) (gone accepts told past) ]) (e.left err told wait)
+
+          by : (b : Bool) → refuses_now before ≡ b → WaitSo seen may_leave is_usable before P → WaitSo seen may_leave is_usable after Q
+          by true refuses was = subst (λ (s : Spool D). WaitSo seen may_leave is_usable s Q) (sym (e.refuses refuses).1) (wait_map seen may_leave is_usable before P Q (refused refuses) was)
+          by false accepts (inl is) = put accepts is.0 is.1 is.2 e.is_ok refl
+          by false accepts (inr is) = absurd (no_both (refuses_now before) is.0 accepts)
+
+      notes_so_far : (queue : QueueValue) → notes_of after queue ≡ true → notes_of before queue ≡ true
+      notes_so_far queue = notes_before seen may_leave is_usable before after queue (λ refuses. (e.refuses refuses).1)
+
+      pub together_other : reports_of number jobs ≡ [] → Holds t olds before → Holds t news after
+      together_other none held =
+          let it = e.others number none in record {
+            queue = held.queue;
+            there = it.0 ∙ held.there;
+            named = held.named;
+            lines = e.lines ∙ held.lines;
+            waits = together_waits (PastAs A line t q held.queue (notes_of before held.queue)) (PastAs A line t q held.queue (notes_of after held.queue))
+                (λ refuses told past. past_beside A line t q held.queue held.queue (notes_of before held.queue) (notes_of after held.queue) told told refl refl (notes_so_far held.queue) past)
+                (λ err told past. past_beside A line t q held.queue held.queue (notes_of before held.queue) (notes_of after held.queue) told told refl refl (notes_so_far held.queue) past)
+                (λ accepts told past. past_beside A line t q held.queue held.queue (notes_of before held.queue) (notes_of after held.queue) told (without_all e.kept told) refl (without_others olds e.kept told held.lines it.1) (notes_so_far held.queue) past) held.waits;
+          }
+
+      module _ (report : Report) (is_own : reports_of number jobs ≡ report ∷ []) (held : Holds t olds before) (new : QueueValue) (now : slice_get news number ≡ Some new) where
+        abbrev pub u : List BookEntry
+        u = Reports report.pages ∷ t
+
+        abbrev pub old : QueueValue
+        old = held.queue
+
+        abbrev Past : List PageValue → Type 0
+        Past told = PastAs A line t q old (notes_of before old) told
+
+        abbrev After : List PageValue → Type 0
+        After told = PastAs A line u q new (notes_of after new) told
+
+        -- the same, but for pages of other lines
+        beside : (told more : List PageValue) → own_pages line more ≡ own_pages line told → After told → After more
+        beside told more same past = past_beside A line u q new new (notes_of after new) (notes_of after new) told more refl same (λ on. on) past
+
+        -- the spool refused, or it did not
+        accepts_or : (b : Bool) → refuses_now before ≡ b → Refuses before ⊎ (refuses_now before ≡ false)
+        accepts_or true is = inl is
+        accepts_or false is = inr is
+
+        noted_past : (has : HasRecord (lines_of olds) report.pages number e.kept old new) → (notes_of after new ≡ true → new.waits ≡ drop report.pages old.waits) → refuses_now before ≡ false → (told : List PageValue) → Past told
+            → After (without_all e.kept told)
+        noted_past has queued accepts told past =
+            beside (without has.ended told) (without_all e.kept told) (own_among olds report.pages e.kept old new told held.lines has)
+            (past_noted A line t q report.pages old new (notes_of before old) (notes_of after new) told (without has.ended told) (record {
+              ended = has.ended;
+              named = has.named ∙ held.named;
+              sure = sure_so seen may_leave is_usable before old has.whole accepts;
+              leaves = subst (λ (l : List ℕ). left_by has.ended l old.waits ≡ drop report.pages old.waits) held.named has.leaves;
+              gone = refl;
+              queued = queued;
+            }) past)
+
+        left_past : (A → ⊥) → notes_of after new ≡ false → (told : List PageValue) → Past told → After told
+        left_past never off told past = past_ends A never line t q report.pages old new (notes_of before old) (notes_of after new) told told (inr (inl (refl, off))) past
+
+        off_whole : new.is_whole ≡ false → notes_of after new ≡ false
+        off_whole unsure = ap (λ (b : Bool). b && not (refuses_now after)) unsure
+
+        off_refused : Refuses before → notes_of after new ≡ false
+        off_refused refuses = refusing seen may_leave is_usable after new (ap (λ (s : Spool D). refuses_now s) (e.refuses refuses).1 ∙ refuses)
+
+        -- it let its pages go, none of which is there
+        lets_past : LetsGo report.pages old new → (A → ⊥) → (told : List PageValue) → Past told → After told
+        lets_past lets never told past = elim (accepts_or (refuses_now before) refl) [
+          | inl refuses ↦ left_past never (off_refused refuses) told past
+          | inr accepts ↦ past_ends A never line t q report.pages old new (notes_of before old) (notes_of after new) told told
+              (inr (inr (record { sure = sure_so seen may_leave is_usable before old lets.whole accepts; none = lets.none; same = refl; queued = λ still. lets.gone }))) past
+        ]
+
+        stays_past : StaysUnnoted report.pages old new → (A → ⊥) → (told : List PageValue) → Past told → After told
+        stays_past is never told past = elim is.stays [
+          | inl unsure ↦ left_past never (off_whole unsure) told past
+          | inr lets ↦ lets_past lets never told past
+        ]
+
+        own_waits : (b : Bool) → EndsOne b (lines_of olds) report.pages number e.kept e.is_ok old new → (A → b ≡ true) → WaitSo seen may_leave is_usable after After
+        own_waits true is sure =
+            together_waits Past After (λ refuses told past. absurd (no_both e.is_ok is.0 (e.refuses refuses).0)) (λ err told past. absurd (no_both e.is_ok is.0 err))
+            (λ accepts told past. noted_past is.1.has (λ still. is.1.gone) accepts told past) held.waits
+        own_waits false (inl is) sure =
+            together_waits Past After (λ refuses told past. left_past never (off_whole is.2) told past) (λ err told past. left_past never (off_whole is.2) told past)
+            (λ accepts told past. noted_past is.1 (λ still. absurd (no_both (notes_of after new) still (off_whole is.2))) accepts told past) held.waits
+          where
+            never : A → ⊥
+            never a = no_both false (sure a) refl
+        own_waits false (inr is) sure =
+            together_waits Past After (λ refuses told past. stays_past is.0 never told past) (λ err told past. stays_past is.0 never told past)
+            (λ accepts told past. beside told (without_all e.kept told) (without_others olds e.kept told held.lines is.1) (stays_past is.0 never told past)) held.waits
+          where
+            never : A → ⊥
+            never a = no_both false (sure a) refl
+
+        pub together_own : (A → (e.each number report old new is_own held.there now).0 ≡ true) → Holds u news after
+        together_own sure =
+            let it = e.each number report old new is_own held.there now in record {
+              queue = new;
+              there = now;
+              named = line_of_it it.0 it.1 ∙ held.named;
+              lines = e.lines ∙ held.lines;
+              waits = own_waits it.0 it.1 sure;
+            }
+          where
+            line_of_it : (b : Bool) → EndsOne b (lines_of olds) report.pages number e.kept e.is_ok old new → new.line ≡ old.line
+            line_of_it true is = is.1.has.line_is
+            line_of_it false (inl is) = is.1.line_is
+            line_of_it false (inr is) = is.0.line_is
+

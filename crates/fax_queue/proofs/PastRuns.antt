@@ -1,6 +1,6 @@
 -- A run makes history: what becomes of a line and its past, order by order.
-use Rattle.std.proofs.Common.{◌≡◌, ◌≢◌, ◌∙◌, ℕ, zero, suc, max, ◌<◌, ◌≤◌, inl, inr, Bool, true, false, ◌||◌, nat_eq, if◌then◌else◌, List, [], ◌∷◌, ◌++◌, length, All, AllPairs, Option, Some, None, Result, Ok, Err, is_ok, is_some, slice_get, slice_index_or, arith, refl, sym, ap, subst, append_assoc, append-nil}
-use Rattle.std.proofs.lemmas.Bool.{eqb-true}
+use Rattle.std.proofs.Common.{◌≡◌, ◌≢◌, ◌∙◌, ℕ, zero, suc, max, ◌<◌, ◌≤◌, inl, inr, ◌⊎◌, Bool, true, false, ◌||◌, nat_eq, nat_lt, cond, if◌then◌else◌, List, [], ◌∷◌, ◌++◌, length, All, AllPairs, Option, Some, None, Result, Ok, Err, is_ok, is_some, slice_get, slice_index_or, arith, refl, sym, ap, subst, append_assoc, append-nil}
+use Rattle.std.proofs.lemmas.Bool.{eqb-false, eqb-true, ltb-false, ltb-true}
 use Rattle.fax_pagestore.specs.PageLaws.{PagesAreUnique, PagesAreWritten, WrittenPagesMean}
 use Rattle.fax_jobs.specs.declared.report.Report.{Report}
 use Rattle.fax_call.specs.Writings.{IsWriting, Writing}
@@ -26,8 +26,9 @@ use Rattle.fax_line.specs.Actions.{Action, Asks, Frees, Goes, IsAsked, IsPlaced,
 use Rattle.fax_line.specs.Operations.{AllStayHeld, AskFrees, AsksLine, IsFreed, LinesWent, VisitsLines, VisitsTell, WakesLine, actions_of}
 use Rattle.fax_line.specs.Places.{Passes, PlaceValue, RestsAt, StaysHeld, TellsOrRests, TellsVisit, TurnsAt, Visit, actions_by, is_turn}
 use Rattle.fax_line.specs.Runs.{AskedOf, DoneOrder, Stored, Turned, Woken, latest, turned_in}
-use Rattle.fax_line.specs.StoredRuns.{EndUnstored, EndsIf, EndsUnstored, IsRun, IsSettled, NotesIf, TellsFirst, TellsPlace, TellsWhere, kept_if, stored_pages}
+use Rattle.fax_line.specs.StoredRuns.{EndUnstored, EndsEach, EndsIf, EndsUnstored, IsRun, IsSettled, NotesFirst, NotesIf, NotesPlace, NotesWhere, kept_if, report_if, report_list, reports_at, reports_in, reports_of, stored_pages}
 use Rattle.fax_line.specs.Settling.{EndsTurn, EndsWhere, IsOfTurn, IsPageOf, has_page, is_stored_in, is_to_store}
+use Rattle.fax_line.specs.declared.settling.LineReport.{LineReport}
 use Rattle.fax_line.specs.declared.settling.PageToStore.{PageToStore}
 use Rattle.fax_line.specs.declared.settling.PutResult.{PutResult}
 use Rattle.fax_spool.specs.RecordOctets as spool
@@ -39,19 +40,21 @@ use Rattle.fax_queue.specs.Queues.{QueueValue, lines_of}
 use Rattle.fax_queue.specs.Storing.{IsRecordOf}
 use Rattle.fax_queue.specs.Lives.{Goes as GoesOn, OwedIsRestored, State, Stops, closed_read, owed, state_of}
 use Rattle.fax_queue.specs.Refusals.{notes_of}
-use Rattle.fax_queue.specs.Book.{AllIsPut, BookEntry, Confirms, Restores as RestoresCalls, page_of, reports, told_by, told_in, told_over}
+use Rattle.fax_queue.specs.Book.{AllIsPut, BookEntry, Confirms, Reports, Restores as RestoresCalls, page_of, reports, told_by, told_in, told_over}
 use Rattle.fax_queue.specs.TurnsTold.{EndsIn, IsPutAs, TellsBoth, TurnsTellBoth}
-use Rattle.fax_queue.specs.SpoolStorage.{EndsJobIf, IsUnchanged, NotesPage, PutsPages}
+use Rattle.fax_queue.specs.SpoolStorage.{EndAlone, EndsJobIf, EndsJobs, IsUnchanged, NotesPage, PutsPages}
+use Rattle.fax_queue.specs.Together.{EndsTogether}
 use Rattle.fax_queue.specs.Histories.{AreStoredOf, BeginsRun, HasPast, LeavesRun, RunsMakeHistory}
 use Rattle.fax_queue.specs.Jobs.{WaitSo}
-use Rattle.fax_queue.specs.NotedRuns.{EndsNoted, HasWholePast, NotesOther, PutsWithOk, RunsNoteAll}
+use Rattle.fax_queue.specs.NotedRuns.{EndsNoted, HasWholePast, IsNotedAlone, IsNotedWith, NotesOther, PutsWithOk, RunsNoteAll}
 use Rattle.fax_queue.specs.OnLeg.{AreOnLeg, HasDoneOn}
 use Rattle.fax_queue.proofs.BookTurns.{action_of_turn, turn_has_page}
 use Rattle.fax_queue.proofs.PastLegs.{Leg, kept_once, leg_ended, leg_fresh, leg_placed, leg_rung, leg_still}
 use Rattle.fax_queue.proofs.Lives.{restarts_are_actions}
 use Rattle.fax_queue.proofs.Pasts.{PastAs, wait_map}
 use Rattle.fax_queue.proofs.PastPuts.{AreOtherNames, HasPage, IsConfirmed, kept_of_none, line_at, own_err, own_ok, puts_others, puts_stay}
-use Rattle.fax_queue.proofs.PastEnds.{Held, other_ended, other_noted, own_ended, own_noted}
+use Rattle.fax_queue.proofs.PastEnds.{Held, other_ended, other_noted, own_ended, own_noted, together_other, together_own}
+use Rattle.fax_queue.proofs.Together.{there_among}
 
 -- ---- the gateway of a line
 
@@ -267,13 +270,36 @@ PutsAre {D} {K} seen may_leave is_usable queues_of spool_of number A Puts =
 abbrev NotesAre : {D K : Type 0} → (K → List QueueValue) → (K → Spool D) → ℕ → Type 0 → (ℕ → ℕ → K → K → Type 0) → Type 0
 NotesAre {D} {K} queues_of spool_of number A Notes = (place call : ℕ) (k l : K) → Notes place call k l → NotesPage place call (queues_of k) (queues_of l) (spool_of k) (spool_of l) × (A → place ≢ number)
 
-abbrev EndsAre : {D K : Type 0} → (D → List ℕ) → (D → List ℕ → Type 0) → (D → Bool) → (K → List QueueValue) → (K → Spool D) → ℕ → Type 0 → (ℕ → Report → K → K → Type 0) → Type 0
+-- the same of jobs that ended
+abbrev EndsSo : {D : Type 0} → (D → List ℕ) → (D → List ℕ → Type 0) → (D → Bool) → ℕ → Type 0 → List LineReport → List QueueValue → List QueueValue → Spool D → Spool D → Type 0
+EndsSo seen may_leave is_usable number A jobs olds news before after =
+    ((together : EndsTogether seen may_leave is_usable jobs olds news before after) × (A → IsNotedWith seen may_leave is_usable number jobs olds news before after together))
+    ⊎ ((alone : EndAlone seen may_leave is_usable jobs olds news before after) × (A → IsNotedAlone seen may_leave is_usable number jobs olds news before after alone))
+
+abbrev EndsAre : {D K : Type 0} → (D → List ℕ) → (D → List ℕ → Type 0) → (D → Bool) → (K → List QueueValue) → (K → Spool D) → ℕ → Type 0 → (List LineReport → K → K → Type 0) → Type 0
 EndsAre {D} {K} seen may_leave is_usable queues_of spool_of number A Ends =
-    (place : ℕ) (report : Report) (k l : K) → Ends place report k l → (is : EndsJobIf seen may_leave is_usable place report (queues_of k) (queues_of l) (spool_of k) (spool_of l)) × (A → place ≡ number → is.noted ≡ true)
+    (ended : List LineReport) (k l : K) → Ends ended k l → EndsSo seen may_leave is_usable number A ended (queues_of k) (queues_of l) (spool_of k) (spool_of l)
+
+-- what a list says of one report at most, of which the first part has it, or the second
+split_reports : (xs ys : List Report) (o : Option Report) → xs ++ ys ≡ report_list o → ((xs ≡ []) × (ys ≡ report_list o)) ⊎ ((r : Report) × (o ≡ Some r) × (xs ≡ r ∷ []) × (ys ≡ []))
+split_reports [] ys o is = inl (refl, is)
+split_reports (x ∷ xs) ys None is = let no : x ∷ (xs ++ ys) ≡ [] = is in cc
+split_reports (x ∷ xs) ys (Some r) is =
+    let both : x ∷ (xs ++ ys) ≡ r ∷ [] = is in
+    let rest : xs ++ ys ≡ [] = cc in
+    inr (r, refl, ap (λ (l : List Report). x ∷ l) (first_none xs ys rest) ∙ (let same : x ≡ r = cc in ap (λ (y : Report). y ∷ []) same), second_none xs ys rest)
+  where
+    first_none : (xs ys : List Report) → xs ++ ys ≡ [] → xs ≡ []
+    first_none [] ys none = refl
+    first_none (x ∷ xs) ys none = let no : x ∷ (xs ++ ys) ≡ [] = none in cc
+
+    second_none : (xs ys : List Report) → xs ++ ys ≡ [] → ys ≡ []
+    second_none [] ys none = none
+    second_none (x ∷ xs) ys none = let no : x ∷ (xs ++ ys) ≡ [] = none in cc
 
 module _
     {D K : Type 0} (seen : D → List ℕ) (may_leave : D → List ℕ → Type 0) (is_usable : D → Bool) (queues_of : K → List QueueValue) (spool_of : K → Spool D) (number : ℕ) (line : List ℕ) (names : List (List ℕ))
-    (alone : AreOtherNames number line names) (low_number : number < length names) (A : Type 0) (Puts : List PageToStore → Bool → K → K → Type 0) (Notes : ℕ → ℕ → K → K → Type 0) (Ends : ℕ → Report → K → K → Type 0)
+    (alone : AreOtherNames number line names) (low_number : number < length names) (A : Type 0) (Puts : List PageToStore → Bool → K → K → Type 0) (Notes : ℕ → ℕ → K → K → Type 0) (Ends : List LineReport → K → K → Type 0)
     (puts_are : PutsAre seen may_leave is_usable queues_of spool_of number A Puts) (notes_are : NotesAre queues_of spool_of number A Notes) (ends_are : EndsAre seen may_leave is_usable queues_of spool_of number A Ends) where
   abbrev Holds : List BookEntry → List CallPage → K → Type 0
   Holds t q k = Held seen may_leave is_usable A number line names t q (queues_of k) (spool_of k)
@@ -296,55 +322,143 @@ module _
       length_map [] = refl
       length_map (s ∷ queues) = ap suc (length_map queues)
 
-  -- of another line
-  other_line : (t : List BookEntry) (q : List CallPage) (place : ℕ) (kept : Option Kept) (report : Option Report) (handed : Bool) (k between l : K) → place ≢ number → place < length names → NotesIf Notes place kept handed k between
-      → EndsIf Ends place report between l → Holds t q k → Holds t q l
-  other_line t q place kept report handed k between l unlike low notes ends held = ended report ends (noted kept handed notes)
-    where
-      noted : (o : Option Kept) (b : Bool) → NotesIf Notes place o b k between → Holds t q between
-      noted None b is = holds_same t q k between is held
-      noted (Some page) true is = holds_same t q k between is held
-      noted (Some page) false is = other_noted seen may_leave is_usable A number line names alone low_number t q place page.call (queues_of k) (queues_of between) (spool_of k) (spool_of between) unlike (notes_are place page.call k between is).0 held
+  -- a page of another line
+  noted_other : (t : List BookEntry) (q : List CallPage) (place : ℕ) (o : Option Kept) (handed : Bool) (k l : K) → place ≢ number → NotesIf Notes place o handed k l → Holds t q k → Holds t q l
+  noted_other t q place None b k l unlike is held = holds_same t q k l is held
+  noted_other t q place (Some page) true k l unlike is held = holds_same t q k l is held
+  noted_other t q place (Some page) false k l unlike is held =
+      other_noted seen may_leave is_usable A number line names alone low_number t q place page.call (queues_of k) (queues_of l) (spool_of k) (spool_of l) unlike (notes_are place page.call k l is).0 held
 
-      ended : (o : Option Report) → EndsIf Ends place o between l → Holds t q between → Holds t q l
-      ended None is was = holds_same t q between l is was
-      ended (Some r) is was = other_ended seen may_leave is_usable A number line names alone low_number t q place r (queues_of between) (queues_of l) (spool_of between) (spool_of l) unlike low (ends_are place r between l is).0 was
-
-  other_place : (t : List BookEntry) (q : List CallPage) (which : ℕ → Bool) (pages : List PageToStore) (place : ℕ) (o : Option PlaceValue) (k l : K) → place ≢ number → ((p : PlaceValue) → o ≡ Some p → place < length names)
-      → TellsPlace Notes Ends which pages place o k l → Holds t q k → Holds t q l
-  other_place t q which pages place None k l unlike low is held = holds_same t q k l is held
-  other_place t q which pages place (Some p) k l unlike low is held = by (which place) is
+  other_place : (t : List BookEntry) (q : List CallPage) (which : ℕ → Bool) (pages : List PageToStore) (place : ℕ) (o : Option PlaceValue) (k l : K) → place ≢ number → NotesPlace Notes which pages place o k l → Holds t q k → Holds t q l
+  other_place t q which pages place None k l unlike is held = holds_same t q k l is held
+  other_place t q which pages place (Some p) k l unlike is held = by (which place) is
     where
-      by : (b : Bool) → TellsWhere Notes Ends place b p.line.turned (has_page pages place) k l → Holds t q l
-      by true told = other_line t q place p.line.turned.kept p.line.turned.report (has_page pages place) k told.0 l unlike (low p refl) told.1 told.2 held
+      by : (b : Bool) → NotesWhere Notes place b p.line.turned (has_page pages place) k l → Holds t q l
+      by true told = noted_other t q place p.line.turned.kept (has_page pages place) k l unlike told held
       by false told = holds_same t q k l told held
 
-  module _ (which : ℕ → Bool) (pages : List PageToStore) (lines : List PlaceValue) (as_many : length lines ≡ length names) where
-    low_so : (place : ℕ) (p : PlaceValue) → slice_get lines place ≡ Some p → place < length names
-    low_so place p is = let less : place < length lines = get_low lines place p is in omega (arith, less, as_many)
-
-    -- what each of the lines tells, up to this one and after it
-    first_before : (t : List BookEntry) (q : List CallPage) (count : ℕ) (k l : K) → count ≤ number → TellsFirst Notes Ends which pages lines count k l → Holds t q k → Holds t q l
+  module _ (which : ℕ → Bool) (pages : List PageToStore) (lines : List PlaceValue) where
+    -- what each of the lines tells of its page, up to this one and after it
+    first_before : (t : List BookEntry) (q : List CallPage) (count : ℕ) (k l : K) → count ≤ number → NotesFirst Notes which pages lines count k l → Holds t q k → Holds t q l
     first_before t q zero k l low is held = holds_same t q k l is held
     first_before t q (suc count) k l low is held =
-        other_place t q which pages count (slice_get lines count) is.0 l (λ same. omega (arith, low, same)) (λ p at. low_so count p at) is.2 (first_before t q count k is.0 (omega (arith, low)) is.1 held)
+        other_place t q which pages count (slice_get lines count) is.0 l (λ same. omega (arith, low, same)) is.2 (first_before t q count k is.0 (omega (arith, low)) is.1 held)
 
     differs : (count : ℕ) → nat_eq count number ≡ false → count ≢ number
     differs count none same = let on : true ≡ false = sym (nat_self number) ∙ ap (λ (n : ℕ). nat_eq n number) (sym same) ∙ none in cc
 
-    after_one : (t u : List BookEntry) (q : List CallPage) (count : ℕ) (k mid l : K) → ((a b : K) → TellsPlace Notes Ends which pages number (slice_get lines number) a b → Holds t q a → Holds u q b) → number < suc count
-        → TellsFirst Notes Ends which pages lines count k mid → TellsPlace Notes Ends which pages count (slice_get lines count) mid l → Holds t q k → (number < count → Holds u q mid)
-        → (b : Bool) → nat_eq count number ≡ b → Holds u q l
-    after_one t u q count k mid l own low first last held rest true on =
-        let same : count ≡ number = eqb-true count number on in
-        own mid l (subst (λ (n : ℕ). TellsPlace Notes Ends which pages n (slice_get lines n) mid l) same last) (first_before t q count k mid (omega (arith, same)) first held)
-    after_one t u q count k mid l own low first last held rest false off =
-        let differ : count ≢ number = differs count off in other_place u q which pages count (slice_get lines count) mid l differ (λ p at. low_so count p at) last (rest (omega (arith, low, differ)))
+    -- by which something comes to be, which what other lines tell leaves
+    module _ (t : List BookEntry) (q : List CallPage) (P : K → Type 0) (stays : (place : ℕ) (o : Option PlaceValue) (k l : K) → place ≢ number → NotesPlace Notes which pages place o k l → P k → P l)
+        (own : (a b : K) → NotesPlace Notes which pages number (slice_get lines number) a b → Holds t q a → P b) where
+      after_one : (count : ℕ) (k mid l : K) → number < suc count → NotesFirst Notes which pages lines count k mid → NotesPlace Notes which pages count (slice_get lines count) mid l → Holds t q k → (number < count → P mid)
+          → (b : Bool) → nat_eq count number ≡ b → P l
+      after_one count k mid l low first last held rest true on =
+          let same : count ≡ number = eqb-true count number on in
+          own mid l (subst (λ (n : ℕ). NotesPlace Notes which pages n (slice_get lines n) mid l) same last) (first_before t q count k mid (omega (arith, same)) first held)
+      after_one count k mid l low first last held rest false off =
+          let differ : count ≢ number = differs count off in stays count (slice_get lines count) mid l differ last (rest (omega (arith, low, differ)))
 
-    first_after : (t u : List BookEntry) (q : List CallPage) (count : ℕ) (k l : K) → ((a b : K) → TellsPlace Notes Ends which pages number (slice_get lines number) a b → Holds t q a → Holds u q b) → number < count
-        → TellsFirst Notes Ends which pages lines count k l → Holds t q k → Holds u q l
-    first_after t u q zero k l own low is held = absurd (omega (arith, low))
-    first_after t u q (suc count) k l own low is held = after_one t u q count k is.0 l own low is.1 is.2 held (λ less. first_after t u q count k is.0 own less is.1 held) (nat_eq count number) refl
+      first_after : (count : ℕ) (k l : K) → number < count → NotesFirst Notes which pages lines count k l → Holds t q k → P l
+      first_after zero k l low is held = absurd (omega (arith, low))
+      first_after (suc count) k l low is held = after_one count k is.0 l low is.1 is.2 held (λ less. first_after count k is.0 less is.1 held) (nat_eq count number) refl
+
+  -- ---- jobs end
+
+  -- there is a queue at the line's place
+  queue_in : (olds news : List QueueValue) (old : QueueValue) → lines_of news ≡ lines_of olds → slice_get olds number ≡ Some old → (new : QueueValue) × (slice_get news number ≡ Some new)
+  queue_in olds news old same there = there_among olds news number old same there
+
+  -- of the line itself, at its place
+  own_at : (t : List BookEntry) (q : List CallPage) (place : ℕ) (report : Report) (olds news : List QueueValue) (before after : Spool D) → place ≡ number → (ends : EndsJobIf seen may_leave is_usable place report olds news before after) → (A → ends.noted ≡ true)
+      → Held seen may_leave is_usable A number line names t q olds before → Held seen may_leave is_usable A number line names (Reports report.pages ∷ t) q news after
+  own_at t q place report olds news before after same =
+      subst (λ (n : ℕ). (ends : EndsJobIf seen may_leave is_usable n report olds news before after) → (A → ends.noted ≡ true) → Held seen may_leave is_usable A number line names t q olds before
+      → Held seen may_leave is_usable A number line names (Reports report.pages ∷ t) q news after) (sym same)
+      (λ ends sure held. own_ended seen may_leave is_usable A number line names alone low_number t q report olds news before after ends sure held)
+
+  -- they are of lines that are there
+  abbrev AreLow : List LineReport → Type 0
+  AreLow jobs = (place : ℕ) → length names ≤ place → reports_of place jobs ≡ []
+
+  none_head : (b : Bool) (r : Report) (rs : List Report) → cond b (r ∷ rs) rs ≡ [] → (b ≡ false) × (rs ≡ [])
+  none_head true r rs none = absurd (let no : r ∷ rs ≡ [] = none in cc)
+  none_head false r rs none = (refl, none)
+
+  low_rest : (one : LineReport) (jobs : List LineReport) → AreLow (one ∷ jobs) → AreLow jobs
+  low_rest one jobs low place far = (none_head (nat_eq one.line place) one.report (reports_of place jobs) (low place far)).1
+
+  low_first : (one : LineReport) (jobs : List LineReport) → AreLow (one ∷ jobs) → one.line < length names
+  low_first one jobs low = by (nat_lt one.line (length names)) refl
+    where
+      by : (b : Bool) → nat_lt one.line (length names) ≡ b → one.line < length names
+      by true is = ltb-true one.line (length names) is
+      by false is = absurd (differ (nat_self one.line) (none_head (nat_eq one.line one.line) one.report (reports_of one.line jobs) (low one.line (ltb-false one.line (length names) is))).0)
+        where
+          differ : nat_eq one.line one.line ≡ true → nat_eq one.line one.line ≡ false → ⊥
+          differ on off = let no : true ≡ false = sym on ∙ off in cc
+
+  -- each of them alone
+  alone_first : (t : List BookEntry) (q : List CallPage) (one : LineReport) (jobs : List LineReport) (olds mids news : List QueueValue) (before between after : Spool D) (o : Option Report) → one.line < length names
+      → (ends : EndsJobIf seen may_leave is_usable one.line one.report olds mids before between) → (A → one.line ≡ number → ends.noted ≡ true) → reports_of number (one ∷ jobs) ≡ report_list o
+      → Held seen may_leave is_usable A number line names t q olds before
+      → ((u : List BookEntry) (p : Option Report) → reports_of number jobs ≡ report_list p → Held seen may_leave is_usable A number line names u q mids between → Held seen may_leave is_usable A number line names (reports p u) q news after)
+      → (b : Bool) → nat_eq one.line number ≡ b → Held seen may_leave is_usable A number line names (reports o t) q news after
+  alone_first t q one jobs olds mids news before between after o low ends sure are held rest true on = by o (sym (ap (λ (b : Bool). cond b (one.report ∷ reports_of number jobs) (reports_of number jobs)) on) ∙ are)
+    where
+      by : (p : Option Report) → one.report ∷ reports_of number jobs ≡ report_list p → Held seen may_leave is_usable A number line names (reports p t) q news after
+      by None its = absurd (let no : one.report ∷ reports_of number jobs ≡ [] = its in cc)
+      by (Some r) its =
+          let own : one.line ≡ number = eqb-true one.line number on in
+          let both : one.report ∷ reports_of number jobs ≡ r ∷ [] = its in
+          let report_is : one.report ≡ r = cc in
+          let none : reports_of number jobs ≡ [] = cc in
+          subst (λ (s : Report). Held seen may_leave is_usable A number line names (Reports s.pages ∷ t) q news after) report_is
+          (rest (Reports one.report.pages ∷ t) None none (own_at t q one.line one.report olds mids before between own ends (λ a. sure a own) held))
+  alone_first t q one jobs olds mids news before between after o low ends sure are held rest false off =
+      rest t o (sym (ap (λ (b : Bool). cond b (one.report ∷ reports_of number jobs) (reports_of number jobs)) off) ∙ are)
+      (other_ended seen may_leave is_usable A number line names alone low_number t q one.line one.report olds mids before between (eqb-false one.line number off) low ends held)
+
+  alone_on : (t : List BookEntry) (q : List CallPage) (jobs : List LineReport) (olds news : List QueueValue) (before after : Spool D) (o : Option Report) → AreLow jobs
+      → (is : EndAlone seen may_leave is_usable jobs olds news before after) → (A → IsNotedAlone seen may_leave is_usable number jobs olds news before after is) → reports_of number jobs ≡ report_list o
+      → Held seen may_leave is_usable A number line names t q olds before → Held seen may_leave is_usable A number line names (reports o t) q news after
+  alone_on t q [] olds news before after None low is sure are held =
+      subst (λ (s : List QueueValue). Held seen may_leave is_usable A number line names t q s after) (sym is.0) (subst (λ (p : Spool D). Held seen may_leave is_usable A number line names t q olds p) (sym is.1) held)
+  alone_on t q [] olds news before after (Some r) low is sure are held = absurd (let no : [] ≡ r ∷ [] = are in cc)
+  alone_on t q (one ∷ jobs) olds news before after o low is sure are held =
+      alone_first t q one jobs olds is.0 news before is.1 after o (low_first one jobs low) is.2 (λ a. (sure a).0) are held
+      (λ u p none was. alone_on u q jobs is.0 news is.1 after p (low_rest one jobs low) is.3 (λ a. (sure a).1) none was) (nat_eq one.line number) refl
+
+  -- all of them at once, or so
+  jobs_on : (t : List BookEntry) (q : List CallPage) (jobs : List LineReport) (olds news : List QueueValue) (before after : Spool D) (o : Option Report) → AreLow jobs → EndsSo seen may_leave is_usable number A jobs olds news before after
+      → reports_of number jobs ≡ report_list o → Held seen may_leave is_usable A number line names t q olds before → Held seen may_leave is_usable A number line names (reports o t) q news after
+  jobs_on t q jobs olds news before after None low (inl is) are held = together_other seen may_leave is_usable A number line names alone low_number t q jobs olds news before after is.0 are held
+  jobs_on t q jobs olds news before after (Some r) low (inl is) are held =
+      let new = queue_in olds news held.queue is.0.lines held.there in
+      together_own seen may_leave is_usable A number line names alone low_number t q jobs olds news before after is.0 r are held new.0 new.1
+      (λ a. is.1 a r held.queue new.0 are held.there new.1)
+  jobs_on t q jobs olds news before after o low (inr is) are held = alone_on t q jobs olds news before after o low is.0 is.1 are held
+
+  none_both : (xs ys : List Report) → xs ++ ys ≡ [] → (xs ≡ []) × (ys ≡ [])
+  none_both [] ys none = (refl, none)
+  none_both (x ∷ xs) ys none = absurd (let no : x ∷ (xs ++ ys) ≡ [] = none in cc)
+
+  one_batch : (t : List BookEntry) (q : List CallPage) (o : Option Report) (jobs : List LineReport) (k l : K) → AreLow jobs → EndsIf Ends jobs k l → reports_of number jobs ≡ report_list o → Holds t q k → Holds (reports o t) q l
+  one_batch t q None [] k l low is are held = holds_same t q k l is held
+  one_batch t q (Some r) [] k l low is are held = absurd (let no : [] ≡ r ∷ [] = are in cc)
+  one_batch t q o (one ∷ jobs) k l low is are held = jobs_on t q (one ∷ jobs) (queues_of k) (queues_of l) (spool_of k) (spool_of l) o low (ends_are (one ∷ jobs) k l is) are held
+
+  -- batches of them, among which is what the line told
+  batches_on : (t : List BookEntry) (q : List CallPage) (batches : List (List LineReport)) (k l : K) (o : Option Report) → ((place : ℕ) → length names ≤ place → reports_in place batches ≡ []) → EndsEach Ends batches k l
+      → reports_in number batches ≡ report_list o → Holds t q k → Holds (reports o t) q l
+  batches_on t q [] k l None low is are held = holds_same t q k l is held
+  batches_on t q [] k l (Some r) low is are held = absurd (let no : [] ≡ r ∷ [] = are in cc)
+  batches_on t q (jobs ∷ later) k l o low is are held = elim (split_reports (reports_of number jobs) (reports_in number later) o are) [
+    | inl none ↦ batches_on t q later is.0 l o (λ place far. (none_both (reports_of place jobs) (reports_in place later) (low place far)).1) is.2 none.1 (one_batch t q None jobs k is.0 (λ place far. (none_both (reports_of place jobs) (reports_in place later) (low place far)).0) is.1 none.0 held)
+    | inr own ↦
+        subst (λ (p : Option Report). Holds (reports p t) q l) (sym own.1)
+        (batches_on (reports (Some own.0) t) q later is.0 l None (λ place far. (none_both (reports_of place jobs) (reports_in place later) (low place far)).1) is.2 own.3
+        (one_batch t q (Some own.0) jobs k is.0 (λ place far. (none_both (reports_of place jobs) (reports_in place later) (low place far)).0) is.1 own.2 held))
+  ]
 
   -- ---- pages are put
 
@@ -406,16 +520,32 @@ module _
     low_turned : number < length turned
     low_turned = let same : length turned ≡ length names = many in let low : number < length names = low_number in omega (arith, low, same)
 
-    low_count : number < settled.told.count
-    low_count = let low : number < length lines = low_left in let all : length lines ≤ settled.told.count = settled.told.all in omega (arith, low, all)
+    low_count : number < settled.told.noted.count
+    low_count = let low : number < length lines = low_left in let all : length lines ≤ settled.told.noted.count = settled.told.noted.all in omega (arith, low, all)
+
+    -- no line beyond has a report
+    none_beyond : (place : ℕ) → length names ≤ place → reports_in place settled.told.ended.batches ≡ []
+    none_beyond place far =
+        settled.told.ended.once place ∙ ap (λ (o : Option PlaceValue). reports_at which place o) (none_at lines place (let same : length lines ≡ length names = many_left in omega (arith, far, same)))
+      where
+        none_at : (lines : List PlaceValue) (i : ℕ) → length lines ≤ i → slice_get lines i ≡ None
+        none_at [] i far = refl
+        none_at (p ∷ lines) zero far = absurd (omega (arith, far))
+        none_at (p ∷ lines) (suc i) far = none_at lines i (omega (arith, far))
+
+    -- then what the line told of its job is told
+    ended_on : (other : PlaceValue) (t : List BookEntry) (q : List CallPage) (o : Option Report) → report_if (which number) (slice_index_or lines number other).line.turned ≡ o → Holds t q settled.told.between → Holds (reports o t) q l
+    ended_on other t q o is held =
+        batches_on t q settled.told.ended.batches settled.told.between l o none_beyond settled.told.ended.told
+        (settled.told.ended.once number ∙ ap (λ (p : Option PlaceValue). reports_at which number p) (get_or lines number other low_left) ∙ ap report_list is) held
 
     ends_where : (other : PlaceValue) → EndsWhere (which number) (is_stored_in end number) (slice_index_or turned number other) (slice_index_or lines number other)
     ends_where other = settled.settled.each number other low_turned
 
     -- what a line of this number tells, by what it is
-    tells_at : (other : PlaceValue) (a b : K) → TellsPlace Notes Ends which end.pages.items number (slice_get lines number) a b
-        → TellsWhere Notes Ends number (which number) (slice_index_or lines number other).line.turned (has_page end.pages.items number) a b
-    tells_at other a b told = subst (λ (o : Option PlaceValue). TellsPlace Notes Ends which end.pages.items number o a b) (get_or lines number other low_left) told
+    tells_at : (other : PlaceValue) (a b : K) → NotesPlace Notes which end.pages.items number (slice_get lines number) a b
+        → NotesWhere Notes number (which number) (slice_index_or lines number other).line.turned (has_page end.pages.items number) a b
+    tells_at other a b told = subst (λ (o : Option PlaceValue). NotesPlace Notes which end.pages.items number o a b) (get_or lines number other low_left) told
 
     settles_still : (other : PlaceValue) (t : List BookEntry) (q : List CallPage) → which number ≡ false → Holds t q k → Holds t q l × (slice_index_or lines number other ≡ slice_index_or turned number other)
     settles_still other t q none held =
@@ -424,9 +554,10 @@ module _
         let begun : Holds t q settled.begun = holds_still t q k settled.begun settled.is_same held in
         let put : Holds t q settled.kept =
         put_others t q end.pages.items (is_ok end.answer) settled.begun settled.kept settled.put (pages_low t q begun) (none_turned which number turned end.pages.items settled.pages.each none) begun in (
-          first_after which end.pages.items lines many_left t t q settled.told.count settled.kept l
-              (λ a b told. holds_same t q a b (subst (λ (c : Bool). TellsWhere Notes Ends number c (slice_index_or lines number other).line.turned (has_page end.pages.items number) a b) none (tells_at other a b told)))
-              low_count settled.told.told put,
+          ended_on other t q None (ap (λ (b : Bool). report_if b (slice_index_or lines number other).line.turned) none)
+              (first_after which end.pages.items lines t q (λ (m : K). Holds t q m) (λ place o a b unlike told was. other_place t q which end.pages.items place o a b unlike told was)
+              (λ a b told. holds_same t q a b (subst (λ (c : Bool). NotesWhere Notes number c (slice_index_or lines number other).line.turned (has_page end.pages.items number) a b) none (tells_at other a b told)))
+              settled.told.noted.count settled.kept settled.told.between low_count settled.told.noted.told put),
           same,
         )
 
@@ -480,25 +611,25 @@ module _
           } in
           let told = told_put has.0 value has.2 recorded in (told.0, told.1, value, refl, refl, refl, refl, told.2)
 
-      -- the report, after the rest
-      told_report : (u : List BookEntry) (q : List CallPage) (a b : K) → IsTold u → EndsIf Ends number own_line.turned.report a b → Holds u q a → Holds (told_in setup so.newer before) q b
-      told_report u q a b is ends held = by own_line.turned.report is ends
-        where
-          by : (o : Option Report) → told_in setup so.newer before ≡ reports o u → EndsIf Ends number o a b → Holds (told_in setup so.newer before) q b
-          by None is ends = subst (λ (x : List BookEntry). Holds x q b) (sym is) (holds_same u q a b ends held)
-          by (Some report) is ends =
-              subst (λ (x : List BookEntry). Holds x q b) (sym is)
-              (own_ended seen may_leave is_usable A number line names alone low_number u q report (queues_of a) (queues_of b) (spool_of a) (spool_of b) (ends_are number report a b ends).0 (λ x. (ends_are number report a b ends).1 x refl) held)
-
       ended_so : EndsTurn (is_stored_in end number) own_line (slice_index_or lines number other).line × ((slice_index_or lines number other).turned ≡ (slice_index_or turned number other).turned)
       ended_so = subst (λ (b : Bool). EndsWhere b (is_stored_in end number) (slice_index_or turned number other) (slice_index_or lines number other)) on (ends_where other)
 
-      -- what the line tells its store
-      told_line : (a b : K) → TellsPlace Notes Ends which end.pages.items number (slice_get lines number) a b
-          → (between : K) × NotesIf Notes number own_line.turned.kept (has_page end.pages.items number) a between × EndsIf Ends number own_line.turned.report between b
+      -- what the line tells its store of its page
+      told_line : (a b : K) → NotesPlace Notes which end.pages.items number (slice_get lines number) a b → NotesIf Notes number own_line.turned.kept (has_page end.pages.items number) a b
       told_line a b told =
-          subst (λ (x : Told). TellsWhere Notes Ends number true x (has_page end.pages.items number) a b) ended_so.0.told
-          (subst (λ (c : Bool). TellsWhere Notes Ends number c (slice_index_or lines number other).line.turned (has_page end.pages.items number) a b) on (tells_at other a b told))
+          subst (λ (x : Told). NotesWhere Notes number true x (has_page end.pages.items number) a b) ended_so.0.told
+          (subst (λ (c : Bool). NotesWhere Notes number c (slice_index_or lines number other).line.turned (has_page end.pages.items number) a b) on (tells_at other a b told))
+
+      -- and of its job
+      its_report : report_if (which number) (slice_index_or lines number other).line.turned ≡ own_line.turned.report
+      its_report = ap (λ (b : Bool). report_if b (slice_index_or lines number other).line.turned) on ∙ ap (λ (x : Told). x.report) ended_so.0.told
+
+      told_report : (u : List BookEntry) (q : List CallPage) → IsTold u → Holds u q settled.told.between → Holds (told_in setup so.newer before) q l
+      told_report u q is held = subst (λ (x : List BookEntry). Holds x q l) (sym is) (ended_on other u q own_line.turned.report its_report held)
+
+      -- its page is told
+      abbrev HoldsTold : List CallPage → K → Type 0
+      HoldsTold r m = (v : List BookEntry) × IsTold v × Holds v r m
 
       -- after its turn all that the line told is told, and what was put with an Ok is put
       settles_turned : (q : List CallPage) → Holds t q k → (r : List CallPage) × AreStoredOf number (kept_if (is_ok end.answer) end.pages.items) r × Holds (told_in setup so.newer before) (q ++ r) l
@@ -507,14 +638,17 @@ module _
           begun : Holds t q settled.begun
           begun = holds_still t q k settled.begun settled.is_same held
 
-          after : (u : List BookEntry) (r : List CallPage) → ((a b : K) → TellsPlace Notes Ends which end.pages.items number (slice_get lines number) a b → Holds u r a → Holds (told_in setup so.newer before) r b) → Holds u r settled.kept
+          after : (u : List BookEntry) (r : List CallPage) → ((a b : K) → NotesPlace Notes which end.pages.items number (slice_get lines number) a b → Holds u r a → HoldsTold r b) → Holds u r settled.kept
               → Holds (told_in setup so.newer before) r l
-          after u r own put = first_after which end.pages.items lines many_left u (told_in setup so.newer before) r settled.told.count settled.kept l own low_count settled.told.told put
+          after u r own put =
+              let it = first_after which end.pages.items lines u r (HoldsTold r) (λ place o a b unlike told was. (was.0, was.1, other_place was.0 r which end.pages.items place o a b unlike told was.2)) own
+              settled.told.noted.count settled.kept settled.told.between low_count settled.told.noted.told put in
+              told_report it.0 r it.1 it.2
 
           -- what was put is told already
-          reported : (u : List BookEntry) (r : List CallPage) → IsTold u → ((a between : K) → NotesIf Notes number own_line.turned.kept (has_page end.pages.items number) a between → between ≡ a) → Holds u r settled.kept
+          reported : (u : List BookEntry) (r : List CallPage) → IsTold u → ((a b : K) → NotesIf Notes number own_line.turned.kept (has_page end.pages.items number) a b → b ≡ a) → Holds u r settled.kept
               → Holds (told_in setup so.newer before) r l
-          reported u r is none put = after u r (λ a b told was. let it = told_line a b told in told_report u r it.0 b is it.2 (holds_same u r a it.0 (none a it.0 it.1) was)) put
+          reported u r is none put = after u r (λ a b told was. (u, is, holds_same u r a b (none a b (told_line a b told)) was)) put
 
           put_none : has_page end.pages.items number ≡ false → Holds t q settled.kept
           put_none off = put_others t q end.pages.items (is_ok end.answer) settled.begun settled.kept settled.put (pages_low t q begun) off begun
@@ -546,12 +680,10 @@ module _
               nothing_put has
               (after t q
               (λ a b told was.
-              let it = told_line a b told in
-              let notes : Notes number kept.call a it.0 =
-              subst (λ (o : Option Kept). NotesIf Notes number o false a it.0) is (subst (λ (c : Bool). NotesIf Notes number own_line.turned.kept c a it.0) has it.1) in
-              let noted = own_noted seen may_leave is_usable A number line names alone low_number t q (λ x. (notes_are number kept.call a it.0 notes).1 x refl) IsTold kept.call (queues_of a) (queues_of it.0) (spool_of a) (spool_of it.0) (told_noted kept is)
-              (notes_are number kept.call a it.0 notes).0 was in
-              told_report noted.0 q it.0 b noted.1 it.2 noted.2)
+              let notes : Notes number kept.call a b =
+              subst (λ (o : Option Kept). NotesIf Notes number o false a b) is (subst (λ (c : Bool). NotesIf Notes number own_line.turned.kept c a b) has (told_line a b told)) in
+              own_noted seen may_leave is_usable A number line names alone low_number t q (λ x. (notes_are number kept.call a b notes).1 x refl) IsTold kept.call (queues_of a) (queues_of b) (spool_of a) (spool_of b) (told_noted kept is)
+              (notes_are number kept.call a b notes).0 was)
               (put_none has))
 
   -- ---- a run
@@ -831,7 +963,7 @@ module _ {D K : Type 0} (seen : D → List ℕ) (may_leave : D → List ℕ → 
     leaves : LeavesRun seen may_leave is_usable writes number line lives puts setup settled lines spool
     whole : WaitSo seen may_leave is_usable spool (PastIf A writes line (record { setup = setup; trace = leaves.trace } ∷ lives) (puts ++ leaves.kept))
 
-  leaves_as : (A : Type 0) (number : ℕ) (Puts : List PageToStore → Bool → K → K → Type 0) (Notes : ℕ → ℕ → K → K → Type 0) (Ends : ℕ → Report → K → K → Type 0) → PutsAre seen may_leave is_usable queues_of spool_of number A Puts
+  leaves_as : (A : Type 0) (number : ℕ) (Puts : List PageToStore → Bool → K → K → Type 0) (Notes : ℕ → ℕ → K → K → Type 0) (Ends : List LineReport → K → K → Type 0) → PutsAre seen may_leave is_usable queues_of spool_of number A Puts
       → NotesAre queues_of spool_of number A Notes → EndsAre seen may_leave is_usable queues_of spool_of number A Ends → TurnsTellBoth → ConfirmsTheNewest → JobsAreOfTheirCalls → PagesAreWritten → WrittenPagesMean → PagesAreUnique → OwedIsRestored
       → (writes : Writing) (line : List ℕ) (pages : List spool.PageValue) (lives : List Life) (puts : List CallPage) (setup : Setup) (done : List DoneOrder) (settled : List PutResult) (begun left : List PlaceValue) (k l : K)
       → IsWriting writes → (past : HasPast writes line lives puts pages) → (A → AllIsPut past.actions) → BeginsRun seen may_leave is_usable number line pages setup begun (queues_of k) (spool_of k)
@@ -929,15 +1061,15 @@ module _ {D K : Type 0} (seen : D → List ℕ) (may_leave : D → List ℕ → 
       let it =
       leaves_as ⊥ number (λ (pages : List PageToStore) (is_stored : Bool) (old new : K). PutsPages seen may_leave is_usable pages is_stored (queues_of old) (queues_of new) (spool_of old) (spool_of new))
       (λ (place call : ℕ) (old new : K). NotesPage place call (queues_of old) (queues_of new) (spool_of old) (spool_of new))
-      (λ (place : ℕ) (report : Report) (old new : K). EndsJobIf seen may_leave is_usable place report (queues_of old) (queues_of new) (spool_of old) (spool_of new)) (λ p b o n is. (is, λ no. absurd no)) (λ p c o n is. (is, λ no. absurd no))
-      (λ p r o n is. (is, λ no. absurd no)) tell_both newest origins written mean unique owed_is writes line pages lives puts setup done settled begun left k l writing past (λ no. absurd no) begins ran in it.leaves
+      (λ (ended : List LineReport) (old new : K). EndsJobs seen may_leave is_usable ended (queues_of old) (queues_of new) (spool_of old) (spool_of new)) (λ p b o n is. (is, λ no. absurd no)) (λ p c o n is. (is, λ no. absurd no))
+      (λ jobs o n is. elim is [ inl e ↦ inl (e, λ no. absurd no) | inr e ↦ inr (e, λ no. absurd no) ]) tell_both newest origins written mean unique owed_is writes line pages lives puts setup done settled begun left k l writing past (λ no. absurd no) begins ran in it.leaves
 
   pub runs_note_all : TurnsTellBoth → ConfirmsTheNewest → JobsAreOfTheirCalls → PagesAreWritten → WrittenPagesMean → PagesAreUnique → OwedIsRestored → RunsNoteAll seen may_leave is_usable queues_of spool_of
   runs_note_all tell_both newest origins written mean unique owed_is writes number line pages lives puts setup done settled begun left k l writing past begins ran =
       let it =
       leaves_as (Unit {0}) number (λ (pages : List PageToStore) (is_stored : Bool) (old new : K). PutsWithOk seen may_leave is_usable number pages is_stored (queues_of old) (queues_of new) (spool_of old) (spool_of new)) (λ (place call : ℕ) (old new : K). NotesOther number place call (queues_of old) (queues_of new) (spool_of old) (spool_of new))
-      (λ (place : ℕ) (report : Report) (old new : K). EndsNoted seen may_leave is_usable number place report (queues_of old) (queues_of new) (spool_of old) (spool_of new)) (λ p b o n is. (is.1, λ a. is.0)) (λ p c o n is. (is.1, λ a. is.0))
-      (λ p r o n is. (is.0, λ a. is.1)) tell_both newest origins written mean unique owed_is writes line pages lives puts setup done settled begun left k l writing past.past (λ a. past.all) begins ran in record {
+      (λ (ended : List LineReport) (old new : K). EndsNoted seen may_leave is_usable number ended (queues_of old) (queues_of new) (spool_of old) (spool_of new)) (λ p b o n is. (is.1, λ a. is.0)) (λ p c o n is. (is.1, λ a. is.0))
+      (λ jobs o n is. elim is [ inl e ↦ inl (e.0, λ a. e.1) | inr e ↦ inr (e.0, λ a. e.1) ]) tell_both newest origins written mean unique owed_is writes line pages lives puts setup done settled begun left k l writing past.past (λ a. past.all) begins ran in record {
         leaves = it.leaves;
         whole = wait_map seen may_leave is_usable (spool_of l) (PastIf (Unit {0}) writes line (record { setup = setup; trace = it.leaves.trace } ∷ lives) (puts ++ it.leaves.kept))
             (HasWholePast writes line (record { setup = setup; trace = it.leaves.trace } ∷ lives) (puts ++ it.leaves.kept)) (λ told p. record { past = p.past; all = p.all tt }) it.whole;

@@ -194,7 +194,7 @@ no_end : (ended : EndedValue) (line : List ℕ) (page : QueuedPage) (b : Bool) �
 no_end ended line page true same other = absurd (other (sym ((bytes_eq-Decides ended.line line).0 same)))
 no_end ended line page false same other = ends_none_of ended (name_in line page) same
 
-others_stay : (ended : EndedValue) (line : List ℕ) (pages : List QueuedPage) → line ≢ ended.line → left_by ended line pages ≡ pages
+pub others_stay : (ended : EndedValue) (line : List ℕ) (pages : List QueuedPage) → line ≢ ended.line → left_by ended line pages ≡ pages
 others_stay ended line [] other = refl
 others_stay ended line (page ∷ pages) other =
     ap (λ (b : Bool). cond (not b) (page ∷ left_by ended line pages) (left_by ended line pages)) (no_end ended line page (bytes_eq ended.line line) refl other)

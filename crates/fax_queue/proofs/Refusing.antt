@@ -15,6 +15,10 @@ use Rattle.fax_queue.specs.Jobs.{EndsJob, PagesWait, WaitSo}
 use Rattle.fax_queue.specs.Storing.{AddAll, AddsTo, AllArePlaced, AreRecordsUnder, IsPlaced, noted_as}
 use Rattle.fax_queue.specs.Lives.{State, state_of}
 use Rattle.fax_queue.specs.Lives.{Turns, Begins, Stores, Refuses as RefusesAction, Ends, Leaves, Lets, Beside, Stops}
+use Rattle.fax_queue.specs.declared.end_fault.EndFault.{EndFault}
+use Rattle.fax_queue.specs.declared.end_fault.EndFault.TheVariants as faults
+use Rattle.fax_queue.specs.EndFaults.{IsWhy}
+use Rattle.fax_queue.specs.Together.{IsNotTaken, StaysUnnoted}
 use Rattle.fax_queue.specs.Refusals.{AreRefused, EndsSomehow, IsAnEnd, MayHavePut, NoneIsNoted, NotesStay, PutsEnd, RefusalsAreActions, notes_of}
 use Rattle.fax_queue.proofs.Queueing.{all_placed}
 
@@ -76,7 +80,7 @@ refused_values life (p ∷ pages) (n ∷ numbers) olds news all adds =
     (first.0 ∷ rest.0, (adds.0, first.1, rest.1))
 
 module _ {D : Type 0} (seen : D → List ℕ) (may_leave : D → List ℕ → Type 0) (is_usable : D → Bool) where
-  rest_still : (before after : Spool D) (waits : List PageValue) → IsAsBefore seen may_leave is_usable before after → PagesWait seen may_leave is_usable before waits → PagesWait seen may_leave is_usable after waits
+  pub rest_still : (before after : Spool D) (waits : List PageValue) → IsAsBefore seen may_leave is_usable before after → PagesWait seen may_leave is_usable before waits → PagesWait seen may_leave is_usable after waits
   rest_still before after waits same was = record { olds = was.olds; news = was.news; kept = same.keeps was.olds was.news was.kept; in_order = was.in_order; wait = was.wait }
 
   -- ---- pages that are not put
@@ -135,7 +139,7 @@ module _ {D : Type 0} (seen : D → List ℕ) (may_leave : D → List ℕ → Ty
   pub refusing : (spool : Spool D) (queue : QueueValue) → Refuses spool → notes_of spool queue ≡ false
   refusing spool queue refuses = ap (λ (b : Bool). queue.is_whole && not b) refuses ∙ off queue.is_whole
 
-  sure_so : (spool : Spool D) (queue : QueueValue) → queue.is_whole ≡ true → refuses_now spool ≡ false → notes_of spool queue ≡ true
+  pub sure_so : (spool : Spool D) (queue : QueueValue) → queue.is_whole ≡ true → refuses_now spool ≡ false → notes_of spool queue ≡ true
   sure_so spool queue whole accepts = ap (λ (b : Bool). b && not (refuses_now spool)) whole ∙ ap (λ (b : Bool). not b) accepts
 
   -- which pages the job had is not known
@@ -161,6 +165,13 @@ module _ {D : Type 0} (seen : D → List ℕ) (may_leave : D → List ℕ → Ty
       → new.waits ≡ drop pages old.waits → EndsSomehow seen may_leave is_usable pages old new spool spool
   ends_none_there pages old new spool line whole none gone = let_go (refuses_now spool) pages old new spool refl line whole none gone
 
+  -- it is not noted, whichever of both it is
+  pub unnoted_somehow : (pages : ℕ) (old new : QueueValue) (spool : Spool D) → StaysUnnoted pages old new → EndsSomehow seen may_leave is_usable pages old new spool spool
+  unnoted_somehow pages old new spool is = elim is.stays [
+    | inl unsure ↦ ends_unknown pages old new spool is.line_is unsure
+    | inr lets ↦ ends_none_there pages old new spool is.line_is lets.whole lets.none lets.gone
+  ]
+
   -- its record is on the disk
   is_noted : (pages : ℕ) (old new : QueueValue) (before after : Spool D) (ended : EndedValue) (waits told : List PageValue) → ended.line ≡ old.line → notes_of before old ≡ true
       → left_by ended old.line old.waits ≡ drop pages old.waits → told ≡ without ended waits → (notes_of after new ≡ true → new.waits ≡ drop pages old.waits)
@@ -168,7 +179,7 @@ module _ {D : Type 0} (seen : D → List ℕ) (may_leave : D → List ℕ → Ty
   is_noted pages old new before after ended waits told named sure leaves gone queued = inl (record { ended = ended; named = named; sure = sure; leaves = leaves; gone = gone; queued = queued })
 
   tried : (b : Bool) (pages : ℕ) (old new : QueueValue) (before after : Spool D) (kept : EndedValue) → refuses_now before ≡ b → new.line ≡ old.line → old.is_whole ≡ true → new.is_whole ≡ false
-      → kept.line ≡ old.line → left_by kept old.line old.waits ≡ drop pages old.waits → Does seen may_leave is_usable (EndsCall kept) false before after → EndsSomehow seen may_leave is_usable pages old new before after
+      → kept.line ≡ old.line → left_by kept old.line old.waits ≡ drop pages old.waits → Does seen may_leave is_usable (EndsCall (kept ∷ [])) false before after → EndsSomehow seen may_leave is_usable pages old new before after
   tried true pages old new before after kept refuses line whole none named leaves does =
       subst (λ (s : Spool D). EndsSomehow seen may_leave is_usable pages old new before s) (sym (does.refused refuses).1) (ends_unknown pages old new before line none)
   tried false pages old new before after kept accepts line whole none named leaves does = record {
@@ -216,7 +227,7 @@ module _ {D : Type 0} (seen : D → List ℕ) (may_leave : D → List ℕ → Ty
   accepted false call before after accepts does = accepts
 
   pub job_is_sure : (queue : QueueValue) (before after : Spool D) (ended : EndedJob) (line : List ℕ) → queue.is_whole ≡ true → PutsEnd seen may_leave is_usable ended line true before after → notes_of before queue ≡ true
-  job_is_sure queue before after ended line whole puts = sure_so before queue whole (accepted (refuses_now before) (EndsCall puts.kept) before after refl puts.does)
+  job_is_sure queue before after ended line whole puts = sure_so before queue whole (accepted (refuses_now before) (EndsCall (puts.kept ∷ [])) before after refl puts.does)
 
   -- a file is not cleared, nor taken into use, and what waits is as it was
   pub not_turned : (before after : Spool D) → Does seen may_leave is_usable TurnsCall false before after → (waits : List PageValue) → PagesWait seen may_leave is_usable before waits
@@ -225,6 +236,16 @@ module _ {D : Type 0} (seen : D → List ℕ) (may_leave : D → List ℕ → Ty
     | inl refuses ↦ inr (refuses, λ older newer left. let it = does.left refl waits was older newer left in (it.0, it.1, elim it.2 [ inl same ↦ same | inr same ↦ same ]))
     | inr same ↦ inl (waits, rest_still before after waits same was, refl)
   ]
+
+-- why no record can be put, beside a spool
+pub why_not_taken : {D : Type 0} (fault : EndFault) (pages : ℕ) (was : QueueValue) (now : Spool D) → IsNotTaken fault pages was → IsWhy fault pages was now
+why_not_taken faults.NoLine pages was now is = is
+why_not_taken faults.Unsure pages was now is = is
+why_not_taken faults.NoneThere pages was now is = is
+why_not_taken faults.LongName pages was now is = is
+why_not_taken faults.NoMemory pages was now is = absurd is
+why_not_taken faults.DiskFailed pages was now is = absurd is
+why_not_taken faults.NotStored pages was now is = tt
 
 -- ---- laws
 

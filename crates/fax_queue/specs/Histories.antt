@@ -4,7 +4,6 @@
 use Rattle.std.specs.Prelude.{◌≡◌, ◌≢◌, ◌⊎◌, ℕ, Bool, List, [], ◌∷◌, ◌++◌, length, map, Some, slice_get}
 use Rattle.fax_runcodes.specs.declared.format.Coding.TheVariants as codings
 use Rattle.fax_pagestore.specs.PageTexts.{MeansPage}
-use Rattle.fax_jobs.specs.declared.report.Report.{Report}
 use Rattle.fax_call.specs.Writings.{IsWriting, Writing}
 use Rattle.fax_gateway.specs.Restored.{CallPage, call_shown}
 use Rattle.fax_gateway.specs.Setups.{AreSetWith, Setup}
@@ -16,6 +15,7 @@ use Rattle.fax_line.specs.Actions.{BeginsWith}
 use Rattle.fax_line.specs.Places.{PlaceValue}
 use Rattle.fax_line.specs.Runs.{DoneOrder}
 use Rattle.fax_line.specs.StoredRuns.{IsRun, stored_pages}
+use Rattle.fax_line.specs.declared.settling.LineReport.{LineReport}
 use Rattle.fax_line.specs.declared.settling.PageToStore.{PageToStore}
 use Rattle.fax_line.specs.declared.settling.PutResult.{PutResult}
 use Rattle.fax_spool.specs.RecordOctets as spool
@@ -28,7 +28,7 @@ use Rattle.fax_queue.specs.Restorations.{Restores}
 use Rattle.fax_queue.specs.declared.restored.RestoredLine.{RestoredLine}
 use Rattle.fax_queue.specs.Jobs.{PagesWait, WaitSo}
 use Rattle.fax_queue.specs.Lives.{PageAction, State, WasDone}
-use Rattle.fax_queue.specs.SpoolStorage.{EndsJobIf, IsUnchanged, NotesPage, PutsPages}
+use Rattle.fax_queue.specs.SpoolStorage.{EndsJobs, IsUnchanged, NotesPage, PutsPages}
 use Rattle.fax_queue.specs.Book.{AreOfLives, pages_put}
 use Rattle.fax_queue.specs.OnLeg.{AreOnLeg, HasDoneOn}
 
@@ -122,8 +122,8 @@ RanOnDisk {D} {K} seen may_leave is_usable queues_of spool_of = IsRun
     PutsPages seen may_leave is_usable pages is_stored (queues_of old)
     (queues_of new) (spool_of old) (spool_of new)) (λ (line call : ℕ) (old new : K).
     NotesPage line call (queues_of old) (queues_of new) (spool_of old) (spool_of new))
-    (λ (line : ℕ) (report : Report) (old new : K). EndsJobIf seen
-    may_leave is_usable line report (queues_of old) (queues_of new) (spool_of old) (spool_of new))
+    (λ (ended : List LineReport) (old new : K). EndsJobs seen
+    may_leave is_usable ended (queues_of old) (queues_of new) (spool_of old) (spool_of new))
 
 -- EACH RUN MAKES HISTORY: of each line that has a past where the spool was opened, it leaves one with one life more, whatever came
 -- over the wires, whatever was ordered, whichever puts failed, and wherever it stops. So this is so over any number of lives.

@@ -13,3 +13,4 @@ pub mod Queues
 pub mod SpoolStorage
 pub mod Tags
 pub mod TurnsTold
+pub mod Together

@@ -1,6 +1,6 @@
 -- AFTER PUTS AND ENDS THAT ALL ANSWERED OK a restart finds what is owed, and nothing else. Lists have the oldest first, but those of
 -- lives, events and orders, which have the newest first. (This project's profile.)
-use Rattle.std.specs.Prelude.{◌≡◌, ◌≢◌, ℕ, Bool, true, List, [], ◌∷◌, ◌++◌, map}
+use Rattle.std.specs.Prelude.{◌≡◌, ◌≢◌, ◌⊎◌, ℕ, Bool, true, List, [], ◌∷◌, ◌++◌, map, Some, slice_get}
 use Rattle.fax_jobs.specs.declared.report.Report.{Report}
 use Rattle.fax_call.specs.Writings.{IsWriting, Writing}
 use Rattle.fax_gateway.specs.Restored.{CallPage, RestoredCall, call_shown, pages_restored}
@@ -8,8 +8,9 @@ use Rattle.fax_gateway.specs.Setups.{Setup}
 use Rattle.fax_gateway.specs.Lives.{Life, all_confirmed, all_ended, pages_left}
 use Rattle.fax_line.specs.Places.{PlaceValue}
 use Rattle.fax_line.specs.Runs.{DoneOrder}
-use Rattle.fax_line.specs.StoredRuns.{IsRun}
+use Rattle.fax_line.specs.StoredRuns.{IsRun, reports_of}
 use Rattle.fax_line.specs.Settling.{has_page}
+use Rattle.fax_line.specs.declared.settling.LineReport.{LineReport}
 use Rattle.fax_line.specs.declared.settling.PageToStore.{PageToStore}
 use Rattle.fax_line.specs.declared.settling.PutResult.{PutResult}
 use Rattle.fax_spool.specs.RecordOctets as spool
@@ -19,7 +20,8 @@ use Rattle.fax_queue.specs.Queues.{QueueValue}
 use Rattle.fax_queue.specs.Restorations.{Restores, own_pages}
 use Rattle.fax_queue.specs.declared.restored.RestoredLine.{RestoredLine}
 use Rattle.fax_queue.specs.Jobs.{WaitSo}
-use Rattle.fax_queue.specs.SpoolStorage.{EndsJobIf, IsUnchanged, NotesPage, PutsPages}
+use Rattle.fax_queue.specs.SpoolStorage.{EndAlone, IsUnchanged, NotesPage, PutsPages}
+use Rattle.fax_queue.specs.Together.{EndsTogether}
 use Rattle.fax_queue.specs.Book.{AllIsPut}
 use Rattle.fax_queue.specs.Histories.{BeginsRun, HasPast, LeavesRun}
 
@@ -37,12 +39,35 @@ abbrev pub NotesOther : {D : Type 0}
 NotesOther number line call olds news before after =
     (line ≢ number) × NotesPage line call olds news before after
 
--- the end of a job of this line was noted: the answer was Ok
-abbrev pub EndsNoted : {D : Type 0} → (D → List ℕ) → (D → List ℕ → Type 0) → (D → Bool)
-    → (number : ℕ) → ℕ → Report → List QueueValue → List QueueValue → Spool D → Spool D → Type 0
-EndsNoted seen may_leave is_usable number line report olds news before after =
-    (ends : EndsJobIf seen may_leave is_usable line report olds news before after)
-    × (line ≡ number → ends.noted ≡ true)
+-- the end of a job of this line was noted, where it was put with others
+abbrev pub IsNotedWith : {D : Type 0} (seen : D → List ℕ)
+    (may_leave : D → List ℕ → Type 0) (is_usable : D → Bool) (number : ℕ)
+    (jobs : List LineReport) (olds news : List QueueValue) (before after : Spool D)
+    → EndsTogether seen may_leave is_usable jobs olds news before after → Type 0
+IsNotedWith seen may_leave is_usable number jobs olds news before after together =
+    (report : Report) (old new : QueueValue) (is : reports_of number jobs ≡ report ∷ [])
+    (there : slice_get olds number ≡ Some old) (now : slice_get news number ≡ Some new)
+    → (together.each number report old new is there now).0 ≡ true
+
+-- and where it was put alone
+abbrev pub IsNotedAlone : {D : Type 0} (seen : D → List ℕ)
+    (may_leave : D → List ℕ → Type 0) (is_usable : D → Bool) (number : ℕ)
+    (jobs : List LineReport) (olds news : List QueueValue) (before after : Spool D)
+    → EndAlone seen may_leave is_usable jobs olds news before after → Type 0
+IsNotedAlone seen may_leave is_usable number [] olds news before after alone = Unit {0}
+IsNotedAlone seen may_leave is_usable number (one ∷ jobs) olds news before after alone =
+    (one.line ≡ number → alone.2.noted ≡ true)
+    × IsNotedAlone seen may_leave is_usable number jobs alone.0 news alone.1 after alone.3
+
+-- jobs ended, and where one of this line was among them its end was noted: the answer was Ok
+abbrev pub EndsNoted : {D : Type 0} → (D → List ℕ) → (D → List ℕ → Type 0)
+    → (D → Bool) → (number : ℕ) → List LineReport
+    → List QueueValue → List QueueValue → Spool D → Spool D → Type 0
+EndsNoted seen may_leave is_usable number jobs olds news before after =
+    ((together : EndsTogether seen may_leave is_usable jobs olds news before after)
+    × IsNotedWith seen may_leave is_usable number jobs olds news before after together)
+    ⊎ ((alone : EndAlone seen may_leave is_usable jobs olds news before after)
+    × IsNotedAlone seen may_leave is_usable number jobs olds news before after alone)
 
 -- A RUN IN WHICH ALL PUTS OF A LINE'S PAGES AND ALL ENDS OF ITS JOBS ANSWERED OK, whatever became of other lines.
 abbrev pub RanWithOks : {D K : Type 0} → (D → List ℕ)
@@ -54,8 +79,8 @@ RanWithOks {D} {K} seen may_leave is_usable queues_of spool_of number = IsRun
     PutsWithOk seen may_leave is_usable number pages is_stored (queues_of old)
     (queues_of new) (spool_of old) (spool_of new)) (λ (line call : ℕ) (old new : K).
     NotesOther number line call (queues_of old) (queues_of new) (spool_of old) (spool_of new))
-    (λ (line : ℕ) (report : Report) (old new : K). EndsNoted seen may_leave
-    is_usable number line report (queues_of old) (queues_of new) (spool_of old) (spool_of new))
+    (λ (ended : List LineReport) (old new : K). EndsNoted seen may_leave
+    is_usable number ended (queues_of old) (queues_of new) (spool_of old) (spool_of new))
 
 -- A PAST IN WHICH ALL WAS PUT AND NOTED: each page that was confirmed is on the disk, and so is the end of each job.
 pub record HasWholePast (writes : Writing) (line : List ℕ)

@@ -73,7 +73,7 @@ pub record PutsEnd {D : Type 0} (seen : D → List ℕ)
     (ended : EndedJob) (line : List ℕ) (is_ok : Bool) (before after : Spool D) : Type 0 where
   pub kept : spool.EndedValue
   pub is_end : IsEndOf ended line kept
-  pub does : Does seen may_leave is_usable (EndsCall kept) is_ok before after
+  pub does : Does seen may_leave is_usable (EndsCall (kept ∷ [])) is_ok before after
 
 -- ---- laws
 

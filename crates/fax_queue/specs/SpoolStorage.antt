@@ -1,6 +1,7 @@
 -- What a run makes of the pages that are stored on a disk: of the queues of its lines, and of the spool. (This project's profile.)
-use Rattle.std.specs.Prelude.{◌≡◌, ◌<◌, ℕ, Bool, true, false, List, length, All, Some, slice_get}
+use Rattle.std.specs.Prelude.{◌≡◌, ◌⊎◌, ◌<◌, ℕ, Bool, true, false, List, [], ◌∷◌, length, All, Some, slice_get}
 use Rattle.fax_jobs.specs.declared.report.Report.{Report}
+use Rattle.fax_line.specs.declared.settling.LineReport.{LineReport}
 use Rattle.fax_line.specs.declared.settling.PageToStore.{PageToStore}
 use Rattle.fax_spool.specs.Calls.{Accepts, Refuses}
 use Rattle.fax_spool.specs.Waits.{PageName}
@@ -11,6 +12,7 @@ use Rattle.fax_queue.specs.Jobs.{EndsJobAt}
 use Rattle.fax_queue.specs.Storing.{AddsAt, Agree, AllAreAmong, ArePut, HaveOwnNames}
 use Rattle.fax_queue.specs.Refusals.{AreRefused, EndsSomehowAt, notes_of}
 use Rattle.fax_queue.specs.Queues.{QueueValue}
+use Rattle.fax_queue.specs.Together.{EndsTogether}
 
 -- both are as they were
 pub record IsUnchanged {D : Type 0} (olds news : List QueueValue) (before after : Spool D) :
@@ -62,3 +64,19 @@ pub record EndsJobIf {D : Type 0} (seen : D → List ℕ)
   pub sure : noted ≡ true
       → (queue : QueueValue) → slice_get olds line ≡ Some queue → notes_of before queue ≡ true
   pub refuses : Refuses before → (noted ≡ false) × (after ≡ before)
+
+-- Jobs ended, one after the other.
+abbrev pub EndAlone : {D : Type 0} → (D → List ℕ) → (D → List ℕ → Type 0) → (D → Bool)
+    → List LineReport → List QueueValue → List QueueValue → Spool D → Spool D → Type 0
+EndAlone seen may_leave is_usable [] olds news before after = (news ≡ olds) × (after ≡ before)
+EndAlone {D} seen may_leave is_usable (one ∷ others) olds news before after =
+    (mids : List QueueValue) × (between : Spool D)
+    × EndsJobIf seen may_leave is_usable one.line one.report olds mids before between
+    × EndAlone seen may_leave is_usable others mids news between after
+
+-- JOBS OF LINES ENDED: all of them at once, or one after the other.
+abbrev pub EndsJobs : {D : Type 0} → (D → List ℕ) → (D → List ℕ → Type 0) → (D → Bool)
+    → List LineReport → List QueueValue → List QueueValue → Spool D → Spool D → Type 0
+EndsJobs seen may_leave is_usable jobs olds news before after =
+    EndsTogether seen may_leave is_usable jobs olds news before after
+    ⊎ EndAlone seen may_leave is_usable jobs olds news before after

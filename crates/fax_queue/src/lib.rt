@@ -3,6 +3,7 @@
 #![tactic(auto)]
 
 mod end_fault;
+mod ending;
 pub mod laws;
 mod on_disk;
 mod putting;

@@ -128,7 +128,7 @@ fn record_of<'a>(
 }
 
 /// The name of line i.
-fn line_of(queues: &[Queue], i: usize) -> Option<&[u8]>
+pub(crate) fn line_of(queues: &[Queue], i: usize) -> Option<&[u8]>
     ensures { IfSome result (λ line. slice_get (lines_of queues.now) i ≡ Some line.now) }
 {
     match queues.get(i) {

@@ -11,15 +11,18 @@ ghost use Rattle.fax_queue.specs.Storing.{AddAll, AddsAt, Agree, AllAreAmong, Ar
 ghost use Rattle.fax_queue.specs.Refusals.{AreRefused, EndsSomehow, EndsSomehowAt, PutsEnd, notes_of};
 ghost use Rattle.fax_queue.specs.Queues.{QueueValue, first_tag, is_of_earlier_life};
 ghost use Rattle.fax_queue.specs.Tags.{NotesTag, PutsTagged};
+ghost use Rattle.fax_queue.specs.Together.{EndsTogether};
+ghost use Rattle.fax_line.specs.Settling.{RiseByLine};
 
 use crate::end_fault::EndFault;
+use crate::ending::{mark_unsure, plan_ends, put_ends, record_of, stored_pages, take_job};
 use crate::putting::{CallTag, Names, put_pages};
 use crate::queue::{EndedJob, Queue, QueuedPage};
 use crate::reading::read_job;
 use fax_jobs::Report;
-use fax_line::PageToStore;
+use fax_line::{LineReport, PageToStore};
 use fax_spool::laws::files_share_what_waits;
-use fax_spool::{EndedRecord, Spool, WaitingPage};
+use fax_spool::{Spool, WaitingPage};
 use fax_wires::holding::{PageStore, StoreFault};
 use sqlite_disk::Disk;
 use std::alloc::Global;
@@ -27,9 +30,6 @@ use std::alloc::Global;
 /// Where so many octets were put into a file, the other one is taken into use once it is empty; and where a page in that one does not go,
 /// what waits is copied forward.
 const MOST_OCTETS: usize = 16 * 1024 * 1024;
-
-/// The most octets of the name of a line.
-const MOST_NAME: usize = 255;
 
 /// What the record of a page has beside its text and its names, in octets, at most.
 const RECORD_OCTETS: usize = 64;
@@ -300,6 +300,30 @@ impl<D: Disk> Storage<D> {
         Ok(())
     }
 
+    /// Of each of these lines the job that was first in turn ended, with its report: as `end` of each, but their records are put all of
+    /// them at once, with two syncs however many there are. They are in the order of their lines, one of a line at most. At `Ok` the
+    /// ends are noted, but of those jobs of which no record can be; at an `Err` none is, as where none of them can have one.
+    pub fn end_all(&mut self, ended: &[LineReport]) -> Result<(), StoreFault>
+        requires { RiseByLine ended.now }
+        ensures ends { (ends : EndsTogether D.seen D.may_leave D.is_usable ended.now
+            self.old.queues.items self.new.queues.items self.old.spool self.new.spool)
+            × (ends.is_ok ≡ is_ok result) }
+        ensures tidy { OnOk result ((waits : List SpoolPage)
+            → PagesWait D.seen D.may_leave D.is_usable self.old.spool waits
+            → Accepts self.new.spool → IsTidy D.seen D.may_leave D.is_usable self.new.spool) }
+    {
+        let plan = plan_ends(self.alloc, self.queues.as_mut_slice(), ended);
+        let plan = plan.as_slice();
+        let Ok(()) = put_ends(self.alloc, &mut self.spool, self.queues.as_slice(), plan) else {
+            mark_unsure(self.queues.as_mut_slice(), plan);
+            return Err(StoreFault);
+        };
+        let stored = stored_pages(plan);
+        self.stored = self.stored.saturating_sub(stored);
+        self.octets = change_files(self.alloc, &mut self.spool, self.octets);
+        Ok(())
+    }
+
     /// Of the job of line i that is first in turn its pages that are on the disk, from the first that was not delivered on: none where
     /// all were, or where none of the others is there. An `Err` where there is no such line, where it is not known which pages the job
     /// had, or where one of them could not be read; then none of them is lost, and the spool refuses only where it did.
@@ -358,16 +382,7 @@ fn put_end<D: Disk>(
         queue.old queue.new spool.old spool.new) }
     ensures refuses { Refuses spool.old → IsErr result × (spool.new ≡ spool.old) }
 {
-    let Some(ended) = queue.end(report.pages) else {
-        return Err(EndFault::Unsure);
-    };
-    if ended.stored == 0 {
-        return Err(EndFault::NoneThere);
-    }
-    if queue.line().len() > MOST_NAME {
-        queue.mark_unsure();
-        return Err(EndFault::LongName);
-    }
+    let ended = take_job(queue, report)?;
     match put_ended(alloc, spool, queue.line(), &ended, report) {
         Ok(()) => Ok(ended.stored),
         Err(_) => {
@@ -400,16 +415,7 @@ fn put_ended<D: Disk>(
     ensures { PutsEnd D.seen D.may_leave D.is_usable ended.now
         line.now (is_ok result) spool.old spool.new }
 {
-    let record = EndedRecord {
-        life: ended.life,
-        call: ended.call,
-        first: ended.first,
-        pages: ended.pages,
-        delivered: report.delivered,
-        format: report.format,
-        outcome: report.outcome,
-        line: line.as_bytes(),
-    };
+    let record = record_of(line.as_bytes(), ended, report);
     match spool.end(alloc, &record) {
         Ok(()) => Ok(()),
         Err(_) => Err(StoreFault),

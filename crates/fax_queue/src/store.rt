@@ -5,8 +5,7 @@ ghost use Rattle.fax_queue.specs.Tags.{NotesTag};
 
 use crate::on_disk::OnDisk;
 use crate::storage::Storage;
-use fax_jobs::Report;
-use fax_line::{PageToStore, RunStore};
+use fax_line::{LineReport, PageToStore, RunStore};
 use fax_wires::holding::{PageStore, StoreFault};
 use sqlite_disk::Disk;
 
@@ -59,7 +58,8 @@ impl<D: Disk> PageStore<PageToStore> for SpoolStore<D> {
 }
 
 impl<D: Disk> RunStore for SpoolStore<D> {
-    ghost use Rattle.fax_queue.specs.SpoolStorage.{EndsJobIf, IsUnchanged, NotesPage};
+    ghost use Rattle.fax_queue.specs.SpoolStorage.{IsUnchanged, NotesPage};
+    ghost use Rattle.fax_queue.specs.Together.{EndsTogether};
 
     ghost is_same = { λ old new. IsUnchanged old.storage.queues.items
         new.storage.queues.items old.storage.spool new.storage.spool };
@@ -67,16 +67,16 @@ impl<D: Disk> RunStore for SpoolStore<D> {
     ghost notes = { λ line call old new. NotesPage line call
         old.storage.queues.items new.storage.queues.items old.storage.spool new.storage.spool };
 
-    ghost ends = { λ line report old new. EndsJobIf D.seen D.may_leave D.is_usable line report
+    ghost ends = { λ ended old new. EndsTogether D.seen D.may_leave D.is_usable ended
         old.storage.queues.items new.storage.queues.items old.storage.spool new.storage.spool };
 
     fn note(&mut self, line: usize, call: u32) {
         self.storage.note(line, call);
     }
 
-    /// Where that cannot be noted, the job's pages are restored at the next start, and sent again.
-    fn end_job(&mut self, line: usize, report: Report) {
-        let _ = self.storage.end(line, report);
+    /// Where that cannot be noted, the pages of the jobs are restored at the next start, and sent again.
+    fn end_jobs(&mut self, ended: &[LineReport]) {
+        let _ = self.storage.end_all(ended);
     }
 }
 

@@ -69,12 +69,12 @@ puts_none seen may_leave is_usable name (Err e) old = (unknown, [], does_nothing
 
 pub may_end : {D T E : Type 0} (seen : D → List ℕ) (may_leave : D → List ℕ → Type 0) (is_usable : D → Bool) (end : RetryEnd) (name : CallName) (listed calls : List CallValue) (missed : Option ℕ) (answer : Result T E) (old new : Spool D)
     → name ≡ end.name → listed ≡ calls → missed ≡ missed_by end listed → missed ≡ None
-    → OnErr answer (Does seen may_leave is_usable (Ends (end_of name)) false old new) → OnErr answer (MayEndCall seen may_leave is_usable end calls old new)
+    → OnErr answer (Does seen may_leave is_usable (Ends (end_of name ∷ [])) false old new) → OnErr answer (MayEndCall seen may_leave is_usable end calls old new)
 may_end seen may_leave is_usable end name listed calls missed (Ok it) old new same are is none ends = tt
 may_end seen may_leave is_usable end name listed calls missed (Err e) old new same are is none ends =
     let all : None ≡ missed_by end calls = sym none ∙ is ∙ ap (λ (l : List CallValue). missed_by end l) are in
-    subst (λ (o : Option ℕ). MatchOption o (Does seen may_leave is_usable (Ends (end_of end.name)) false old new) (λ place. MayPutCard seen may_leave is_usable end.name old new)) all
-    (subst (λ (n : CallName). Does seen may_leave is_usable (Ends (end_of n)) false old new) same ends)
+    subst (λ (o : Option ℕ). MatchOption o (Does seen may_leave is_usable (Ends (end_of end.name ∷ [])) false old new) (λ place. MayPutCard seen may_leave is_usable end.name old new)) all
+    (subst (λ (n : CallName). Does seen may_leave is_usable (Ends (end_of n ∷ [])) false old new) same ends)
 
 pub may_count : {D T E : Type 0} (seen : D → List ℕ) (may_leave : D → List ℕ → Type 0) (is_usable : D → Bool) (end : RetryEnd) (name : CallName) (listed calls : List CallValue) (missed : Option ℕ) (place : ℕ) (answer : Result T E) (old new : Spool D)
     → name ≡ end.name → listed ≡ calls → missed ≡ missed_by end listed → missed ≡ Some place
@@ -82,5 +82,5 @@ pub may_count : {D T E : Type 0} (seen : D → List ℕ) (may_leave : D → List
 may_count seen may_leave is_usable end name listed calls missed place (Ok it) old new same are is some put = tt
 may_count seen may_leave is_usable end name listed calls missed place (Err e) old new same are is some put =
     let one : Some place ≡ missed_by end calls = sym some ∙ is ∙ ap (λ (l : List CallValue). missed_by end l) are in
-    subst (λ (o : Option ℕ). MatchOption o (Does seen may_leave is_usable (Ends (end_of end.name)) false old new) (λ place. MayPutCard seen may_leave is_usable end.name old new)) one
+    subst (λ (o : Option ℕ). MatchOption o (Does seen may_leave is_usable (Ends (end_of end.name ∷ [])) false old new) (λ place. MayPutCard seen may_leave is_usable end.name old new)) one
     (subst (λ (n : CallName). MayPutCard seen may_leave is_usable n old new) same put)

@@ -105,5 +105,5 @@ MayPutCard seen may_leave is_usable name old new = (card : CardValue) × (tag : 
 abbrev pub MayEndCall : {D : Type 0} → (D → List ℕ)
     → (D → List ℕ → Type 0) → (D → Bool) → RetryEnd → List CallValue → (old new : Spool D) → Type 0
 MayEndCall seen may_leave is_usable end calls old new = MatchOption (missed_by end calls)
-    (Does seen may_leave is_usable (Ends (end_of end.name)) false old new)
+    (Does seen may_leave is_usable (Ends (end_of end.name ∷ [])) false old new)
     (λ place. MayPutCard seen may_leave is_usable end.name old new)

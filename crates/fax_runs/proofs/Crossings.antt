@@ -1,6 +1,6 @@
 -- Runs of a server, joined by what their files hold.
 use Rattle.std.proofs.Common.{Bool, List, ℕ}
-use Rattle.fax_jobs.specs.declared.report.Report.{Report}
+use Rattle.fax_line.specs.declared.settling.LineReport.{LineReport}
 use Rattle.fax_line.specs.declared.settling.PageToStore.{PageToStore}
 use Rattle.fax_spool.specs.declared.spool.Spool.{Spool}
 use Rattle.fax_queue.specs.Restorations.{WholeLinesAreRestored}
@@ -11,7 +11,7 @@ use Rattle.fax_runs.specs.Crossings.{KilledServersCross, ServersCross, ServersLe
 use Rattle.fax_runs.specs.Histories.{IsOnDisk}
 use Rattle.fax_runs.proofs.Histories.{was_run}
 
-module _ {D K : Type 0} (seen : D → List ℕ) (may_leave : D → List ℕ → Type 0) (is_usable is_clean : D → Bool) (queues_of : K → List QueueValue) (spool_of : K → Spool D) (same : K → K → Type 0) (stores : List PageToStore → Bool → K → K → Type 0) (notes : ℕ → ℕ → K → K → Type 0) (ends : ℕ → Report → K → K → Type 0) where
+module _ {D K : Type 0} (seen : D → List ℕ) (may_leave : D → List ℕ → Type 0) (is_usable is_clean : D → Bool) (queues_of : K → List QueueValue) (spool_of : K → Spool D) (same : K → K → Type 0) (stores : List PageToStore → Bool → K → K → Type 0) (notes : ℕ → ℕ → K → K → Type 0) (ends : List LineReport → K → K → Type 0) where
   pub servers_cross : IsOnDisk seen may_leave is_usable queues_of spool_of same stores notes ends → WholeLinesAreRestored → RunsCross seen may_leave is_usable queues_of spool_of → ServersCross seen may_leave is_usable is_clean queues_of spool_of same stores notes ends
   servers_cross on_disk restore cross writes line lives puts older newer ran writing past is =
       cross writes line lives puts older newer is.one is.other (run_of ran) writing past is.both (is.over is.clean) (was_run seen may_leave is_usable queues_of spool_of same stores notes ends on_disk restore line ran)

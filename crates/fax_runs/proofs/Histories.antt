@@ -6,6 +6,7 @@ use Rattle.fax_config.specs.Configurations.{AreUnlike, names_of_lines}
 use Rattle.fax_gateway.specs.Restored.{call_shown}
 use Rattle.fax_gateway.specs.Setups.{AreSetWith}
 use Rattle.fax_line.specs.Places.{PlaceValue}
+use Rattle.fax_line.specs.declared.settling.LineReport.{LineReport}
 use Rattle.fax_line.specs.declared.settling.PageToStore.{PageToStore}
 use Rattle.fax_spool.specs.RecordOctets as spool
 use Rattle.fax_spool.specs.Opened.{closed}
@@ -16,7 +17,6 @@ use Rattle.fax_queue.specs.Queues.{QueueValue}
 use Rattle.fax_queue.specs.Histories.{RunsMakeHistory}
 use Rattle.fax_runs.specs.restarts.Runs.{WasRun}
 use Rattle.fax_runs.specs.Crossings.{ServedLine, run_of}
-use Rattle.fax_jobs.specs.declared.report.Report.{Report}
 use Rattle.fax_runs.specs.Histories.{IsOnDisk, ServersMakeHistory}
 use Rattle.fax_runs.proofs.Weaker.{weaker_run}
 use Rattle.fax_opening.specs.Openings.{AreRestored, IsRestored}
@@ -105,7 +105,7 @@ apart configs unlike number other line queue low its low_number name differs sam
   | inr less ↦ unlike number other [] less (let many : length (names_of_lines configs) ≡ length configs = length_names configs in omega (arith, many, low)) (name ∙ sym same_name ∙ sym its)
 ]
 
-module _ {D K : Type 0} (seen : D → List ℕ) (may_leave : D → List ℕ → Type 0) (is_usable : D → Bool) (queues_of : K → List QueueValue) (spool_of : K → Spool D) (same : K → K → Type 0) (stores : List PageToStore → Bool → K → K → Type 0) (notes : ℕ → ℕ → K → K → Type 0) (ends : ℕ → Report → K → K → Type 0) (on_disk : IsOnDisk seen may_leave is_usable queues_of spool_of same stores notes ends) where
+module _ {D K : Type 0} (seen : D → List ℕ) (may_leave : D → List ℕ → Type 0) (is_usable : D → Bool) (queues_of : K → List QueueValue) (spool_of : K → Spool D) (same : K → K → Type 0) (stores : List PageToStore → Bool → K → K → Type 0) (notes : ℕ → ℕ → K → K → Type 0) (ends : List LineReport → K → K → Type 0) (on_disk : IsOnDisk seen may_leave is_usable queues_of spool_of same stores notes ends) where
   pub servers_make_history : WholeLinesAreRestored → RunsMakeHistory seen may_leave is_usable queues_of spool_of → ServersMakeHistory seen may_leave is_usable queues_of spool_of same stores notes ends
   servers_make_history restore runs configs served number config place pages writes lives puts setup unlike at there opened whole writing set past =
       let told : List spool.PageValue = whole_pages served.opened.torn.items served.opened.pages.items in

@@ -3,13 +3,13 @@ use Rattle.std.specs.Prelude.{◌≡◌, ℕ, Bool, List, ◌++◌, map, Some, s
 use Rattle.std.specs.String.{string_bytes}
 use Rattle.fax_config.specs.declared.config.LineConfig.{LineConfig}
 use Rattle.fax_config.specs.Configurations.{AreUnlike, names_of_lines}
-use Rattle.fax_jobs.specs.declared.report.Report.{Report}
 use Rattle.fax_call.specs.Writings.{IsWriting, Writing}
 use Rattle.fax_gateway.specs.Restored.{CallPage, call_shown}
 use Rattle.fax_gateway.specs.Setups.{AreSetWith, Setup}
 use Rattle.fax_gateway.specs.Lives.{Life}
 use Rattle.fax_line.specs.Places.{PlaceValue}
 use Rattle.fax_line.specs.Runs.{DoneOrder}
+use Rattle.fax_line.specs.declared.settling.LineReport.{LineReport}
 use Rattle.fax_line.specs.declared.settling.PageToStore.{PageToStore}
 use Rattle.fax_spool.specs.Opened.{AreBoth, IsOpened}
 use Rattle.fax_spool.specs.Spools.{AreClean, MayLeaveBoth, files_of}
@@ -27,7 +27,7 @@ use Rattle.fax_runs.specs.StoredRuns.{ServedStored}
 pub record ServedLine {D K : Type 0} (seen : D → List ℕ) (may_leave : D → List ℕ → Type 0)
     (is_usable : D → Bool) (queues_of : K → List QueueValue) (spool_of : K → Spool D)
     (same : K → K → Type 0) (stores : List PageToStore → Bool → K → K → Type 0)
-    (notes : ℕ → ℕ → K → K → Type 0) (ends : ℕ → Report → K → K → Type 0) (line : List ℕ) :
+    (notes : ℕ → ℕ → K → K → Type 0) (ends : List LineReport → K → K → Type 0) (line : List ℕ) :
     Type 0 where
   pub configs : List LineConfig
   pub served : ServedStored same stores notes ends spool_of queues_of configs
@@ -47,7 +47,7 @@ pub record ServedLine {D K : Type 0} (seen : D → List ℕ) (may_leave : D → 
 abbrev pub run_of : {D K : Type 0} {seen : D → List ℕ} {may_leave : D → List ℕ → Type 0}
     {is_usable : D → Bool} {queues_of : K → List QueueValue} {spool_of : K → Spool D}
     {same : K → K → Type 0} {stores : List PageToStore → Bool → K → K → Type 0}
-    {notes : ℕ → ℕ → K → K → Type 0} {ends : ℕ → Report → K → K → Type 0} {line : List ℕ}
+    {notes : ℕ → ℕ → K → K → Type 0} {ends : List LineReport → K → K → Type 0} {line : List ℕ}
     → ServedLine seen may_leave is_usable queues_of spool_of same stores notes ends line
     → OneRun D K
 run_of ran = record {
@@ -68,7 +68,7 @@ pub record IsServedOver {D K : Type 0} (seen : D → List ℕ)
     (may_leave : D → List ℕ → Type 0) (is_usable is_clean : D → Bool)
     (queues_of : K → List QueueValue) (spool_of : K → Spool D) (same : K → K → Type 0)
     (stores : List PageToStore → Bool → K → K → Type 0) (notes : ℕ → ℕ → K → K → Type 0)
-    (ends : ℕ → Report → K → K → Type 0) (line older newer : List ℕ)
+    (ends : List LineReport → K → K → Type 0) (line older newer : List ℕ)
     (ran : ServedLine seen may_leave is_usable queues_of spool_of same stores notes ends line) :
     Type 0 where
   pub one : List ℕ
@@ -83,7 +83,7 @@ pub record IsServedOver {D K : Type 0} (seen : D → List ℕ)
 abbrev pub ServersCross : {D K : Type 0}
     → (D → List ℕ) → (D → List ℕ → Type 0) → (D → Bool) → (D → Bool) → (K → List QueueValue)
     → (K → Spool D) → (K → K → Type 0) → (List PageToStore → Bool → K → K → Type 0)
-    → (ℕ → ℕ → K → K → Type 0) → (ℕ → Report → K → K → Type 0) → Type 0
+    → (ℕ → ℕ → K → K → Type 0) → (List LineReport → K → K → Type 0) → Type 0
 ServersCross {D} {K} seen may_leave is_usable is_clean queues_of spool_of same stores notes ends =
     (writes : Writing)
     (line : List ℕ) (lives : List Life) (puts : List CallPage) (older newer : List ℕ)
@@ -97,7 +97,7 @@ ServersCross {D} {K} seen may_leave is_usable is_clean queues_of spool_of same s
 abbrev pub KilledServersCross : {D K : Type 0}
     → (D → List ℕ) → (D → List ℕ → Type 0) → (D → Bool) → (D → Bool) → (K → List QueueValue)
     → (K → Spool D) → (K → K → Type 0) → (List PageToStore → Bool → K → K → Type 0)
-    → (ℕ → ℕ → K → K → Type 0) → (ℕ → Report → K → K → Type 0) → Type 0
+    → (ℕ → ℕ → K → K → Type 0) → (List LineReport → K → K → Type 0) → Type 0
 KilledServersCross {D} {K}
     seen may_leave is_usable is_clean queues_of spool_of same stores notes ends = (writes : Writing)
     (line : List ℕ) (lives : List Life) (puts : List CallPage) (older newer : List ℕ)
@@ -112,7 +112,7 @@ KilledServersCross {D} {K}
 abbrev pub ServersLead : {D K : Type 0}
     → (D → List ℕ) → (D → List ℕ → Type 0) → (D → Bool) → (D → Bool) → (K → List QueueValue)
     → (K → Spool D) → (K → K → Type 0) → (List PageToStore → Bool → K → K → Type 0)
-    → (ℕ → ℕ → K → K → Type 0) → (ℕ → Report → K → K → Type 0) → Type 0
+    → (ℕ → ℕ → K → K → Type 0) → (List LineReport → K → K → Type 0) → Type 0
 ServersLead {D} {K} seen may_leave is_usable is_clean queues_of spool_of same stores notes ends =
     (writes : Writing) (line : List ℕ) (before after : HeldFiles)
     (ran : ServedLine seen may_leave is_usable queues_of spool_of same stores notes ends line)
@@ -126,7 +126,7 @@ ServersLead {D} {K} seen may_leave is_usable is_clean queues_of spool_of same st
 abbrev pub ServersRunOn : {D K : Type 0}
     → (D → List ℕ) → (D → List ℕ → Type 0) → (D → Bool) → (D → Bool) → (K → List QueueValue)
     → (K → Spool D) → (K → K → Type 0) → (List PageToStore → Bool → K → K → Type 0)
-    → (ℕ → ℕ → K → K → Type 0) → (ℕ → Report → K → K → Type 0) → Type 0
+    → (ℕ → ℕ → K → K → Type 0) → (List LineReport → K → K → Type 0) → Type 0
 ServersRunOn {D} {K} seen may_leave is_usable is_clean queues_of spool_of same stores notes ends =
     (writes : Writing) (line : List ℕ) (steps : List Step) (last : HeldFiles)
     (ran : ServedLine seen may_leave is_usable queues_of spool_of same stores notes ends line)

@@ -3,12 +3,12 @@ use Rattle.std.specs.Prelude.{◌≡◌, ℕ, Bool, List, map, Some, slice_get}
 use Rattle.std.specs.String.{string_bytes}
 use Rattle.fax_config.specs.declared.config.LineConfig.{LineConfig}
 use Rattle.fax_config.specs.Configurations.{AreUnlike, names_of_lines}
-use Rattle.fax_jobs.specs.declared.report.Report.{Report}
 use Rattle.fax_call.specs.Writings.{IsWriting, Writing}
 use Rattle.fax_gateway.specs.Restored.{CallPage, call_shown}
 use Rattle.fax_gateway.specs.Setups.{AreSetWith, Setup}
 use Rattle.fax_gateway.specs.Lives.{Life}
 use Rattle.fax_line.specs.Places.{PlaceValue}
+use Rattle.fax_line.specs.declared.settling.LineReport.{LineReport}
 use Rattle.fax_line.specs.declared.settling.PageToStore.{PageToStore}
 use Rattle.fax_spool.specs.RecordOctets as spool
 use Rattle.fax_spool.specs.Opened.{closed}
@@ -17,7 +17,7 @@ use Rattle.fax_queue.specs.Restorations.{NoneIsTorn, Restores}
 use Rattle.fax_queue.specs.Queues.{QueueValue}
 use Rattle.fax_queue.specs.declared.restored.RestoredLine.{RestoredLine}
 use Rattle.fax_queue.specs.Histories.{HasPast, LeavesRun, WasOpened}
-use Rattle.fax_queue.specs.SpoolStorage.{EndsJobIf, IsUnchanged, NotesPage, PutsPages}
+use Rattle.fax_queue.specs.SpoolStorage.{EndsJobs, IsUnchanged, NotesPage, PutsPages}
 use Rattle.fax_runs.specs.StoredRuns.{ServedStored}
 
 -- a gateway with these settings, restored with the calls of its own pages
@@ -29,7 +29,7 @@ IsSetUp setup line pages place = (restored : RestoredLine) → Restores line (cl
 pub record IsOnDisk {D K : Type 0} (seen : D → List ℕ) (may_leave : D → List ℕ → Type 0)
     (is_usable : D → Bool) (queues_of : K → List QueueValue) (spool_of : K → Spool D)
     (same : K → K → Type 0) (stores : List PageToStore → Bool → K → K → Type 0)
-    (notes : ℕ → ℕ → K → K → Type 0) (ends : ℕ → Report → K → K → Type 0) : Type 0 where
+    (notes : ℕ → ℕ → K → K → Type 0) (ends : List LineReport → K → K → Type 0) : Type 0 where
   pub unchanged : (old new : K)
       → same old new → IsUnchanged (queues_of old) (queues_of new) (spool_of old) (spool_of new)
   pub put : (pages : List PageToStore) (is_stored : Bool) (old new : K)
@@ -38,8 +38,8 @@ pub record IsOnDisk {D K : Type 0} (seen : D → List ℕ) (may_leave : D → Li
       (queues_of new) (spool_of old) (spool_of new)
   pub noted : (line call : ℕ) (old new : K) → notes line call old new
       → NotesPage line call (queues_of old) (queues_of new) (spool_of old) (spool_of new)
-  pub ended : (line : ℕ) (report : Report) (old new : K)
-      → ends line report old new → EndsJobIf seen may_leave is_usable line report (queues_of old)
+  pub ended : (ended : List LineReport) (old new : K)
+      → ends ended old new → EndsJobs seen may_leave is_usable ended (queues_of old)
       (queues_of new) (spool_of old) (spool_of new)
 
 -- A SERVER'S RUN MAKES HISTORY: each of its lines, whose name no other has, none of whose calls lacks a page, and that has a past where
@@ -47,7 +47,7 @@ pub record IsOnDisk {D K : Type 0} (seen : D → List ℕ) (may_leave : D → Li
 abbrev pub ServersMakeHistory : {D K : Type 0}
     → (D → List ℕ) → (D → List ℕ → Type 0) → (D → Bool) → (K → List QueueValue)
     → (K → Spool D) → (K → K → Type 0) → (List PageToStore → Bool → K → K → Type 0)
-    → (ℕ → ℕ → K → K → Type 0) → (ℕ → Report → K → K → Type 0) → Type 0
+    → (ℕ → ℕ → K → K → Type 0) → (List LineReport → K → K → Type 0) → Type 0
 ServersMakeHistory {D} {K} seen may_leave is_usable queues_of spool_of same stores notes ends =
     (configs : List LineConfig)
     (served : ServedStored same stores notes ends spool_of queues_of configs) (number : ℕ)

@@ -1,10 +1,10 @@
 -- A whole run of a server whose pages are stored on a disk (this project's profile).
 use Rattle.std.specs.Prelude.{◌≡◌, ℕ, Bool, List}
 use Rattle.fax_config.specs.declared.config.LineConfig.{LineConfig}
-use Rattle.fax_jobs.specs.declared.report.Report.{Report}
 use Rattle.fax_line.specs.StoredRuns.{IsRun}
 use Rattle.fax_line.specs.Places.{PlaceValue}
 use Rattle.fax_line.specs.Runs.{AreServed, DoneOrder, none_waits}
+use Rattle.fax_line.specs.declared.settling.LineReport.{LineReport}
 use Rattle.fax_line.specs.declared.settling.PageToStore.{PageToStore}
 use Rattle.fax_line.specs.declared.settling.PutResult.{PutResult}
 use Rattle.fax_spool.specs.RecordOctets as spool
@@ -22,7 +22,7 @@ use Rattle.fax_opening.specs.Openings.{AreRestored}
 -- Ok (`IsSettled`). What lines were asked is what words ordered.
 pub record RunIsStored {K : Type 0} (same : K → K → Type 0)
     (puts : List PageToStore → Bool → K → K → Type 0) (notes : ℕ → ℕ → K → K → Type 0)
-    (ends : ℕ → Report → K → K → Type 0) (begun : List PlaceValue) (before : K) : Type 0 where
+    (ends : List LineReport → K → K → Type 0) (begun : List PlaceValue) (before : K) : Type 0 where
   pub left : List PlaceValue
   pub after : K
   pub done : List DoneOrder
@@ -35,7 +35,7 @@ pub record RunIsStored {K : Type 0} (same : K → K → Type 0)
 -- page, and its queue with just these; and so they went on.
 pub record ServedStored {D K : Type 0} (same : K → K → Type 0)
     (puts : List PageToStore → Bool → K → K → Type 0)
-    (notes : ℕ → ℕ → K → K → Type 0) (ends : ℕ → Report → K → K → Type 0) (spool_of : K → Spool D)
+    (notes : ℕ → ℕ → K → K → Type 0) (ends : List LineReport → K → K → Type 0) (spool_of : K → Spool D)
     (queues_of : K → List QueueValue) (configs : List LineConfig) : Type 0 where
   pub opened : OpenedSpool D
   pub begun : List PlaceValue
@@ -48,7 +48,7 @@ pub record ServedStored {D K : Type 0} (same : K → K → Type 0)
 -- the same, and this was its spool as it was opened
 pub record ServedWith {D K : Type 0} (same : K → K → Type 0)
     (puts : List PageToStore → Bool → K → K → Type 0) (notes : ℕ → ℕ → K → K → Type 0)
-    (ends : ℕ → Report → K → K → Type 0) (spool_of : K → Spool D) (queues_of : K → List QueueValue)
+    (ends : List LineReport → K → K → Type 0) (spool_of : K → Spool D) (queues_of : K → List QueueValue)
     (configs : List LineConfig) (opened : OpenedSpool D) : Type 0 where
   pub served : ServedStored same puts notes ends spool_of queues_of configs
   pub is : served.opened ≡ opened
@@ -58,7 +58,7 @@ pub record ServedWith {D K : Type 0} (same : K → K → Type 0)
 pub record ServedOver {D K : Type 0} (seen : D → List ℕ)
     (may_leave : D → List ℕ → Type 0) (is_usable is_clean : D → Bool) (same : K → K → Type 0)
     (puts : List PageToStore → Bool → K → K → Type 0) (notes : ℕ → ℕ → K → K → Type 0)
-    (ends : ℕ → Report → K → K → Type 0) (spool_of : K → Spool D) (queues_of : K → List QueueValue)
+    (ends : List LineReport → K → K → Type 0) (spool_of : K → Spool D) (queues_of : K → List QueueValue)
     (one other : List ℕ) (configs : List LineConfig) : Type 0 where
   pub served : ServedStored same puts notes ends spool_of queues_of configs
   pub over : AreClean is_clean (files_of served.opened.spool)

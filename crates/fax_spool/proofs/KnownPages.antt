@@ -3,9 +3,9 @@ use Rattle.std.proofs.Common.{◌≡◌, ◌∙◌, ◌+◌, ◌<◌, ◌≤◌,
 use Rattle.std.specs.List.{filter, list_all}
 use Rattle.std.proofs.lemmas.List.{append-nil, map-append, map_push, take_all, take_more}
 use Rattle.fax_spool.specs.RecordOctets.{PageValue, EndedValue}
-use Rattle.fax_spool.specs.Waits.{PageName, name_of, ends, without}
+use Rattle.fax_spool.specs.Waits.{PageName, name_of, ends, without, without_all}
 use Rattle.fax_spool.specs.SpoolRecords.{AreReadAs, IsReadAs, page_record}
-use Rattle.fax_spool.specs.StoredPages.{AreKnownAs, IsKnownAs, IsRecordOf, ended_alone, is_in_memory, memory_has, put_again}
+use Rattle.fax_spool.specs.StoredPages.{AreKnownAs, IsKnownAs, IsRecordOf, ended_alone, is_in_memory, known_without, memory_has, put_again}
 use Rattle.fax_spool.specs.declared.stored_page.StoredPage.{StoredPage}
 use Rattle.fax_spool.specs.declared.stored_page.RecordSource.{RecordSource}
 use Rattle.fax_spool.specs.declared.stored_page.RecordSource.TheVariants.{Memory, File}
@@ -31,6 +31,10 @@ kept_left items e (k ∷ ks) (p ∷ pages) are =
     let rest : AreKnownAs items left (without e pages) = kept_left items e ks pages are.1 in
     subst (λ (n : PageName). AreKnownAs items (cond (not (ends e n)) (k ∷ left) left) (without e (p ∷ pages))) (sym are.0.0)
     (elim (ends e (name_of p)) as (λ b. AreKnownAs items (cond (not b) (k ∷ left) left) (cond (not b) (p ∷ without e pages) (without e pages))) [ true ↦ rest | false ↦ (are.0, rest) ])
+
+pub kept_left_all : (items : List (List ℕ)) (es : List EndedValue) (ks : List StoredPage) (pages : List PageValue) → AreKnownAs items ks pages → AreKnownAs items (known_without es ks) (without_all es pages)
+kept_left_all items [] ks pages are = are
+kept_left_all items (e ∷ es) ks pages are = kept_left_all items es (filter (λ (k : StoredPage). not (ends e k.name)) ks) (without e pages) (kept_left items e ks pages are)
 
 pub no_pages : (items : List (List ℕ)) (pages : List PageValue) → AreKnownAs items [] pages → pages ≡ []
 no_pages items [] are = refl

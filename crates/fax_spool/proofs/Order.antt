@@ -2,8 +2,8 @@
 use Rattle.std.proofs.Common.{◌≡◌, ◌⊎◌, ◌<◌, ◌≤◌, inl, inr, ℕ, Bool, true, false, cond, List, [], ◌∷◌, ◌++◌, map, refl, sym, ◌∙◌, ap, subst, arith}
 use Rattle.std.proofs.lemmas.List.{append-nil}
 use Rattle.fax_spool.specs.Waits.{waiting}
-use Rattle.fax_spool.specs.RecordOctets.{PageValue}
-use Rattle.fax_spool.specs.SpoolRecords.{page_record}
+use Rattle.fax_spool.specs.RecordOctets.{EndedValue, PageValue}
+use Rattle.fax_spool.specs.SpoolRecords.{ended_record, page_record}
 use Rattle.fax_spool.specs.Spools.{AreAbove, AreInOrder, ComeAfter, IsOrderFound, epoch_of, epoch_records, epochs, greatest_epoch}
 use Rattle.fax_spool.specs.Opened.{comes_first, newer_of, older_of}
 use Rattle.fax_spool.specs.declared.spool_record.SpoolRecord.{SpoolRecord}
@@ -26,6 +26,10 @@ more_above n (Page page ∷ records) more first second = more_above n records mo
 more_above n (Ended ended ∷ records) more first second = more_above n records more first second
 more_above n (Epoch number ∷ records) more first second = (first.0, more_above n records more first.1 second)
 more_above n (Damaged ∷ records) more first second = more_above n records more first second
+
+pub above_ends : (n : ℕ) (ended : List EndedValue) → AreAbove n (map ended_record ended)
+above_ends n [] = tt
+above_ends n (e ∷ ended) = above_ends n ended
 
 pub above_pages : (n : ℕ) (pages : List PageValue) → AreAbove n (map page_record pages)
 above_pages n [] = tt

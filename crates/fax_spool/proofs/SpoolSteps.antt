@@ -3,9 +3,9 @@ use Rattle.std.proofs.Common.{◌≡◌, ◌⊎◌, inl, inr, ℕ, ◌≤◌, Bo
 use Rattle.std.proofs.lemmas.List.{append-nil}
 use Rattle.fax_spool.specs.Records.{Stands}
 use Rattle.fax_spool.specs.Settled.{IsSettled}
-use Rattle.fax_spool.specs.RecordOctets.{PageValue}
-use Rattle.fax_spool.specs.SpoolRecords.{IsReadAs, AreReadAs, page_record}
-use Rattle.fax_spool.specs.Waits.{left_of, after, left_after, waiting_after, waiting}
+use Rattle.fax_spool.specs.RecordOctets.{EndedValue, PageValue}
+use Rattle.fax_spool.specs.SpoolRecords.{IsReadAs, AreReadAs, ended_record, page_record}
+use Rattle.fax_spool.specs.Waits.{left_of, after, left_after, waiting_after, waiting, without, without_all}
 use Rattle.fax_spool.specs.StoredPages.{AreKnownAs, is_in_memory, put_again}
 use Rattle.fax_spool.specs.Spools.{epoch_of, epoch_records, greatest_after, greatest_epoch, raised, Tells, MayLeaveBoth, Stores, NoneIsLeft, TellBoth}
 use Rattle.fax_spool.specs.declared.file.RecordFile.{RecordFile}
@@ -43,6 +43,33 @@ greatest_push (q ∷ records) r most = greatest_push records r (raised most q)
 greatest_epochs : (records : List SpoolRecord) (number most : ℕ) → greatest_after most (records ++ epoch_records number) ≡ max (max (greatest_after most records) number) number
 greatest_epochs [] number most = refl
 greatest_epochs (r ∷ records) number most = greatest_epochs records number (raised most r)
+
+-- more records, one after the other
+left_records : (waits : List PageValue) (records more : List SpoolRecord) → left_after waits (records ++ more) ≡ left_after (left_after waits records) more
+left_records waits [] more = refl
+left_records waits (r ∷ records) more = left_records (left_of waits r) records more
+
+waiting_records : (waits : List PageValue) (records more : List SpoolRecord) → waiting_after waits (records ++ more) ≡ waiting_after (waiting_after waits records) more
+waiting_records waits [] more = refl
+waiting_records waits (r ∷ records) more = waiting_records (after waits r) records more
+
+-- those of ends of jobs
+left_ends : (waits : List PageValue) (es : List EndedValue) → left_after waits (map ended_record es) ≡ without_all es waits
+left_ends waits [] = refl
+left_ends waits (e ∷ es) = left_ends (without e waits) es
+
+waiting_ends : (waits : List PageValue) (es : List EndedValue) → waiting_after waits (map ended_record es) ≡ without_all es waits
+waiting_ends waits [] = refl
+waiting_ends waits (e ∷ es) = waiting_ends (without e waits) es
+
+greatest_ends : (records : List SpoolRecord) (es : List EndedValue) (most : ℕ) → greatest_after most (records ++ map ended_record es) ≡ greatest_after most records
+greatest_ends [] [] most = refl
+greatest_ends [] (e ∷ es) most = greatest_ends [] es most
+greatest_ends (r ∷ records) es most = greatest_ends records es (raised most r)
+
+pub more_ends : (es : List EndedValue) (olds news : List SpoolRecord) → waiting (olds ++ (news ++ map ended_record es)) ≡ without_all es (waiting (olds ++ news))
+more_ends es olds news =
+    ap (λ (l : List SpoolRecord). waiting l) (sym (append_assoc olds news (map ended_record es))) ∙ waiting_records [] (olds ++ news) (map ended_record es) ∙ waiting_ends (waiting (olds ++ news)) es
 
 -- the records of an epoch end no page, and no page waits by them
 left_epochs : (pages : List PageValue) (records : List SpoolRecord) (number : ℕ) → left_after pages (records ++ epoch_records number) ≡ left_after pages records
@@ -180,6 +207,33 @@ module _ {D : Type 0} (seen : D → List ℕ) (may_leave : D → List ℕ → Ty
       elim (crash k.newer_items k.newer newer left.1) [
         | inl stands ↦ inl (first, record { items = k.newer_items; stands = stands; read = k.newer_read })
         | inr stands ↦ inr (first, record { items = k.newer_items ++ items; stands = stands; read = read_append k.newer_items items news (map page_record pages) k.newer_read are })
+      ]
+
+  -- the records of ends of jobs
+  pub keeps_ends : (items : List (List ℕ)) (es : List EndedValue) → AreReadAs items (map ended_record es) → new.older ≡ old.older
+      → IsSettled seen may_leave is_usable new.newer.disk new.newer.end (k.newer_items ++ items)
+      → AreKnownAs k.older_items new.older_pages.items (without_all es (left_after (waiting olds) news)) → AreKnownAs (k.newer_items ++ items) new.newer_pages.items (without_all es (waiting news))
+      → new.epoch ≡ old.epoch → Stores seen may_leave is_usable new olds (news ++ map ended_record es)
+  keeps_ends items es are same settled older newer epoch = record {
+    older_items = k.older_items;
+    newer_items = k.newer_items ++ items;
+    older = subst (λ (f : RecordFile D). IsSettled seen may_leave is_usable f.disk f.end k.older_items) (sym same) k.older;
+    newer = settled;
+    older_read = k.older_read;
+    newer_read = read_append k.newer_items items news (map ended_record es) k.newer_read are;
+    older_waits = same_kept _ _ _ _ _ refl (left_records (waiting olds) news (map ended_record es) ∙ left_ends (left_after (waiting olds) news) es) older;
+    newer_waits = same_kept _ _ _ _ _ refl (waiting_records [] news (map ended_record es) ∙ waiting_ends (waiting news) es) newer;
+    epoch = omega (arith, greatest_ends news es 0, k.epoch, epoch);
+  }
+
+  pub leaves_ends : (items : List (List ℕ)) (es : List EndedValue) → AreReadAs items (map ended_record es) → new.older ≡ old.older
+      → ((rs : List (List ℕ)) → IsSettled seen may_leave is_usable old.newer.disk old.newer.end rs → (c : List ℕ) → may_leave new.newer.disk c → Stands c rs ⊎ Stands c (rs ++ items))
+      → (older newer : List ℕ) → MayLeaveBoth may_leave new older newer → TellBoth older newer olds news ⊎ TellBoth older newer olds (news ++ map ended_record es)
+  leaves_ends items es are same crash older newer left =
+      let first : Tells older olds = older_tells older (subst (λ (f : RecordFile D). may_leave f.disk older) same left.0) in
+      elim (crash k.newer_items k.newer newer left.1) [
+        | inl stands ↦ inl (first, record { items = k.newer_items; stands = stands; read = k.newer_read })
+        | inr stands ↦ inr (first, record { items = k.newer_items ++ items; stands = stands; read = read_append k.newer_items items news (map ended_record es) k.newer_read are })
       ]
 
   -- all pages that wait, put again

@@ -2,7 +2,7 @@
 -- have the newest first. (This project's profile.)
 use Rattle.std.specs.Prelude.{◌≡◌, ◌⊎◌, ℕ, Bool, true, false, List, [], ◌∷◌, ◌++◌, if◌then◌else◌}
 use Rattle.fax_spool.specs.RecordOctets.{PageValue, EndedValue}
-use Rattle.fax_spool.specs.Waits.{waiting, without}
+use Rattle.fax_spool.specs.Waits.{waiting, without_all}
 use Rattle.fax_spool.specs.Spools.{AreInOrder, IsOrderFound, MayLeaveBoth, Stores, TellBoth, Tells, epoch_now, files_of}
 use Rattle.fax_spool.specs.declared.spool_record.SpoolRecord.{SpoolRecord}
 use Rattle.fax_spool.specs.declared.spool.Spool.{Spool}
@@ -55,15 +55,15 @@ NewSpoolsTellNone = (older newer : List ℕ)
 pub data Call : Type 0 where
   -- pages are put
   Puts : (pages : List PageValue) → Call
-  -- the record of the end of a job is put
-  Ends : (ended : EndedValue) → Call
+  -- the records of the ends of jobs are put, all of them at once
+  Ends : (ended : List EndedValue) → Call
   -- the older file is cleared, or taken into use, or what waits is put again
   Turns : Call
 
 -- which pages wait after a call, where these waited before it
 abbrev pub done_by : Call → List PageValue → List PageValue
 done_by (Puts pages) waits = waits ++ pages
-done_by (Ends ended) waits = without ended waits
+done_by (Ends ended) waits = without_all ended waits
 done_by Turns waits = waits
 
 -- the call is done or not

@@ -34,6 +34,10 @@ AreReadAs (octets ∷ items) (record_of ∷ records) =
     IsReadAs octets record_of × AreReadAs items records
 AreReadAs items records = ⊥
 
--- a page's record, as one of the three kinds
+-- the record of a job's end, as one of the three kinds
+abbrev pub ended_record : EndedValue → SpoolRecord
+ended_record ended = Ended ended
+
+-- a page's record, as one of them
 abbrev pub page_record : PageValue → SpoolRecord
 page_record page = Page page

@@ -1,11 +1,12 @@
 -- The pages that wait, as a spool knows them in memory, and their records, put again. (This project's profile.)
-use Rattle.std.specs.Prelude.{◌≡◌, ℕ, Bool, true, false, List, [], ◌∷◌, ◌++◌, map}
+use Rattle.std.specs.Prelude.{◌≡◌, ℕ, Bool, true, false, not, List, [], ◌∷◌, ◌++◌, map}
+use Rattle.std.specs.List.{filter}
 use Rattle.fax_runcodes.specs.declared.Width.TheVariants.{W1728}
 use Rattle.fax_jobs.specs.declared.outcome.Outcome.TheVariants.{NotPlaced}
 use Rattle.fax_spool.specs.RecordOctets.{PageValue, EndedValue}
 use Rattle.fax_spool.specs.SpoolRecords.{IsReadAs, page_record}
 use Rattle.fax_spool.specs.Places.{StandsAt}
-use Rattle.fax_spool.specs.Waits.{PageName, name_of}
+use Rattle.fax_spool.specs.Waits.{PageName, ends, name_of}
 use Rattle.fax_spool.specs.declared.stored_page.StoredPage.{StoredPage}
 use Rattle.fax_spool.specs.declared.stored_page.RecordSource.{RecordSource}
 use Rattle.fax_spool.specs.declared.stored_page.RecordSource.TheVariants.{Memory, File}
@@ -35,6 +36,12 @@ memory_has (File place) = false
 -- the octets of its record are in memory
 abbrev pub is_in_memory : StoredPage → Bool
 is_in_memory kept = memory_has kept.source
+
+-- of the pages that are known, those that none of these jobs had
+abbrev pub known_without : List EndedValue → List StoredPage → List StoredPage
+known_without [] known = known
+known_without (ended ∷ others) known =
+    known_without others (filter (λ page. not (ends ended page.name)) known)
 
 -- ---- put again
 

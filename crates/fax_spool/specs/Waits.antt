@@ -25,7 +25,12 @@ ends ended page =
 abbrev pub without : EndedValue → List PageValue → List PageValue
 without ended pages = filter (λ page. not (ends ended (name_of page))) pages
 
--- and those that it had
+-- those that none of these jobs had
+abbrev pub without_all : List EndedValue → List PageValue → List PageValue
+without_all [] pages = pages
+without_all (ended ∷ others) pages = without_all others (without ended pages)
+
+-- of these pages, those that the job that ended had
 abbrev pub ended_by : EndedValue → List PageValue → List PageValue
 ended_by ended pages = filter (λ page. ends ended (name_of page)) pages
 

@@ -6,8 +6,8 @@ ghost use Rattle.std.specs.Result.{is_ok};
 ghost use Rattle.fax_spool.specs.Calls.{Accepts, Does, IsRead, Puts, Ends, Refuses, Turns, refuses_now};
 ghost use Rattle.fax_spool.specs.Records.{Stands};
 ghost use Rattle.fax_spool.specs.Settled.{IsSettled};
-ghost use Rattle.fax_spool.specs.SpoolRecords.{AreReadAs, page_record};
-ghost use Rattle.fax_spool.specs.StoredPages.{is_in_memory, put_again};
+ghost use Rattle.fax_spool.specs.SpoolRecords.{AreReadAs, ended_record, page_record};
+ghost use Rattle.fax_spool.specs.StoredPages.{is_in_memory, known_without, put_again};
 ghost use Rattle.fax_spool.specs.Waits.{ended_by, ends, waiting};
 ghost use Rattle.fax_spool.specs.Spools.{AreClean, Stores, NoneIsLeft, MayLeaveBoth, TellBoth, epoch_now, epoch_records, files_of, greatest_epoch};
 ghost use Rattle.fax_spool.specs.declared.spool_record.SpoolRecord.{SpoolRecord as SpoolRecordShown};
@@ -18,8 +18,8 @@ use crate::reading::push_ended;
 use crate::record_place::RecordPlace;
 use crate::spool_record::{seal_ended, seal_epochs, seal_page};
 use crate::stored_page::{
-    Room, StoredPage, are_in_memory, keep_placed_pages, records_again, room_left, seal_pages,
-    source_of, taken_by,
+    Room, StoredPage, are_in_memory, keep_placed_pages, records_again, room_left, seal_ends,
+    seal_pages, source_of, taken_by,
 };
 use crate::waiting::newest_epoch;
 use crate::{EndedRecord, PageRecord, RecordFile, SpoolRecord, WaitingPage};
@@ -220,7 +220,7 @@ impl<D: Disk> Spool<D> {
             → Stores D.seen D.may_leave D.is_usable self.old olds news → (older newer : List ℕ)
             → MayLeaveBoth D.may_leave self.new older newer → TellBoth older newer olds news
             ⊎ TellBoth older newer olds (news ++ SpoolRecord.Ended ended.now ∷ []) }
-        ensures does { Does D.seen D.may_leave D.is_usable (Ends ended.now)
+        ensures does { Does D.seen D.may_leave D.is_usable (Ends (ended.now ∷ []))
             (is_ok result) self.old self.new }
     {
         if self.refuses {
@@ -230,6 +230,37 @@ impl<D: Disk> Spool<D> {
         append(&mut self.newer, &mut self.refuses, alloc, octets.as_slice())?;
         forget_ended(&mut self.older_pages, ended);
         forget_ended(&mut self.newer_pages, ended);
+        self.room = room_left(
+            MOST_KEPT,
+            self.older_pages.as_slice(),
+            self.newer_pages.as_slice(),
+        );
+        Ok(())
+    }
+
+    /// Jobs ended, as of several lines in one turn. At `Ok` the record of the end of each is on the disk, in this order, and their pages
+    /// wait no more. It costs two syncs, however many there are. A line of more than 255 octets is `InvalidInput`, and nothing is put
+    /// then.
+    pub fn end_all(&mut self, alloc: Global, ended: &[EndedRecord<'_>]) -> io::Result<()>
+        ensures acknowledged { OnOk result ((olds news : List SpoolRecordShown)
+            → Stores D.seen D.may_leave D.is_usable self.old olds news
+            → Stores D.seen D.may_leave D.is_usable self.new olds (news
+            ++ map ended_record ended.now)) }
+        // Whenever the machine stops, the files tell the records from before, with all of the new ones or with none.
+        ensures crash { (olds news : List SpoolRecordShown)
+            → Stores D.seen D.may_leave D.is_usable self.old olds news → (older newer : List ℕ)
+            → MayLeaveBoth D.may_leave self.new older newer → TellBoth older newer olds news
+            ⊎ TellBoth older newer olds (news ++ map ended_record ended.now) }
+        ensures does { Does D.seen D.may_leave D.is_usable (Ends ended.now)
+            (is_ok result) self.old self.new }
+    {
+        if self.refuses {
+            return Err(io::ErrorKind::Other.into());
+        }
+        let items = seal_ends(alloc, ended)?;
+        append_all(&mut self.newer, &mut self.refuses, alloc, items.as_slice())?;
+        forget_all_ended(&mut self.older_pages, ended);
+        forget_all_ended(&mut self.newer_pages, ended);
         self.room = room_left(
             MOST_KEPT,
             self.older_pages.as_slice(),
@@ -432,4 +463,13 @@ fn forget_ended(pages: &mut Vec<StoredPage>, ended: &EndedRecord<'_>)
     ensures { pages.new.items ≡ filter (λ page. not (ends ended.now page.name)) pages.old.items }
 {
     pages.retain(|page| !page.name.is_ended_by(ended));
+}
+
+/// Forgets the pages of jobs that ended.
+fn forget_all_ended(pages: &mut Vec<StoredPage>, ended: &[EndedRecord<'_>])
+    ensures { pages.new.items ≡ known_without ended.now pages.old.items }
+{
+    for job in ended {
+        forget_ended(pages, job);
+    }
 }

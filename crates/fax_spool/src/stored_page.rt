@@ -4,7 +4,7 @@ ghost use Rattle.std.specs.List.{list_all};
 ghost use Rattle.fax_spool.specs.RecordOctets.{PageValue};
 ghost use Rattle.fax_spool.specs.StoredPages.{AreKnownAs, IsRecordOf, end_alone, ended_alone, is_in_memory, put_again};
 ghost use Rattle.fax_spool.specs.Places.{AreReadAt, StandsAt, octets_of};
-ghost use Rattle.fax_spool.specs.SpoolRecords.{AreReadAs, IsReadAs, page_record};
+ghost use Rattle.fax_spool.specs.SpoolRecords.{AreReadAs, IsReadAs, ended_record, page_record};
 ghost use Rattle.fax_spool.specs.declared.spool_record.SpoolRecord.{SpoolRecord as SpoolRecordShown};
 
 use crate::page_name::PageName;
@@ -140,6 +140,22 @@ pub(crate) fn seal_pages(
         at = place.at + place.octets;
     }
     Ok(SealedPages { items, kept })
+}
+
+/// The records of the ends of jobs, sealed. It refuses the name of a line of more than 255 octets.
+pub(crate) fn seal_ends(alloc: Global, ended: &[EndedRecord<'_>]) -> io::Result<Vec<Vec<u8>>>
+    ensures { IfOk result
+        (λ items. AreReadAs (map (λ v. v.items) items.items) (map ended_record ended.now)) }
+{
+    let mut items = Vec::with_capacity(alloc, ended.len())?;
+    for job in ended {
+        if job.line.len() > MOST_NAME {
+            return Err(io::ErrorKind::InvalidInput.into());
+        }
+        let item = seal_ended(alloc, job)?;
+        items.push(item)?;
+    }
+    Ok(items)
 }
 
 /// Pages whose records were read, as they are known: their octets in memory, as long as there is room for them.

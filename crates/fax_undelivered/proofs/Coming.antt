@@ -29,7 +29,7 @@ module _ {D : Type 0} (seen : D → List ℕ) (may_leave : D → List ℕ → Ty
   keeps_too old new waits spool calls keeps = record { wait = subst (λ (s : Spool D). PagesWait seen may_leave is_usable s waits) (sym spool) keeps.wait; listed = calls ∙ keeps.listed }
 
   -- a call was discarded
-  pub leaves : (old new : Undelivered D) (between : Spool D) (name : CallName) (waits : List PageValue) → Does seen may_leave is_usable (Ends (end_of name)) true old.spool between
+  pub leaves : (old new : Undelivered D) (between : Spool D) (name : CallName) (waits : List PageValue) → Does seen may_leave is_usable (Ends (end_of name ∷ [])) true old.spool between
       → ((told : List PageValue) → PagesWait seen may_leave is_usable between told → WaitSo seen may_leave is_usable new.spool (λ l. l ≡ told)) → new.calls.items ≡ but name old.calls.items
       → Keeps seen may_leave is_usable old waits → KeepsStill seen may_leave is_usable new (without (end_of name) waits)
   leaves old new between name waits does told calls keeps = record {

@@ -7,3 +7,4 @@ mod Closing
 mod Coming
 mod Ending
 mod NotDropped
+pub mod Alone

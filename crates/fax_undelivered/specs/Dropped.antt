@@ -3,6 +3,7 @@
 use Rattle.std.specs.Prelude.{◌≡◌, ◌⊎◌, ◌<◌, ◌≤◌, ℕ, Bool, true, false, List, [], ◌∷◌, ◌++◌, Option, Some, slice_get, if◌then◌else◌}
 use Rattle.fax_jobs.specs.declared.outcome.Outcome.TheVariants.{Delivered}
 use Rattle.fax_jobs.specs.declared.report.Report.{Report}
+use Rattle.fax_line.specs.declared.settling.LineReport.{LineReport}
 use Rattle.fax_spool.specs.RecordOctets.{EndedValue, PageValue}
 use Rattle.fax_spool.specs.Spools.{AreClean, files_of}
 use Rattle.fax_spool.specs.Torn.{CallName, call_of}
@@ -10,6 +11,7 @@ use Rattle.fax_spool.specs.Waits.{ends, name_of, without}
 use Rattle.fax_spool.specs.declared.spool.Spool.{Spool}
 use Rattle.fax_queue.specs.Jobs.{PagesWait, WaitSo}
 use Rattle.fax_queue.specs.Queues.{IsEndOf, NamesLeft, QueueValue}
+use Rattle.fax_queue.specs.Together.{EndsTogether}
 use Rattle.fax_queue.specs.declared.queue.EndedJob.{EndedJob}
 use Rattle.fax_undelivered.specs.Cards.{CardValue}
 use Rattle.fax_undelivered.specs.Calls.{end_of, is_among}
@@ -177,3 +179,18 @@ FailedPutsLeaveJobs {D} {U} seen may_leave is_usable is_clean seen_too may_leave
     is_clean seen_too may_leave_too is_usable_too line report card olds news before after old new)
     → e.may ≡ false → PagesWait seen may_leave is_usable before waits
     → PagesWait seen may_leave is_usable after waits
+
+-- many ends at once, of jobs that were delivered, one after the other: of none of them a page was not
+abbrev pub delivered_ends : List EndedValue → List Event → List Event
+delivered_ends [] events = events
+delivered_ends (ended ∷ others) events =
+    delivered_ends others (Ends ended (record ended { pages = 0 }) ∷ events)
+
+-- THE ENDS OF JOBS THAT ARE NOTED AT ONCE are such events too, one after the other: jobs of which each was delivered.
+abbrev pub EndsAtOnceAreEvents : {D : Type 0} → (D → List ℕ) → (D → List ℕ → Type 0) → (D → Bool) → Type 0
+EndsAtOnceAreEvents {D} seen may_leave is_usable = (jobs : List LineReport)
+    (olds news : List QueueValue) (before after : Spool D) (waits kept : List PageValue)
+    (e : EndsTogether seen may_leave is_usable jobs olds news before after)
+    → e.is_ok ≡ true → PagesWait seen may_leave is_usable before waits
+    → WaitSo seen may_leave is_usable after (λ told. Befell (record { first = waits; second = kept })
+    (delivered_ends e.kept []) (record { first = told; second = kept }))

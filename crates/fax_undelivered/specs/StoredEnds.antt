@@ -1,14 +1,17 @@
 -- No job that failed ends before its pages are kept elsewhere. (This project's profile.)
 use Rattle.std.specs.Prelude.{◌≡◌, ◌⊎◌, ℕ, Bool, true, false, List, [], ◌∷◌, ◌++◌, Option, Some, None, length, min, take, slice_get, nat_eq, if◌then◌else◌}
+use Rattle.std.specs.List.{list_all}
 use Rattle.fax_jobs.specs.declared.outcome.Outcome.{Outcome}
 use Rattle.fax_jobs.specs.declared.outcome.Outcome.TheVariants.{Delivered}
 use Rattle.fax_jobs.specs.declared.report.Report.{Report}
+use Rattle.fax_line.specs.declared.settling.LineReport.{LineReport}
 use Rattle.fax_spool.specs.RecordOctets.{PageValue}
 use Rattle.fax_spool.specs.Calls.{Does, IsRead, Puts}
 use Rattle.fax_spool.specs.declared.spool.Spool.{Spool}
 use Rattle.fax_queue.specs.Jobs.{ReadsLeft}
 use Rattle.fax_queue.specs.Queues.{QueueValue}
 use Rattle.fax_queue.specs.SpoolStorage.{EndsJobIf}
+use Rattle.fax_queue.specs.Together.{EndsTogether}
 use Rattle.fax_undelivered.specs.Cards.{CardValue}
 use Rattle.fax_undelivered.specs.Calls.{with_its_card}
 use Rattle.fax_undelivered.specs.Keeps.{Keeps}
@@ -103,3 +106,39 @@ pub record EndsStored {D U : Type 0} (seen : D → List ℕ) (may_leave : D → 
   pub may : Bool
   pub first : MayEnd seen may_leave is_usable is_clean seen_too may_leave_too is_usable_too line report card olds before read may old new
   pub owed : may ≡ false → (ends.noted ≡ false) × (after ≡ read)
+
+-- ---- the jobs of many lines
+
+abbrev pub is_delivered : Outcome → Bool
+is_delivered Delivered = true
+is_delivered other = false
+
+-- whether each of these was
+abbrev pub are_delivered : List LineReport → Bool
+are_delivered jobs = list_all (λ one. is_delivered one.report.outcome) jobs
+
+-- Jobs ended so, one after the other, of which these are the cards.
+abbrev pub EndStoredAlone : {D U : Type 0} → (D → List ℕ) → (D → List ℕ → Type 0)
+    → (is_usable is_clean : D → Bool) → (U → List ℕ) → (U → List ℕ → Type 0) → (U → Bool)
+    → (ℕ → Report → CardValue) → List LineReport → List QueueValue → List QueueValue
+    → Spool D → Spool D → Option (Undelivered U) → Option (Undelivered U) → Type 0
+EndStoredAlone seen may_leave is_usable is_clean seen_too may_leave_too is_usable_too
+    card_of [] olds news before after old new = (news ≡ olds) × (after ≡ before) × (new ≡ old)
+EndStoredAlone {D} {U} seen may_leave is_usable is_clean seen_too may_leave_too is_usable_too
+    card_of (one ∷ others) olds news before after old new = (mids : List QueueValue)
+    × (between : Spool D) × (mid : Option (Undelivered U))
+    × EndsStored seen may_leave is_usable is_clean seen_too may_leave_too is_usable_too one.line
+    one.report (card_of one.line one.report) olds mids before between old mid
+    × EndStoredAlone seen may_leave is_usable is_clean seen_too may_leave_too is_usable_too
+    card_of others mids news between after mid new
+
+-- JOBS OF LINES ENDED: all of them at once, where each was delivered, which leaves the second pair alone; or one after the other.
+abbrev pub EndsAllStored : {D U : Type 0} → (D → List ℕ) → (D → List ℕ → Type 0)
+    → (is_usable is_clean : D → Bool) → (U → List ℕ) → (U → List ℕ → Type 0) → (U → Bool)
+    → (ℕ → Report → CardValue) → List LineReport → List QueueValue → List QueueValue
+    → Spool D → Spool D → Option (Undelivered U) → Option (Undelivered U) → Type 0
+EndsAllStored seen may_leave is_usable is_clean seen_too may_leave_too is_usable_too
+    card_of jobs olds news before after old new = ((are_delivered jobs ≡ true) × (new ≡ old)
+    × EndsTogether seen may_leave is_usable jobs olds news before after)
+    ⊎ EndStoredAlone seen may_leave is_usable is_clean seen_too may_leave_too is_usable_too
+    card_of jobs olds news before after old new

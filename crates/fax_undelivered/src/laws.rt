@@ -1,7 +1,7 @@
 //! Laws of what could not be delivered: functions that do nothing, each of whose contracts is a theorem.
 ghost use Rattle.fax_undelivered.specs.Calls.{PagesAreListed};
 ghost use Rattle.fax_undelivered.specs.Cards.{CardsAreReadBack};
-ghost use Rattle.fax_undelivered.specs.Dropped.{FailedPutsLeaveJobs, StoredEndsAreEvents, NothingIsDropped};
+ghost use Rattle.fax_undelivered.specs.Dropped.{EndsAtOnceAreEvents, FailedPutsLeaveJobs, StoredEndsAreEvents, NothingIsDropped};
 
 use sqlite_disk::Disk;
 
@@ -32,4 +32,9 @@ pub fn stored_ends_are_events<D: Disk, U: Disk>()
 pub fn failed_puts_leave_jobs<D: Disk, U: Disk>()
     ensures { FailedPutsLeaveJobs
         D.seen D.may_leave D.is_usable D.is_clean U.seen U.may_leave U.is_usable }
+{}
+
+/// So are the ends of jobs that are noted at once, of which each was delivered: one event after the other.
+pub fn ends_at_once_are_events<D: Disk>()
+    ensures { EndsAtOnceAreEvents D.seen D.may_leave D.is_usable }
 {}

@@ -3,12 +3,12 @@ ghost use Rattle.std.specs.Prelude.{◌≡◌, ◌⊎◌, [], true, false, IfOk}
 ghost use Rattle.fax_spool.specs.Calls.{IsRead, Refuses};
 ghost use Rattle.fax_queue.specs.SpoolStorage.{IsUnchanged};
 ghost use Rattle.fax_queue.specs.Tags.{NotesTag};
-ghost use Rattle.fax_undelivered.specs.StoredEnds.{EndsWhere, KeepsLeft, MayEnd, MayEndWith, NotesCause, PutsIf, card_for, cause_of};
+ghost use Rattle.fax_undelivered.specs.StoredEnds.{EndStoredAlone, EndsStored, EndsWhere, KeepsLeft, MayEnd, MayEndWith, NotesCause, PutsIf, are_delivered, card_for, cause_of, is_delivered};
 
 use crate::card::Card;
 use crate::undelivered::Undelivered;
 use fax_jobs::{Outcome, Report};
-use fax_line::{PageToStore, RunStore};
+use fax_line::{LineReport, PageToStore, RunStore};
 use fax_queue::{OnDisk, Storage};
 use fax_spool::WaitingPage;
 use fax_wires::holding::{PageStore, StoreFault};
@@ -40,6 +40,14 @@ impl Model for LineCause {
     ghost Value = { CauseValue };
 
     ghost view = { λ c. record { line = c.line; cause = c.cause.items } };
+}
+
+/// Why jobs of lines end.
+#[derive(Clone, Copy)]
+struct Causes<'a> {
+    of_lines: &'a [LineCause],
+    /// In seconds since 1970.
+    day: u64,
 }
 
 /// How a job ended.
@@ -287,7 +295,7 @@ impl<D: Disk, U: Disk> PageStore<PageToStore> for PairedStore<D, U> {
 
 impl<D: Disk, U: Disk> RunStore for PairedStore<D, U> {
     ghost use Rattle.fax_queue.specs.SpoolStorage.{IsUnchanged, NotesPage};
-    ghost use Rattle.fax_undelivered.specs.StoredEnds.{EndsStored, card_for, cause_of};
+    ghost use Rattle.fax_undelivered.specs.StoredEnds.{EndsAllStored, card_for, cause_of};
 
     ghost is_same = { λ old new. IsUnchanged old.storage.queues.items
         new.storage.queues.items old.storage.spool new.storage.spool };
@@ -295,9 +303,9 @@ impl<D: Disk, U: Disk> RunStore for PairedStore<D, U> {
     ghost notes = { λ line call old new. NotesPage line call
         old.storage.queues.items new.storage.queues.items old.storage.spool new.storage.spool };
 
-    ghost ends = { λ line report old new.
-        EndsStored D.seen D.may_leave D.is_usable D.is_clean U.seen U.may_leave U.is_usable line
-        report (card_for report (cause_of old.causes.items line) old.day)
+    ghost ends = { λ ended old new.
+        EndsAllStored D.seen D.may_leave D.is_usable D.is_clean U.seen U.may_leave U.is_usable
+        (λ line report. card_for report (cause_of old.causes.items line) old.day) ended
         old.storage.queues.items new.storage.queues.items
         old.storage.spool new.storage.spool old.undelivered new.undelivered };
 
@@ -305,22 +313,83 @@ impl<D: Disk, U: Disk> RunStore for PairedStore<D, U> {
         self.storage.note(line, call);
     }
 
-    /// Where its pages cannot be kept, or its end cannot be noted, the job is restored at the next start, and sent again.
-    fn end_job(&mut self, line: usize, report: Report) {
-        let ending = Ending {
-            report,
-            cause: cause_of(self.causes.as_slice(), line),
+    /// Where the pages of one cannot be kept, or its end cannot be noted, the job is restored at the next start, and sent again.
+    fn end_jobs(&mut self, ended: &[LineReport]) {
+        if are_delivered(ended) {
+            let _ = self.storage.end_all(ended);
+            return;
+        }
+        let causes = Causes {
+            of_lines: self.causes.as_slice(),
             day: self.day,
         };
-        let may = may_end(
+        end_each(
             self.alloc,
             &mut self.storage,
             &mut self.undelivered,
-            line,
-            &ending,
+            &causes,
+            ended,
         );
-        end_where(&mut self.storage, line, report, may);
     }
+}
+
+/// Whether each of these jobs was delivered.
+fn are_delivered(ended: &[LineReport]) -> bool
+    ensures { result ≡ are_delivered ended.now }
+{
+    ended.iter().all(|one| is_delivered(one.report.outcome))
+}
+
+/// Whether this is the outcome of a job that was delivered.
+fn is_delivered(outcome: Outcome) -> bool
+    ensures { result ≡ is_delivered outcome }
+{
+    match outcome {
+        Outcome::Delivered => true,
+        _ => false,
+    }
+}
+
+/// Jobs of lines ended, one after the other.
+fn end_each<D: Disk, U: Disk>(
+    alloc: Global,
+    storage: &mut Storage<D>,
+    undelivered: &mut Option<Undelivered<U>>,
+    causes: &Causes<'_>,
+    ended: &[LineReport],
+)
+    ensures { EndStoredAlone
+        D.seen D.may_leave D.is_usable D.is_clean U.seen U.may_leave U.is_usable
+        (λ line report. card_for report (cause_of causes.now.of_lines.now line) causes.now.day)
+        ended.now storage.old.queues.items storage.new.queues.items
+        storage.old.spool storage.new.spool undelivered.old undelivered.new }
+{
+    for one in ended {
+        end_one(alloc, storage, undelivered, causes, *one);
+    }
+}
+
+/// A job of a line ended.
+fn end_one<D: Disk, U: Disk>(
+    alloc: Global,
+    storage: &mut Storage<D>,
+    undelivered: &mut Option<Undelivered<U>>,
+    causes: &Causes<'_>,
+    one: LineReport,
+)
+    ensures { EndsStored D.seen D.may_leave D.is_usable D.is_clean U.seen U.may_leave U.is_usable
+        one.line one.report
+        (card_for one.report (cause_of causes.now.of_lines.now one.line) causes.now.day)
+        storage.old.queues.items storage.new.queues.items
+        storage.old.spool storage.new.spool undelivered.old undelivered.new }
+{
+    let ending = Ending {
+        report: one.report,
+        cause: cause_of(causes.of_lines, one.line),
+        day: causes.day,
+    };
+    let may = may_end(alloc, storage, undelivered, one.line, &ending);
+    end_where(storage, one.line, one.report, may);
 }
 
 /// The job of a line that is first in turn ended: where that may be noted, it is.

@@ -230,7 +230,8 @@ impl<D: Disk> Undelivered<D> {
             → KeepsStill D.seen D.may_leave D.is_usable self.new (without (end_of name) waits))
             (self.new ≡ self.old)) }
         ensures does { OnErr result (Does D.seen D.may_leave D.is_usable (Ends (end_of (record
-            { life = life; call = call; line = line.now }))) false self.old.spool self.new.spool) }
+            { life = life; call = call; line = line.now }) ∷ []))
+            false self.old.spool self.new.spool) }
         ensures same { OnErr result (self.new.calls.items ≡ self.old.calls.items) }
     {
         if !has_call(self.calls.as_slice(), line, life, call) {

@@ -18,4 +18,6 @@ mod reopened;
 #[cfg(test)]
 mod steps;
 #[cfg(test)]
+mod together;
+#[cfg(test)]
 mod undelivered;

@@ -2,7 +2,7 @@
 use crate::job::{are_second, page_of, queues_of, report_of};
 use crate::steps::new_spool;
 use fax_jobs::Outcome;
-use fax_line::RunStore;
+use fax_line::{LineReport, RunStore};
 use fax_queue::Storage;
 use fax_runs::restarts::open_over;
 use fax_spool::{OpenedSpool, open_spool};
@@ -35,7 +35,10 @@ fn tell<U: Disk>(store: &mut PairedStore<Memory, U>) {
 
 /// The job ends, of which the called machine confirmed the first page.
 fn end<U: Disk>(store: &mut PairedStore<Memory, U>) {
-    store.end_job(0, report_of(1));
+    store.end_jobs(&[LineReport {
+        line: 0,
+        report: report_of(1),
+    }]);
 }
 
 /// A store over new files and this second pair, in which the job was stored, and ended.

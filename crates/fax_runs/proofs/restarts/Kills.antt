@@ -1,9 +1,9 @@
 -- Runs that were killed.
 use Rattle.std.proofs.Common.{◌≡◌, ℕ, Bool, List, [], ◌∷◌, ◌++◌, refl, ap, sym, subst}
-use Rattle.fax_jobs.specs.declared.report.Report.{Report}
 use Rattle.fax_line.specs.StoredRuns.{IsRun}
 use Rattle.fax_line.specs.Places.{PlaceValue}
 use Rattle.fax_line.specs.Runs.{AskedOf, DoneOrder, Stored, Turned, Woken}
+use Rattle.fax_line.specs.declared.settling.LineReport.{LineReport}
 use Rattle.fax_line.specs.declared.settling.PageToStore.{PageToStore}
 use Rattle.fax_line.specs.declared.settling.PutResult.{PutResult}
 use Rattle.fax_spool.specs.Opened.{IsOpened}
@@ -15,7 +15,7 @@ use Rattle.fax_runs.specs.restarts.Crossings.{RunsCross}
 use Rattle.fax_runs.specs.restarts.Kills.{KilledRunsCross, RunsCanBeCut}
 use Rattle.fax_runs.specs.restarts.Runs.{OneRun}
 
-module _ {K : Type 0} (same : K → K → Type 0) (puts : List PageToStore → Bool → K → K → Type 0) (notes : ℕ → ℕ → K → K → Type 0) (ends : ℕ → Report → K → K → Type 0) where
+module _ {K : Type 0} (same : K → K → Type 0) (puts : List PageToStore → Bool → K → K → Type 0) (notes : ℕ → ℕ → K → K → Type 0) (ends : List LineReport → K → K → Type 0) where
   -- how far a run had come after these of its orders
   record SoFar (earlier : List DoneOrder) (settled : List PutResult) (old : List PlaceValue) (before : K) : Type 0 where
     later : List PutResult

@@ -27,17 +27,17 @@ returns-clause-acknowledged g c = λ olds news k.
     (omega arith) (omega arith)
 
 pub returns-then-self-clause-does : goal.returns-then-self-clause-does
-returns-then-self-clause-does g c = does_nothing _ _ _ c.args.self.now c.args.self.now (Ends c.args.ended.now)
+returns-then-self-clause-does g c = does_nothing _ _ _ c.args.self.now c.args.self.now (Ends (c.args.ended.now ∷ []))
 
 pub returns-in_err-octets-clause-does : goal.returns-in_err-octets-clause-does
-returns-in_err-octets-clause-does g c = does_err _ _ _ c.args.self.now _ _ c.from_residual.result (Ends c.args.ended.now) c.from_residual.ensures.1 (does_nothing _ _ _ c.args.self.now c.args.self.now (Ends c.args.ended.now))
+returns-in_err-octets-clause-does g c = does_err _ _ _ c.args.self.now _ _ c.from_residual.result (Ends (c.args.ended.now ∷ [])) c.from_residual.ensures.1 (does_nothing _ _ _ c.args.self.now c.args.self.now (Ends (c.args.ended.now ∷ [])))
 
 pub returns-in_err-append-clause-does : goal.returns-in_err-append-clause-does
-returns-in_err-append-clause-does g c = does_err _ _ _ c.args.self.now _ _ c.from_residual-in_err-append.result (Ends c.args.ended.now) c.from_residual-in_err-append.ensures.1
-    (may_have_put _ _ _ c.args.self.now _ (Ends c.args.ended.now) (Ended c.args.ended.now ∷ []) (one_more (Ended c.args.ended.now)) (λ n. tt) c.if-self.false (returns-in_err-append-clause-crash g c) c.in_err-append.ensures.failed)
+returns-in_err-append-clause-does g c = does_err _ _ _ c.args.self.now _ _ c.from_residual-in_err-append.result (Ends (c.args.ended.now ∷ [])) c.from_residual-in_err-append.ensures.1
+    (may_have_put _ _ _ c.args.self.now _ (Ends (c.args.ended.now ∷ [])) (Ended c.args.ended.now ∷ []) (one_more (Ended c.args.ended.now)) (λ n. tt) c.if-self.false (returns-in_err-append-clause-crash g c) c.in_err-append.ensures.failed)
 
 pub returns-clause-does : goal.returns-clause-does
-returns-clause-does g c = does_put _ _ _ c.args.self.now _ (Ends c.args.ended.now) (Ended c.args.ended.now ∷ []) (one_more (Ended c.args.ended.now)) (λ n. tt) c.if-self.false (returns-clause-acknowledged g c)
+returns-clause-does g c = does_put _ _ _ c.args.self.now _ (Ends (c.args.ended.now ∷ [])) (Ended c.args.ended.now ∷ []) (one_more (Ended c.args.ended.now)) (λ n. tt) c.if-self.false (returns-clause-acknowledged g c)
 
 pub returns-then-self-clause-crash : goal.returns-then-self-clause-crash
 returns-then-self-clause-crash g c = λ olds news k older newer left. inl (at_rest _ _ _ _ c.args.self.now olds news k older newer left)

@@ -1,4 +1,4 @@
-use Rattle.std.proofs.Common.{List, ◌∙◌, true, false, refl, ap, sym, subst}
+use Rattle.std.proofs.Common.{List, [], ◌∷◌, ◌∙◌, true, false, refl, ap, sym, subst}
 use Rattle.std.specs.List.{list_any}
 use Rattle.fax_spool.specs.RecordOctets.{EndedValue}
 use Rattle.fax_spool.specs.Torn.{CallName}
@@ -19,7 +19,7 @@ returns-then-line-gt-MOST_NAME-clause-does g c = does_nothing _ _ _ c.args.self.
 pub returns-in_err-end-clause-does : goal.returns-in_err-end-clause-does
 returns-in_err-end-clause-does g c =
     on_err c.from_residual.result
-    (subst (λ (e : EndedValue). Does g.D.Disk.seen g.D.Disk.may_leave g.D.Disk.is_usable (Ends e) false c.args.self.now.spool c.end.new.self) c.end_from-ended.ensures c.in_err-end.ensures.does)
+    (subst (λ (e : EndedValue). Does g.D.Disk.seen g.D.Disk.may_leave g.D.Disk.is_usable (Ends (e ∷ [])) false c.args.self.now.spool c.end.new.self) c.end_from-ended.ensures c.in_err-end.ensures.does)
 
 pub returns-clause-gone : goal.returns-clause-gone
 returns-clause-gone g c =
@@ -27,6 +27,6 @@ returns-clause-gone g c =
       sym (ap (λ (l : List CallValue). list_any (is_named name) l) c.as_slice.ensures.value) ∙ sym c.has_call.ensures ∙ c.if-not-has_call.false,
       λ waits keeps.
           leaves _ _ _ c.args.self.now _ c.end.new.self name waits
-          (subst (λ (e : EndedValue). Does g.D.Disk.seen g.D.Disk.may_leave g.D.Disk.is_usable (Ends e) true c.args.self.now.spool c.end.new.self) c.end_from-ended.ensures c.in_ok-end.ensures.does)
+          (subst (λ (e : EndedValue). Does g.D.Disk.seen g.D.Disk.may_leave g.D.Disk.is_usable (Ends (e ∷ [])) true c.args.self.now.spool c.end.new.self) c.end_from-ended.ensures c.in_ok-end.ensures.does)
           c.change_files-self.ensures.told c.drop_call.ensures keeps,
     )
