@@ -374,4 +374,3 @@ module _ {D : Type 0} (seen : D → List ℕ) (may_leave : D → List ℕ → Ty
             line_of_it true is = is.1.has.line_is
             line_of_it false (inl is) = is.1.line_is
             line_of_it false (inr is) = is.0.line_is
-

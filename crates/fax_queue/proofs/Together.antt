@@ -460,17 +460,20 @@ module _ {D : Type 0} (seen : D → List ℕ) (may_leave : D → List ℕ → Ty
   put_together between after (inl none) turned = absurd (let no : true ≡ false = none.0 in cc)
   put_together between after (inr put) turned =
       let kept = put.0 in
-      let are : AreEndsOf (lines_of olds) plan kept = ends_are kept put.1 in (record {
-        kept = kept;
-        is_ok = true;
-        lines = planned.lines;
-        others = λ place none. let it = planned.others place none in (it.0, others_of (lines_of olds) place plan kept are it.1);
-        each = λ place report old new is there now. one_noted kept are place report old new there (planned.each place report old new is there now);
-        wait = λ ok waits was. turned (without_all kept waits) (put.2.done refl waits was);
-        left = λ err. absurd (let no : true ≡ false = err in cc);
-        agree = λ ok own agrees accepts. so_agree kept are own agrees (accepted after accepts agrees.pages (without_all kept agrees.pages) (turned (without_all kept agrees.pages) (put.2.done refl agrees.pages agrees.wait)));
-        refuses = λ is. absurd (let no : true ≡ false = (put.2.refused is).0 in cc);
-      }, refl)
+      let are : AreEndsOf (lines_of olds) plan kept = ends_are kept put.1 in (
+        record {
+          kept = kept;
+          is_ok = true;
+          lines = planned.lines;
+          others = λ place none. let it = planned.others place none in (it.0, others_of (lines_of olds) place plan kept are it.1);
+          each = λ place report old new is there now. one_noted kept are place report old new there (planned.each place report old new is there now);
+          wait = λ ok waits was. turned (without_all kept waits) (put.2.done refl waits was);
+          left = λ err. absurd (let no : true ≡ false = err in cc);
+          agree = λ ok own agrees accepts. so_agree kept are own agrees (accepted after accepts agrees.pages (without_all kept agrees.pages) (turned (without_all kept agrees.pages) (put.2.done refl agrees.pages agrees.wait)));
+          refuses = λ is. absurd (let no : true ≡ false = (put.2.refused is).0 in cc);
+        },
+        refl,
+      )
 
   -- they were not, or they are there all the same
   one_unsure : (kept : List EndedValue) → AreEndsOf (lines_of olds) plan kept → (place : ℕ) (report : Report) (old mid new : QueueValue) → slice_get olds place ≡ Some old → slice_get mids place ≡ Some mid
@@ -495,37 +498,43 @@ module _ {D : Type 0} (seen : D → List ℕ) (may_leave : D → List ℕ → Ty
 
   pub not_together : (after : Spool D) → MayPutEnds seen may_leave is_usable (lines_of mids) plan false before after
       → (e : EndsTogether seen may_leave is_usable jobs olds (unsure_all plan mids) before after) × (e.is_ok ≡ false)
-  not_together after (inl none) = (record {
-    kept = [];
-    is_ok = false;
-    lines = all_lines plan mids ∙ planned.lines;
-    others = λ place no_job. let it = planned.others place no_job in (none_unsure place plan mids it.1 ∙ it.0, tt);
-    each = λ place report old new is there now.
-        let mid = there_among olds mids place old planned.lines there in
-        one_left place report old mid.0 new mid.1 now (planned.each place report old mid.0 is there mid.1);
-    wait = λ ok. absurd (let no : false ≡ true = ok in cc);
-    left = λ err waits was. inl (waits, subst (λ (s : Spool D). PagesWait seen may_leave is_usable s waits) (sym none.1) was, inl refl);
-    agree = λ ok. absurd (let no : false ≡ true = ok in cc);
-    refuses = λ is. (refl, none.1);
-  }, refl)
+  not_together after (inl none) = (
+    record {
+      kept = [];
+      is_ok = false;
+      lines = all_lines plan mids ∙ planned.lines;
+      others = λ place no_job. let it = planned.others place no_job in (none_unsure place plan mids it.1 ∙ it.0, tt);
+      each = λ place report old new is there now.
+          let mid = there_among olds mids place old planned.lines there in
+          one_left place report old mid.0 new mid.1 now (planned.each place report old mid.0 is there mid.1);
+      wait = λ ok. absurd (let no : false ≡ true = ok in cc);
+      left = λ err waits was. inl (waits, subst (λ (s : Spool D). PagesWait seen may_leave is_usable s waits) (sym none.1) was, inl refl);
+      agree = λ ok. absurd (let no : false ≡ true = ok in cc);
+      refuses = λ is. (refl, none.1);
+    },
+    refl,
+  )
   not_together after (inr put) =
       let kept = put.0 in
-      let are : AreEndsOf (lines_of olds) plan kept = ends_are kept put.1 in (record {
-        kept = kept;
-        is_ok = false;
-        lines = all_lines plan mids ∙ planned.lines;
-        others = λ place no_job. let it = planned.others place no_job in (none_unsure place plan mids it.1 ∙ it.0, others_of (lines_of olds) place plan kept are it.1);
-        each = λ place report old new is there now.
-            let mid = there_among olds mids place old planned.lines there in
-            one_unsure kept are place report old mid.0 new there mid.1 now (planned.each place report old mid.0 is there mid.1);
-        wait = λ ok. absurd (let no : false ≡ true = ok in cc);
-        left = λ err waits was. elim (put.2.failed refl) [
-          | inl refuses ↦ inr (refuses, put.2.left refl waits was)
-          | inr same ↦ inl (waits, rest_still seen may_leave is_usable before after waits same was, inl refl)
-        ];
-        agree = λ ok. absurd (let no : false ≡ true = ok in cc);
-        refuses = λ is. (refl, (put.2.refused is).1);
-      }, refl)
+      let are : AreEndsOf (lines_of olds) plan kept = ends_are kept put.1 in (
+        record {
+          kept = kept;
+          is_ok = false;
+          lines = all_lines plan mids ∙ planned.lines;
+          others = λ place no_job. let it = planned.others place no_job in (none_unsure place plan mids it.1 ∙ it.0, others_of (lines_of olds) place plan kept are it.1);
+          each = λ place report old new is there now.
+              let mid = there_among olds mids place old planned.lines there in
+              one_unsure kept are place report old mid.0 new there mid.1 now (planned.each place report old mid.0 is there mid.1);
+          wait = λ ok. absurd (let no : false ≡ true = ok in cc);
+          left = λ err waits was. elim (put.2.failed refl) [
+            | inl refuses ↦ inr (refuses, put.2.left refl waits was)
+            | inr same ↦ inl (waits, rest_still seen may_leave is_usable before after waits same was, inl refl)
+          ];
+          agree = λ ok. absurd (let no : false ≡ true = ok in cc);
+          refuses = λ is. (refl, (put.2.refused is).1);
+        },
+        refl,
+      )
 
   -- no file is kept for nothing then
   pub tidy_together : (between after : Spool D) → MayPutEnds seen may_leave is_usable (lines_of mids) plan true before between

@@ -26,10 +26,15 @@ module _
       → EndStoredAlone seen may_leave is_usable is_clean seen_too may_leave_too is_usable_too cards jobs olds mids before between old mid
       → EndsStored seen may_leave is_usable is_clean seen_too may_leave_too is_usable_too one.line one.report (cards one.line one.report) mids news between after mid new
       → EndStoredAlone seen may_leave is_usable is_clean seen_too may_leave_too is_usable_too cards (jobs ++ one ∷ []) olds news before after old new
-  alone_more [] one olds mids news before between after old mid new was ends =
-      (news, after, new, subst (λ (q : List QueueValue). EndsStored seen may_leave is_usable is_clean seen_too may_leave_too is_usable_too one.line one.report (cards one.line one.report) q news before after old new) was.0
-      (subst (λ (s : Spool D). EndsStored seen may_leave is_usable is_clean seen_too may_leave_too is_usable_too one.line one.report (cards one.line one.report) mids news s after old new) was.1
-      (subst (λ (u : Option (Undelivered U)). EndsStored seen may_leave is_usable is_clean seen_too may_leave_too is_usable_too one.line one.report (cards one.line one.report) mids news between after u new) was.2 ends)), (refl, refl, refl))
+  alone_more [] one olds mids news before between after old mid new was ends = (
+    news,
+    after,
+    new,
+    subst (λ (q : List QueueValue). EndsStored seen may_leave is_usable is_clean seen_too may_leave_too is_usable_too one.line one.report (cards one.line one.report) q news before after old new) was.0
+        (subst (λ (s : Spool D). EndsStored seen may_leave is_usable is_clean seen_too may_leave_too is_usable_too one.line one.report (cards one.line one.report) mids news s after old new) was.1
+        (subst (λ (u : Option (Undelivered U)). EndsStored seen may_leave is_usable is_clean seen_too may_leave_too is_usable_too one.line one.report (cards one.line one.report) mids news between after u new) was.2 ends)),
+    (refl, refl, refl),
+  )
   alone_more (j ∷ jobs) one olds mids news before between after old mid new was ends =
       (was.0, was.1, was.2, was.3, alone_more jobs one was.0 mids news was.1 between after was.2 mid new was.4 ends)
 
@@ -66,4 +71,3 @@ ends_at_once seen may_leave is_usable jobs olds news before after waits kept e o
     told_so seen may_leave is_usable after (λ told. told ≡ without_all e.kept waits) (λ told. Befell (record { first = waits; second = kept }) (delivered_ends e.kept []) (record { first = told; second = kept }))
     (λ told same. subst (λ (l : List PageValue). Befell (record { first = waits; second = kept }) (delivered_ends e.kept []) (record { first = l; second = kept })) (sym same)
     (befell_ends e.kept (record { first = waits; second = kept }) [] waits kept refl)) (e.wait ok waits was)
-
