@@ -27,7 +27,7 @@ use Rattle.fax_call.specs.Delivery.{is_over}
 use Rattle.fax_call.specs.Reached as call
 use Rattle.fax_call.specs.Watching as call_watching
 use Rattle.fax_gateway.specs.Setups.{Setup}
-use Rattle.fax_gateway.specs.declared.called.CalledEndpoint.{CalledEndpoint}
+use Rattle.fax_gateway.specs.declared.caller_endpoint.CallerEndpoint.{CallerEndpoint}
 use Rattle.fax_gateway.specs.Legs.{new_pieces, decides, decided_by}
 use Rattle.fax_gateway.specs.CallingLegs as calling_legs
 use Rattle.fax_gateway.specs.CallingLegs.{CallingLeg, is_idle, idle_after, decided_calling, asked_by}
@@ -206,18 +206,18 @@ abbrev OnCall : Writing → Option CalledLeg → Type 0
 OnCall writes None = ⊥
 OnCall writes (Some l) = is_over (called_legs.core_of writes l).state ≡ false
 
-on_called : (setup : Setup) (writes : Writing) (leg : Option CalledLeg) (endpoint : CalledEndpoint) → IsCalled setup writes leg endpoint → (endpoint.caller.procedure.state ≡ Idle → ⊥) → OnCall writes leg
+on_called : (setup : Setup) (writes : Writing) (leg : Option CalledLeg) (endpoint : CallerEndpoint) → IsCalled setup writes leg endpoint → (endpoint.caller.procedure.state ≡ Idle → ⊥) → OnCall writes leg
 on_called setup writes None endpoint r off = off (r.core (record { call = 0; format = endpoint.caller.procedure.format; pages = [] })).follows.state
 on_called setup writes (Some l) endpoint r off = on_call (called_legs.core_of writes l).state (λ e. off (r.core.follows.state ∙ e))
 
-pub decided_on_called : (setup : Setup) (writes : Writing) (leg : Option CalledLeg) (octets : List ℕ) (x : DecidedValue) (old : CalledEndpoint) (receiver : Option ℕ) (b : Bool) → (old.caller.procedure.state ≡ Idle → ⊥) → IsCalled setup writes leg old
+pub decided_on_called : (setup : Setup) (writes : Writing) (leg : Option CalledLeg) (octets : List ℕ) (x : DecidedValue) (old : CallerEndpoint) (receiver : Option ℕ) (b : Bool) → (old.caller.procedure.state ≡ Idle → ⊥) → IsCalled setup writes leg old
     → Takes octets old.leg.receiver receiver x → b ≡ nat_lt 0 (length (slots_in x)) → b ≡ decided_called writes leg octets
 decided_on_called setup writes None octets x old receiver b off r t e = absurd (on_called setup writes None old r off)
 decided_on_called setup writes (Some l) octets x old receiver b off r t e =
     e ∙ sym (some_slots l.arrived t.datagram x (t.decides l.arrived r.on_leg.receiver))
     ∙ sym (ap (λ (b : Bool). decided_by b l.arrived (datagram_of octets)) (on_called setup writes (Some l) old r off) ∙ ap (λ (r : Result DatagramValue UdptlFault). decided_by false l.arrived r) t.is)
 
-leg_hears_called : (setup : Setup) (writes : Writing) (l : CalledLeg) (now : ℕ) (d : DatagramValue) (x : DecidedValue) (old new : CalledEndpoint) → IsCalled setup writes (Some l) old → Decides l.arrived d x → IsAfter (d ∷ l.arrived) new.leg.receiver
+leg_hears_called : (setup : Setup) (writes : Writing) (l : CalledLeg) (now : ℕ) (d : DatagramValue) (x : DecidedValue) (old new : CallerEndpoint) → IsCalled setup writes (Some l) old → Decides l.arrived d x → IsAfter (d ∷ l.arrived) new.leg.receiver
     → new.leg.sender ≡ old.leg.sender → call.Hears writes l.job (slots_in x) now (newest_slots l.arrived) (called_legs.core_of writes l) new.caller
     → IsCalled setup writes (Some (called_legs.leg_with (Ok d) now l)) new
 leg_hears_called setup writes l now d x old new r n after sender h =
@@ -231,7 +231,7 @@ leg_hears_called setup writes l now d x old new r n after sender h =
       on_leg = record { receiver = after; sender = subst (λ (s : SenderValue). HasSent setup.redundancy l.given s) (sym sender) r.on_leg.sender };
     }
 
-pub hears_called : (setup : Setup) (writes : Writing) (leg : Option CalledLeg) (now : ℕ) (octets : List ℕ) (x : DecidedValue) (old new : CalledEndpoint) → (old.caller.procedure.state ≡ Idle → ⊥) → IsCalled setup writes leg old → Takes octets old.leg.receiver new.leg.receiver x
+pub hears_called : (setup : Setup) (writes : Writing) (leg : Option CalledLeg) (now : ℕ) (octets : List ℕ) (x : DecidedValue) (old new : CallerEndpoint) → (old.caller.procedure.state ≡ Idle → ⊥) → IsCalled setup writes leg old → Takes octets old.leg.receiver new.leg.receiver x
     → new.leg.sender ≡ old.leg.sender → ((writes : Writing) (job : JobValue) (heard : List Slot) (core : CallerCore) → call.IsReached writes job heard core old.caller → call.Hears writes job (slots_in x) now heard core new.caller)
     → IsCalled setup writes (option_map (hears writes octets now) leg) new
 hears_called setup writes None now octets x old new off r t sender f = absurd (on_called setup writes None old r off)
@@ -246,7 +246,7 @@ hears_called setup writes (Some l) now octets x old new off r t sender f =
 abbrev told_on : Bool → Writing → CalledLeg → ℕ → Result DatagramValue UdptlFault → List call_watching.Telling
 told_on b writes l now r = if b then [] else called_tellings_of writes l now r
 
-pub told_called : (Tells : List call_watching.Telling → Type 0) (setup : Setup) (writes : Writing) (leg : Option CalledLeg) (now : ℕ) (octets : List ℕ) (x : DecidedValue) (old new : CalledEndpoint) → (old.caller.procedure.state ≡ Idle → ⊥) → IsCalled setup writes leg old
+pub told_called : (Tells : List call_watching.Telling → Type 0) (setup : Setup) (writes : Writing) (leg : Option CalledLeg) (now : ℕ) (octets : List ℕ) (x : DecidedValue) (old new : CallerEndpoint) → (old.caller.procedure.state ≡ Idle → ⊥) → IsCalled setup writes leg old
     → Takes octets old.leg.receiver new.leg.receiver x
     → ((writes : Writing) (job : JobValue) (heard : List Slot) (core : CallerCore) → call.IsReached writes job heard core old.caller → call.HearsTold Tells writes job (slots_in x) now heard core new.caller)
     → Tells (called_tellings writes leg now octets)
@@ -263,7 +263,7 @@ told_called Tells setup writes (Some l) now octets x old new off r t f =
 is_called_over : (s : State) → s ≡ Idle → is_over s ≡ true
 is_called_over s e = ap is_over e
 
-pub told_idle : (Tells : List call_watching.Telling → Type 0) (setup : Setup) (writes : Writing) (leg : Option CalledLeg) (now : ℕ) (octets : List ℕ) (endpoint : CalledEndpoint) → IsCalled setup writes leg endpoint → endpoint.caller.procedure.state ≡ Idle → Tells []
+pub told_idle : (Tells : List call_watching.Telling → Type 0) (setup : Setup) (writes : Writing) (leg : Option CalledLeg) (now : ℕ) (octets : List ℕ) (endpoint : CallerEndpoint) → IsCalled setup writes leg endpoint → endpoint.caller.procedure.state ≡ Idle → Tells []
     → Tells (called_tellings writes leg now octets)
 told_idle Tells setup writes None now octets endpoint r e t = t
 told_idle Tells setup writes (Some l) now octets endpoint r e t =

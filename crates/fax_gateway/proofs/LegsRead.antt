@@ -21,7 +21,8 @@ with_read : (l : CallingLeg) (now : ℕ) (read : Reading) (r : Result DatagramVa
 with_read l now read (Ok d) h n = (calls_are_read (rung l.before l.begun) l.events (new_pieces l.arrived d) now read n h).0
 with_read l now read (Err f) h n = n
 
-step_read : (setup : Setup) (o : Option CallingLeg) (now : ℕ) (octets : List ℕ) (at : ℕ) (decided : Bool) (read : Reading) → IsRead (question o now octets) read → LegRead o → LegRead (calling_after setup o now (FromCalling octets at decided read))
+-- a datagram more is read rightly
+pub step_read : (setup : Setup) (o : Option CallingLeg) (now : ℕ) (octets : List ℕ) (at : ℕ) (decided : Bool) (read : Reading) → IsRead (question o now octets) read → LegRead o → LegRead (calling_after setup o now (FromCalling octets at decided read))
 step_read setup None now octets at decided read h n = tt
 step_read setup (Some l) now octets at decided read h n = by (is_idle (core_of l).state) h
   where

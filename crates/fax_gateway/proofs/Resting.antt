@@ -23,7 +23,7 @@ use Rattle.fax_call.specs.Delivery.{is_over}
 use Rattle.fax_call.specs.Due as call_due_at
 use Rattle.fax_call.specs.Reached as call
 use Rattle.fax_call.proofs.DueLemmas as call_lemmas
-use Rattle.fax_gateway.specs.declared.called.CalledEndpoint.{CalledEndpoint}
+use Rattle.fax_gateway.specs.declared.caller_endpoint.CallerEndpoint.{CallerEndpoint}
 use Rattle.fax_gateway.specs.declared.given.Kept.{Kept}
 use Rattle.fax_gateway.specs.Setups.{Setup}
 use Rattle.fax_gateway.specs.Events.{Event, Tick, clock}
@@ -96,7 +96,7 @@ calls_rest : (writes : Writing) (l : CalledLeg) (now : ℕ) → now < 2 ^ 64 →
 calls_rest writes l now fits e =
     call_lemmas.rests_before writes l.job (core_of writes l) now fits (call_waits (is_some (outcome_of (core_of writes l))) (call_due_at.due_at (core_of writes l)) now e).1
 
-call_rests : (setup : Setup) (writes : Writing) (l : CalledLeg) (now : ℕ) (endpoint : CalledEndpoint) → now < 2 ^ 64 → is_due (call_due (core_of writes l)) now ≡ false → IsCalled setup writes (Some l) endpoint → TicksOn setup writes l now None endpoint
+call_rests : (setup : Setup) (writes : Writing) (l : CalledLeg) (now : ℕ) (endpoint : CallerEndpoint) → now < 2 ^ 64 → is_due (call_due (core_of writes l)) now ≡ false → IsCalled setup writes (Some l) endpoint → TicksOn setup writes l now None endpoint
 call_rests setup writes l now endpoint fits e r =
     let rests = calls_rest writes l now fits e in
     record {
@@ -107,7 +107,7 @@ call_rests setup writes l now endpoint fits e r =
       told = sym (ap (λ (t : TickResult). told_by setup l.given t.given) rests);
     }
 
-pub outcome_is_of_rep : (setup : Setup) (writes : Writing) (l : CalledLeg) (endpoint : CalledEndpoint) → IsCalled setup writes (Some l) endpoint → outcome_of_rep endpoint.caller.procedure ≡ outcome_of (core_of writes l)
+pub outcome_is_of_rep : (setup : Setup) (writes : Writing) (l : CalledLeg) (endpoint : CallerEndpoint) → IsCalled setup writes (Some l) endpoint → outcome_of_rep endpoint.caller.procedure ≡ outcome_of (core_of writes l)
 outcome_is_of_rep setup writes l endpoint r =
     let p : Procedure = endpoint.caller.procedure in
     ap (λ (s : State). if◌then◌else◌ {A = Option Outcome} (is_over s) p.outcome None) r.core.follows.state
@@ -117,7 +117,7 @@ none_of : (o : Option Outcome) → is_some o ≡ false → o ≡ None
 none_of None e = refl
 none_of (Some outcome) e = cc
 
-no_outcome : (setup : Setup) (writes : Writing) (l : CalledLeg) (now : ℕ) (endpoint : CalledEndpoint) → is_due (call_due (core_of writes l)) now ≡ false → IsCalled setup writes (Some l) endpoint → outcome_of_rep endpoint.caller.procedure ≡ None
+no_outcome : (setup : Setup) (writes : Writing) (l : CalledLeg) (now : ℕ) (endpoint : CallerEndpoint) → is_due (call_due (core_of writes l)) now ≡ false → IsCalled setup writes (Some l) endpoint → outcome_of_rep endpoint.caller.procedure ≡ None
 no_outcome setup writes l now endpoint e r =
     outcome_is_of_rep setup writes l endpoint r
     ∙ none_of (outcome_of (core_of writes l)) (call_waits (is_some (outcome_of (core_of writes l))) (call_due_at.due_at (core_of writes l)) now e).0
@@ -233,11 +233,11 @@ gives_none_up setup writes trace now fits e =
 
 -- ---- what is kept tells when that is
 
-pub due_over : (setup : Setup) (writes : Writing) (l : CalledLeg) (endpoint : CalledEndpoint) (outcome : Outcome) → IsCalled setup writes (Some l) endpoint → Some outcome ≡ outcome_of_rep endpoint.caller.procedure → Some 0 ≡ call_due (core_of writes l)
+pub due_over : (setup : Setup) (writes : Writing) (l : CalledLeg) (endpoint : CallerEndpoint) (outcome : Outcome) → IsCalled setup writes (Some l) endpoint → Some outcome ≡ outcome_of_rep endpoint.caller.procedure → Some 0 ≡ call_due (core_of writes l)
 due_over setup writes l endpoint outcome r e =
     ap (λ (o : Option Outcome). if is_some o then Some 0 else call_due_at.due_at (core_of writes l)) (e ∙ outcome_is_of_rep setup writes l endpoint r)
 
-pub due_on : (setup : Setup) (writes : Writing) (l : CalledLeg) (endpoint : CalledEndpoint) → IsCalled setup writes (Some l) endpoint → None ≡ outcome_of_rep endpoint.caller.procedure → call_due_at.due_at (core_of writes l) ≡ call_due (core_of writes l)
+pub due_on : (setup : Setup) (writes : Writing) (l : CalledLeg) (endpoint : CallerEndpoint) → IsCalled setup writes (Some l) endpoint → None ≡ outcome_of_rep endpoint.caller.procedure → call_due_at.due_at (core_of writes l) ≡ call_due (core_of writes l)
 due_on setup writes l endpoint r e =
     ap (λ (o : Option Outcome). if is_some o then Some 0 else call_due_at.due_at (core_of writes l)) (e ∙ outcome_is_of_rep setup writes l endpoint r)
 

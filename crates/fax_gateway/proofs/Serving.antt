@@ -18,7 +18,7 @@ use Rattle.fax_call.specs.Calls.{CallerCore, new_calling, not_placed, started, T
 use Rattle.fax_call.specs.Reached as call
 use Rattle.fax_gateway.specs.Setups.{Setup}
 use Rattle.fax_gateway.specs.declared.endpoint.Endpoint.{Endpoint}
-use Rattle.fax_gateway.specs.declared.called.CalledEndpoint.{CalledEndpoint}
+use Rattle.fax_gateway.specs.declared.caller_endpoint.CallerEndpoint.{CallerEndpoint}
 use Rattle.fax_gateway.specs.CallingLegs as calling_legs
 use Rattle.fax_gateway.specs.CallingLegs.{CallingLeg, packets_with, confirmed_by}
 use Rattle.fax_gateway.specs.CalledLegs as called_legs
@@ -102,7 +102,7 @@ leg_keeps : (setup : Setup) (leg : Option CalledLeg) (old new : Endpoint) → ((
 leg_keeps setup None old new f r = tt
 leg_keeps setup (Some l) old new f r = f l.arrived l.given r
 
-pub called_endpoint_keeps : (setup : Setup) (writes : Writing) (leg : Option CalledLeg) (old new : CalledEndpoint) → ((writes : Writing) (job : JobValue) (heard : List Slot) (core : CallerCore) → call.IsReached writes job heard core old.caller → call.IsReached writes job heard core new.caller)
+pub called_endpoint_keeps : (setup : Setup) (writes : Writing) (leg : Option CalledLeg) (old new : CallerEndpoint) → ((writes : Writing) (job : JobValue) (heard : List Slot) (core : CallerCore) → call.IsReached writes job heard core old.caller → call.IsReached writes job heard core new.caller)
     → new.caller.procedure.format ≡ old.caller.procedure.format → ((arrived : List DatagramValue) (given : List (List ℕ)) → IsLeg setup arrived given old.leg → IsLeg setup arrived given new.leg) → IsCalled setup writes leg old → IsCalled setup writes leg new
 called_endpoint_keeps setup writes leg old new f same g r = record { core = caller_keeps setup writes leg old.caller new.caller f same r.core; on_leg = leg_keeps setup leg old.leg new.leg g r.on_leg }
 
@@ -120,14 +120,14 @@ caller_fails : (setup : Setup) (writes : Writing) (leg : Option CalledLeg) (old 
 caller_fails setup writes None old new job format pages same count f r = f writes writes job job [] (new_calling setup.pause old.procedure.format) (r job) (sym same) (sym count)
 caller_fails setup writes (Some l) old new job format pages same count f r = f writes writes job l.job (newest_slots l.arrived) (core_of writes l) r (sym same) (sym count)
 
-pub leg_fails : (setup : Setup) (writes : Writing) (leg : Option CalledLeg) (old new : CalledEndpoint) (job : JobValue) (format : Format) (pages now : ℕ) → format ≡ job.format → pages ≡ length job.pages →
+pub leg_fails : (setup : Setup) (writes : Writing) (leg : Option CalledLeg) (old new : CallerEndpoint) (job : JobValue) (format : Format) (pages now : ℕ) → format ≡ job.format → pages ≡ length job.pages →
     ((writes others : Writing) (job other : JobValue) (heard : List Slot) (core : CallerCore) → call.IsReached others other heard core old.caller → job.format ≡ format → length job.pages ≡ pages → call.IsReached writes job [] (not_placed core job) new.caller)
     → IsLeg setup [] [] new.leg → IsCalled setup writes leg old → IsCalled setup writes (Some (placed_leg false job (core_left setup writes leg) now)) new
 unfolding newest_slots slots
 leg_fails setup writes leg old new job format pages now same count f fresh r =
     record { core = caller_fails setup writes leg old.caller new.caller job format pages same count f r.core; on_leg = fresh }
 
-pub leg_starts : (setup : Setup) (writes : Writing) (leg : Option CalledLeg) (old new : CalledEndpoint) (job : JobValue) (format : Format) (pages now : ℕ) → format ≡ job.format → pages ≡ length job.pages →
+pub leg_starts : (setup : Setup) (writes : Writing) (leg : Option CalledLeg) (old new : CallerEndpoint) (job : JobValue) (format : Format) (pages now : ℕ) → format ≡ job.format → pages ≡ length job.pages →
     ((writes others : Writing) (job other : JobValue) (heard : List Slot) (core : CallerCore) → call.IsReached others other heard core old.caller → job.format ≡ format → length job.pages ≡ pages → call.IsReached writes job [] (started core job now) new.caller)
     → IsLeg setup [] [] new.leg → IsCalled setup writes leg old → IsCalled setup writes (Some (begun_leg job (core_left setup writes leg) now)) new
 unfolding newest_slots slots
@@ -135,7 +135,7 @@ leg_starts setup writes leg old new job format pages now same count f fresh r =
     record { core = caller_starts setup writes leg old.caller new.caller job format pages now same count f r.core; on_leg = fresh }
 
 -- time goes on in a call
-pub leg_ticks_on : (setup : Setup) (writes : Writing) (l : CalledLeg) (now : ℕ) (job : JobValue) (old new : CalledEndpoint) (packet datagram : Option (List ℕ)) → l.job ≡ job →
+pub leg_ticks_on : (setup : Setup) (writes : Writing) (l : CalledLeg) (now : ℕ) (job : JobValue) (old new : CallerEndpoint) (packet datagram : Option (List ℕ)) → l.job ≡ job →
     ((heard : List Slot) (core : CallerCore) → call.IsReached writes job heard core old.caller → call.IsReached writes job heard (ticked writes job core now).core new.caller × call.IsGiven (ticked writes job core now) packet)
     → Gives setup packet old.leg new.leg datagram → IsCalled setup writes (Some l) old → TicksOn setup writes l now datagram new
 leg_ticks_on setup writes l now job old new packet datagram same f g r =

@@ -7,7 +7,7 @@ use Rattle.fax_answer.specs.Table.{Reading}
 use Rattle.fax_call.specs.Writings.{Writing}
 use Rattle.fax_gateway.specs.Setups.{HasSettings, Setup}
 use Rattle.fax_gateway.specs.declared.settings.Settings.{Settings}
-use Rattle.fax_gateway.specs.declared.called.CalledEndpoint.{CalledEndpoint}
+use Rattle.fax_gateway.specs.declared.caller_endpoint.CallerEndpoint.{CallerEndpoint}
 use Rattle.fax_gateway.specs.Events.{Event, FromCalling, clock}
 use Rattle.fax_gateway.specs.CallingLegs.{CallingLeg, idle_after, calling_after, calling_leg, decided_calling}
 use Rattle.fax_gateway.specs.BothLegs.{book_of, both_legs, ends_if}
@@ -52,7 +52,7 @@ hears_from Tells setup writes trace octets at decided ends old new r later rung 
           set = subst (λ (x : Settings). HasSettings setup x) (sym set) r.set;
           rung = rung ∙ r.rung;
           calling = leg;
-          called = subst (λ (s : CalledEndpoint). IsCalled setup writes (both_legs setup writes trace).leg s) (sym same) r.called;
+          called = subst (λ (s : CallerEndpoint). IsCalled setup writes (both_legs setup writes trace).leg s) (sym same) r.called;
           book =
               book ∙ ap (λ (b : Book). if ends then closed b else b) r.book
               ∙ ap (λ (b : Bool). if b then closed (book_of (both_legs setup writes trace)) else book_of (both_legs setup writes trace)) (ended _ leg)

@@ -15,7 +15,7 @@ use Rattle.fax_call.specs.Delivery.{is_over}
 use Rattle.fax_call.specs.Table.{Counts}
 use Rattle.fax_gateway.specs.Setups.{HasSettings, Setup}
 use Rattle.fax_gateway.specs.declared.settings.Settings.{Settings}
-use Rattle.fax_gateway.specs.declared.called.CalledEndpoint.{CalledEndpoint}
+use Rattle.fax_gateway.specs.declared.caller_endpoint.CallerEndpoint.{CallerEndpoint}
 use Rattle.fax_gateway.specs.Events.{Event, Tick, Given, clock}
 use Rattle.fax_gateway.specs.CallingLegs.{CallingLeg, answers, confirmed_by, calling_after, calling_leg, told_calling}
 use Rattle.fax_gateway.specs.CalledLegs.{CalledLeg, is_free, core_left, begun_leg, calls, outcome_of, with_tick, told_by, told_called, report_by, told_report}
@@ -44,19 +44,19 @@ heard_book (Some l) now number steps h =
     ends_book ended (confirms_if l.number c steps) ∙ ap (closed_if ended) (confirms_book l.number c steps) ∙ ap (λ (n : ℕ). closed_if ended (confirmed_if n c book)) h
 
 -- THE CALLED LEG is served: what this leaves and tells
-pub record Served (setup : Setup) (writes : Writing) (now : ℕ) (z : BothLegs) (endpoint : CalledEndpoint) (given : Option (List ℕ)) (told : Option Report) (left : Book) : Type 0 where
+pub record Served (setup : Setup) (writes : Writing) (now : ℕ) (z : BothLegs) (endpoint : CallerEndpoint) (given : Option (List ℕ)) (told : Option Report) (left : Book) : Type 0 where
   pub called : IsCalled setup writes (serves writes now z).leg endpoint
   pub datagram : given ≡ told_called setup writes z.leg now
   pub report : told ≡ told_report writes z.leg now
   pub book : left ≡ book_of (serves writes now z)
 
-outcome_is : (setup : Setup) (writes : Writing) (l : CalledLeg) (endpoint : CalledEndpoint) (now : ℕ) → IsCalled setup writes (Some (with_tick (calls writes l now) now l)) endpoint → outcome_of_rep endpoint.caller.procedure ≡ outcome_of (calls writes l now).core
+outcome_is : (setup : Setup) (writes : Writing) (l : CalledLeg) (endpoint : CallerEndpoint) (now : ℕ) → IsCalled setup writes (Some (with_tick (calls writes l now) now l)) endpoint → outcome_of_rep endpoint.caller.procedure ≡ outcome_of (calls writes l now).core
 outcome_is setup writes l endpoint now r =
     let p : Procedure = endpoint.caller.procedure in
     ap (λ (s : State). if◌then◌else◌ {A = Option Outcome} (is_over s) p.outcome None) r.core.follows.state
     ∙ ap (λ (o : Option Outcome). if◌then◌else◌ {A = Option Outcome} (is_over (calls writes l now).core.state) o None) r.core.follows.outcome
 
-delivered_is : (setup : Setup) (writes : Writing) (l : CalledLeg) (endpoint : CalledEndpoint) (now : ℕ) → IsCalled setup writes (Some (with_tick (calls writes l now) now l)) endpoint → endpoint.caller.procedure.counts.delivered ≡ (calls writes l now).core.counts.delivered
+delivered_is : (setup : Setup) (writes : Writing) (l : CalledLeg) (endpoint : CallerEndpoint) (now : ℕ) → IsCalled setup writes (Some (with_tick (calls writes l now) now l)) endpoint → endpoint.caller.procedure.counts.delivered ≡ (calls writes l now).core.counts.delivered
 delivered_is setup writes l endpoint now r = ap (λ (c : Counts). c.delivered) r.core.follows.counts
 
 entered_book : (o : Option JobValue) (job : JobValue) (past : Past) (outcome : Outcome) (delivered : ℕ) → o ≡ Some job → (pasts.ended_if o past outcome delivered).book ≡ ended past.book outcome delivered
@@ -73,7 +73,7 @@ report_is l delivered None = refl
 report_is l delivered (Some outcome) = refl
 
 -- a job is being sent
-served_on : (setup : Setup) (writes : Writing) (now : ℕ) (steps : List Step) (l : CalledLeg) (endpoint : CalledEndpoint) (given : Option (List ℕ)) → l.entered ≡ false → (after_steps new_past steps).book.sending ≡ Some l.job
+served_on : (setup : Setup) (writes : Writing) (now : ℕ) (steps : List Step) (l : CalledLeg) (endpoint : CallerEndpoint) (given : Option (List ℕ)) → l.entered ≡ false → (after_steps new_past steps).book.sending ≡ Some l.job
     → IsCalled setup writes (Some (with_tick (calls writes l now) now l)) endpoint → given ≡ told_by setup l.given (calls writes l now).given
     → Served setup writes now (record { steps = steps; leg = Some l }) endpoint given (report_if (Some l.job) (outcome_of_rep endpoint.caller.procedure) endpoint.caller.procedure.counts.delivered) (ended_with (outcome_of_rep endpoint.caller.procedure) endpoint.caller.procedure.counts.delivered (after_steps new_past steps).book)
 served_on setup writes now steps l endpoint given on sending r told =
@@ -97,7 +97,7 @@ served_on setup writes now steps l endpoint given on sending r told =
     }
 
 -- no job is being sent
-served_off : (setup : Setup) (writes : Writing) (now : ℕ) (steps : List Step) (leg : Option CalledLeg) (endpoint : CalledEndpoint) → is_free leg ≡ true → IsCalled setup writes leg endpoint
+served_off : (setup : Setup) (writes : Writing) (now : ℕ) (steps : List Step) (leg : Option CalledLeg) (endpoint : CallerEndpoint) → is_free leg ≡ true → IsCalled setup writes leg endpoint
     → Served setup writes now (record { steps = steps; leg = leg }) endpoint None None (after_steps new_past steps).book
 served_off setup writes now steps None endpoint off r = record { called = r; datagram = refl; report = refl; book = refl }
 served_off setup writes now steps (Some l) endpoint off r =
@@ -124,7 +124,7 @@ sent_off (Some l) e = by l.entered e
     by true e = refl
     by false e = cc
 
-pub same_served : (setup : Setup) (writes : Writing) (now : ℕ) (y z : BothLegs) (endpoint : CalledEndpoint) (given : Option (List ℕ)) (t told : Option Report) (l left : Book) → z ≡ y → told ≡ t → left ≡ l → Served setup writes now y endpoint given t l → Served setup writes now z endpoint given told left
+pub same_served : (setup : Setup) (writes : Writing) (now : ℕ) (y z : BothLegs) (endpoint : CallerEndpoint) (given : Option (List ℕ)) (t told : Option Report) (l left : Book) → z ≡ y → told ≡ t → left ≡ l → Served setup writes now y endpoint given t l → Served setup writes now z endpoint given told left
 same_served setup writes now y z endpoint given t told l left a b c h =
     subst (λ (x : BothLegs). Served setup writes now x endpoint given told left) (sym a) (subst (λ (r : Option Report). Served setup writes now y endpoint given r left) (sym b) (subst (λ (k : Book). Served setup writes now y endpoint given t k) (sym c) h))
 
@@ -176,7 +176,7 @@ in_tick_on setup writes trace at leg is on =
     ap (λ (b : Bool). if◌then◌else◌ {A = BothLegs} b (sends true setup writes (max at (clock trace)) z) z) (ap (λ (o : Option CalledLeg). begins_next setup o) is ∙ begins_none setup leg on) ∙ ap (λ (o : Option CalledLeg). record { steps = steps_heard setup writes trace at; leg = o }) is
 
 -- a job is being sent
-pub serves_on : (setup : Setup) (writes : Writing) (trace : List Event) (at : ℕ) (old : GatewayValue) (job : JobValue) (endpoint : CalledEndpoint) (given : Option (List ℕ)) (heard : Book) → IsReachedBy setup writes trace old → old.book.sending ≡ Some job
+pub serves_on : (setup : Setup) (writes : Writing) (trace : List Event) (at : ℕ) (old : GatewayValue) (job : JobValue) (endpoint : CallerEndpoint) (given : Option (List ℕ)) (heard : Book) → IsReachedBy setup writes trace old → old.book.sending ≡ Some job
     → IsHeard setup trace (max at (clock trace)) old heard → ((l : CalledLeg) → (both_legs setup writes trace).leg ≡ Some l → l.entered ≡ false → l.job ≡ job → IsCalled setup writes (Some l) old.called → TicksOn setup writes l (max at (clock trace)) given endpoint)
     → Served setup writes (max at (clock trace)) (in_tick setup writes trace at) endpoint given (report_if (Some job) (outcome_of_rep endpoint.caller.procedure) endpoint.caller.procedure.counts.delivered)
     (ended_if (Some job) (outcome_of_rep endpoint.caller.procedure) endpoint.caller.procedure.counts.delivered heard)
@@ -208,7 +208,7 @@ sends_free setup writes trace at asks free =
     ap (λ (b : Bool). if◌then◌else◌ {A = BothLegs} b (sends true setup writes (max at (clock trace)) z) z)
     (ap (λ (b : Bool). not b && is_free z.leg) asks ∙ free)
 
-pub serves_off : (setup : Setup) (writes : Writing) (trace : List Event) (at : ℕ) (old : GatewayValue) (endpoint : CalledEndpoint) (given : Option (List ℕ)) (heard : Book) → setup.asks ≡ false → IsReachedBy setup writes trace old → old.book.sending ≡ None
+pub serves_off : (setup : Setup) (writes : Writing) (trace : List Event) (at : ℕ) (old : GatewayValue) (endpoint : CallerEndpoint) (given : Option (List ℕ)) (heard : Book) → setup.asks ≡ false → IsReachedBy setup writes trace old → old.book.sending ≡ None
     → IsHeard setup trace (max at (clock trace)) old heard → Begins setup writes (both_legs setup writes trace).leg (taken heard).sending (max at (clock trace)) given old.called endpoint
     → Served setup writes (max at (clock trace)) (in_tick setup writes trace at) endpoint given (report_if (taken heard).sending (outcome_of_rep endpoint.caller.procedure) endpoint.caller.procedure.counts.delivered)
     (ended_if (taken heard).sending (outcome_of_rep endpoint.caller.procedure) endpoint.caller.procedure.counts.delivered (taken heard))
@@ -243,7 +243,7 @@ serves_off setup writes trace at old endpoint given heard asks r none h begins =
 
     by : (s : Option JobValue) → (taken heard).sending ≡ s → Begins setup writes leg s now given old.called endpoint → Served setup writes now (in_tick setup writes trace at) endpoint given (report_if s o d) (ended_if s o d (taken heard))
     by None e b =
-        subst (λ (x : CalledEndpoint). Served setup writes now (in_tick setup writes trace at) x given None (taken heard)) (sym b.1)
+        subst (λ (x : CallerEndpoint). Served setup writes now (in_tick setup writes trace at) x given None (taken heard)) (sym b.1)
         (subst (λ (x : Option (List ℕ)). Served setup writes now (in_tick setup writes trace at) old.called x None (taken heard)) (sym b.0)
         (same_served setup writes now (record { steps = steps; leg = leg }) (in_tick setup writes trace at) old.called None None None (after_steps new_past steps).book (taken heard) (in_it None e) refl (sym book)
         (served_off setup writes now steps leg old.called free r.called)))

@@ -16,7 +16,7 @@ use Rattle.std.specs.Prelude.{List}
 use Rattle.fax_gateway.specs.Setups.{Setup}
 use Rattle.fax_gateway.specs.CallingLegs.{CallingLeg}
 use Rattle.fax_gateway.specs.CalledLegs.{CalledLeg, core_of}
-use Rattle.fax_gateway.specs.declared.called.CalledEndpoint.{CalledEndpoint}
+use Rattle.fax_gateway.specs.declared.caller_endpoint.CallerEndpoint.{CallerEndpoint}
 use Rattle.fax_gateway.specs.Reached.{CallingValue, IsCalled, IsCalling, answering_of, arrived_on}
 use Rattle.fax_gateway.specs.Watched.{called_acting, called_state, calling_acting, calling_state}
 
@@ -37,14 +37,14 @@ pub calling_acts : (setup : Setup) (leg : Option CallingLeg) (endpoint : Calling
 calling_acts setup leg endpoint now told r f = f (newest_slots (arrived_on leg)) (answering_of setup leg) r.core ∙ answering_acts setup leg now
 
 -- THE CALLED LEG
-no_job : CalledEndpoint → JobValue
+no_job : CallerEndpoint → JobValue
 no_job endpoint = record { call = 0; format = endpoint.caller.procedure.format; pages = [] }
 
-pub called_stands : (setup : Setup) (writes : Writing) (leg : Option CalledLeg) (endpoint : CalledEndpoint) → IsCalled setup writes leg endpoint → endpoint.caller.procedure.state ≡ called_state writes leg
+pub called_stands : (setup : Setup) (writes : Writing) (leg : Option CalledLeg) (endpoint : CallerEndpoint) → IsCalled setup writes leg endpoint → endpoint.caller.procedure.state ≡ called_state writes leg
 called_stands setup writes None endpoint r = (r.core (no_job endpoint)).follows.state
 called_stands setup writes (Some l) endpoint r = r.core.follows.state
 
-pub called_acts : (setup : Setup) (writes : Writing) (leg : Option CalledLeg) (endpoint : CalledEndpoint) (now : ℕ) (told : Option call_timers.ActingTimer) → IsCalled setup writes leg endpoint
+pub called_acts : (setup : Setup) (writes : Writing) (leg : Option CalledLeg) (endpoint : CallerEndpoint) (now : ℕ) (told : Option call_timers.ActingTimer) → IsCalled setup writes leg endpoint
     → ((writes : Writing) (job : JobValue) (heard : List Slot) (core : call_calls.CallerCore) → call.IsReached writes job heard core endpoint.caller → told ≡ call_watching.acting core now) → told ≡ called_acting writes leg now
 called_acts setup writes None endpoint now told r f = f writes (no_job endpoint) [] _ (r.core (no_job endpoint))
 called_acts setup writes (Some l) endpoint now told r f = f writes l.job (newest_slots l.arrived) (core_of writes l) r.core

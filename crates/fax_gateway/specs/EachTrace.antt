@@ -12,7 +12,7 @@ use Rattle.fax_answer.specs.Watching.{Telling}
 use Rattle.fax_gateway.specs.Asking.{asked_after}
 use Rattle.fax_gateway.specs.Watched.{HearsFromTold}
 use Rattle.fax_gateway.specs.Reached.{CallingValue, GatewayValue, HearsFrom, IsCalled, IsCalling, IsReachedBy}
-use Rattle.fax_gateway.specs.declared.called.CalledEndpoint.{CalledEndpoint}
+use Rattle.fax_gateway.specs.declared.caller_endpoint.CallerEndpoint.{CallerEndpoint}
 
 -- this is so of each setup, writing and trace that led to it
 abbrev pub EachTrace : GatewayValue → (Setup → Writing → List Event → Type 0) → Type 0
@@ -72,6 +72,6 @@ abbrev pub EachCallingLeg : CallingValue → (Setup → Option CallingLeg → Ty
 EachCallingLeg endpoint IsSo = (setup : Setup) (leg : Option CallingLeg)
     → IsCalling setup leg endpoint → IsSo setup leg
 
-abbrev pub EachCalledLeg : CalledEndpoint → (Setup → Writing → Option CalledLeg → Type 0) → Type 0
+abbrev pub EachCalledLeg : CallerEndpoint → (Setup → Writing → Option CalledLeg → Type 0) → Type 0
 EachCalledLeg endpoint IsSo = (setup : Setup) (writes : Writing) (leg : Option CalledLeg)
     → IsCalled setup writes leg endpoint → IsSo setup writes leg

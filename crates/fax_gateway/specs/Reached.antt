@@ -27,7 +27,7 @@ use Rattle.fax_call.specs.Reached as call
 use Rattle.fax_gateway.specs.Setups.{HasSettings, Setup}
 use Rattle.fax_gateway.specs.declared.settings.Settings.{Settings}
 use Rattle.fax_gateway.specs.declared.endpoint.Endpoint.{Endpoint}
-use Rattle.fax_gateway.specs.declared.called.CalledEndpoint.{CalledEndpoint}
+use Rattle.fax_gateway.specs.declared.caller_endpoint.CallerEndpoint.{CallerEndpoint}
 use Rattle.fax_gateway.specs.declared.given.Given as shown
 use Rattle.fax_gateway.specs.Events.{Event, FromCalling, Given, clock, rings}
 use Rattle.fax_gateway.specs.Legs.{sent}
@@ -138,7 +138,7 @@ IsCalledLeg setup (Some l) leg = IsLeg setup l.arrived l.given leg
 
 -- the call of the last job led to it
 pub record IsCalled (setup : Setup)
-    (writes : Writing) (leg : Option CalledLeg) (endpoint : CalledEndpoint) : Type 0 where
+    (writes : Writing) (leg : Option CalledLeg) (endpoint : CallerEndpoint) : Type 0 where
   pub core : IsCaller setup writes leg endpoint.caller
   pub on_leg : IsCalledLeg setup leg endpoint.leg
 
@@ -149,14 +149,14 @@ IsServed (Some job) procedure = IsJobOfCall procedure job
 
 -- a tick in the call of a job: what it leaves and gives
 pub record TicksOn (setup : Setup) (writes : Writing)
-    (l : CalledLeg) (now : ℕ) (given : Option (List ℕ)) (endpoint : CalledEndpoint) : Type 0 where
+    (l : CalledLeg) (now : ℕ) (given : Option (List ℕ)) (endpoint : CallerEndpoint) : Type 0 where
   pub called : IsCalled setup
       writes (Some (called_legs.with_tick (called_legs.calls writes l now) now l)) endpoint
   pub told : given ≡ called_legs.told_by setup l.given (called_legs.calls writes l now).given
 
 -- where there is a job its call begins, and the tick goes on in it
 abbrev pub Begins : Setup → Writing → Option CalledLeg
-    → Option JobValue → (now : ℕ) → (given : Option (List ℕ)) → (old new : CalledEndpoint) → Type 0
+    → Option JobValue → (now : ℕ) → (given : Option (List ℕ)) → (old new : CallerEndpoint) → Type 0
 Begins setup writes leg None now given old new = (given ≡ None) × (new ≡ old)
 Begins setup writes leg (Some job) now given old new = TicksOn setup
     writes (called_legs.begun_leg job (called_legs.core_left setup writes leg) now) now given new
@@ -194,7 +194,7 @@ pub record GatewayValue : Type 0 where
   pub clock : ℕ
   pub rings : ℕ
   pub calling : CallingValue
-  pub called : CalledEndpoint
+  pub called : CallerEndpoint
   pub book : Book
   pub spare : ℕ
   pub refusals : ℕ
@@ -237,7 +237,7 @@ pub record CallingHasRoom (endpoint : CallingValue) : Type 0 where
   pub packet : 1 ≤ endpoint.kept.spare
   pub datagram : most_answered < endpoint.leg.sender.spare
 
-pub record CalledHasRoom (endpoint : CalledEndpoint) : Type 0 where
+pub record CalledHasRoom (endpoint : CallerEndpoint) : Type 0 where
   pub packet : 1 ≤ endpoint.caller.spare
   pub datagram : most_octets < endpoint.leg.sender.spare
 
@@ -259,7 +259,7 @@ calling_alone endpoint = record {
   leg = leg_alone endpoint.leg;
 }
 
-abbrev pub called_alone : CalledEndpoint → CalledEndpoint
+abbrev pub called_alone : CallerEndpoint → CallerEndpoint
 called_alone endpoint =
     record { caller = record endpoint.caller { spare = 0 }; leg = leg_alone endpoint.leg }
 

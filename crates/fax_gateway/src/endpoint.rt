@@ -13,8 +13,8 @@ use std::alloc::Global;
 /// How many octets a packet of either leg has at most.
 pub(crate) const MOST_OCTETS: usize = 100;
 
-/// A receiver and a sender, which each call has anew.
-pub(crate) struct Endpoint {
+/// What numbers and reads the datagrams of a call on a leg, which each call has anew.
+pub struct Endpoint {
     pub receiver: Receiver,
     pub sender: Sender,
 }
@@ -44,7 +44,7 @@ impl Endpoint {
     }
 
     /// The same with the memory of its first datagram.
-    pub fn with_room(alloc: Global, redundancy: u8) -> Result<Self, NoMemory>
+    pub(crate) fn with_room(alloc: Global, redundancy: u8) -> Result<Self, NoMemory>
         requires { redundancy ≤ most_redundancy }
         ensures fresh { IfOk result
             (λ leg. (setup : Setup) → redundancy ≡ setup.redundancy → IsLeg setup [] [] leg) }
@@ -56,7 +56,7 @@ impl Endpoint {
     }
 
     /// Takes the memory of the next datagram, where its packet has at most so many octets. An `Err` changes nothing.
-    pub fn reserve(&mut self, octets: usize) -> Result<(), NoMemory>
+    pub(crate) fn reserve(&mut self, octets: usize) -> Result<(), NoMemory>
         requires { octets ≤ most_octets }
         ensures room { OnOk result (octets < self.new.sender.spare) }
         ensures reached { (setup : Setup) (arrived : List DatagramValue) (given : List (List ℕ))
@@ -68,7 +68,7 @@ impl Endpoint {
     }
 
     /// The octets of the datagram of the next packet, whose memory is reserved.
-    pub fn send(&mut self, packet: &[u8]) -> Octets
+    pub(crate) fn send(&mut self, packet: &[u8]) -> Octets
         requires short { length packet.now ≤ most_octets }
         requires room { length packet.now < self.old.sender.spare }
         ensures { (setup : Setup) (arrived : List DatagramValue) (given : List (List ℕ))
@@ -82,7 +82,7 @@ impl Endpoint {
     }
 
     /// The same of a packet that may be given.
-    pub fn send_if(&mut self, packet: Option<Octets>) -> Option<Octets>
+    pub(crate) fn send_if(&mut self, packet: Option<Octets>) -> Option<Octets>
         requires short { IfSome packet (λ packet. length packet ≤ most_octets) }
         requires room { IfSome packet (λ packet. length packet < self.old.sender.spare) }
         ensures { (setup : Setup) (arrived : List DatagramValue) (given : List (List ℕ))

@@ -23,8 +23,8 @@ ghost use Rattle.fax_gateway.specs.Watched.{called_acting, called_state, called_
 ghost use Rattle.fax_gateway.specs.EachTrace.{Advances, AdvancesByHearing, AdvancesByHearingTold, AdvancesByTick, EachTrace, OfBook, OfCalledLeg, OfCallingLeg, OfJobAsked, Remains};
 ghost use Rattle.fax_gateway.specs.Turns.{IsRefusedAt, Refuses, call_asked, call_if, call_of_rep, call_on, given_up_at, kept_at, kept_if, refused_if};
 
-use crate::called::CalledEndpoint;
-use crate::calling::CallingEndpoint;
+use crate::answerer_endpoint::AnswererEndpoint;
+use crate::caller_endpoint::CallerEndpoint;
 use crate::endpoint::Endpoint;
 use crate::fault::{PlaceFault, RingFault};
 use crate::given::{Given, Kept, RefusedPage};
@@ -49,8 +49,8 @@ pub struct Gateway<S: RowStore> {
     rings: u64,
     /// How many datagrams and ticks were refused for want of memory; the count stops at the greatest.
     refusals: u64,
-    calling: CallingEndpoint<S>,
-    called: CalledEndpoint,
+    calling: AnswererEndpoint<S>,
+    called: CallerEndpoint,
     jobs: Jobs<S>,
 }
 
@@ -141,8 +141,8 @@ impl<S: RowStore> Gateway<S> {
             → IsReachedBy setup writes [] gateway) }
         ensures pages { OnOk result (ArePages (pages_restored (map call_shown calls.items))) }
     {
-        let calling = CallingEndpoint::new(alloc, settings)?;
-        let called = CalledEndpoint::new(alloc, settings)?;
+        let calling = AnswererEndpoint::new(alloc, settings)?;
+        let called = CallerEndpoint::new(alloc, settings)?;
         let jobs = restored_jobs(alloc, calls)?;
         Ok(Gateway {
             alloc,
@@ -698,7 +698,7 @@ struct Served {
 /// Serves the calling leg in a tick, and the book hears of the page that is confirmed and of the call's end. The memory is
 /// reserved.
 fn serve_calling<S: RowStore>(
-    calling: &mut CallingEndpoint<S>,
+    calling: &mut AnswererEndpoint<S>,
     jobs: &mut Jobs<S>,
     now: u64,
 ) -> Served
@@ -791,7 +791,7 @@ fn confirm<S: RowStore>(jobs: &mut Jobs<S>, number: u32, found: Confirmed<S>)
 }
 
 /// Where a job is being sent and its call is over, it ends and is reported.
-fn end_job<S: RowStore>(jobs: &mut Jobs<S>, called: &CalledEndpoint) -> Option<Report>
+fn end_job<S: RowStore>(jobs: &mut Jobs<S>, called: &CallerEndpoint) -> Option<Report>
     ensures report { result ≡ report_if jobs.old.book.sending
         (outcome_of_rep called.now.caller.procedure) called.now.caller.procedure.counts.delivered }
     ensures ended { jobs.new.book ≡ ended_if jobs.old.book.sending (outcome_of_rep

@@ -5,9 +5,9 @@
 //! an answer say, in `TickReport`; what a gateway keeps of a trace, in `Reached`; what is told of ticks and turns, in `Turns`.
 #![tactic(auto)]
 
+mod answerer_endpoint;
 mod buffer;
-mod called;
-mod calling;
+mod caller_endpoint;
 mod driven;
 mod driver;
 mod endpoint;
@@ -23,9 +23,12 @@ mod settings;
 mod turn_report;
 mod wire;
 
+pub use answerer_endpoint::AnswererEndpoint;
 pub use buffer::Buffer;
+pub use caller_endpoint::CallerEndpoint;
 pub use driven::Driven;
 pub use driver::Driver;
+pub use endpoint::Endpoint;
 pub use engine::Engine;
 pub use fault::{PlaceFault, RingFault};
 pub use gateway::Gateway;

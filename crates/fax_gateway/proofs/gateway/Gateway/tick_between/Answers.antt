@@ -1,6 +1,6 @@
 use Rattle.std.proofs.Common.{◌≡◌, ℕ, max, Option, refl, sym, ◌∙◌, ap, subst}
 use Rattle.fax_jobs.specs.Books.{Book, taken}
-use Rattle.fax_gateway.specs.declared.called.CalledEndpoint.{CalledEndpoint}
+use Rattle.fax_gateway.specs.declared.caller_endpoint.CallerEndpoint.{CallerEndpoint}
 use Rattle.fax_gateway.specs.Events.{clock}
 use Rattle.fax_gateway.specs.CallingLegs.{CallingLeg, calling_leg, told_calling}
 use Rattle.fax_gateway.specs.CalledLegs.{CalledLeg}
@@ -17,7 +17,7 @@ returns-clause-ticked g c setup writes trace writing fresh r =
     let s = subst (λ (k : GatewayValue). IsReachedBy setup writes trace k) (sym c.self.view_is) r in
     let old : GatewayValue = record { settings = inside.settings; clock = inside.clock; rings = inside.rings; calling = inside.calling; called = inside.called; book = inside.jobs.book; spare = inside.jobs.spare; refusals = inside.refusals } in
     let left = c.end_job-report.new.jobs in
-    let endpoint : CalledEndpoint = c.begin-called.new.self in
+    let endpoint : CallerEndpoint = c.begin-called.new.self in
     let new : GatewayValue = record { settings = inside.settings; clock = c.read-moment.new.self; rings = inside.rings; calling = c.serve_calling-served.new.calling; called = endpoint; book = left.book; spare = left.spare; refusals = inside.refusals } in
     let leg : Option CallingLeg = calling_leg setup trace in
     let now_is : c.read-moment.result ≡ max at (clock trace) = c.read-moment.ensures.moment ∙ c.read-moment.ensures.later ∙ ap (λ (m : ℕ). max at m) s.at in

@@ -1,9 +1,0 @@
-use Rattle.std.proofs.Common.{sym, ◌∙◌, subst}
-use Rattle.fax_gateway.specs.Reached.{CallingValue, IsCalling}
-use Rattle.fax_gateway.proofs.Watched.{calling_stands}
-use Rattle.fax_gateway.proofs.calling.CallingEndpoint.state.Goals as goal
-
-pub returns : goal.returns
-returns g c setup leg r =
-    let s = subst (λ (k : CallingValue). IsCalling setup leg k) (sym c.self.view_is) r in
-    c.state.ensures ∙ calling_stands setup leg _ s
