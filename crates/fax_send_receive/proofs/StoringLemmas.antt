@@ -5,7 +5,8 @@ use Rattle.fax_pagestore.specs.Pages.{PageValue}
 use Rattle.fax_answer.specs.Sent.{pages_confirmed}
 use Rattle.fax_terminal.specs.declared.fault.TerminalFault.{TerminalFault}
 use Rattle.fax_terminal.specs.declared.fault.TerminalFault.TheVariants as terminal_faults
-use Rattle.fax_terminal.specs.Calls.{AreGiven, StoresConfirmed, StoresWholeCall, rung_at, stored_all}
+use Rattle.fax_terminal.specs.Calls.{StoresConfirmed, StoresWholeCall, rung_at}
+use Rattle.fax_terminal.specs.Stores.{AreGiven, stored_all}
 use Rattle.fax_send_receive.specs.declared.run_fault.RunFault.{RunFault}
 use Rattle.fax_send_receive.specs.Faults.{IsStoreFault}
 use Rattle.fax_send_receive.specs.Folders.{FileValue, IsAdded}

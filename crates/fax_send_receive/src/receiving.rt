@@ -15,7 +15,7 @@ use crate::sockets::{address_of, socket_at};
 use crate::udp_leg::{LastCall, Port, UdpLeg, await_call, keep_repeating};
 use crate::watch::Watch;
 use fax_gateway::Settings;
-use fax_terminal::{MOST_OCTETS, TerminalFault, receive_call};
+use fax_terminal::{MOST_OCTETS, TerminalFault, WireEnd, receive_call};
 use fax_wires::repeat::{RepeatPolicy, RepeatingWire};
 use std::alloc::Global;
 use std::net::Net;
@@ -89,11 +89,12 @@ fn answer_calls<'a, H: Clock, F: NamedFiles + Drop>(
         };
         pages.begin_call(options.naming)?;
         let wire = RepeatingWire::new(UdpLeg::new(port, begun.peer), options.repeat);
+        let mut end = WireEnd { wire };
         let first = &buffer[..begun.octets];
-        match receive_call(alloc, &mut pace, wire, first, pages, options.settings) {
-            Ok(wire) => {
+        match receive_call(alloc, &mut pace, &mut end, first, pages, options.settings) {
+            Ok(()) => {
                 last = Some(LastCall {
-                    wire,
+                    wire: end.wire,
                     peer: begun.peer,
                 });
             }

@@ -15,7 +15,7 @@ use crate::watch::Watch;
 use fax_gateway::Settings;
 use fax_jobs::{Outcome, Report};
 use fax_pagestore::{Coding, Format};
-use fax_terminal::{TerminalFault, send_job};
+use fax_terminal::{TerminalFault, WireEnd, send_job};
 use fax_wires::repeat::{RepeatPolicy, RepeatingWire};
 use std::alloc::Global;
 use std::net::{Net, SocketAddr, UdpSocket};
@@ -81,7 +81,8 @@ pub fn send_files<'a, H: Net + Clock, F: NamedFiles>(
     let port = Port::new(calling_socket(host, options, peer)?);
     let mut pace = ClockPace::new(host, watch, port.socket())?;
     let wire = RepeatingWire::new(UdpLeg::new(&port, peer), options.repeat);
-    match send_job(alloc, &mut pace, wire, &job, options.settings) {
+    let mut end = WireEnd { wire };
+    match send_job(alloc, &mut pace, &mut end, &job, options.settings) {
         Ok(sent) => {
             if sent.outcome != Outcome::Delivered {
                 port.tell(watch, options.to);

@@ -1,2 +1,5 @@
-pub mod ReceivingLemmas
-pub mod SendingLemmas
+pub mod AnsweringLemmas
+pub mod CallingLemmas
+pub mod EachCame
+mod EndLemmas
+mod WholeCalls

@@ -1,16 +1,25 @@
 //! A terminal that calls and sends pages.
-ghost use Rattle.std.specs.Prelude.{◌≡◌, IfOk, IfSome, OnOk};
+ghost use Rattle.std.specs.Prelude.{◌≡◌, [], Some, IfOk, IfSome, OnOk};
 ghost use Rattle.fax_call.specs.Following.{IsJobOfCall};
+ghost use Rattle.fax_call.specs.Writings.{Writing};
 ghost use Rattle.fax_jobs.specs.Jobs.{JobValue};
-ghost use Rattle.fax_gateway.specs.Setups.{AreAllowed};
-ghost use Rattle.fax_terminal.specs.Calls.{EachCallOut, IsInCall, StaysInCall, TellsCall, TicksOn};
+ghost use Rattle.fax_gateway.specs.CalledLegs.{hears};
+ghost use Rattle.fax_gateway.specs.Driving.{most_datagrams};
+ghost use Rattle.fax_gateway.specs.Reached.{IsCalled};
+ghost use Rattle.fax_gateway.specs.Setups.{AreAllowed, HasSettings, Setup};
+ghost use Rattle.fax_gateway.specs.Wires.{Grows};
+ghost use Rattle.fax_terminal.specs.Calls.{SendsJob, TellsCall, TellsLeg};
+ghost use Rattle.fax_terminal.specs.Ends.{traffic_of};
+ghost use Rattle.fax_terminal.specs.Terminals.{begins};
+ghost use Rattle.fax_terminal.specs.Turns.{CallerHears, CallerTurns, EachCall, EachCallOf};
 
+use crate::end::{End, MOST_OCTETS, WireEnd, hand_over};
 use crate::fault::TerminalFault;
-use crate::link::{Link, MOST_DATAGRAMS, MOST_OCTETS};
 use crate::pace::Pace;
+use crate::receiving::MOST_DATAGRAMS;
 use fax_bits::NoMemory;
-use fax_call::{Caller, State};
-use fax_gateway::Settings;
+use fax_call::Unwatched;
+use fax_gateway::{CallerEndpoint, Endpoint, Settings};
 use fax_jobs::{Job, Outcome};
 use fax_pagestore::RowStore;
 use fax_wires::repeat::TimedWire;
@@ -26,19 +35,18 @@ pub struct SentJob {
     pub delivered: u32,
 }
 
-/// A terminal that calls. Seen as its caller.
+/// A terminal that calls. Seen as its endpoint.
 #[derive(Drop)]
-pub struct SendingTerminal<W: TimedWire + Drop> {
-    caller: Caller,
-    link: Link<W>,
+pub struct SendingTerminal {
+    endpoint: CallerEndpoint,
 }
 
-impl<W: TimedWire + Drop> Model for SendingTerminal<W> {
-    ghost use Rattle.fax_call.specs.Reached.{Rep};
+impl Model for SendingTerminal {
+    ghost use Rattle.fax_gateway.specs.declared.caller_endpoint.CallerEndpoint.{CallerEndpoint};
 
-    ghost Value = { Rep };
+    ghost Value = { CallerEndpoint };
 
-    ghost view = { λ terminal. terminal.caller };
+    ghost view = { λ terminal. terminal.endpoint };
 }
 
 /// Calls over a wire, and sends the pages of a job, until the call is over and the wire has nothing to send again. An `Ok` tells
@@ -46,119 +54,124 @@ impl<W: TimedWire + Drop> Model for SendingTerminal<W> {
 pub fn send_job<S: RowStore, W: TimedWire + Drop, P: Pace>(
     alloc: Global,
     pace: &mut P,
-    wire: W,
+    end: &mut WireEnd<W>,
     job: &Job<S>,
     settings: Settings,
 ) -> Result<SentJob, TerminalFault>
     requires { AreAllowed settings }
-    ensures { IfOk result (TellsCall settings.preamble_ms job.now) }
+    ensures tells { IfOk result (TellsCall settings.preamble_ms job.now) }
+    ensures carried { IfOk result (SendsJob settings job.now
+        (traffic_of (W.known end.old.wire)) (traffic_of (W.known end.new.wire))) }
 {
     let Some(start) = pace.wait() else {
         return Err(TerminalFault::Clock);
     };
-    let mut terminal = SendingTerminal::new(alloc, wire, job, settings, start)?;
+    let mut terminal = SendingTerminal::new(alloc, job, settings, start)?;
     let mut told = 0;
     for _ in 0..u64::MAX {
         let Some(now) = pace.wait() else {
             return Err(TerminalFault::Clock);
         };
-        terminal.turn(job, now)?;
+        end.wire.go_on(now);
+        terminal.turn(end, job, now)?;
         let delivered = terminal.delivered();
         if delivered != told {
             pace.tell(delivered);
             told = delivered;
         }
-        if let Some(sent) = terminal.sent() {
+        if end.wire.next_due().is_none()
+            && let Some(sent) = terminal.sent()
+        {
             return Ok(sent);
         }
     }
     Err(TerminalFault::Clock)
 }
 
-impl<W: TimedWire + Drop> SendingTerminal<W> {
-    /// A terminal whose call of this job begins at this moment.
+impl SendingTerminal {
+    /// A terminal whose call of this job begins at this moment, with these settings.
     pub fn new<S: RowStore>(
         alloc: Global,
-        wire: W,
         job: &Job<S>,
         settings: Settings,
         now: u64,
     ) -> Result<Self, NoMemory>
         requires { AreAllowed settings }
-        ensures job { IfOk result (λ terminal. IsJobOfCall terminal.procedure job.now) }
-        ensures call { IfOk result (IsInCall settings.preamble_ms job.now) }
+        ensures job { IfOk result (λ terminal. IsJobOfCall terminal.caller.procedure job.now) }
+        ensures begun { IfOk result
+            (λ terminal. (setup : Setup) (writes : Writing) → HasSettings setup settings
+            → IsCalled setup writes (Some (begins setup writes job.now now)) terminal) }
     {
-        let link = Link::new(alloc, wire, settings.redundancy)?;
-        let mut caller = Caller::new(alloc, settings.preamble_ms);
-        // what it ensures of the job is that it has a page
-        let _ = job.pages();
-        caller.start(job.format(), job.page_count(), now);
-        Ok(SendingTerminal { caller, link })
+        let leg = Endpoint::new(alloc, settings.redundancy)?;
+        let mut endpoint = CallerEndpoint::new(alloc, settings)?;
+        endpoint.start(job, leg, now);
+        Ok(SendingTerminal { endpoint })
     }
 
-    /// It hears what has come, time goes on, and it sends what it has to. The job is the one of the call.
-    pub fn turn<S: RowStore>(&mut self, job: &Job<S>, now: u64) -> Result<(), NoMemory>
-        requires { IsJobOfCall self.old.procedure job.now }
-        ensures job { IsJobOfCall self.new.procedure job.now }
-        ensures ticked { OnOk result (TicksOn job.now now self.old self.new) }
+    /// Its turn: it hears what has come over its end, time goes on, and it sends what it has to. The job is the one of the call.
+    pub fn turn<S: RowStore, E: End>(
+        &mut self,
+        end: &mut E,
+        job: &Job<S>,
+        now: u64,
+    ) -> Result<(), NoMemory>
+        requires { IsJobOfCall self.old.caller.procedure job.now }
+        ensures job { OnOk result (IsJobOfCall self.new.caller.procedure job.now) }
+        ensures turned { OnOk result (EachCallOf job.now self.old (λ setup writes l.
+            CallerTurns setup writes l now (E.told end.old) (E.told end.new) self.new)) }
     {
-        self.link.go_on(now);
-        self.hear(now)?;
-        if let Some(packet) = self.caller.tick(job, now)? {
-            self.link.send(packet.as_slice())?;
-        }
+        self.hear(end, now)?;
+        self.endpoint.reserve()?;
+        let datagram = self.endpoint.tick(job, now)?;
+        hand_over(end, datagram);
         Ok(())
     }
 
     /// How many pages the called machine confirmed so far.
     pub fn delivered(&self) -> u32
-        ensures { result ≡ self.now.procedure.counts.delivered }
+        ensures { result ≡ self.now.caller.procedure.counts.delivered }
     {
-        self.caller.delivered()
+        self.endpoint.delivered()
     }
 
-    /// What is told of the call, where it is over and the wire has nothing to send again.
+    /// What is told of the call, where it is over.
     pub fn sent(&self) -> Option<SentJob>
-        ensures { EachCallOut self.now (λ pause job. IfSome result (TellsCall pause job)) }
+        ensures { EachCall self.now (λ setup writes l. IfSome result (TellsLeg writes l)) }
     {
-        if self.caller.state() != State::Idle || !self.link.is_quiet() {
-            return None;
-        }
-        match self.caller.outcome() {
-            Some(outcome) => Some(SentJob {
-                outcome,
-                delivered: self.caller.delivered(),
-            }),
-            None => None,
-        }
+        let outcome = self.endpoint.outcome()?;
+        Some(SentJob {
+            outcome,
+            delivered: self.delivered(),
+        })
     }
 
     /// It hears what has come.
-    fn hear(&mut self, now: u64) -> Result<(), NoMemory>
-        ensures job { (job : JobValue)
-            → IsJobOfCall self.old.procedure job → IsJobOfCall self.new.procedure job }
-        ensures call { StaysInCall self.old self.new }
+    fn hear<E: End>(&mut self, end: &mut E, now: u64) -> Result<(), NoMemory>
+        ensures job { (job : JobValue) → IsJobOfCall self.old.caller.procedure job
+            → IsJobOfCall self.new.caller.procedure job }
+        ensures sent { Grows [] (E.told end.old).sent (E.told end.new).sent }
+        ensures heard { OnOk result (EachCall self.old (λ setup writes l.
+            CallerHears setup writes l now most_datagrams (E.told end.old) (E.told end.new)
+            self.new)) }
     {
         let mut buffer = [0; MOST_OCTETS];
-        for _ in 0..MOST_DATAGRAMS {
-            let Some(count) = self.link.receive(buffer.as_mut_slice()) else {
-                return Ok(());
-            };
-            self.hear_one(&buffer[..count], now)?;
+        for _i in 0..MOST_DATAGRAMS {
+            match end.receive(buffer.as_mut_slice()) {
+                None => return Ok(()),
+                Some(count) => self.hear_one(&buffer[..count], now)?,
+            }
         }
         Ok(())
     }
 
     /// It hears a datagram.
     fn hear_one(&mut self, octets: &[u8], now: u64) -> Result<(), NoMemory>
-        ensures job { (job : JobValue)
-            → IsJobOfCall self.old.procedure job → IsJobOfCall self.new.procedure job }
-        ensures call { StaysInCall self.old self.new }
+        ensures job { (job : JobValue) → IsJobOfCall self.old.caller.procedure job
+            → IsJobOfCall self.new.caller.procedure job }
+        ensures heard { OnOk result (EachCall self.old (λ setup writes l.
+            IsCalled setup writes (Some (hears writes octets.now now l)) self.new)) }
     {
-        let Some(decided) = self.link.read(octets) else {
-            return Ok(());
-        };
-        self.caller.slots(&decided, now)?;
+        self.endpoint.hear(octets, now, &mut Unwatched)?;
         Ok(())
     }
 }

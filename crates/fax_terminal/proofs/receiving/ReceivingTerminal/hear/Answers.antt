@@ -1,21 +1,32 @@
-use Rattle.std.proofs.Common.{sym, subst}
-use Rattle.fax_answer.specs.Reached.{Rep}
-use Rattle.fax_terminal.specs.Calls.{IsReceiving}
+use Rattle.std.proofs.Common.{[], arith}
+use Rattle.fax_gateway.specs.Driving.{most_datagrams}
+use Rattle.fax_gateway.proofs.DrivingLemmas.{grows_more, grows_none}
+use Rattle.fax_terminal.proofs.AnsweringLemmas.{answerer_hears_all, answerer_hears_more, answerer_hears_none}
 use Rattle.fax_terminal.proofs.receiving.ReceivingTerminal.hear.Goals as goal
 
-pub loop-init : goal.loop-init
-loop-init g c = λ pause pages is. is
+pub loop-i-init : goal.loop-i-init
+loop-i-init g c = record { sent = grows_none _; heard = λ setup leg r. answerer_hears_none setup leg c.args.now _ _ r }
 
-pub returns-in_default : goal.returns-in_default
-returns-in_default g c = λ pause pages is. subst (λ (k : Rep). IsReceiving pause pages k) (sym c.self.view_is) (c.loop.invariant pause pages is)
+pub loop-i-preserved : goal.loop-i-preserved
+loop-i-preserved g c = record {
+  sent = grows_more [] [] _ _ _ c.loop-i.invariant.sent c.in-Some.ensures.sent;
+  heard = λ setup leg r.
+      answerer_hears_more setup leg c.args.now c.loop-i._i _ _ _ _ _ _ c.in-Some.ensures.received (λ k. c.in_ok-hear_one-in-Some.ensures setup k) (c.loop-i.invariant.heard setup leg r);
+}
 
-pub returns-in_err-hear_one : goal.returns-in_err-hear_one
-returns-in_err-hear_one g c = λ pause pages is.
-    c.in_err-hear_one.ensures pause pages (subst (λ (k : Rep). IsReceiving pause pages k) (sym c.self.view_is) (c.loop.invariant pause pages is))
+pub returns-in-None-clause-sent : goal.returns-in-None-clause-sent
+returns-in-None-clause-sent g c = grows_more [] [] _ _ _ c.loop-i.invariant.sent c.in-None.ensures.sent
 
-pub loop-preserved : goal.loop-preserved
-loop-preserved g c = λ pause pages is.
-    c.in_ok-hear_one.ensures pause pages (subst (λ (k : Rep). IsReceiving pause pages k) (sym c.self.view_is) (c.loop.invariant pause pages is))
+pub returns-in-None-clause-heard : goal.returns-in-None-clause-heard
+returns-in-None-clause-heard g c = λ setup leg r.
+    answerer_hears_all setup leg c.args.now c.loop-i._i most_datagrams _ _ _ _ (omega (arith, c.loop-i-test.true)) c.in-None.ensures.received (c.loop-i.invariant.heard setup leg r)
 
-pub returns : goal.returns
-returns g c = c.loop.invariant
+pub returns-in_err-hear_one-in-Some-clause-sent : goal.returns-in_err-hear_one-in-Some-clause-sent
+returns-in_err-hear_one-in-Some-clause-sent g c = grows_more [] [] _ _ _ c.loop-i.invariant.sent c.in-Some.ensures.sent
+
+pub returns-clause-heard : goal.returns-clause-heard
+returns-clause-heard g c = λ setup leg r.
+    answerer_hears_all setup leg c.args.now c.loop-i._i most_datagrams _ _ _ _ (omega (arith, c.loop-i.auto._i-end)) (grows_none _) (c.loop-i.invariant.heard setup leg r)
+
+pub returns-clause-sent : goal.returns-clause-sent
+returns-clause-sent g c = c.loop-i.invariant.sent

@@ -1,9 +1,11 @@
-use Rattle.std.proofs.Common.{sym, subst}
-use Rattle.fax_answer.specs.Reached.{Rep}
-use Rattle.fax_terminal.specs.Calls.{IsReceiving}
-use Rattle.fax_terminal.proofs.ReceivingLemmas.{IsReceiving-heard}
+use Rattle.std.proofs.Common.{Some, refl, sym, subst}
+use Rattle.fax_terminal.specs.Terminals.{rung_once}
+use Rattle.fax_terminal.specs.Turns.{IsAnswering, ReceivingValue}
+use Rattle.fax_terminal.proofs.AnsweringLemmas.{listens}
 use Rattle.fax_terminal.proofs.receiving.ReceivingTerminal.hear_one.Goals as goal
 
 pub returns : goal.returns
-returns g c = λ pause pages is.
-    IsReceiving-heard pause pages _ c.args.now _ _ c.in_ok-slots.ensures.heard (subst (λ (k : Rep). IsReceiving pause pages k) (sym c.self.view_is) is)
+returns g c = λ setup leg r.
+    let l = rung_once setup c.args.now leg in
+    let rung = subst (λ (k : ReceivingValue). IsAnswering setup (Some l) k) (sym c.self.view_is) (c.in_ok-ring_once.ensures setup leg r) in
+    listens setup l c.args.now c.args.octets.now _ _ refl refl (c.in_ok-hear.ensures.heard setup (Some l) rung.calling).hears rung
