@@ -13,7 +13,7 @@ use Rattle.fax_gateway.specs.Reached.{heard_on, ticked_on}
 use Rattle.fax_gateway.specs.BothLegs.{in_tick}
 use Rattle.fax_gateway.specs.Traces.{IsTrace}
 use Rattle.fax_loop.specs.Exchanges.{AreRounds, Round, answerer_after, moment_after}
-use Rattle.fax_loop.specs.Machines.{AreCame, ReadDatagram, called_turned, called_with, rung_once}
+use Rattle.fax_terminal.specs.Terminals.{AreCame, ReadDatagram, called_turned, called_with, rung_once}
 
 -- before the ring there was none
 abbrev Unrung : Option CallingLeg → ℕ → Type 0

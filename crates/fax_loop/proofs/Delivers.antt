@@ -46,7 +46,7 @@ use Rattle.fax_gateway.proofs.Unplaced.{begun_placed}
 use Rattle.fax_udptl.specs.Sending.{AreShort}
 use Rattle.fax_loop.specs.Exchanges.{AreRounds, Round, answerer_after, caller_after, moment_after, reported, trace_after}
 use Rattle.fax_loop.specs.Faithful.{AreCarried, ConfirmsIfDelivered, arrived_by}
-use Rattle.fax_loop.specs.Machines.{pages_on}
+use Rattle.fax_terminal.specs.Terminals.{pages_on}
 use Rattle.fax_loop.proofs.AnswererTrace.{IsFollowed, answerer_followed}
 use Rattle.fax_loop.proofs.CalledHears.{HasHeard, called_heard}
 use Rattle.fax_loop.proofs.EachLeg.{IfLeg}

@@ -1,5 +1,6 @@
 -- An exchange, round by round.
-use Rattle.std.proofs.Common.{◌≡◌, ◌↔◌, ℕ, ◌+◌, ◌*◌, ◌<◌, inl, inr, suc, add-one, is_some, Bool, true, false, IsTrue, List, [], ◌∷◌, ◌++◌, length, reverse, Option, Some, None, IsSome, refl, sym, ◌∙◌, ap, subst, arith}
+use Rattle.std.proofs.Common.{◌≡◌, ◌↔◌, ℕ, ◌+◌, ◌*◌, ◌<◌, inl, inr, suc, add-one, is_some, Bool, true, false, IsTrue, List, [], ◌∷◌, ◌++◌, length, reverse, Option, Some, None, IsSome, Ok, refl, sym, ◌∙◌, ap, subst, arith}
+use Rattle.std.proofs.lemmas.List.{reverse-append}
 use Rattle.fax_pagestore.specs.Pages.{PageValue}
 use Rattle.fax_jobs.specs.Jobs.{JobValue}
 use Rattle.fax_jobs.specs.declared.report.Report.{Report}
@@ -9,12 +10,24 @@ use Rattle.fax_gateway.specs.Events.{Ring}
 use Rattle.fax_gateway.specs.Driving.{Entry, Happens, HasMade, IsTurn, failed_in_a_row, most_failed, receipts}
 use Rattle.fax_gateway.specs.Reached.{IsReachedBy}
 use Rattle.fax_gateway.proofs.DrivingLemmas.{carries_more, carries_none, grows_more, grows_none, has_failed, reached_more}
+use Rattle.fax_terminal.specs.Stores.{pages_of}
+use Rattle.fax_terminal.specs.Turns.{AnswererTurned, CallerTurns}
 use Rattle.fax_loop.specs.declared.exchange.Parties.{Parties}
-use Rattle.fax_loop.specs.Machines.{octets_of}
+use Rattle.fax_terminal.specs.Terminals.{octets_of, pages_on}
 use Rattle.fax_loop.specs.Exchanges.{CarriesRounds, IsPlayed, Lines, Round, answerer_after, caller_after, log_after, moment_after, most_rounds, reported, trace_after}
-use Rattle.fax_loop.specs.Rep.{AnswererTurns, CallerTurns, HasEnded, HasGone, HasPlayed, caller_of}
-use Rattle.fax_loop.proofs.AnswererLemmas.{answerer_sends}
-use Rattle.fax_loop.proofs.CallerLemmas.{caller_sends}
+use Rattle.fax_loop.specs.Rep.{HasEnded, HasGone, HasPlayed}
+use Rattle.fax_terminal.proofs.AnsweringLemmas.{answerer_sends, called_turned-pages}
+use Rattle.fax_terminal.proofs.CallingLemmas.{caller_sends, calling_with-job}
+
+-- the job is that of the call
+pub caller_after-job : (setup : Setup) (writes : Writing) (job : JobValue) (rounds : List Round) → (caller_after setup writes job rounds).job ≡ job
+caller_after-job setup writes job [] = refl
+caller_after-job setup writes job (round ∷ rounds) = calling_with-job writes (moment_after rounds) round.calling (caller_after setup writes job rounds) ∙ caller_after-job setup writes job rounds
+
+-- the pages that are kept are one more, where one was confirmed
+pages_kept : (page : Option PageValue) (pages : List PageValue) → reverse (pages ++ pages_of page) ≡ pages_of page ++ reverse pages
+pages_kept None pages = reverse-append pages []
+pages_kept (Some page) pages = reverse-append pages (page ∷ [])
 
 -- nothing was carried yet
 pub carried_none : (setup : Setup) (writes : Writing) (job : JobValue) (lines : Lines) → CarriesRounds setup writes job [] lines lines
@@ -34,13 +47,15 @@ moment_is rounds n now many low is = omega arith
 pub round_more : (setup : Setup) (writes : Writing) (job : JobValue) (rounds : List Round) (now : ℕ) (before a b : Lines) (old new : Parties) (turn : List Entry)
     → now ≡ moment_after rounds → length rounds < most_rounds → reported setup writes rounds ≡ None → failed_in_a_row (receipts (log_after rounds)) < most_failed
     → HasPlayed setup writes job rounds before a old
-    → CallerTurns setup writes (caller_after setup writes job rounds) now a.caller b.caller (caller_of new.caller)
+    → CallerTurns setup writes (caller_after setup writes job rounds) now a.caller b.caller new.caller
     → IsTurn now turn → Happens setup writes turn (trace_after rounds) new.gateway a.wire b.wire → HasMade (turn ++ log_after rounds) new.driver
-    → AnswererTurns setup (answerer_after setup rounds) now a.answerer b.answerer new.answerer
+    → {K : Type 0} (keeps : PageValue → Bool → K → K → Type 0) (first last : K) (page : Option PageValue) → AnswererTurned keeps (Ok page) setup (answerer_after setup rounds) now a.answerer b.answerer first last new.answerer
+    → new.confirmed.items ≡ old.confirmed.items ++ pages_of page
     → (round : Round) × (round.gateway ≡ turn) × HasPlayed setup writes job (round ∷ rounds) before b new
-round_more setup writes job rounds now before a b old new turn at few unreported goes p calling turned happens made called =
-    let c = subst (λ n. CallerTurns setup writes (caller_after setup writes job rounds) n a.caller b.caller (caller_of new.caller)) at calling in
-    let d = subst (λ n. AnswererTurns setup (answerer_after setup rounds) n a.answerer b.answerer new.answerer) at called in
+round_more setup writes job rounds now before a b old new turn at few unreported goes p calling turned happens made {K} keeps first last page called kept =
+    let c = subst (λ n. CallerTurns setup writes (caller_after setup writes job rounds) n a.caller b.caller new.caller) at calling in
+    let (d, page_is) = subst (λ n. AnswererTurned keeps (Ok page) setup (answerer_after setup rounds) n a.answerer b.answerer first last new.answerer) at called in
+    let leg = answerer_after setup rounds in
     let round : Round = record { calling = c.came; gateway = turn; called = d.came } in (
       round,
       refl,
@@ -53,6 +68,9 @@ round_more setup writes job rounds now before a b old new turn at few unreported
         driver = made;
         caller = c.called;
         answerer = d.answering;
+        pages_are =
+            ap reverse kept ∙ pages_kept page old.confirmed.items ∙ ap (λ (pages : List PageValue). pages_of page ++ pages) p.pages_are ∙ ap (λ (o : Option PageValue). pages_of o ++ pages_on leg) page_is
+            ∙ sym (called_turned-pages setup (moment_after rounds) d.came leg);
         carried = record {
           came_to_caller = grows_more _ c.came before.caller.received a.caller.received b.caller.received p.carried.came_to_caller c.received;
           caller_sent = caller_sends setup writes (moment_after rounds) c.came (caller_after setup writes job rounds) before.caller a.caller b.caller p.carried.caller_sent c.sent;
@@ -95,7 +113,7 @@ ended_last setup writes job count goes_on before after parties last g = record {
 -- how it ended
 pub played_ended : (setup : Setup) (writes : Writing) (job : JobValue) (before after : Lines) (parties : Parties) (report : Option Report) (pages : List PageValue)
     → ((rounds : List Round) → IsReachedBy setup writes (trace_after rounds) parties.gateway → report ≡ reported setup writes rounds)
-    → pages ≡ parties.answerer.confirmed.items → HasEnded setup writes job before after parties → IsPlayed setup writes job before after report pages
+    → pages ≡ parties.confirmed.items → HasEnded setup writes job before after parties → IsPlayed setup writes job before after report pages
 played_ended setup writes job before after parties report pages told same e = record {
   rounds = e.rounds;
   are_rounds = e.played.are_rounds;
@@ -103,7 +121,7 @@ played_ended setup writes job before after parties report pages told same e = re
   trace = e.played.gateway.is_trace;
   carried = e.played.carried;
   report_is = told e.rounds e.played.gateway;
-  pages_are = ap reverse same ∙ e.played.answerer.pages_are;
+  pages_are = ap reverse same ∙ e.played.pages_are;
 }
 
 none : (o : Option Report) → is_some o ≡ false → o ≡ None

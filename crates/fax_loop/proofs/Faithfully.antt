@@ -22,7 +22,7 @@ use Rattle.fax_gateway.specs.Traces.{IsTrace}
 use Rattle.fax_gateway.proofs.SentPages.{leg_confirms_signals}
 use Rattle.fax_loop.specs.Exchanges.{AreRounds, Round, answerer_after, caller_after, moment_after, trace_after}
 use Rattle.fax_loop.specs.Faithful.{AreCarried, AreThePage, ConfirmsThePage, given_by}
-use Rattle.fax_loop.specs.Machines.{pages_on}
+use Rattle.fax_terminal.specs.Terminals.{pages_on}
 use Rattle.fax_loop.proofs.AnswererTrace.{IsFollowed, answerer_followed}
 use Rattle.fax_loop.proofs.EachLeg.{RingsFirst}
 use Rattle.fax_loop.proofs.OneCall.{IsTicked, IsTurned, OnlyComes, after_is, is_turned}

@@ -21,14 +21,14 @@ use Rattle.fax_gateway.specs.Reached.{given_on}
 use Rattle.fax_gateway.specs.Traces.{IsTrace}
 use Rattle.fax_gateway.specs.Wires as wires
 use Rattle.fax_gateway.specs.Wires.{Grows, HandedDatagram, Receipt}
-use Rattle.fax_loop.specs.Ends.{handed}
+use Rattle.fax_terminal.specs.Ends.{handed}
 use Rattle.fax_loop.specs.Exchanges.{AreRounds, CarriesRounds, IsOver, Round, answerer_after, caller_after, log_after, moment_after, reported, trace_after}
 use Rattle.fax_loop.specs.GoesOn as going
 use Rattle.fax_loop.specs.GoesOn.{GoesOn, IsLinkedSoFar, LinksArePlayed, LinksBegin, LinksGoOn, by_answerer, by_caller, by_gateway, lines_after}
 use Rattle.fax_loop.specs.Links.{AreLinked, AreLinkedBack, came_called, came_calling, handed_called, most_near}
-use Rattle.fax_loop.specs.Machines.{AreCame, ReadDatagram, called_turned, called_with, calling_turned, calling_with, datagrams_of, octets_of, pages_on, rung_once}
-use Rattle.fax_loop.proofs.AnswererLemmas.{called_with-given, datagrams_of-ticked}
-use Rattle.fax_loop.proofs.CallerLemmas as caller
+use Rattle.fax_terminal.specs.Terminals.{AreCame, ReadDatagram, called_turned, called_with, calling_turned, calling_with, datagrams_of, octets_of, pages_on, rung_once}
+use Rattle.fax_terminal.proofs.AnsweringLemmas.{called_with-given, datagrams_of-ticked}
+use Rattle.fax_terminal.proofs.CallingLemmas as caller
 use Rattle.fax_loop.proofs.OneCall as one
 use Rattle.fax_loop.proofs.OneCall.{AreQuiet, after_is, quiet_both, quiet_sent, receives_quiet}
 

@@ -1,9 +1,7 @@
 pub mod AnswerLemmas
-pub mod AnswererLemmas
 pub mod AnswererTrace
 pub mod Arrived
 pub mod CalledHears
-pub mod CallerLemmas
 pub mod Delivers
 pub mod EachLeg
 pub mod ExchangeLemmas

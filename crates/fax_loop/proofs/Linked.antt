@@ -12,7 +12,7 @@ use Rattle.fax_gateway.specs.Legs.{sent}
 use Rattle.fax_gateway.proofs.Fitting.{sent_back}
 use Rattle.fax_loop.specs.Faithful.{AreCarried}
 use Rattle.fax_loop.specs.Links.{most_near}
-use Rattle.fax_loop.specs.Machines.{datagrams_of}
+use Rattle.fax_terminal.specs.Terminals.{datagrams_of}
 
 -- ---- datagrams among others
 abbrev pub IsIn : List (List ℕ) → List ℕ → Type 0

@@ -20,7 +20,7 @@ use Rattle.fax_gateway.specs.Wires.{Grows, Receipt}
 use Rattle.fax_loop.specs.Exchanges.{IsExchange, IsPlayed, Lines, Round, answerer_after, caller_after, log_after, moment_after, trace_after}
 use Rattle.fax_loop.specs.Faithful.{AreCarried, AreHonest, arrived_by, given_by}
 use Rattle.fax_loop.specs.Links.{AreLinked, AreLinkedBack, ConfirmsThePageOver, IsDelivered, IsFaithful, came_called, came_calling, handed_called, most_near}
-use Rattle.fax_loop.specs.Machines.{datagrams_of, octets_of, pages_on}
+use Rattle.fax_terminal.specs.Terminals.{datagrams_of, octets_of, pages_on}
 use Rattle.fax_loop.proofs.AnswererTrace.{answerer_followed}
 use Rattle.fax_loop.proofs.Arrived.{answerer_read, called_leg_read, gateway_read}
 use Rattle.fax_loop.proofs.Delivers.{confirms_if_delivered, none_told}

@@ -21,14 +21,14 @@ use Rattle.fax_gateway.specs.Reports.{JobsHaveStates, report_list, reports_given
 use Rattle.fax_gateway.specs.BothLegs.{BothLegs, begins_next, book_of, both_legs, heard_in_tick, in_tick, leg_of, sends, sends_if}
 use Rattle.fax_gateway.specs.Traces.{IsTrace}
 use Rattle.fax_gateway.specs.Wires.{HandedDatagram}
-use Rattle.fax_loop.specs.Ends.{handed}
+use Rattle.fax_terminal.specs.Ends.{handed}
 use Rattle.fax_loop.specs.Exchanges.{AreRounds, Round, log_after, moment_after, trace_after}
 use Rattle.fax_loop.specs.Faithful.{given_by}
 use Rattle.fax_loop.specs.Links.{handed_called}
-use Rattle.fax_loop.specs.Machines.{datagrams_of}
+use Rattle.fax_terminal.specs.Terminals.{datagrams_of}
 use Rattle.fax_gateway.proofs.DrivingLemmas.{sends_no_event}
-use Rattle.fax_loop.proofs.CallerLemmas.{datagrams_of-given}
-use Rattle.fax_loop.proofs.EachLeg.{hears_each}
+use Rattle.fax_terminal.proofs.CallingLemmas.{datagrams_of-given}
+use Rattle.fax_terminal.proofs.EachCame.{hears_each}
 
 -- ---- A CALL THAT IS OVER WAS REPORTED
 abbrev HasReport : Option CalledLeg → List Report → Type 0

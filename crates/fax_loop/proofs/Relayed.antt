@@ -28,8 +28,9 @@ use Rattle.fax_gateway.proofs.SentPages.{leg_confirms_signals, leg_hears_sent_fr
 use Rattle.fax_loop.specs.Faithful.{AreCarried}
 use Rattle.fax_gateway.proofs.Chained.{KeptLeg, hears_kept, kept_leg, later_kept, turned, with_tick_kept}
 use Rattle.fax_loop.specs.Exchanges.{Round, caller_after, moment_after}
-use Rattle.fax_loop.specs.Machines.{calling_with}
-use Rattle.fax_loop.proofs.EachLeg.{IfLeg, RingsFirst, any_back, came_each, leg_each}
+use Rattle.fax_terminal.specs.Terminals.{calling_with}
+use Rattle.fax_terminal.proofs.EachCame.{came_each}
+use Rattle.fax_loop.proofs.EachLeg.{IfLeg, RingsFirst, any_back, leg_each}
 use Rattle.fax_loop.proofs.OnePage.{Accepts, AreAll, Gives, IsThe, accepts_the_page}
 
 -- ---- THE MACHINE THAT CALLS gives what the call of its job gives

@@ -1,7 +1,7 @@
 -- What sockets brought, as an end tells it.
 use Rattle.std.proofs.Common.{◌≡◌, ℕ, List, [], ◌∷◌, ◌++◌, Option, Some, None, option_map, Result, Ok, refl, ◌∙◌, ap, subst}
 use Rattle.fax_gateway.specs.Wires.{Grows}
-use Rattle.fax_loop.specs.Ends.{brought}
+use Rattle.fax_terminal.specs.Ends.{brought}
 use Rattle.fax_loop.specs.Traffic.{Brought, brought_by, octets_brought}
 
 both_octets : (newer older : List Brought) → octets_brought (newer ++ older) ≡ octets_brought newer ++ octets_brought older

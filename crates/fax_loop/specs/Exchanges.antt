@@ -16,8 +16,8 @@ use Rattle.fax_gateway.specs.CalledLegs.{CalledLeg}
 use Rattle.fax_gateway.specs.Reached.{given_on}
 use Rattle.fax_gateway.specs.BothLegs.{book_of, both_legs}
 use Rattle.fax_gateway.specs.Traces.{IsTrace}
-use Rattle.fax_loop.specs.Ends.{EndTraffic}
-use Rattle.fax_loop.specs.Machines.{AreCame, ReadDatagram, begins, called_turned, calling_turned, datagrams_of, octets_of, pages_on}
+use Rattle.fax_terminal.specs.Ends.{EndTraffic}
+use Rattle.fax_terminal.specs.Terminals.{AreCame, ReadDatagram, begins, called_turned, calling_turned, datagrams_of, octets_of, pages_on}
 
 -- A round: what came to the machine that calls, the log of the gateway's turn, and what came to the machine that is called
 pub record Round : Type 0 where
@@ -34,7 +34,7 @@ most_rounds = 300000
 
 -- ---- after rounds: the machines, the log of the gateway's turns, and its trace, which begins with a ring at moment 0
 abbrev pub caller_after : Setup → Writing → JobValue → List Round → CalledLeg
-caller_after setup writes job [] = begins setup writes job
+caller_after setup writes job [] = begins setup writes job 0
 caller_after setup writes job (round ∷ earlier) = calling_turned
     writes (moment_after earlier) round.calling (caller_after setup writes job earlier)
 

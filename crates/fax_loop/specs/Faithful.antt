@@ -16,7 +16,7 @@ use Rattle.fax_gateway.specs.Setups.{Setup}
 use Rattle.fax_gateway.specs.BothLegs.{both_legs}
 use Rattle.fax_gateway.specs.Traces.{IsTrace}
 use Rattle.fax_loop.specs.Exchanges.{AreRounds, Round, answerer_after, caller_after, reported, trace_after}
-use Rattle.fax_loop.specs.Machines.{pages_on}
+use Rattle.fax_terminal.specs.Terminals.{pages_on}
 
 -- The datagrams that came in a call are those of the packets that were given at the other end, by an honest schedule.
 pub record AreCarried (given : List (List ℕ)) (arrived : List DatagramValue) : Type 0 where

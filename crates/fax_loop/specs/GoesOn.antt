@@ -12,7 +12,7 @@ use Rattle.fax_gateway.specs.Reached.{given_on}
 use Rattle.fax_gateway.specs.Traces.{IsTrace}
 use Rattle.fax_loop.specs.Exchanges.{AreRounds, CarriesRounds, IsOver, IsPlayed, Lines, Round, answerer_after, caller_after, log_after, moment_after, trace_after}
 use Rattle.fax_loop.specs.Links.{AreLinked, AreLinkedBack, came_called, came_calling, handed_called, most_near}
-use Rattle.fax_loop.specs.Machines.{ReadDatagram, calling_turned, datagrams_of, octets_of}
+use Rattle.fax_terminal.specs.Terminals.{ReadDatagram, calling_turned, datagrams_of, octets_of}
 
 -- what lines tell after these rounds that tell all that went over them in these
 abbrev pub lines_after : Setup → Writing → JobValue → List Round → Lines

@@ -5,7 +5,7 @@ use Rattle.fax_jobs.specs.Books.{job_of}
 use Rattle.fax_jobs.specs.declared.report.Report.{Report}
 use Rattle.fax_gateway.specs.declared.settings.Settings.{Settings}
 use Rattle.fax_gateway.specs.Wires.{KnownWire}
-use Rattle.fax_loop.specs.Ends.{EndTraffic}
+use Rattle.fax_terminal.specs.Ends.{EndTraffic}
 use Rattle.fax_loop.specs.Exchanges.{IsExchange, Lines}
 use Rattle.fax_loop.specs.Links.{IsFaithful}
 use Rattle.fax_loop.specs.declared.exchange.Lines.{Lines as OpenedLines}

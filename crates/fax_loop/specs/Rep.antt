@@ -1,134 +1,20 @@
 -- What is kept of an exchange, and of an answer.
-use Rattle.std.specs.Prelude.{◌≡◌, ◌↔◌, ℕ, ◌<◌, ◌≤◌, Bool, IsTrue, List, [], ◌∷◌, ◌++◌, codes, string_bytes, length, reverse, is_some, Option, Some, None}
-use Rattle.fax_pagestore.specs.Pages.{PageValue}
-use Rattle.fax_udptl.specs.Datagrams.{DatagramValue}
+use Rattle.std.specs.Prelude.{◌≡◌, ◌↔◌, ℕ, ◌<◌, Bool, true, false, IsTrue, List, [], ◌∷◌, ◌++◌, codes, string_bytes, length, reverse, Option, Some, None}
 use Rattle.fax_jobs.specs.Jobs.{JobValue}
-use Rattle.fax_answer.specs.declared.step.Confirmed.{Confirmed}
-use Rattle.fax_answer.specs.Confirmation.{IsRead}
-use Rattle.fax_answer.specs.Table.{Reading}
 use Rattle.fax_call.specs.Writings.{IsWriting, Writing}
-use Rattle.fax_gateway.specs.declared.called.CalledEndpoint.{CalledEndpoint}
-use Rattle.fax_gateway.specs.declared.endpoint.Endpoint.{Endpoint}
-use Rattle.fax_gateway.specs.CalledLegs.{CalledLeg, calls}
-use Rattle.fax_gateway.specs.CalledLegs as called_legs
-use Rattle.fax_gateway.specs.CallingLegs.{CallingLeg, question, told_calling}
-use Rattle.fax_gateway.specs.Driving.{HasMade, failed_in_a_row, most_datagrams, most_failed, receipts}
-use Rattle.fax_gateway.specs.Reached.{CallingValue, IsCalled, IsCalling, IsLeg, IsReachedBy, heard_on}
+use Rattle.fax_gateway.specs.Driving.{HasMade, failed_in_a_row, most_failed, receipts}
+use Rattle.fax_gateway.specs.Reached.{IsCalled, IsReachedBy}
 use Rattle.fax_gateway.specs.Setups.{Setup}
-use Rattle.fax_gateway.specs.Wires.{Grows}
 use Rattle.fax_command.specs.RowLines.{TellRows, text_of_lines}
+use Rattle.fax_terminal.specs.Terminals.{pages_on}
+use Rattle.fax_terminal.specs.Turns.{IsAnswering}
 use Rattle.fax_loop.specs.declared.answer.Answer.{Answer}
 use Rattle.fax_loop.specs.declared.answer.Answer.TheVariants as answer
-use Rattle.fax_loop.specs.declared.answering_machine.AnsweringMachine.{AnsweringMachine}
-use Rattle.fax_loop.specs.declared.calling_machine.CallingMachine.{CallingMachine}
 use Rattle.fax_loop.specs.declared.ending.Ending.{Ending}
 use Rattle.fax_loop.specs.declared.ending.Ending.TheVariants as endings
 use Rattle.fax_loop.specs.declared.exchange.Parties.{Parties}
-use Rattle.fax_loop.specs.declared.link.Link.{Link}
 use Rattle.fax_loop.specs.Answers.{rows_of}
-use Rattle.fax_loop.specs.Ends.{EndTraffic, handed}
-use Rattle.fax_loop.specs.Machines.{AreCame, ReadDatagram, called_turned, called_with, calling_turned, calling_with, octets_of, pages_on}
 use Rattle.fax_loop.specs.Exchanges.{AreRounds, CarriesRounds, IsOver, Lines, Round, answerer_after, caller_after, log_after, moment_after, most_rounds, reported, trace_after}
-
--- what is on the leg of a machine, as a gateway has it
-abbrev pub leg_of : Link → Endpoint
-leg_of link = record { receiver = link.receiver; sender = link.sender }
-
--- this is so of each setup, and of the datagrams that arrived on it and the packets that were
--- given, that led to it
-abbrev pub EachLeg : Link → (Setup → List DatagramValue → (given : List (List ℕ)) → Type 0) → Type 0
-EachLeg link IsSo =
-    (setup : Setup) (arrived : List DatagramValue) (given : List (List ℕ))
-    → IsLeg setup arrived given (leg_of link) → IsSo setup arrived given
-
--- ---- the machine that calls, as a gateway has its answerer
-abbrev pub caller_of : CallingMachine → CalledEndpoint
-caller_of machine = record { caller = machine.caller; leg = leg_of machine.link }
-
--- at most so many datagrams came over its end, and led on
-pub record CallerHears (setup : Setup) (writes : Writing) (l : CalledLeg)
-    (now most : ℕ) (before after : EndTraffic) (endpoint : CalledEndpoint) : Type 0 where
-  pub came : List (List ℕ)
-  pub few : length came ≤ most
-  pub received : Grows came before.received after.received
-  pub called : IsCalled setup writes (Some (calling_with writes now came l)) endpoint
-
--- a turn
-pub record CallerTurns (setup : Setup) (writes : Writing)
-    (l : CalledLeg) (now : ℕ) (before after : EndTraffic) (endpoint : CalledEndpoint) : Type 0 where
-  pub came : List (List ℕ)
-  pub few : length came ≤ most_datagrams
-  pub received : Grows came before.received after.received
-  pub sent : Grows (handed (called_legs.told_by setup (calling_with writes now came l).given
-      (calls writes (calling_with writes now came l) now).given)) before.sent after.sent
-  pub called : IsCalled setup writes (Some (calling_turned writes now came l)) endpoint
-
--- this is so of each setup, writing and call that led to it
-abbrev pub EachCall : CallingMachine → (Setup → Writing → CalledLeg → Type 0) → Type 0
-EachCall machine IsSo =
-    (setup : Setup) (writes : Writing) (l : CalledLeg)
-    → IsCalled setup writes (Some l) (caller_of machine) → IsSo setup writes l
-
--- and of each call of this job, where pages are written as a right writing has them
-abbrev pub EachCallOf : JobValue → CallingMachine → (Setup → Writing → CalledLeg → Type 0) → Type 0
-EachCallOf job machine IsSo =
-    (setup : Setup) (writes : Writing) (l : CalledLeg) → IsWriting writes → l.job ≡ job
-    → IsCalled setup writes (Some l) (caller_of machine) → IsSo setup writes l
-
--- ---- the machine that is called, as a gateway has its caller
-abbrev pub answerer_of : {S : Type 0} → AnsweringMachine S → CallingValue
-answerer_of machine = record { number = 0; kept = machine.answerer; leg = leg_of machine.link }
-
--- its call led to it, and it keeps the pages that it confirmed
-pub record IsAnswering {S : Type 0} (setup : Setup)
-    (leg : Option CallingLeg) (machine : AnsweringMachine S) : Type 0 where
-  pub calling : IsCalling setup leg (answerer_of machine)
-  pub rung : machine.has_rung ≡ is_some leg
-  pub pages_are : reverse machine.confirmed.items ≡ pages_on leg
-
--- this is so of each setup and call that led to it
-abbrev pub EachAnswering : {S : Type 0} → AnsweringMachine S → (Setup → Option CallingLeg → Type 0)
-    → Type 0
-EachAnswering machine IsSo =
-    (setup : Setup) (leg : Option CallingLeg) → IsAnswering setup leg machine → IsSo setup leg
-
--- the same of each call by which it was rung
-abbrev pub EachCallHeard : {S : Type 0} → AnsweringMachine S → (Setup → CallingLeg → Type 0)
-    → Type 0
-EachCallHeard machine IsSo =
-    (setup : Setup) (l : CallingLeg) → IsAnswering setup (Some l) machine → IsSo setup l
-
--- a datagram came
-pub record AnswererListens {S : Type 0} (setup : Setup)
-    (l : CallingLeg) (now : ℕ) (octets : List ℕ) (machine : AnsweringMachine S) : Type 0 where
-  pub read : Reading
-  pub right : IsRead (question (Some l) now octets) read
-  pub answering : IsAnswering setup (heard_on setup (Some l) now octets read) machine
-
--- at most so many datagrams came over its end, and led on
-pub record AnswererHears {S : Type 0} (setup : Setup) (leg : Option CallingLeg)
-    (now most : ℕ) (before after : EndTraffic) (machine : AnsweringMachine S) : Type 0 where
-  pub came : List ReadDatagram
-  pub few : length came ≤ most
-  pub read : AreCame setup now came leg
-  pub received : Grows (octets_of came) before.received after.received
-  pub answering : IsAnswering setup (called_with setup now came leg) machine
-
--- a turn
-pub record AnswererTurns {S : Type 0} (setup : Setup) (leg : Option CallingLeg)
-    (now : ℕ) (before after : EndTraffic) (machine : AnsweringMachine S) : Type 0 where
-  pub came : List ReadDatagram
-  pub few : length came ≤ most_datagrams
-  pub read : AreCame setup now came leg
-  pub received : Grows (octets_of came) before.received after.received
-  pub sent : Grows (handed (told_calling setup (called_with setup now came leg) now))
-      before.sent after.sent
-  pub answering : IsAnswering setup (called_turned setup now came leg) machine
-
--- the page that a tick confirmed, where it did
-abbrev pub pages_in : {S : Type 0} → Option (Confirmed S) → List PageValue
-pages_in None = []
-pages_in (Some confirmed) = confirmed.page ∷ []
 
 -- ---- an exchange: these rounds led to it, since the lines were so
 pub record HasPlayed (setup : Setup) (writes : Writing)
@@ -136,9 +22,9 @@ pub record HasPlayed (setup : Setup) (writes : Writing)
   pub are_rounds : AreRounds setup writes rounds
   pub gateway : IsReachedBy setup writes (trace_after rounds) parties.gateway
   pub driver : HasMade (log_after rounds) parties.driver
-  pub caller :
-      IsCalled setup writes (Some (caller_after setup writes job rounds)) (caller_of parties.caller)
+  pub caller : IsCalled setup writes (Some (caller_after setup writes job rounds)) parties.caller
   pub answerer : IsAnswering setup (answerer_after setup rounds) parties.answerer
+  pub pages_are : reverse parties.confirmed.items ≡ pages_on (answerer_after setup rounds)
   pub carried : CarriesRounds setup writes job rounds before after
 
 -- this is so of each setup and right writing, and of lines from which on no round led to it

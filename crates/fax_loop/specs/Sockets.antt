@@ -1,10 +1,15 @@
 -- What a wire makes of its two sockets. (This project's profile.) Lists have the newest first.
 use Rattle.std.specs.Prelude.{◌≡◌, ℕ, List, [], ◌∷◌}
 use Rattle.fax_gateway.specs.declared.leg.Leg.{Leg}
+use Rattle.fax_gateway.specs.declared.leg.Leg.TheVariants as legs
 use Rattle.fax_gateway.specs.Wires.{Grows}
-use Rattle.fax_loop.specs.Ends.{at_leg}
 use Rattle.fax_loop.specs.Traffic.{SocketTraffic}
 use Rattle.fax_loop.specs.declared.udp_wire.UdpWire.{UdpWire}
+
+-- the one of two that stands on a leg of a gateway
+abbrev at_leg : {A : Type 0} → Leg → A → A → A
+at_leg legs.Calling calling called = calling
+at_leg legs.Called calling called = called
 
 -- the socket of a leg, and that of the other one
 abbrev pub socket_of : {S : Type 0} → Leg → UdpWire S → S

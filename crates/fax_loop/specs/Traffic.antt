@@ -1,6 +1,6 @@
 -- What a socket tells. (This project's profile.) Lists have the newest first.
 use Rattle.std.specs.Prelude.{ℕ, List, [], ◌∷◌, length, map, take, Option, Some, None, option_map, Result, Ok, Err}
-use Rattle.fax_loop.specs.Ends.{EndTraffic}
+use Rattle.fax_terminal.specs.Ends.{EndTraffic}
 
 -- a datagram that came to it, into a buffer of so many octets: what did not fit is lost
 pub record Brought : Type 0 where

@@ -1,5 +1,6 @@
 //! A call from machine to machine, through a gateway.
-ghost use Rattle.std.specs.Prelude.{ℕ, Bool, true, [], ◌∷◌, IfOk, OnOk};
+ghost use Rattle.std.specs.Prelude.{◌≡◌, [], ◌∷◌, ◌++◌, IfOk, OnOk};
+ghost use Rattle.fax_terminal.specs.Stores.{pages_of};
 ghost use Rattle.fax_jobs.specs.Books.{job_of};
 ghost use Rattle.fax_call.specs.Following.{IsJobOfCall};
 ghost use Rattle.fax_call.specs.Writings.{Writing};
@@ -11,16 +12,15 @@ ghost use Rattle.fax_loop.specs.Opened.{IsSent, told_lines};
 ghost use Rattle.fax_loop.specs.Rep.{EachBeginning, EachEnd, EachGoing, HasEnded, HasGone, HasPlayed, PlaysRound};
 ghost use Rattle.fax_loop.specs.Links.{IsFaithful};
 
-use crate::answering_machine::AnsweringMachine;
-use crate::calling_machine::CallingMachine;
-use crate::end::End;
 use crate::laws::confirms_the_page_over_links;
 use crate::loop_error::LoopError;
 use crate::opens_lines::OpensLines;
+use crate::unstored::Unstored;
 use fax_bits::NoMemory;
 use fax_gateway::{Driver, Gateway, Settings, Wire};
 use fax_jobs::{Job, Report};
 use fax_pagestore::{PackedRows, Page};
+use fax_terminal::{End, ReceivingTerminal, SendingTerminal};
 use std::alloc::Global;
 
 /// The most rounds of a call.
@@ -28,12 +28,6 @@ const MOST_ROUNDS: u32 = 300_000;
 
 /// From a round to the next, in milliseconds. No clock is read.
 const ROUND_MS: u64 = 40;
-
-/// The most datagrams that a machine hears in a round.
-pub(crate) const MOST_DATAGRAMS: u8 = 16;
-
-/// The most octets of a datagram of the gateway: a packet of 100 octets, eight of those before it, and their lengths.
-pub(crate) const MOST_OCTETS: usize = 1024;
 
 /// How a call ended: what the gateway reported, where it did, and the pages that the called machine confirmed.
 #[derive(Drop)]
@@ -53,10 +47,11 @@ pub struct Lines<E: End + Drop, W: Wire + Drop> {
 /// The machine that calls, the gateway with what drives it, and the machine that is called.
 #[derive(Drop)]
 struct Parties {
-    caller: CallingMachine,
+    caller: SendingTerminal,
     gateway: Gateway<PackedRows>,
     driver: Driver,
-    answerer: AnsweringMachine<PackedRows>,
+    answerer: ReceivingTerminal<PackedRows>,
+    confirmed: Vec<Page<PackedRows>>,
 }
 
 /// Sends a page from machine to machine over lines that are opened so. All three have these settings.
@@ -127,8 +122,8 @@ impl Parties {
             (λ parties. (setup : Setup) (writes : Writing) (lines : LinesShown)
             → AreSet setup settings → HasPlayed setup writes job.now [] lines lines parties) }
     {
-        let caller = CallingMachine::new(alloc, job, settings)?;
-        let answerer = AnsweringMachine::new(alloc, settings)?;
+        let caller = SendingTerminal::new(alloc, job, settings, 0)?;
+        let answerer = ReceivingTerminal::new(alloc, settings)?;
         let driver = Driver::new(alloc)?;
         let gateway = rung_gateway(alloc, settings)?;
         Ok(Parties {
@@ -136,6 +131,7 @@ impl Parties {
             gateway,
             driver,
             answerer,
+            confirmed: Vec::new(alloc),
         })
     }
 
@@ -194,9 +190,12 @@ impl Parties {
             (λ setup writes rounds before. PlaysRound setup
             writes job.now rounds goes_on before (told_lines E.told W.known lines.new) self.new)) }
     {
-        self.caller.round(&mut lines.caller, job, now)?;
+        self.caller.turn(&mut lines.caller, job, now)?;
         let turned = self.driver.turn(&mut self.gateway, &mut lines.wire, now);
-        self.answerer.round(&mut lines.answerer, now)?;
+        let Ok(page) = self.answerer.turn(&mut lines.answerer, &mut Unstored, now) else {
+            return Err(NoMemory);
+        };
+        keep_page(&mut self.confirmed, page)?;
         Ok(turned.goes_on)
     }
 
@@ -207,7 +206,20 @@ impl Parties {
     {
         CallEnd {
             report: self.gateway.report(0),
-            confirmed: self.answerer.into_confirmed(),
+            confirmed: self.confirmed,
         }
     }
+}
+
+/// Keeps the page that was confirmed, where one was.
+fn keep_page(
+    pages: &mut Vec<Page<PackedRows>>,
+    page: Option<Page<PackedRows>>,
+) -> Result<(), NoMemory>
+    ensures { OnOk result (pages.new.items ≡ pages.old.items ++ pages_of page) }
+{
+    if let Some(page) = page {
+        pages.push(page)?;
+    }
+    Ok(())
 }

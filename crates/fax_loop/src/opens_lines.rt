@@ -2,9 +2,9 @@
 ghost use Rattle.std.specs.Prelude.{IfOk};
 ghost use Rattle.fax_loop.specs.declared.exchange.Lines.{Lines as OpenedLines};
 
-use crate::end::End;
 use crate::exchange::Lines;
 use fax_gateway::Wire;
+use fax_terminal::End;
 use std::io;
 
 /// What opens the lines of an exchange: the end of the machine that calls, the gateway's wire, and the end of the machine that is

@@ -1,10 +1,10 @@
 //! Lines over pairs of sockets.
 ghost use Rattle.std.specs.Prelude.{◌≡◌};
 
-use crate::end::UdpEnd;
 use crate::exchange::Lines;
 use crate::opens_lines::OpensLines;
 use crate::opens_pairs::OpensPairs;
+use crate::udp_end::UdpEnd;
 use crate::udp_wire::UdpWire;
 use std::io;
 

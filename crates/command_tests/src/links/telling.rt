@@ -7,7 +7,7 @@ ghost use Rattle.fax_gateway.specs.Wires.{failures_after, greatest_count, receip
 use crate::links::told::{Told, held};
 use fax_bits::Octets;
 use fax_gateway::{Leg, Wire, WireFault};
-use fax_loop::End;
+use fax_terminal::End;
 use std::alloc::Global;
 use std::io::ErrorKind;
 use std::marker::Model;

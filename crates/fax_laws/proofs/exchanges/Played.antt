@@ -28,10 +28,10 @@ use Rattle.fax_laws.specs.delivery.Delivered.{most_rounds}
 use Rattle.fax_laws.specs.delivery.Gateways as relays
 use Rattle.fax_laws.specs.delivery.Gateways.{GatewaysPassPages, IsRelayed, Relay, ReportsAreDeliveries, by_machine, given_at, machine_with, relay_begun, relay_round, relay_rounds, with_called, with_calling}
 use Rattle.fax_laws.specs.delivery.Links.{IsReader, Reader, read_by}
-use Rattle.fax_loop.specs.Ends.{handed}
+use Rattle.fax_terminal.specs.Ends.{handed}
 use Rattle.fax_loop.specs.Exchanges.{AreRounds, Round, answerer_after, caller_after, log_after, moment_after, reported, trace_after}
 use Rattle.fax_loop.specs.Links.{came_called, came_calling, handed_called}
-use Rattle.fax_loop.specs.Machines.{AreCame, ReadDatagram, called_turned, called_with, calling_turned, calling_with, octets_of, pages_on, rung_once}
+use Rattle.fax_terminal.specs.Terminals.{AreCame, ReadDatagram, called_turned, called_with, calling_turned, calling_with, octets_of, pages_on, rung_once}
 use Rattle.fax_loop.proofs.OneCall.{after_is}
 use Rattle.fax_laws.specs.exchanges.Exchanges.{EachComesOnce, EndsWell, ExchangesEndWell, by_answerer, by_gateway, handed_calling}
 

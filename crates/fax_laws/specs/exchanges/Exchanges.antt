@@ -14,11 +14,11 @@ use Rattle.fax_laws.specs.delivery.Datagrams.{by_caller}
 use Rattle.fax_laws.specs.delivery.Delivered.{most_rounds}
 use Rattle.fax_laws.specs.delivery.Gateways.{by_machine}
 use Rattle.fax_laws.specs.delivery.Links.{IsReader, Reader}
-use Rattle.fax_loop.specs.Ends.{handed}
+use Rattle.fax_terminal.specs.Ends.{handed}
 use Rattle.fax_loop.specs.Exchanges as exchanges
 use Rattle.fax_loop.specs.Exchanges.{AreRounds, IsOver, Round, answerer_after, caller_after, moment_after, reported, trace_after}
 use Rattle.fax_loop.specs.Links.{came_called, came_calling, handed_called, on_calling}
-use Rattle.fax_loop.specs.Machines.{called_with, calling_with, octets_of, pages_on}
+use Rattle.fax_terminal.specs.Terminals.{called_with, calling_with, octets_of, pages_on}
 
 -- what a gateway handed over on its calling leg
 abbrev pub handed_calling : List HandedDatagram → List (List ℕ)
