@@ -3,10 +3,10 @@ use Rattle.std.proofs.Common.{◌≡◌, ◌⊎◌, inl, inr, ℕ, ◌+◌, ◌<
 use Rattle.std.proofs.lemmas.List.{take_at, drop_at, drop-drop, drop-append-le, length-take-le}
 use Rattle.std.proofs.lemmas.List.Elements.{All-head, All-tail}
 use Rattle.std.specs.List.{All}
-use Rattle.sqlite_disk.specs.Disk.{Torn, Holds, Follows, Only}
+use Rattle.sqlite_disk.specs.Disk.{Torn, Holds, Follows, Only, Cut}
 use Rattle.fax_spool.specs.Records.{AreRead, BeginsWith, IsShort, Stands, blocks, body, is_open, shut}
 use Rattle.fax_spool.specs.Settled.{IsSettled}
-use Rattle.fax_spool.proofs.Files.{torn_front, torn_back, held}
+use Rattle.fax_spool.proofs.Files.{torn_front, torn_back, held, cut_front}
 use Rattle.fax_spool.proofs.Headers.{begins_regated, begins_written, long_enough, read_append, read_written, stands_shut}
 
 module _ (front gate after old : List ℕ) (three : length gate ≡ 3) (is : old ≡ front ++ (gate ++ after)) where
@@ -188,6 +188,37 @@ module _ {D : Type 0} (seen : D → List ℕ) (may_leave : D → List ℕ → Ty
     place = refl;
     three = refl;
     closed = refl;
+    durable = only;
+    usable = usable;
+  }
+
+-- ---- a file without a record, which is cut after its gate
+module _ {D : Type 0} (seen : D → List ℕ) (may_leave : D → List ℕ → Type 0) (is_usable : D → Bool) (disk : D) (s : IsSettled seen may_leave is_usable disk 0 []) where
+  all_is : seen disk ≡ s.gate ++ s.after
+  all_is = s.file ∙ ap (λ (l : List ℕ). l ++ (s.gate ++ s.after)) s.read
+
+  pub cut_is : (c : List ℕ) → Cut 3 (seen disk) c → c ≡ s.gate ++ drop 3 c
+  cut_is c cut =
+      let some : 3 ≤ length (seen disk) = omega (arith, ap length all_is, length-append s.gate s.after, s.three) in
+      let first : take 3 c ≡ s.gate = cut_front 3 (seen disk) c cut some ∙ ap (λ (l : List ℕ). take 3 l) all_is ∙ take_at s.gate s.after 3 s.three in
+      sym (take-append-drop 3 c) ∙ ap (λ (l : List ℕ). l ++ drop 3 c) first
+
+  pub cut_left : (new : List ℕ → Type 0) → Follows (Cut 3) (may_leave disk) new → (c : List ℕ) → new c → Stands c []
+  cut_left new follows c left =
+      let from = follows c left in
+      let cut : Cut 3 (seen disk) c = subst (λ (d : List ℕ). Cut 3 d c) (s.durable from.0 from.1) from.2 in
+      stands_shut [] s.gate (drop 3 c) c [] refl s.three s.closed (cut_is c cut)
+
+  pub settled_cut : (next : D) → Cut 3 (seen disk) (seen next) → Only (seen next) (may_leave next) → IsTrue (is_usable next) → IsSettled seen may_leave is_usable next 0 []
+  settled_cut next cut only usable = record {
+    front = [];
+    gate = s.gate;
+    after = drop 3 (seen next);
+    file = cut_is (seen next) cut;
+    read = refl;
+    place = refl;
+    three = s.three;
+    closed = s.closed;
     durable = only;
     usable = usable;
   }

@@ -2,7 +2,7 @@
 //! times. A record counts where its gate is open (1). Each octet of a header is read as the value that two of its copies have, so
 //! that one turned octet harms at most one record. A shut gate (0) stands after the last one, three times too, and is on the disk
 //! before anything is written after it.
-ghost use Rattle.std.specs.Prelude.{◌≡◌, ◌⊎◌, ◌+◌, ◌<◌, ◌≤◌, ◌^◌, ◌++◌, [], ◌∷◌, List, ℕ, drop, length, map, false, IfOk, OnOk, IsTrue, MatchOption, ◌↔◌};
+ghost use Rattle.std.specs.Prelude.{◌≡◌, ◌≢◌, ◌⊎◌, ◌+◌, ◌<◌, ◌≤◌, ◌^◌, ◌++◌, [], ◌∷◌, List, ℕ, drop, length, map, false, IfOk, OnOk, IsTrue, MatchOption, ◌↔◌};
 ghost use Rattle.std.specs.List.{All};
 ghost use Rattle.std.specs.Int.{w32, to_be_bytes};
 ghost use Rattle.fax_spool.specs.Records.{Stands, body, blocks, shut, BeginsWith, Ends, IsShort, is_open, length_in, voted};
@@ -150,8 +150,8 @@ impl<D: Disk> RecordFile<D> {
         Ok(())
     }
 
-    /// Drops all records. At `Ok` each later crash leaves none of them. At `Err` the file has to be recovered before it is used
-    /// again.
+    /// Drops all records, and gives their room on the disk back. At `Ok` each later crash leaves none of them. At `Err` the file has to
+    /// be recovered before it is used again.
     pub fn clear(&mut self) -> io::Result<()>
         requires usable { IsTrue (D.is_usable self.old.disk) }
 
@@ -160,6 +160,8 @@ impl<D: Disk> RecordFile<D> {
         ensures acknowledged { OnOk result ((rs : List (List ℕ))
             → IsSettled D.seen D.may_leave D.is_usable self.old.disk self.old.end rs
             → IsSettled D.seen D.may_leave D.is_usable self.new.disk self.new.end []) }
+
+        ensures room { OnOk result (self.old.end ≢ 0 → length (D.seen self.new.disk) ≡ 3) }
 
         // Whenever the machine stops, the file stands for all of the records or for none.
         ensures crash { (rs : List (List ℕ))
@@ -172,6 +174,28 @@ impl<D: Disk> RecordFile<D> {
         self.disk.write_at(0, &[0, 0, 0])?;
         self.disk.sync()?;
         self.end = 0;
+        self.cut()?;
+        Ok(())
+    }
+
+    /// Cuts a file without a record after its shut gate, so that it takes no room on the disk.
+    fn cut(&mut self) -> io::Result<()>
+        requires usable { IsTrue (D.is_usable self.old.disk) }
+
+        ensures usable { OnOk result (IsTrue (D.is_usable self.new.disk)) }
+        ensures end { self.new.end ≡ self.old.end }
+        ensures room { OnOk result (length (D.seen self.new.disk) ≡ 3) }
+
+        ensures acknowledged { OnOk result
+            (IsSettled D.seen D.may_leave D.is_usable self.old.disk 0 []
+            → IsSettled D.seen D.may_leave D.is_usable self.new.disk 0 []) }
+
+        // Whenever the machine stops, it stands for no record.
+        ensures crash { IsSettled D.seen D.may_leave D.is_usable self.old.disk 0 []
+            → (c : List ℕ) → D.may_leave self.new.disk c → Stands c [] }
+    {
+        self.disk.set_len(GATE)?;
+        self.disk.sync()?;
         Ok(())
     }
 }
