@@ -5,7 +5,7 @@ use Rattle.fax_gateway.specs.declared.leg.Leg.TheVariants as legs
 use Rattle.fax_gateway.specs.declared.wire.WireFault.{WireFault}
 use Rattle.fax_gateway.specs.Wires.{Came, Failed, Grows, HandedDatagram, KnownWire, Nothing, Receipt, receipt_of}
 use Rattle.fax_gateway.proofs.DrivingLemmas.{grows_as}
-use Rattle.fax_terminal.specs.Ends.{brought, if_calling, octets_received, octets_sent, traffic_of}
+use Rattle.fax_terminal.specs.Ends.{HasAsked, brought, if_calling, octets_received, octets_sent, traffic_of}
 
 grows_through : {A B : Type 0} (f : List A → List B) → ((xs ys : List A) → f (xs ++ ys) ≡ f xs ++ f ys) → (newer : List A) (before after : Option (List A))
     → Grows newer before after → Grows (f newer) (option_map f before) (option_map f after)
@@ -45,6 +45,12 @@ pub end_fails : (buffer : List ℕ) (fault : WireFault) (r : Result (Option ℕ)
     → Grows (receipt_of legs.Calling buffer r ∷ []) before.received after.received → Grows [] (traffic_of before).received (traffic_of after).received
 end_fails buffer fault r before after is grew =
     grows_through octets_received received_joins (Failed legs.Calling (length buffer) ∷ []) before.received after.received (grows_as _ _ before.received after.received (ap (λ r. receipt_of legs.Calling buffer r ∷ []) is) grew)
+
+-- it was asked
+pub asks : (buffer : List ℕ) (r : Result (Option ℕ) WireFault) (before after : KnownWire) → Grows (receipt_of legs.Calling buffer r ∷ []) before.received after.received → HasAsked before after
+asks buffer (Ok None) before after grew = record { receipt = Nothing legs.Calling (length buffer); calling = refl; grew = grew }
+asks buffer (Ok (Some count)) before after grew = record { receipt = Came legs.Calling (length buffer) (take count buffer); calling = refl; grew = grew }
+asks buffer (Err fault) before after grew = record { receipt = Failed legs.Calling (length buffer); calling = refl; grew = grew }
 
 -- a send
 pub end_sends : (octets : List ℕ) (before after : KnownWire) → Grows (record { leg = legs.Calling; octets = octets } ∷ []) before.sent after.sent

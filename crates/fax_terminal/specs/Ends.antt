@@ -1,8 +1,8 @@
 -- What a terminal's end of a leg tells. (This project's profile.) Lists have the newest first.
-use Rattle.std.specs.Prelude.{ℕ, List, [], ◌∷◌, take, Option, Some, None, option_map}
+use Rattle.std.specs.Prelude.{◌≡◌, ℕ, List, [], ◌∷◌, take, Option, Some, None, option_map}
 use Rattle.fax_gateway.specs.declared.leg.Leg.{Leg}
 use Rattle.fax_gateway.specs.declared.leg.Leg.TheVariants as legs
-use Rattle.fax_gateway.specs.Wires.{Came, Failed, HandedDatagram, KnownWire, Nothing, Receipt}
+use Rattle.fax_gateway.specs.Wires.{Came, Failed, Grows, HandedDatagram, KnownWire, Nothing, Receipt}
 
 -- the datagrams that came, and those that were handed over to be sent, where it tells them
 pub record EndTraffic : Type 0 where
@@ -39,3 +39,14 @@ traffic_of known = record {
   received = option_map octets_received known.received;
   sent = option_map octets_sent known.sent;
 }
+
+-- a wire that tells it answered one receive more on its calling leg
+abbrev pub leg_of_receipt : Receipt → Leg
+leg_of_receipt (Came leg room octets) = leg
+leg_of_receipt (Nothing leg room) = leg
+leg_of_receipt (Failed leg room) = leg
+
+pub record HasAsked (before after : KnownWire) : Type 0 where
+  pub receipt : Receipt
+  pub calling : leg_of_receipt receipt ≡ legs.Calling
+  pub grew : Grows (receipt ∷ []) before.received after.received

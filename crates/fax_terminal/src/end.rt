@@ -1,7 +1,7 @@
 //! A terminal's end of a leg.
 ghost use Rattle.std.specs.Prelude.{◌≤◌, List, [], ◌∷◌, Option, length, IfSome};
 ghost use Rattle.fax_gateway.specs.Wires.{Grows};
-ghost use Rattle.fax_terminal.specs.Ends.{EndTraffic, brought, handed};
+ghost use Rattle.fax_terminal.specs.Ends.{EndTraffic, HasAsked, brought, handed, traffic_of};
 
 use fax_bits::Octets;
 use fax_gateway::Leg;
@@ -52,7 +52,15 @@ impl<W: TimedWire + Drop> End for WireEnd<W> {
 
     ghost told = { λ end. traffic_of (W.known end.wire) };
 
-    fn receive(&mut self, buffer: &mut [u8]) -> Option<usize> {
+    fn receive(&mut self, buffer: &mut [u8]) -> Option<usize>
+        ensures fits { IfSome result (λ count. count ≤ length buffer.new) }
+        ensures received { Grows (brought buffer.new result)
+            (traffic_of (W.known self.old.wire)).received
+            (traffic_of (W.known self.new.wire)).received }
+        ensures sent { Grows [] (traffic_of (W.known self.old.wire)).sent
+            (traffic_of (W.known self.new.wire)).sent }
+        ensures asks { HasAsked (W.known self.old.wire) (W.known self.new.wire) }
+    {
         match self.wire.receive(Leg::Calling, buffer) {
             Ok(came) => came,
             Err(_) => None,

@@ -1,13 +1,14 @@
 //! A terminal that calls and sends pages.
-ghost use Rattle.std.specs.Prelude.{◌≡◌, [], Some, IfOk, IfSome, OnOk};
+ghost use Rattle.std.specs.Prelude.{◌≡◌, [], Some, IfOk, IfSome, OnOk, option_map};
 ghost use Rattle.fax_call.specs.Following.{IsJobOfCall};
 ghost use Rattle.fax_call.specs.Writings.{Writing};
 ghost use Rattle.fax_jobs.specs.Jobs.{JobValue};
-ghost use Rattle.fax_gateway.specs.CalledLegs.{hears};
+ghost use Rattle.fax_gateway.specs.CalledLegs.{core_of, hears, outcome_of};
 ghost use Rattle.fax_gateway.specs.Driving.{most_datagrams};
 ghost use Rattle.fax_gateway.specs.Reached.{IsCalled};
 ghost use Rattle.fax_gateway.specs.Setups.{AreAllowed, HasSettings, Setup};
 ghost use Rattle.fax_gateway.specs.Wires.{Grows};
+ghost use Rattle.fax_terminal.specs.declared.sending.SentJob.{SentJob as SentJobShown};
 ghost use Rattle.fax_terminal.specs.Calls.{SendsJob, TellsCall, TellsLeg};
 ghost use Rattle.fax_terminal.specs.Ends.{traffic_of};
 ghost use Rattle.fax_terminal.specs.Terminals.{begins};
@@ -136,7 +137,10 @@ impl SendingTerminal {
 
     /// What is told of the call, where it is over.
     pub fn sent(&self) -> Option<SentJob>
-        ensures { EachCall self.now (λ setup writes l. IfSome result (TellsLeg writes l)) }
+        ensures told { EachCall self.now (λ setup writes l. IfSome result (TellsLeg writes l)) }
+        ensures over { EachCall self.now (λ setup writes l.
+            option_map (λ (sent : SentJobShown). sent.outcome) result
+            ≡ outcome_of (core_of writes l)) }
     {
         let outcome = self.endpoint.outcome()?;
         Some(SentJob {

@@ -31,7 +31,7 @@ returns-in-loop-clause-carried g c =
     c.loop.terminal c.turn.new.self (nothing_received (known c.loop.end.wire) (known c.go_on.new.self) c.go_on.ensures.told.received) (nothing_sent (known c.loop.end.wire) (known c.go_on.new.self) c.go_on.ensures.told.sent)
     c.in_ok-turn.ensures.turned c.loop.invariant.call in
     sends_job c.args.settings c.args.job.now (traffic_of (known c.args.end.now.wire)) (traffic_of (known c.turn.new.end.wire)) c.turn.new.self c.in-Some-sent.sent
-    (λ setup writes l r. subst (λ (o : Option SentJob). IfSome o (TellsLeg writes l)) c.in-Some-sent.is (c.sent.ensures setup writes l r)) called
+    (λ setup writes l r. subst (λ (o : Option SentJob). IfSome o (TellsLeg writes l)) c.in-Some-sent.is (c.sent.ensures.told setup writes l r)) called
 
 pub returns-in-loop-clause-tells : goal.returns-in-loop-clause-tells
 unfolding returns-in-loop-clause-carried
