@@ -117,7 +117,7 @@ impl SendingTerminal {
         now: u64,
     ) -> Result<(), NoMemory>
         requires { IsJobOfCall self.old.caller.procedure job.now }
-        ensures job { OnOk result (IsJobOfCall self.new.caller.procedure job.now) }
+        ensures job { IsJobOfCall self.new.caller.procedure job.now }
         ensures turned { OnOk result (EachCallOf job.now self.old (λ setup writes l.
             CallerTurns setup writes l now (E.told end.old) (E.told end.new) self.new)) }
     {
