@@ -20,7 +20,7 @@ use Rattle.fax_gateway.specs.Driving.{Accepts, Carries, DriverValue, Entry, HasM
 use Rattle.fax_gateway.proofs.DrivingLemmas.{alike_more, alike_none, carries_unseen, grows_none, happens_more, made_unseen, refused_so, refuses, steps_ring}
 use Rattle.fax_wires.specs.repeat.Peers.{Peers}
 use Rattle.fax_wires.specs.repeat.Policies.{IsToldAs}
-use Rattle.fax_wires.specs.holding.Holding.{HoldingValue, IsToldTimeWhere}
+use Rattle.fax_wires.specs.holding.Holding.{HoldingValue, IsToldTime}
 use Rattle.fax_wires.specs.holding.Storing.{HoldsByLog}
 use Rattle.fax_line.specs.declared.asked.LineAnswer.{LineAnswer}
 use Rattle.fax_line.specs.declared.asked.LineAnswer.TheVariants as answered
@@ -57,11 +57,11 @@ carries_told : (a b : KnownWire) → IsToldAs a b → Carries [] a b
 carries_told a b told = record { received = told.received; sent = told.sent; failures = λ low. omega (arith, told.failures) }
 
 -- a line, part by part
-abbrev pub line_of : GatewayValue → DriverValue → KnownWire → Option ℕ → Option HoldingValue → Peers → TurnReport → LineValue
+abbrev pub line_of : GatewayValue → DriverValue → KnownWire → Option ℕ → HoldingValue → Peers → TurnReport → LineValue
 line_of gateway driver wire wire_due holding peers turned = record { gateway = gateway; driver = driver; wire = wire; wire_due = wire_due; holding = holding; peers = peers; turned = turned }
 
 pub goes_told :
-    (gateway : GatewayValue) (driver : DriverValue) (a b : KnownWire) (m n : Option ℕ) (h k : Option HoldingValue) (p q : Peers) (x y : TurnReport) → IsToldAs a b
+    (gateway : GatewayValue) (driver : DriverValue) (a b : KnownWire) (m n : Option ℕ) (h k : HoldingValue) (p q : Peers) (x y : TurnReport) → IsToldAs a b
     → Goes [] (line_of gateway driver a m h p x) (line_of gateway driver b n k q y)
 goes_told gateway driver a b m n h k p q x y told = record {
   goes = λ setup writes trace earlier writing reached made. ([], refl, record { reached = reached; wanting = tt; carried = carries_told a b told }, made);
@@ -89,7 +89,7 @@ goes_more older newer a b c first second = record {
 
 -- a turn, by what a driver ensures of one
 turns_driven :
-    (now : ℕ) (old new : GatewayValue) (driver driven : DriverValue) (a b : KnownWire) (m n : Option ℕ) (h k : Option HoldingValue) (p q : Peers) (x y : TurnReport)
+    (now : ℕ) (old new : GatewayValue) (driver driven : DriverValue) (a b : KnownWire) (m n : Option ℕ) (h k : HoldingValue) (p q : Peers) (x y : TurnReport)
     → ((setup : Setup) (writes : Writing) (trace : List Event) (earlier : List Entry) → IsWriting writes → IsReachedBy setup writes trace old → HasMade earlier driver
     → (turn : List Entry) × IsTurn now turn × Happens setup writes turn trace new a b × HasMade (turn ++ earlier) driven
     × TellTicks setup trace (events turn ++ trace) y.report y.kept y.refused y.gave_up)
@@ -102,7 +102,7 @@ turns_driven now old new driver driven a b m n h k p q x y turned refusals = rec
 }
 
 pub goes_turn :
-    (now : ℕ) (old new : GatewayValue) (driver driven : DriverValue) (a b c : KnownWire) (m n : Option ℕ) (h k : Option HoldingValue) (p q : Peers) (x y : TurnReport) → IsToldAs a b
+    (now : ℕ) (old new : GatewayValue) (driver driven : DriverValue) (a b c : KnownWire) (m n : Option ℕ) (h k : HoldingValue) (p q : Peers) (x y : TurnReport) → IsToldAs a b
     → ((setup : Setup) (writes : Writing) (trace : List Event) (earlier : List Entry) → IsWriting writes → IsReachedBy setup writes trace old → HasMade earlier driver
     → (turn : List Entry) × IsTurn now turn × Happens setup writes turn trace new b c × HasMade (turn ++ earlier) driven
     × TellTicks setup trace (events turn ++ trace) y.report y.kept y.refused y.gave_up)
@@ -120,12 +120,12 @@ wire_first setup writes log trace old new a b c reached told happens =
     (happens_more setup writes [] log trace old new a b c record { reached = reached; wanting = tt; carried = carries_told a b told } happens)
 
 pub drives_turn :
-    (now : ℕ) (old new : GatewayValue) (driver driven : DriverValue) (a b c : KnownWire) (m n : Option ℕ) (h k : Option HoldingValue) (p q : Peers) (x y : TurnReport) → IsToldAs a b
+    (now : ℕ) (old new : GatewayValue) (driver driven : DriverValue) (a b c : KnownWire) (m n : Option ℕ) (h k : HoldingValue) (p q : Peers) (x y : TurnReport) → IsToldAs a b
     → ((setup : Setup) (writes : Writing) (trace : List Event) (earlier : List Entry) → IsWriting writes → IsReachedBy setup writes trace old → HasMade earlier driver
     → (turn : List Entry) × IsTurn now turn × Happens setup writes turn trace new b c × HasMade (turn ++ earlier) driven
     × TellTicks setup trace (events turn ++ trace) y.report y.kept y.refused y.gave_up × HoldsByLog turn h k)
     → ((setup : Setup) (writes : Writing) (trace : List Event) (earlier : List Entry) → IsWriting writes → IsReachedBy setup writes trace old → HasMade earlier driver → HearBoth p q)
-    → ((setup : Setup) (writes : Writing) (trace : List Event) (earlier : List Entry) → IsWriting writes → IsReachedBy setup writes trace old → HasMade earlier driver → IsToldTimeWhere now h k)
+    → ((setup : Setup) (writes : Writing) (trace : List Event) (earlier : List Entry) → IsWriting writes → IsReachedBy setup writes trace old → HasMade earlier driver → IsToldTime now h k)
     → Drives now (line_of old driver a m h p x) (line_of new driven c n k q y)
 drives_turn now old new driver driven a b c m n h k p q x y told turned hear time = record {
   tells = λ setup writes trace earlier writing reached made.
@@ -139,7 +139,7 @@ drives_turn now old new driver driven a b c m n h k p q x y told turned hear tim
 
 -- a call begins by it: an event of the gateway, of which its wire sees nothing
 asks_accepted :
-    (now : ℕ) (what : LineRequest) (answer : Option LineAnswer) (event : Event) (old new : GatewayValue) (driver : DriverValue) (a : KnownWire) (m : Option ℕ) (h : Option HoldingValue) (p : Peers) (x : TurnReport)
+    (now : ℕ) (what : LineRequest) (answer : Option LineAnswer) (event : Event) (old new : GatewayValue) (driver : DriverValue) (a : KnownWire) (m : Option ℕ) (h : HoldingValue) (p : Peers) (x : TurnReport)
     → receipts_in (Accepts event) ≡ [] → ((setup : Setup) (writes : Writing) (trace : List Event) → IsAsked setup writes trace now what answer (Accepts event ∷ []))
     → ((setup : Setup) (writes : Writing) (trace : List Event) → IsReachedBy setup writes trace old → IsReachedBy setup writes (event ∷ trace) new)
     → new.refusals ≡ old.refusals → Goes (Asks now what answer ∷ []) (line_of old driver a m h p x) (line_of new driver a m h p x)
@@ -156,7 +156,7 @@ asks_accepted now what answer event old new driver a m h p x unseen is comes sam
 
 -- and the wire is told of the call
 goes_asked :
-    (now : ℕ) (what : LineRequest) (answer : Option LineAnswer) (event : Event) (old new : GatewayValue) (driver : DriverValue) (a b : KnownWire) (m n : Option ℕ) (h k : Option HoldingValue) (p q : Peers) (x : TurnReport)
+    (now : ℕ) (what : LineRequest) (answer : Option LineAnswer) (event : Event) (old new : GatewayValue) (driver : DriverValue) (a b : KnownWire) (m n : Option ℕ) (h k : HoldingValue) (p q : Peers) (x : TurnReport)
     → receipts_in (Accepts event) ≡ [] → ((setup : Setup) (writes : Writing) (trace : List Event) → IsAsked setup writes trace now what answer (Accepts event ∷ [])) → IsToldAs a b
     → ((setup : Setup) (writes : Writing) (trace : List Event) → IsReachedBy setup writes trace old → IsReachedBy setup writes (event ∷ trace) new)
     → new.refusals ≡ old.refusals → Goes (Asks now what answer ∷ []) (line_of old driver a m h p x) (line_of new driver b n k q x)
@@ -169,7 +169,7 @@ abbrev pub rung_as : Result ℕ RingFault → Option LineAnswer
 rung_as result = Some (answered.Rung result)
 
 pub goes_ring :
-    (now number : ℕ) (ringing : RingRequest) (old new : GatewayValue) (driver : DriverValue) (a b : KnownWire) (m n : Option ℕ) (h k : Option HoldingValue) (p q : Peers) (x : TurnReport) → IsToldAs a b
+    (now number : ℕ) (ringing : RingRequest) (old new : GatewayValue) (driver : DriverValue) (a b : KnownWire) (m n : Option ℕ) (h k : HoldingValue) (p q : Peers) (x : TurnReport) → IsToldAs a b
     → ((setup : Setup) (writes : Writing) (trace : List Event) → IsReachedBy setup writes trace old → IsReachedBy setup writes (Ring now number ∷ trace) new)
     → new.refusals ≡ old.refusals → Goes (Asks now (asked.Ring ringing) (rung_as (Ok number)) ∷ []) (line_of old driver a m h p x) (line_of new driver b n k q x)
 goes_ring now number ringing old new driver a b m n h k p q x told rung same =
@@ -212,7 +212,7 @@ is_placing setup writes trace now false asked.NotConnected result log asks is = 
 is_placing setup writes trace now false (asked.HangUp hanging_up) result log asks is = absurd asks
 
 pub goes_placed :
-    (now : ℕ) (connected : Bool) (what : LineRequest) (old new : GatewayValue) (driver : DriverValue) (a b : KnownWire) (m n : Option ℕ) (h k : Option HoldingValue) (p q : Peers) (x : TurnReport) → IsPlacing connected what → IsToldAs a b
+    (now : ℕ) (connected : Bool) (what : LineRequest) (old new : GatewayValue) (driver : DriverValue) (a b : KnownWire) (m n : Option ℕ) (h k : HoldingValue) (p q : Peers) (x : TurnReport) → IsPlacing connected what → IsToldAs a b
     → ((setup : Setup) (writes : Writing) (trace : List Event) → IsReachedBy setup writes trace old → IsReachedBy setup writes (Placed now connected ∷ trace) new)
     → new.refusals ≡ old.refusals → Goes (Asks now what (placed_as (Ok tt)) ∷ []) (line_of old driver a m h p x) (line_of new driver b n k q x)
 goes_placed now connected what old new driver a b m n h k p q x asks told placed same =

@@ -1,6 +1,6 @@
 -- What becomes of the peers of a line's legs.
-use Rattle.std.proofs.Common.{◌≡◌, ℕ, Bool, true, false, List, [], ◌∷◌, ◌++◌, Option, Some, None, is_some, Result, Ok, Err, refl, sym, ◌∙◌, ap, subst, arith}
-use Rattle.fax_call.specs.Writings.{IsWriting, Writing}
+use Rattle.std.proofs.Common.{◌≡◌, ℕ, Bool, List, [], ◌∷◌, ◌++◌, Option, None, is_some, refl, sym, ◌∙◌, ap, subst, arith}
+use Rattle.fax_call.specs.Writings.{Writing}
 use Rattle.fax_gateway.specs.declared.leg.Leg.{Leg}
 use Rattle.fax_gateway.specs.declared.leg.Leg.TheVariants as legs
 use Rattle.fax_gateway.specs.declared.turn_report.TurnReport.{TurnReport}
@@ -11,17 +11,15 @@ use Rattle.fax_gateway.specs.Wires.{KnownWire}
 use Rattle.fax_gateway.specs.Turns.{TellTicks, call_of_rep}
 use Rattle.fax_gateway.specs.Driving.{Accepts, DriverValue, Entry, FailsToReceive, GoesBy, HasMade, Happens, ReceivesNothing, RefusesDatagram, RefusesRing, RefusesTick, Sends, WireGoes, events}
 use Rattle.fax_gateway.proofs.DrivingLemmas.{grows_none, happens_more}
-use Rattle.fax_wires.specs.repeat.Peers.{HearsOn, HearsWhere, PeerValue, Peers, bounded, change_on, cut_off, gone, no_bounds, peers_of, said, settled}
+use Rattle.fax_wires.specs.repeat.Peers.{HearsOn, HearsWhere, PeerValue, Peers, change_on, settled}
 use Rattle.fax_wires.specs.repeat.Policies.{IsToldAs}
 use Rattle.fax_wires.specs.repeat.Telling.{hears_same}
 use Rattle.fax_wires.proofs.repeat.Hearing.{hears_where_more}
-use Rattle.fax_wires.specs.holding.Holding.{CeasesWhere, HoldingValue, StaysWhere, TellsWhere}
+use Rattle.fax_wires.specs.holding.Holding.{Ceases, HoldingValue, TellsPeers}
 use Rattle.fax_wires.specs.holding.Storing.{handed_by}
-use Rattle.fax_wires.proofs.holding.Clocks.{clock_told, then_time, time_then}
-use Rattle.fax_wires.proofs.holding.Held.{grows_none_on, held_later, stays_where}
+use Rattle.fax_wires.proofs.holding.Clocks.{then_time, time_then}
+use Rattle.fax_wires.proofs.holding.Held.{grows_none_on, held_later, holds_still}
 use Rattle.fax_wires.proofs.holding.Telling.{ceases_told, told_ceases, told_more, told_same, told_stays}
-use Rattle.fax_line.specs.declared.asked.LineAnswer.{LineAnswer}
-use Rattle.fax_line.specs.declared.asked.LineAnswer.TheVariants as answered
 use Rattle.fax_line.specs.declared.asked.LineRequest.{LineRequest}
 use Rattle.fax_line.specs.declared.asked.LineRequest.TheVariants as asked
 use Rattle.fax_line.specs.Actions.{Drives, Goes, LineValue, TellsTurn, TellsWire, Turns}
@@ -79,7 +77,7 @@ hear_later old mid new same hear = subst (λ (p : Peers). HearBoth p new) same h
 -- ---- a wire that is told of the peers
 
 pub tells_line :
-    (gateway : GatewayValue) (driver : DriverValue) (a b : KnownWire) (m n : Option ℕ) (h k : Option HoldingValue) (p q : Peers) (x : TurnReport) → IsToldAs a b → TellsWhere h k
+    (gateway : GatewayValue) (driver : DriverValue) (a b : KnownWire) (m n : Option ℕ) (h k : HoldingValue) (p q : Peers) (x : TurnReport) → IsToldAs a b → TellsPeers h k
     → TellsWire (line_of gateway driver a m h p x) (line_of gateway driver b n k q x)
 tells_line gateway driver a b m n h k p q x told tells = record { gateway = refl; driver = refl; wire = told; holding = tells; turned = refl }
 
@@ -135,8 +133,8 @@ turn_between now old a b new before settles drives after cuts = record {
         subst (λ (d : DriverValue). HasMade (t.0 ++ earlier) d) (sym after.driver) t.3,
         subst (λ (x : TurnReport). TellTicks setup trace (events t.0 ++ trace) x.report x.kept x.refused x.gave_up) (sym after.turned) t.4,
         λ operations done.
-            stays_where operations (handed_by t.0) b.holding new.holding (told_stays b.holding new.holding after.holding)
-            (held_later t.0 old.holding a.holding b.holding (told_stays old.holding a.holding before.holding) t.5 operations done),
+            holds_still operations (handed_by t.0) b.holding new.holding
+            (held_later t.0 old.holding a.holding b.holding (told_stays old.holding a.holding before.holding) t.5 operations done) (told_stays b.holding new.holding after.holding),
       );
   peers = λ setup writes trace earlier writing reached made.
       let reached_then = subst (λ (g : GatewayValue). IsReachedBy setup writes trace g) (sym before.gateway) reached in
@@ -150,8 +148,8 @@ turn_between now old a b new before settles drives after cuts = record {
       let reached_then = subst (λ (g : GatewayValue). IsReachedBy setup writes trace g) (sym before.gateway) reached in
       let made_then = subst (λ (d : DriverValue). HasMade earlier d) (sym before.driver) made in
       time_then now old.holding b.holding new.holding
-      (then_time now old.holding a.holding b.holding (clock_told old.holding a.holding before.holding) (drives.time setup writes trace earlier writing reached_then made_then))
-      (clock_told b.holding new.holding after.holding);
+      (then_time now old.holding a.holding b.holding before.holding.clock (drives.time setup writes trace earlier writing reached_then made_then))
+      after.holding.clock;
 }
 
 -- before it two things are told
@@ -163,8 +161,8 @@ settled_is a b c is_on is_sending y z is_y is_z first second =
 -- ---- what is asked
 
 -- a leg that was freed stays free, where its wire is told of its peer before it and after it
-pub freed_last : (at : Leg) (old mid new : LineValue) → CeasesWhere at old.holding mid.holding → TellsWire mid new → CeasesWhere at old.holding new.holding
+pub freed_last : (at : Leg) (old mid new : LineValue) → Ceases at old.holding mid.holding → TellsWire mid new → Ceases at old.holding new.holding
 freed_last at old mid new freed tells = ceases_told at old.holding mid.holding new.holding freed tells.holding
 
-pub freed_first : (at : Leg) (old mid new : LineValue) → TellsWire old mid → CeasesWhere at mid.holding new.holding → CeasesWhere at old.holding new.holding
+pub freed_first : (at : Leg) (old mid new : LineValue) → TellsWire old mid → Ceases at mid.holding new.holding → Ceases at old.holding new.holding
 freed_first at old mid new tells freed = told_ceases at old.holding mid.holding new.holding tells.holding freed

@@ -1,5 +1,5 @@
 -- The lines of a slot at the end of its turn, one after the other.
-use Rattle.std.proofs.Common.{◌≡◌, ◌≢◌, ◌+◌, ◌*◌, ◌%◌, ℕ, ◌<◌, ◌≤◌, true, false, Bool, ◌&&◌, ◌||◌, nat_eq, nat_lt, List, [], ◌∷◌, ◌++◌, length, refl, sym, ◌∙◌, ap, subst, arith, slice_index_or, slice_set, inl, inr, ◌⊎◌, Option, Some, is_some}
+use Rattle.std.proofs.Common.{◌≡◌, ◌≢◌, ◌+◌, ◌*◌, ◌%◌, ℕ, ◌<◌, ◌≤◌, true, false, Bool, ◌&&◌, ◌||◌, nat_eq, nat_lt, List, [], ◌∷◌, ◌++◌, length, refl, sym, ◌∙◌, ap, subst, arith, slice_index_or, slice_set, inl, inr, ◌⊎◌, Option, is_some}
 use Rattle.std.specs.List.{All, AllPairs}
 use Rattle.std.proofs.lemmas.Bool.{eq-eqb, eqb-false, eqb-true, ltb-false, ltb-true, ne_eqb}
 use Rattle.std.proofs.lemmas.Grind.{get_or-set_at}
@@ -8,7 +8,6 @@ use Rattle.std.proofs.lemmas.List.Elements.{All-append, All-cons}
 use Rattle.std.proofs.lemmas.List.Folds.{list_any-append, list_any_none}
 use Rattle.std.proofs.lemmas.List.Quantifiers.{all_pairs_push}
 use Rattle.fax_wires.specs.repeat.Policies.{IsToldAs}
-use Rattle.fax_wires.specs.holding.Holding.{HoldingValue}
 use Rattle.fax_wires.specs.holding.Storing.{HasDone, HoldsAfter, LegAction, Turn}
 use Rattle.fax_line.specs.declared.settling.PageToStore.{PageToStore}
 use Rattle.fax_line.specs.Actions.{LineValue}
@@ -18,15 +17,11 @@ use Rattle.fax_line.specs.Settling.{EndsTurn, EndsWhere, HandsOver, IsOfTurn, Is
 
 -- by what ends the turn of its wire
 pub ends_by :
-    (is_stored confirms : Bool) (old new : LineValue) (before after : HoldingValue) → old.holding ≡ Some before → new.holding ≡ Some after → confirms ≡ is_some old.turned.kept
+    (is_stored confirms : Bool) (old new : LineValue) → confirms ≡ is_some old.turned.kept
     → new.gateway ≡ old.gateway → new.driver ≡ old.driver → IsToldAs old.wire new.wire → new.peers ≡ old.peers → new.turned ≡ old.turned
-    → ((operations : List LegAction) (given : Option (List ℕ)) → HoldsAfter operations given before → HasDone (Turn given confirms is_stored ∷ operations) after) → EndsTurn is_stored old new
-ends_by is_stored confirms old new before after was is same gateway driver wire peers told done = record {
-  before = before;
-  was = was;
-  after = after;
-  is = is;
-  done = λ operations given holds. subst (λ (b : Bool). HasDone (Turn given b is_stored ∷ operations) after) same (done operations given holds);
+    → ((operations : List LegAction) (given : Option (List ℕ)) → HoldsAfter operations given old.holding → HasDone (Turn given confirms is_stored ∷ operations) new.holding) → EndsTurn is_stored old new
+ends_by is_stored confirms old new same gateway driver wire peers told done = record {
+  done = λ operations given holds. subst (λ (b : Bool). HasDone (Turn given b is_stored ∷ operations) new.holding) same (done operations given holds);
   gateway = gateway;
   driver = driver;
   wire = wire;

@@ -19,7 +19,7 @@ use Rattle.fax_gateway.specs.Driving.{Accepts, DriverValue, Entry, HasMade, Happ
 use Rattle.fax_gateway.specs.Turns.{TellTicks, call_of_rep}
 use Rattle.fax_wires.specs.repeat.Peers.{Peers}
 use Rattle.fax_wires.specs.repeat.Policies.{IsToldAs}
-use Rattle.fax_wires.specs.holding.Holding.{CeasesWhere, HoldingValue, IsToldTimeWhere, StaysWhere, TellsWhere}
+use Rattle.fax_wires.specs.holding.Holding.{Ceases, HoldingValue, IsToldTime, Stays, TellsPeers}
 use Rattle.fax_wires.specs.holding.Storing.{HoldsByLog}
 use Rattle.fax_line.specs.declared.asked.LineAnswer.{LineAnswer}
 use Rattle.fax_line.specs.declared.asked.LineAnswer.TheVariants as answered
@@ -27,14 +27,14 @@ use Rattle.fax_line.specs.declared.asked.LineRequest.{LineRequest}
 use Rattle.fax_line.specs.declared.asked.LineRequest.TheVariants as asked
 use Rattle.fax_line.specs.LegPeers.{HearBoth, TurnsPeers}
 
--- its gateway, what drives that, what is known of its wire and from when on that has something to do, what the wire holds back
--- where it does, the peers of its legs, and what the last turn told
+-- its gateway, what drives that, what is known of its wire and from when on that has something to do, what the wire holds back,
+-- the peers of its legs, and what the last turn told
 pub record LineValue : Type 0 where
   pub gateway : GatewayValue
   pub driver : DriverValue
   pub wire : KnownWire
   pub wire_due : Option ℕ
-  pub holding : Option HoldingValue
+  pub holding : HoldingValue
   pub peers : Peers
   pub turned : TurnReport
 
@@ -142,7 +142,7 @@ pub record Drives (now : ℕ) (old new : LineValue) : Type 0 where
       → HasMade earlier old.driver → HearBoth old.peers new.peers
   pub time : (setup : Setup) (writes : Writing) (trace : List Event) (earlier : List Entry)
       → IsWriting writes → IsReachedBy setup writes trace old.gateway
-      → HasMade earlier old.driver → IsToldTimeWhere now old.holding new.holding
+      → HasMade earlier old.driver → IsToldTime now old.holding new.holding
 
 -- A turn, and what it told: it was driven, and its wire was told the moment. Of the calls of its peers no more is known where no call was on; the peers of its legs stay, or
 -- are heard; and the called leg is cut where a job was reported.
@@ -160,14 +160,14 @@ pub record TellsTurn (now : ℕ) (old new : LineValue) : Type 0 where
       (is_some old.gateway.book.sending) old.peers new.peers
   pub time : (setup : Setup) (writes : Writing) (trace : List Event) (earlier : List Entry)
       → IsWriting writes → IsReachedBy setup writes trace old.gateway
-      → HasMade earlier old.driver → IsToldTimeWhere now old.holding new.holding
+      → HasMade earlier old.driver → IsToldTime now old.holding new.holding
 
 -- Its wire is told of the peers of its legs: what it holds back stays, and nothing else of the line changes.
 pub record TellsWire (old new : LineValue) : Type 0 where
   pub gateway : new.gateway ≡ old.gateway
   pub driver : new.driver ≡ old.driver
   pub wire : IsToldAs old.wire new.wire
-  pub holding : TellsWhere old.holding new.holding
+  pub holding : TellsPeers old.holding new.holding
   pub turned : new.turned ≡ old.turned
 
 -- the leg on which a call begins by what was asked: by a ring the calling one, by a placing the called one
@@ -182,9 +182,9 @@ leg_begun None = None
 
 -- What was handed over there before is sent no more; of the calling leg nothing is held back then, and it is not silenced. Where no call
 -- begins what the wire holds back stays.
-abbrev pub Frees : Option Leg → Option HoldingValue → Option HoldingValue → Type 0
-Frees (Some at) old new = CeasesWhere at old new
-Frees None old new = StaysWhere old new
+abbrev pub Frees : Option Leg → HoldingValue → HoldingValue → Type 0
+Frees (Some at) old new = Ceases at old new
+Frees None old new = Stays old new
 
 -- Where no call begins nothing changes of the line by a ring, or where a machine was not reached; by anything else nothing but the
 -- peers of its legs, and what its wire makes of that.

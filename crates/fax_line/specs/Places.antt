@@ -7,7 +7,7 @@ use Rattle.fax_gateway.specs.Events.{Event}
 use Rattle.fax_gateway.specs.Reached.{IsReachedBy}
 use Rattle.fax_gateway.specs.Setups.{Setup}
 use Rattle.fax_gateway.specs.Restored.{RestoredCall}
-use Rattle.fax_wires.specs.holding.Holding.{StaysWhere}
+use Rattle.fax_wires.specs.holding.Holding.{Stays}
 use Rattle.fax_line.specs.Actions.{Action, Asks, BeginsWith, Goes, LineValue, Rests, TellsTurn, Turns, Wakes}
 
 -- the line, from when on something is due on it, whether it was woken since it was turned last, whether it was turned in the
@@ -59,7 +59,7 @@ visit_at true false false now = TurnsAt now
 
 -- what the wire of a line holds back stays, and so do the peers of its legs
 abbrev pub StaysHeld : PlaceValue → PlaceValue → Type 0
-StaysHeld old new = StaysWhere old.line.holding new.line.holding × (new.line.peers ≡ old.line.peers)
+StaysHeld old new = Stays old.line.holding new.line.holding × (new.line.peers ≡ old.line.peers)
 
 -- A line that was turned tells what its ticks told; one that was left at rest had no turn.
 abbrev pub TellsOrRests : ℕ → Bool → PlaceValue → PlaceValue → Type 0

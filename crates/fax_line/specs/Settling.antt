@@ -10,7 +10,6 @@ use Rattle.fax_jobs.specs.Newest.{newest_page}
 use Rattle.fax_gateway.specs.declared.given.Kept.{Kept}
 use Rattle.fax_gateway.specs.declared.turn_report.TurnReport.{TurnReport}
 use Rattle.fax_wires.specs.repeat.Policies.{IsToldAs}
-use Rattle.fax_wires.specs.holding.Holding.{HoldingValue}
 use Rattle.fax_wires.specs.holding.Storing.{HasDone, HoldsAfter, LegAction, Turn}
 use Rattle.fax_line.specs.Actions.{LineValue}
 use Rattle.fax_line.specs.Places.{PlaceValue}
@@ -43,13 +42,9 @@ IsOfTurnIf number line (Some page) = (page.line ≡ number) × IsOfTurn line pag
 -- THE END OF A LINE'S TURN, whose page is stored or not: its wire has done one turn more, whatever it did before, of which that tells
 -- nothing; the rest of the line is as it was.
 pub record EndsTurn (is_stored : Bool) (old new : LineValue) : Type 0 where
-  pub before : HoldingValue
-  pub was : old.holding ≡ Some before
-  pub after : HoldingValue
-  pub is : new.holding ≡ Some after
   pub done : (operations : List LegAction) (given : Option (List ℕ))
-      → HoldsAfter operations given before
-      → HasDone (Turn given (is_some old.turned.kept) is_stored ∷ operations) after
+      → HoldsAfter operations given old.holding
+      → HasDone (Turn given (is_some old.turned.kept) is_stored ∷ operations) new.holding
   pub gateway : new.gateway ≡ old.gateway
   pub driver : new.driver ≡ old.driver
   pub wire : IsToldAs old.wire new.wire

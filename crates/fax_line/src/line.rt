@@ -18,8 +18,8 @@ ghost use Rattle.fax_line.specs.declared.asked.LineRequest.TheVariants as asked;
 ghost use Rattle.fax_line.specs.declared.asked.ConnectRequest.{ConnectRequest as ConnectingShown};
 ghost use Rattle.fax_line.specs.declared.asked.RingRequest.{RingRequest as RingingShown};
 ghost use Rattle.fax_gateway.specs.declared.leg.Leg.TheVariants as leg_shown;
-ghost use Rattle.fax_wires.specs.holding.Holding.{CeasesWhere, IsToldTimeWhere, StaysWhere};
-ghost use Rattle.fax_wires.specs.repeat.Peers.{bounded, change_on, cut_off, gone, no_bounds, peer_on, peers_of, said, settled, state_of};
+ghost use Rattle.fax_wires.specs.holding.Holding.{Ceases, IsToldTime, Stays, as_told, due_on};
+ghost use Rattle.fax_wires.specs.repeat.Peers.{bounded, change_on, cut_off, gone, no_bounds, peer_on, said, settled, state_of};
 ghost use Rattle.fax_wires.specs.repeat.Policies.{due_of};
 ghost use Rattle.fax_line.specs.Settling.{EndsTurn, IsOfTurnIf};
 
@@ -32,21 +32,21 @@ use fax_gateway::{
 use fax_jobs::{Job, Report};
 use fax_pagestore::PackedRows;
 use fax_timers::earlier;
-use fax_wires::holding::{HoldingWire, LineWire, StoreFault, end_turn};
+use fax_wires::holding::{HoldingWire, StoreFault, end_turn};
 use fax_wires::repeat::{Bounds, LegState, NoRoute, Peer, TimedWire};
 use std::alloc::Global;
 use std::marker::Model;
 
 /// A gateway, what drives it, and its wire.
-pub struct Line<W: LineWire + Drop> {
+pub struct Line<W: TimedWire + Drop> {
     gateway: Gateway<PackedRows>,
     engine: Engine,
-    wire: W,
+    wire: HoldingWire<W>,
     /// What the last turn told.
     turned: TurnReport,
 }
 
-impl<W: LineWire + Drop> Drop for Line<W> {
+impl<W: TimedWire + Drop> Drop for Line<W> {
     fn drop(self) {
         let Line {
             gateway: _gateway,
@@ -57,9 +57,9 @@ impl<W: LineWire + Drop> Drop for Line<W> {
     }
 }
 
-impl<W: LineWire + Drop> Model for Line<W> {
-    ghost use Rattle.fax_wires.specs.repeat.Peers.{peers_of};
+impl<W: TimedWire + Drop> Model for Line<W> {
     ghost use Rattle.fax_wires.specs.repeat.Policies.{due_of};
+    ghost use Rattle.fax_wires.specs.holding.Holding.{as_told, due_on};
     ghost use Rattle.fax_line.specs.Actions.{LineValue, TellsWhether};
 
     ghost Value = { LineValue };
@@ -67,26 +67,26 @@ impl<W: LineWire + Drop> Model for Line<W> {
     ghost view = { λ l. record {
       gateway = l.gateway;
       driver = l.engine;
-      wire = W.known l.wire;
-      wire_due = due_of W.due l.wire;
-      holding = W.holding l.wire;
-      peers = peers_of W.peer_at l.wire;
+      wire = as_told l.wire;
+      wire_due = due_of due_on l.wire;
+      holding = l.wire;
+      peers = l.wire.peers;
       turned = l.turned;
     } };
 
     ghost invariant = { λ l. TellsWhether l.turned.goes_on l.engine };
 }
 
-impl<W: LineWire + Drop> Line<W> {
+impl<W: TimedWire + Drop> Line<W> {
     /// A line to which nothing came, with these settings. It takes memory for its gateway.
-    pub fn new(alloc: Global, settings: Settings, wire: W) -> Result<Self, NoMemory>
+    pub fn new(alloc: Global, settings: Settings, wire: HoldingWire<W>) -> Result<Self, NoMemory>
         requires { AreAllowed settings }
         ensures new { IfOk result (λ line. IsNew line) }
         ensures settings { IfOk result (λ line. line.gateway.settings ≡ settings) }
-        ensures wire { IfOk result (λ line. line.wire ≡ W.known wire) }
-        ensures wire_due { IfOk result (λ line. line.wire_due ≡ due_of W.due wire) }
-        ensures holding { IfOk result (λ line. line.holding ≡ W.holding wire) }
-        ensures peers { IfOk result (λ line. line.peers ≡ peers_of W.peer_at wire) }
+        ensures wire { IfOk result (λ line. line.wire ≡ as_told wire) }
+        ensures wire_due { IfOk result (λ line. line.wire_due ≡ due_of due_on wire) }
+        ensures holding { IfOk result (λ line. line.holding ≡ wire) }
+        ensures peers { IfOk result (λ line. line.peers ≡ wire.peers) }
         ensures turned { IfOk result (λ line. line.turned ≡ no_turn) }
     {
         Line::restore(alloc, settings, Vec::new(alloc), wire)
@@ -98,15 +98,15 @@ impl<W: LineWire + Drop> Line<W> {
         alloc: Global,
         settings: Settings,
         calls: Vec<RestoredCall<PackedRows>>,
-        wire: W,
+        wire: HoldingWire<W>,
     ) -> Result<Self, NoMemory>
         requires { AreAllowed settings }
         ensures begins { IfOk result (λ line. BeginsWith (map call_shown calls.items) line) }
         ensures settings { IfOk result (λ line. line.gateway.settings ≡ settings) }
-        ensures wire { IfOk result (λ line. line.wire ≡ W.known wire) }
-        ensures wire_due { IfOk result (λ line. line.wire_due ≡ due_of W.due wire) }
-        ensures holding { IfOk result (λ line. line.holding ≡ W.holding wire) }
-        ensures peers { IfOk result (λ line. line.peers ≡ peers_of W.peer_at wire) }
+        ensures wire { IfOk result (λ line. line.wire ≡ as_told wire) }
+        ensures wire_due { IfOk result (λ line. line.wire_due ≡ due_of due_on wire) }
+        ensures holding { IfOk result (λ line. line.holding ≡ wire) }
+        ensures peers { IfOk result (λ line. line.peers ≡ wire.peers) }
         ensures turned { IfOk result (λ line. line.turned ≡ no_turn) }
     {
         let gateway = Gateway::restore(alloc, settings, calls)?;
@@ -252,8 +252,8 @@ impl<W: LineWire + Drop> Line<W> {
     /// The wire is told the time, between two turns.
     pub fn tell_time(&mut self, moment: u64)
         ensures goes { Goes [] self.old self.new }
-        ensures time { IsToldTimeWhere moment self.old.holding self.new.holding }
-        ensures stays { StaysWhere self.old.holding self.new.holding }
+        ensures time { IsToldTime moment self.old.holding self.new.holding }
+        ensures stays { Stays self.old.holding self.new.holding }
         ensures peers { self.new.peers ≡ self.old.peers }
         ensures turned { self.new.turned ≡ self.old.turned }
     {
@@ -315,7 +315,7 @@ impl<W: LineWire + Drop> Line<W> {
             (λ setup writes trace. idle_after (calling_leg setup trace) ≡ true
             → result ≡ Err RingFault.NoNumber ↔ (4294967296 ≤ rings trace)) }
         ensures freed { OnOk result
-            (CeasesWhere leg_shown.Calling self.old.holding self.new.holding) }
+            (Ceases leg_shown.Calling self.old.holding self.new.holding) }
         ensures peers { self.new.peers
             ≡ peers_after (asked.Ring ringing) (Some (answered.Rung result)) self.old.peers }
         ensures err { OnErr result (self.new ≡ self.old) }
@@ -342,7 +342,7 @@ impl<W: LineWire + Drop> Line<W> {
             (λ setup writes trace. idle_after (calling_leg setup trace) ≡ true
             → result ≡ Err RingFault.NoNumber ↔ (4294967296 ≤ rings trace)) }
         ensures freed { OnOk result
-            (CeasesWhere leg_shown.Calling self.old.holding self.new.holding) }
+            (Ceases leg_shown.Calling self.old.holding self.new.holding) }
         ensures peers { self.new.peers ≡ self.old.peers }
         ensures err { OnErr result (self.new ≡ self.old) }
         ensures turned { self.new.turned ≡ self.old.turned }
@@ -385,7 +385,7 @@ impl<W: LineWire + Drop> Line<W> {
         ensures not_asked { OfJobAsked self.old.gateway
             (λ job. result ≡ Err PlaceFault.NotAsked ↔ (job ≡ None)) }
         ensures freed { OnOk result
-            (CeasesWhere leg_shown.Called self.old.holding self.new.holding) }
+            (Ceases leg_shown.Called self.old.holding self.new.holding) }
         ensures ok { OnOk result (self.new.peers
             ≡ change_on leg_shown.Called (bounded no_bounds) self.old.peers) }
         ensures cut { OnErr result (self.new.peers
@@ -417,7 +417,7 @@ impl<W: LineWire + Drop> Line<W> {
         ensures not_asked { OfJobAsked self.old.gateway
             (λ job. result ≡ Err PlaceFault.NotAsked ↔ (job ≡ None)) }
         ensures freed { OnOk result
-            (CeasesWhere leg_shown.Called self.old.holding self.new.holding) }
+            (Ceases leg_shown.Called self.old.holding self.new.holding) }
         ensures peers { self.new.peers
             ≡ peers_after asked.NotConnected (Some (answered.Placed result)) self.old.peers }
         ensures err { OnErr result (self.new ≡ self.old) }
@@ -439,7 +439,7 @@ impl<W: LineWire + Drop> Line<W> {
         ensures not_asked { OfJobAsked self.old.gateway
             (λ job. result ≡ Err PlaceFault.NotAsked ↔ (job ≡ None)) }
         ensures freed { OnOk result
-            (CeasesWhere leg_shown.Called self.old.holding self.new.holding) }
+            (Ceases leg_shown.Called self.old.holding self.new.holding) }
         ensures peers { self.new.peers ≡ self.old.peers }
         ensures err { OnErr result (self.new ≡ self.old) }
         ensures turned { self.new.turned ≡ self.old.turned }
@@ -538,15 +538,12 @@ impl<W: LineWire + Drop> Line<W> {
     }
 
     /// Its wire.
-    pub fn wire(&self) -> &W
-        ensures wire { W.known result.now ≡ self.now.wire }
-        ensures peers { peers_of W.peer_at result.now ≡ self.now.peers }
+    pub fn wire(&self) -> &HoldingWire<W>
+        ensures { result.now ≡ self.now.holding }
     {
         &self.wire
     }
-}
 
-impl<W: TimedWire + Drop> Line<HoldingWire<W>> {
     /// The page that its last turn confirmed, as that of the line of this number; none where it confirmed none. An `Err`: it confirmed
     /// one, and memory was refused for its text.
     pub fn page_to_store(

@@ -18,7 +18,7 @@ use crate::store::RunStore;
 use fax_bits::NoMemory;
 use fax_gateway::{Buffer, Kept};
 use fax_jobs::Report;
-use fax_wires::holding::{HoldingWire, LineWire, PageStore, store_pages};
+use fax_wires::holding::{PageStore, store_pages};
 use fax_wires::repeat::TimedWire;
 use std::alloc::{AllocError, Global};
 use std::marker::Model;
@@ -29,7 +29,7 @@ pub const SLOTS: usize = 40;
 /// The lines of a server. Line i stands in slot i mod 40; a slot has its turn each millisecond, one after the other, so that
 /// each line has one each 40 ms: there it is turned, or left at rest where nothing is due on it and it was not woken since it
 /// was turned last. All share one buffer, which is lent to the line whose turn it is.
-pub struct Lines<W: LineWire + Drop> {
+pub struct Lines<W: TimedWire + Drop> {
     places: Vec<Place<W>>,
     alloc: Global,
     buffer: Buffer,
@@ -37,7 +37,7 @@ pub struct Lines<W: LineWire + Drop> {
     slot: usize,
 }
 
-impl<W: LineWire + Drop> Drop for Lines<W> {
+impl<W: TimedWire + Drop> Drop for Lines<W> {
     fn drop(self) {
         let Lines {
             places: _places,
@@ -48,7 +48,7 @@ impl<W: LineWire + Drop> Drop for Lines<W> {
     }
 }
 
-impl<W: LineWire + Drop> Model for Lines<W> {
+impl<W: TimedWire + Drop> Model for Lines<W> {
     ghost use Rattle.std.specs.Prelude.{◌<◌};
     ghost use Rattle.fax_line.specs.Operations.{LinesValue, most_slots};
 
@@ -59,7 +59,7 @@ impl<W: LineWire + Drop> Model for Lines<W> {
     ghost invariant = { λ l. l.slot < most_slots };
 }
 
-impl<W: LineWire + Drop> Lines<W> {
+impl<W: TimedWire + Drop> Lines<W> {
     /// No lines. It takes memory for their buffer.
     pub fn new(alloc: Global) -> Result<Self, NoMemory>
         ensures { IfOk result (λ lines. lines ≡ record { lines = []; slot = 0 }) }
@@ -199,9 +199,7 @@ impl<W: LineWire + Drop> Lines<W> {
         note_places(places, end.pages.as_slice(), store);
         end_jobs(places, self.alloc, store);
     }
-}
 
-impl<W: TimedWire + Drop> Lines<HoldingWire<W>> {
     /// After the turn of the slot that had the last one: each of its lines waits that was turned, and of whose turn something is to be stored;
     /// what the others gave on their calling legs goes out.
     pub fn set_aside(&mut self)
@@ -283,7 +281,7 @@ fn slot_across(slot: usize) -> usize
 }
 
 /// The turn of a slot, and the wires of the slot half a round away are told the time.
-fn serve_slot<W: LineWire + Drop>(
+fn serve_slot<W: TimedWire + Drop>(
     places: &mut [Place<W>],
     buffer: &mut Buffer,
     slot: usize,
@@ -301,7 +299,7 @@ fn serve_slot<W: LineWire + Drop>(
 }
 
 /// A turn of each line of a slot, but for those that are left at rest, and those that wait.
-fn turn_slot<W: LineWire + Drop>(
+fn turn_slot<W: TimedWire + Drop>(
     places: &mut [Place<W>],
     buffer: &mut Buffer,
     slot: usize,
@@ -324,7 +322,7 @@ fn turn_slot<W: LineWire + Drop>(
 }
 
 /// The wire of each line of a slot is told the time, where something is due.
-fn tell_slot<W: LineWire + Drop>(places: &mut [Place<W>], slot: usize, now: u64)
+fn tell_slot<W: TimedWire + Drop>(places: &mut [Place<W>], slot: usize, now: u64)
     requires { slot < most_slots }
     ensures goes { EachGoes (λ i. []) places.old places.new }
     ensures others { EachComes (λ i before after. (nat_eq (slot_of i) slot ≡ false → after ≡ before)
@@ -341,7 +339,7 @@ fn tell_slot<W: LineWire + Drop>(places: &mut [Place<W>], slot: usize, now: u64)
 }
 
 /// This is asked of line i, where there is one.
-fn ask_one<W: LineWire + Drop>(
+fn ask_one<W: TimedWire + Drop>(
     places: &mut [Place<W>],
     i: usize,
     what: LineRequest,
@@ -361,7 +359,7 @@ fn ask_one<W: LineWire + Drop>(
 }
 
 /// Line i is woken, where there is one.
-fn wake_one<W: LineWire + Drop>(places: &mut [Place<W>], i: usize)
+fn wake_one<W: TimedWire + Drop>(places: &mut [Place<W>], i: usize)
     ensures went { EachGoes
         (λ line. if nat_eq line i then Wakes ∷ [] else []) places.old places.new }
     ensures stays { AllStayHeld places.old places.new }
@@ -373,7 +371,7 @@ fn wake_one<W: LineWire + Drop>(places: &mut [Place<W>], i: usize)
 }
 
 /// Each line of a slot waits that was turned, and of whose turn something is to be stored; what the others gave goes out.
-fn set_aside_slot<W: TimedWire + Drop>(places: &mut [Place<HoldingWire<W>>], slot: usize)
+fn set_aside_slot<W: TimedWire + Drop>(places: &mut [Place<W>], slot: usize)
     requires { slot < most_slots }
     ensures went { EachGoes (λ i. []) places.old places.new }
     ensures aside { SetAside slot places.old places.new }
@@ -389,7 +387,7 @@ fn set_aside_slot<W: TimedWire + Drop>(places: &mut [Place<HoldingWire<W>>], slo
 
 /// The turns of the lines that wait end.
 fn settle_places<K: PageStore<PageToStore>, W: TimedWire + Drop>(
-    places: &mut [Place<HoldingWire<W>>],
+    places: &mut [Place<W>],
     alloc: Global,
     store: &mut K,
 ) -> PutResult
@@ -411,10 +409,7 @@ fn settle_places<K: PageStore<PageToStore>, W: TimedWire + Drop>(
 
 /// The pages that the lines which wait confirmed, one after the other. The turns of those that confirmed none end, and of those whose pages
 /// memory was refused for.
-fn hand_over_all<W: TimedWire + Drop>(
-    places: &mut [Place<HoldingWire<W>>],
-    alloc: Global,
-) -> Vec<PageToStore>
+fn hand_over_all<W: TimedWire + Drop>(places: &mut [Place<W>], alloc: Global) -> Vec<PageToStore>
     ensures went { EachGoes (λ i. []) places.old places.new }
     ensures waits { WaitAlike places.old places.new }
     ensures awake { AwakeAlike places.old places.new }
@@ -429,11 +424,7 @@ fn hand_over_all<W: TimedWire + Drop>(
 }
 
 /// The turns of the lines end whose pages these are.
-fn end_turns<W: TimedWire + Drop>(
-    places: &mut [Place<HoldingWire<W>>],
-    pages: &[PageToStore],
-    is_stored: bool,
-)
+fn end_turns<W: TimedWire + Drop>(places: &mut [Place<W>], pages: &[PageToStore], is_stored: bool)
     ensures went { EachGoes (λ i. []) places.old places.new }
     ensures waits { WaitAlike places.old places.new }
     ensures awake { AwakeAlike places.old places.new }
@@ -448,7 +439,7 @@ fn end_turns<W: TimedWire + Drop>(
 }
 
 /// No line waits any more.
-fn free_places<W: TimedWire + Drop>(places: &mut [Place<HoldingWire<W>>])
+fn free_places<W: TimedWire + Drop>(places: &mut [Place<W>])
     ensures went { EachGoes (λ i. []) places.old places.new }
     ensures frees { AreFreed places.old places.new }
 {
@@ -458,7 +449,7 @@ fn free_places<W: TimedWire + Drop>(places: &mut [Place<HoldingWire<W>>])
 }
 
 /// What the lines of a slot gave on their calling legs goes out, where they had turns.
-fn let_out_places<W: TimedWire + Drop>(places: &mut [Place<HoldingWire<W>>], slot: usize)
+fn let_out_places<W: TimedWire + Drop>(places: &mut [Place<W>], slot: usize)
     requires { slot < most_slots }
     ensures goes { EachGoes (λ i. []) places.old places.new }
     ensures ends { LetsOutSlot slot places.old places.new }
@@ -475,7 +466,7 @@ fn let_out_places<W: TimedWire + Drop>(places: &mut [Place<HoldingWire<W>>], slo
 }
 
 /// A store is told which pages of the lines that wait were not handed over, one after the other.
-fn note_places<W: LineWire + Drop, K: RunStore>(
+fn note_places<W: TimedWire + Drop, K: RunStore>(
     places: &[Place<W>],
     pages: &[PageToStore],
     store: &mut K,
@@ -488,7 +479,7 @@ fn note_places<W: LineWire + Drop, K: RunStore>(
 }
 
 /// The same of a line, where it waits.
-fn note_place<W: LineWire + Drop, K: RunStore>(
+fn note_place<W: TimedWire + Drop, K: RunStore>(
     number: usize,
     place: &Place<W>,
     was_handed: bool,
@@ -517,7 +508,7 @@ fn note_kept<K: RunStore>(number: usize, kept: Option<Kept>, was_handed: bool, s
 }
 
 /// A store is told which jobs ended in the turns of the lines that wait: of all of them at once, but as memory is refused.
-fn end_jobs<W: LineWire + Drop, K: RunStore>(places: &[Place<W>], alloc: Global, store: &mut K)
+fn end_jobs<W: TimedWire + Drop, K: RunStore>(places: &[Place<W>], alloc: Global, store: &mut K)
     ensures { EndsLines K.ends (waits_of places.now) places.now store.old store.new }
 {
     let mut ended = Vec::new(alloc);
@@ -530,7 +521,7 @@ fn end_jobs<W: LineWire + Drop, K: RunStore>(places: &[Place<W>], alloc: Global,
 }
 
 /// What the turn of a line told of a job, where it waits.
-fn report_of<W: LineWire + Drop>(place: &Place<W>) -> Option<Report>
+fn report_of<W: TimedWire + Drop>(place: &Place<W>) -> Option<Report>
     ensures { result ≡ report_if place.now.waits place.now.line.turned }
 {
     if place.waits() {

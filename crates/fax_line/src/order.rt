@@ -9,7 +9,7 @@ use crate::asked::{LineAnswer, LineRequest};
 use crate::lines::Lines;
 use crate::settling::PutResult;
 use crate::store::RunStore;
-use fax_wires::holding::LineWire;
+use fax_wires::repeat::TimedWire;
 
 /// What is to be done next, and when.
 #[derive(Clone, Copy, PartialEq, Eq)]
@@ -35,7 +35,7 @@ pub enum Order {
 /// before the turn of its slot.
 ///
 /// It is shown what keeps the pages of the run, where there is one, and changes nothing of what that keeps.
-pub trait Pace<W: LineWire + Drop, K: RunStore> {
+pub trait Pace<W: TimedWire + Drop, K: RunStore> {
     /// Of one that tells it: what it answered to `next`, and what it was told of that which it asked of lines, the newest first.
     ghost words: { Self → Option (List Word) };
 

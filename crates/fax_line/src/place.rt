@@ -2,7 +2,7 @@
 ghost use Rattle.std.specs.Prelude.{◌≡◌, List, [], ◌∷◌, Some, not, true, false, IfOk, OnErr};
 ghost use Rattle.fax_timers.specs.Moments.{is_due};
 ghost use Rattle.fax_gateway.specs.Restored.{RestoredCall};
-ghost use Rattle.fax_wires.specs.holding.Holding.{IsToldTimeWhere};
+ghost use Rattle.fax_wires.specs.holding.Holding.{IsToldTime};
 ghost use Rattle.fax_line.specs.Actions.{Asks, BeginsWith, Frees, Wakes, leg_begun};
 ghost use Rattle.fax_line.specs.LegPeers.{peers_after};
 ghost use Rattle.fax_line.specs.Places.{BeginsInPlace, GoesInPlace, IsAwakeAfter, StaysHeld, TellsOrRests, TellsVisit, WaitsStill, actions_by, is_at_rest, visit_at, visit_of};
@@ -12,14 +12,13 @@ use crate::asked::{LineAnswer, LineRequest};
 use crate::line::Line;
 use crate::settling::PageToStore;
 use fax_gateway::{Buffer, TurnReport};
-use fax_wires::holding::{HoldingWire, LineWire};
 use fax_wires::repeat::TimedWire;
 use std::alloc::{AllocError, Global};
 use std::marker::Model;
 
 /// A line in its slot, and when it is left at rest. What is looked at in each turn stands here, so that a line at rest costs
 /// a look at a few octets; the line itself lies elsewhere.
-pub(crate) struct Place<W: LineWire + Drop> {
+pub(crate) struct Place<W: TimedWire + Drop> {
     /// From which moment on something is due on it. `None`: nothing is until something comes.
     due: Option<u64>,
     /// Whether it was woken, and not turned since.
@@ -31,7 +30,7 @@ pub(crate) struct Place<W: LineWire + Drop> {
     line: Box<Line<W>>,
 }
 
-impl<W: LineWire + Drop> Drop for Place<W> {
+impl<W: TimedWire + Drop> Drop for Place<W> {
     fn drop(self) {
         let Place {
             due: _due,
@@ -43,7 +42,7 @@ impl<W: LineWire + Drop> Drop for Place<W> {
     }
 }
 
-impl<W: LineWire + Drop> Model for Place<W> {
+impl<W: TimedWire + Drop> Model for Place<W> {
     ghost use Rattle.fax_line.specs.Places.{IsDueOn, PlaceValue};
 
     ghost Value = { PlaceValue };
@@ -59,7 +58,7 @@ impl<W: LineWire + Drop> Model for Place<W> {
     ghost invariant = { λ p. IsDueOn p.due p.line.value };
 }
 
-impl<W: LineWire + Drop> Place<W> {
+impl<W: TimedWire + Drop> Place<W> {
     /// The place of a line, which is turned in the first turn of its slot. It takes memory for the line.
     pub fn new(alloc: Global, line: Line<W>) -> Result<Self, AllocError>
         ensures line { IfOk result (λ place. place.line ≡ line) }
@@ -148,7 +147,7 @@ impl<W: LineWire + Drop> Place<W> {
     pub fn tell_time(&mut self, now: u64)
         ensures goes { GoesInPlace [] self.old self.new }
         ensures time { self.old.waits ≡ false → is_due self.old.due now ≡ true
-            → IsToldTimeWhere now self.old.line.holding self.new.line.holding }
+            → IsToldTime now self.old.line.holding self.new.line.holding }
         ensures waits { WaitsStill self.old self.new }
         ensures awake { self.new.awake ≡ self.old.awake }
         ensures stays { StaysHeld self.old self.new }
@@ -182,9 +181,7 @@ impl<W: LineWire + Drop> Place<W> {
     {
         self.is_awake = true;
     }
-}
 
-impl<W: TimedWire + Drop> Place<HoldingWire<W>> {
     /// After a turn of its slot: where something of a turn of the line is to be stored it waits; what another gave goes out. One that
     /// waits does so still.
     pub fn set_aside(&mut self)

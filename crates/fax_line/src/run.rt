@@ -10,7 +10,6 @@ ghost use Rattle.fax_line.specs.Runs.{AreServed, DoneOrder, Ends, latest, next_s
 use crate::lines::Lines;
 use crate::order::{Order, Pace};
 use crate::store::RunStore;
-use fax_wires::holding::HoldingWire;
 use fax_wires::repeat::TimedWire;
 
 /// Does what is ordered, until the run ends. A moment before another that came reads as the latest. Whatever the orders, and
@@ -22,8 +21,8 @@ use fax_wires::repeat::TimedWire;
 /// that was stored: once in each round of the slots, of all such lines at once; before something is asked of one of them; and where the
 /// run ends. The pages are put, then what confirms them goes out, and then the store is told of each job that ended. What the other
 /// lines gave goes out after their turns; where there is no store, that of all.
-pub fn serve<W: TimedWire + Drop, K: RunStore, P: Pace<HoldingWire<W>, K>>(
-    lines: &mut Lines<HoldingWire<W>>,
+pub fn serve<W: TimedWire + Drop, K: RunStore, P: Pace<W, K>>(
+    lines: &mut Lines<W>,
     store: &mut Option<K>,
     pace: &mut P,
 )
@@ -64,8 +63,8 @@ pub fn serve<W: TimedWire + Drop, K: RunStore, P: Pace<HoldingWire<W>, K>>(
 }
 
 /// The end of the turn of the slot that had the last one.
-fn end_turn<W: TimedWire + Drop, K: RunStore, P: Pace<HoldingWire<W>, K>>(
-    lines: &mut Lines<HoldingWire<W>>,
+fn end_turn<W: TimedWire + Drop, K: RunStore, P: Pace<W, K>>(
+    lines: &mut Lines<W>,
     store: &mut Option<K>,
     pace: &mut P,
 )
@@ -86,8 +85,8 @@ fn end_turn<W: TimedWire + Drop, K: RunStore, P: Pace<HoldingWire<W>, K>>(
 }
 
 /// The same where there is a store: what waits is stored once in each round of the slots.
-fn end_stored_turn<W: TimedWire + Drop, K: RunStore, P: Pace<HoldingWire<W>, K>>(
-    lines: &mut Lines<HoldingWire<W>>,
+fn end_stored_turn<W: TimedWire + Drop, K: RunStore, P: Pace<W, K>>(
+    lines: &mut Lines<W>,
     store: &mut K,
     pace: &mut P,
 )
@@ -108,8 +107,8 @@ fn end_stored_turn<W: TimedWire + Drop, K: RunStore, P: Pace<HoldingWire<W>, K>>
 }
 
 /// What waits is stored, where something does.
-fn store_waiting<W: TimedWire + Drop, K: RunStore, P: Pace<HoldingWire<W>, K>>(
-    lines: &mut Lines<HoldingWire<W>>,
+fn store_waiting<W: TimedWire + Drop, K: RunStore, P: Pace<W, K>>(
+    lines: &mut Lines<W>,
     store: &mut Option<K>,
     pace: &mut P,
 )
@@ -128,8 +127,8 @@ fn store_waiting<W: TimedWire + Drop, K: RunStore, P: Pace<HoldingWire<W>, K>>(
 }
 
 /// The same where this line waits.
-fn store_before<W: TimedWire + Drop, K: RunStore, P: Pace<HoldingWire<W>, K>>(
-    lines: &mut Lines<HoldingWire<W>>,
+fn store_before<W: TimedWire + Drop, K: RunStore, P: Pace<W, K>>(
+    lines: &mut Lines<W>,
     store: &mut Option<K>,
     pace: &mut P,
     line: usize,
@@ -148,8 +147,8 @@ fn store_before<W: TimedWire + Drop, K: RunStore, P: Pace<HoldingWire<W>, K>>(
 
 /// What is to be stored of the turns of the lines that wait is stored. The end of these turns, with what their jobs came to, is told before
 /// the store notes that they ended: a job whose end nobody was told is sent again.
-fn settle<W: TimedWire + Drop, K: RunStore, P: Pace<HoldingWire<W>, K>>(
-    lines: &mut Lines<HoldingWire<W>>,
+fn settle<W: TimedWire + Drop, K: RunStore, P: Pace<W, K>>(
+    lines: &mut Lines<W>,
     store: &mut K,
     pace: &mut P,
 )

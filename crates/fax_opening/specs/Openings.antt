@@ -7,7 +7,7 @@ use Rattle.fax_gateway.specs.Restored.{call_shown}
 use Rattle.fax_line.specs.Actions.{BeginsWith}
 use Rattle.fax_line.specs.Places.{PlaceValue}
 use Rattle.fax_spool.specs.RecordOctets as spool
-use Rattle.fax_queue.specs.OnLeg.{HasDoneOn}
+use Rattle.fax_wires.specs.holding.Storing.{HasDone}
 use Rattle.fax_queue.specs.Restorations.{Restores}
 use Rattle.fax_queue.specs.Queues.{QueueValue}
 use Rattle.fax_queue.specs.declared.restored.RestoredLine.{RestoredLine}
@@ -32,7 +32,7 @@ pub record IsRestored (pages : List spool.PageValue)
   pub restored : RestoredLine
   pub restores : Restores (string_bytes config.name) pages restored
   pub begins : BeginsWith (map call_shown restored.calls.items) place.line
-  pub fresh : HasDoneOn [] place.line.holding
+  pub fresh : HasDone [] place.line.holding
   pub settings : place.line.gateway.settings ≡ settings_by config
   pub queue_is : restored.queue ≡ queue
 

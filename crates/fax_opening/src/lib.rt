@@ -12,6 +12,4 @@ pub use clock::Stopwatch;
 pub use control::{close_control, open_control};
 pub use fault::ServeFault;
 pub use named_fault::NamedFault;
-pub use sockets::{
-    OpenedWire, ServedWire, SocketLegs, SocketWire, open_lines, open_restored_lines, settings_of,
-};
+pub use sockets::{ServedWire, SocketWire, open_lines, open_restored_lines, settings_of};

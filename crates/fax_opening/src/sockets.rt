@@ -2,10 +2,9 @@
 ghost use Rattle.std.specs.Prelude.{◌≡◌, ◌+◌, [], IfOk, OnOk, length, map};
 ghost use Rattle.fax_gateway.specs.Setups.{AreAllowed};
 ghost use Rattle.fax_gateway.specs.Restored.{call_shown};
-ghost use Rattle.fax_wires.specs.holding.Storing.{HasSent};
+ghost use Rattle.fax_wires.specs.holding.Storing.{HasDone, HasSent};
 ghost use Rattle.fax_line.specs.Actions.{BeginsWith};
 ghost use Rattle.fax_line.specs.Operations.{AreBegun, AreNew};
-ghost use Rattle.fax_queue.specs.OnLeg.{HasDoneOn};
 ghost use Rattle.fax_queue.specs.Restorations.{whole_pages};
 ghost use Rattle.fax_opening.specs.Openings.{AddsRestored, AreRestored, settings_by};
 
@@ -13,11 +12,11 @@ use crate::fault::ServeFault;
 use fax_config::{LegConfig, LineConfig, Repeat};
 use fax_gateway::{Leg, RestoredCall, Settings};
 use fax_legs::{LegSocket, UdpWire};
-use fax_line::{Line, Lines, PageToStore};
+use fax_line::{Line, Lines};
 use fax_pagestore::PackedRows;
 use fax_queue::{Queue, RestoredLine, restore_line};
 use fax_spool::{CallName, WaitingPage};
-use fax_wires::holding::{HoldingWire, LineWire, StoreFault};
+use fax_wires::holding::HoldingWire;
 use fax_wires::repeat::{RepeatPolicy, RepeatingWire, TimedWire};
 use std::alloc::Global;
 use std::io;
@@ -56,57 +55,8 @@ impl SocketWire for RepeatingWire<UdpWire<UdpSocket>> {
     }
 }
 
-/// A wire of a line whose legs are sockets.
-pub trait SocketLegs: LineWire + Drop + Sized {
-    /// The socket of a leg.
-    fn leg(&self, leg: Leg) -> &LegSocket<UdpSocket>;
-
-    /// Whether nothing goes out on the calling leg, since a page could not be stored.
-    fn is_silenced(&self) -> bool;
-
-    /// The page that the last turn of a line confirmed, as that of the line of this number: none where it confirmed none. An `Err`: memory
-    /// was refused for its text.
-    fn page_of(
-        line: &Line<Self>,
-        alloc: Global,
-        number: usize,
-    ) -> Result<Option<PageToStore>, StoreFault>;
-}
-
-impl<W: SocketWire + Drop> SocketLegs for HoldingWire<W> {
-    fn leg(&self, leg: Leg) -> &LegSocket<UdpSocket> {
-        self.wire().leg(leg)
-    }
-
-    fn is_silenced(&self) -> bool {
-        HoldingWire::is_silenced(self)
-    }
-
-    fn page_of(
-        line: &Line<Self>,
-        alloc: Global,
-        number: usize,
-    ) -> Result<Option<PageToStore>, StoreFault> {
-        line.page_to_store(alloc, number)
-    }
-}
-
-/// A wire of a line that is opened over its sockets, and holds nothing back so far.
-pub trait OpenedWire: SocketLegs + Sized {
-    /// Opens the sockets of a line. An `Err` names the line and the leg whose socket could not be opened.
-    fn open<N: Net>(net: &N, alloc: Global, config: &LineConfig) -> Result<Self, ServeFault>
-        ensures { IfOk result (λ wire. HasDoneOn [] (Self.holding wire)) };
-}
-
-impl<W: SocketWire + Drop> OpenedWire for HoldingWire<W> {
-    fn open<N: Net>(net: &N, alloc: Global, config: &LineConfig) -> Result<Self, ServeFault> {
-        let wire = W::open(net, alloc, config)?;
-        Ok(HoldingWire::new(alloc, wire))
-    }
-}
-
 /// Opens the sockets of all lines. An `Err` names the line and the leg whose socket could not be opened.
-pub fn open_lines<W: OpenedWire + Drop, N: Net>(
+pub fn open_lines<W: SocketWire + Drop, N: Net>(
     net: &N,
     alloc: Global,
     configs: &[LineConfig],
@@ -121,7 +71,7 @@ pub fn open_lines<W: OpenedWire + Drop, N: Net>(
 
 /// The same after a crash, where these pages wait and these calls lack one: each line begins with its own, but for those calls. What is
 /// known of the pages of each is added to these queues.
-pub fn open_restored_lines<W: OpenedWire + Drop, N: Net>(
+pub fn open_restored_lines<W: SocketWire + Drop, N: Net>(
     net: &N,
     alloc: Global,
     configs: &[LineConfig],
@@ -144,7 +94,7 @@ pub fn open_restored_lines<W: OpenedWire + Drop, N: Net>(
 }
 
 /// Opens the sockets of a line, which joins the others; it begins with its own of these pages, but for those of calls that lack one.
-fn add_line<W: OpenedWire + Drop, N: Net>(
+fn add_line<W: SocketWire + Drop, N: Net>(
     net: &N,
     alloc: Global,
     config: &LineConfig,
@@ -168,17 +118,18 @@ fn add_line<W: OpenedWire + Drop, N: Net>(
 }
 
 /// Opens the sockets of a line, which is restored with these calls.
-fn open_line<W: OpenedWire + Drop, N: Net>(
+fn open_line<W: SocketWire + Drop, N: Net>(
     net: &N,
     alloc: Global,
     config: &LineConfig,
     calls: Vec<RestoredCall<PackedRows>>,
 ) -> Result<Line<W>, ServeFault>
     ensures begins { IfOk result (λ line. BeginsWith (map call_shown calls.items) line) }
-    ensures fresh { IfOk result (λ line. HasDoneOn [] line.holding) }
+    ensures fresh { IfOk result (λ line. HasDone [] line.holding) }
     ensures settings { IfOk result (λ line. line.gateway.settings ≡ settings_by config.now) }
 {
     let wire = W::open(net, alloc, config)?;
+    let wire = HoldingWire::new(alloc, wire);
     Ok(Line::restore(alloc, settings_of(config), calls, wire)?)
 }
 

@@ -30,7 +30,7 @@ use fax_desk::{Damage, Desk, RunEnd};
 use fax_gateway::Settings;
 use fax_http::visitors::Visitors;
 use fax_line::{LineAnswer, Lines, Order, Pace, PutResult};
-use fax_opening::{SocketLegs, Stopwatch};
+use fax_opening::{SocketWire, Stopwatch};
 use fax_queue::Queue;
 use fax_spool::{CallName, WaitingPage};
 use fax_undelivered::PairedStore;
@@ -446,7 +446,7 @@ impl<
     C: Clock,
     R: RedialSide + Drop,
     S: SipSide + Drop,
-    W: SocketLegs + Drop,
+    W: SocketWire + Drop,
     D: Disk,
     U: Disk,
 > Pace<W, PairedStore<D, U>> for RealPace<'a, C, R, S> {

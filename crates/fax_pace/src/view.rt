@@ -10,22 +10,24 @@ use fax_bits::Octets;
 use fax_desk::{AskedView, FirstJob, LegView, LineView, Tag, Turn, View};
 use fax_gateway::{Leg, TurnReport};
 use fax_jobs::Report;
-use fax_legs::LegCounts;
+use fax_legs::{LegCounts, LegSocket};
 use fax_line::{Line, Lines, PageToStore};
-use fax_opening::SocketLegs;
+use fax_opening::SocketWire;
 use fax_undelivered::{PairedStore, Undelivered, UndeliveredCall};
-use fax_wires::holding::{LineWire, StoreFault};
+use fax_wires::holding::StoreFault;
+use fax_wires::repeat::TimedWire;
 use sqlite_disk::Disk;
 use std::alloc::Global;
+use std::net::UdpSocket;
 
 /// The lines, and what keeps their pages.
 #[derive(Drop)]
-pub struct Seen<'a, W: LineWire + Drop, D: Disk, U: Disk> {
+pub struct Seen<'a, W: TimedWire + Drop, D: Disk, U: Disk> {
     pub lines: &'a Lines<W>,
     pub store: Option<&'a PairedStore<D, U>>,
 }
 
-impl<'a, W: LineWire + Drop, D: Disk, U: Disk> View for Seen<'a, W, D, U> {
+impl<'a, W: TimedWire + Drop, D: Disk, U: Disk> View for Seen<'a, W, D, U> {
     ghost use Rattle.std.specs.Prelude.{slice_get};
     ghost use Rattle.fax_pace.specs.Views.{failed_if, first_if, first_on, line_at, store_fails};
 
@@ -45,7 +47,7 @@ impl<'a, W: LineWire + Drop, D: Disk, U: Disk> View for Seen<'a, W, D, U> {
     }
 }
 
-impl<'a, W: SocketLegs + Drop, D: Disk, U: Disk> SeenLines for Seen<'a, W, D, U> {
+impl<'a, W: SocketWire + Drop, D: Disk, U: Disk> SeenLines for Seen<'a, W, D, U> {
     fn len(&self) -> usize {
         self.lines.len()
     }
@@ -145,7 +147,7 @@ impl<'a, W: SocketLegs + Drop, D: Disk, U: Disk> SeenLines for Seen<'a, W, D, U>
 
     fn counts(&self, i: usize, leg: Leg) -> LegCounts {
         match self.lines.line(i) {
-            Some(line) => line.wire().leg(leg).counts(),
+            Some(line) => socket(line, leg).counts(),
             None => LegCounts::default(),
         }
     }
@@ -159,39 +161,39 @@ impl<'a, W: SocketLegs + Drop, D: Disk, U: Disk> SeenLines for Seen<'a, W, D, U>
 
     fn wake(&self, i: usize, leg: Leg) {
         if let Some(line) = self.lines.line(i) {
-            line.wire().leg(leg).wake();
+            socket(line, leg).wake();
         }
     }
 
     fn descriptor(&self, i: usize, leg: Leg) -> Option<i32> {
         match self.lines.line(i) {
-            Some(line) => Some(line.wire().leg(leg).descriptor()),
+            Some(line) => Some(socket(line, leg).descriptor()),
             None => None,
         }
     }
 
     fn set_watched(&self, i: usize, leg: Leg, is_watched: bool) {
         if let Some(line) = self.lines.line(i) {
-            line.wire().leg(leg).set_watched(is_watched);
+            socket(line, leg).set_watched(is_watched);
         }
     }
 
     fn set_tapped(&self, i: usize, leg: Leg, is_tapped: bool) {
         if let Some(line) = self.lines.line(i) {
-            line.wire().leg(leg).set_tapped(is_tapped);
+            socket(line, leg).set_tapped(is_tapped);
         }
     }
 
     fn tapped(&self, i: usize, leg: Leg) -> Option<&[Octets]> {
         match self.lines.line(i) {
-            Some(line) => line.wire().leg(leg).tapped(),
+            Some(line) => socket(line, leg).tapped(),
             None => None,
         }
     }
 
     fn page_of(&self, alloc: Global, i: usize) -> Result<Option<PageToStore>, StoreFault> {
         match self.lines.line(i) {
-            Some(line) => W::page_of(line, alloc, i),
+            Some(line) => line.page_to_store(alloc, i),
             None => Ok(None),
         }
     }
@@ -223,7 +225,7 @@ impl<'a, W: SocketLegs + Drop, D: Disk, U: Disk> SeenLines for Seen<'a, W, D, U>
 }
 
 /// What the last turn of a line came to, of which this job is the first in turn and whose page was kept, or not.
-fn turn_of<W: SocketLegs + Drop>(line: &Line<W>, first: FirstJob, is_stored: bool) -> Turn {
+fn turn_of<W: SocketWire + Drop>(line: &Line<W>, first: FirstJob, is_stored: bool) -> Turn {
     Turn {
         turned: line.turned(),
         first,
@@ -234,13 +236,18 @@ fn turn_of<W: SocketLegs + Drop>(line: &Line<W>, first: FirstJob, is_stored: boo
 }
 
 /// Whether a line has no call on either leg.
-fn is_calm<W: LineWire + Drop>(line: &Line<W>) -> bool {
+fn is_calm<W: TimedWire + Drop>(line: &Line<W>) -> bool {
     line.call().is_none() && line.sending().is_none()
 }
 
+/// The socket of a leg of a line.
+fn socket<W: SocketWire + Drop>(line: &Line<W>, leg: Leg) -> &LegSocket<UdpSocket> {
+    line.wire().wire().leg(leg)
+}
+
 /// Whether one of the legs of a line may have something for it.
-fn legs_ask<W: SocketLegs + Drop>(line: &Line<W>) -> bool {
-    line.wire().leg(Leg::Calling).asks() || line.wire().leg(Leg::Called).asks()
+fn legs_ask<W: SocketWire + Drop>(line: &Line<W>) -> bool {
+    socket(line, Leg::Calling).asks() || socket(line, Leg::Called).asks()
 }
 
 /// The calls of which pages could not be delivered, where something keeps them.
@@ -273,7 +280,7 @@ fn has_failed_too<U: Disk>(kept: Option<&Undelivered<U>>) -> bool
 }
 
 /// What a line is, the job that is first in turn on which was confirmed so, and whose spool has failed, or not.
-fn view_of<W: LineWire + Drop>(line: &Line<W>, first: FirstJob, has_failed: bool) -> LineView
+fn view_of<W: TimedWire + Drop>(line: &Line<W>, first: FirstJob, has_failed: bool) -> LineView
     ensures { result ≡ line_seen line.now first has_failed }
 {
     LineView {
@@ -287,7 +294,7 @@ fn view_of<W: LineWire + Drop>(line: &Line<W>, first: FirstJob, has_failed: bool
 }
 
 /// The call whose job is being sent.
-fn sending<W: LineWire + Drop>(line: &Line<W>) -> Option<u32>
+fn sending<W: TimedWire + Drop>(line: &Line<W>) -> Option<u32>
     ensures { result ≡ option_map (λ job. job.call) line.now.gateway.book.sending }
 {
     match line.sending() {
@@ -297,7 +304,7 @@ fn sending<W: LineWire + Drop>(line: &Line<W>) -> Option<u32>
 }
 
 /// The job whose call is asked for: none while the end of a job cannot be noted, since it would be sent a second time.
-fn asked<W: LineWire + Drop>(line: &Line<W>, has_failed: bool) -> Option<AskedView>
+fn asked<W: TimedWire + Drop>(line: &Line<W>, has_failed: bool) -> Option<AskedView>
     ensures { result
         ≡ asked_seen has_failed (job_asked line.now.gateway.settings.asks line.now.gateway.book) }
 {
@@ -314,7 +321,7 @@ fn asked<W: LineWire + Drop>(line: &Line<W>, has_failed: bool) -> Option<AskedVi
 }
 
 /// What a leg is.
-fn leg_view<W: LineWire + Drop>(line: &Line<W>, leg: Leg) -> LegView
+fn leg_view<W: TimedWire + Drop>(line: &Line<W>, leg: Leg) -> LegView
     ensures { result ≡ leg_seen (state_of (peer_on leg line.now.peers)) }
 {
     let leg = line.leg_state(leg);

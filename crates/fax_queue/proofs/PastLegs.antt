@@ -8,60 +8,42 @@ use Rattle.fax_gateway.specs.declared.leg.Leg.TheVariants as legs
 use Rattle.fax_gateway.specs.Restored.{CallPage}
 use Rattle.fax_gateway.specs.Setups.{Setup}
 use Rattle.fax_gateway.specs.Events.{Event, Placed, Ring}
-use Rattle.fax_wires.specs.holding.Holding.{CeasesWhere, HoldingValue, StaysWhere}
-use Rattle.fax_wires.specs.holding.Storing.{Begins, HasDoneWhere, HoldsAfterWhere, LegAction, Turn, went_out}
-use Rattle.fax_wires.proofs.holding.Held.{begins_where, ceases_beside, done_where_still, no_turn_where, silenced_until}
+use Rattle.fax_wires.specs.holding.Holding.{Ceases, HoldingValue, Stays}
+use Rattle.fax_wires.specs.holding.Storing.{Begins, HasDone, HoldsAfter, LegAction, Turn, went_out}
+use Rattle.fax_wires.proofs.holding.Held.{begins_ceased, ceases_beside, done_still, no_turn, silenced_until}
 use Rattle.fax_line.specs.Actions.{LineValue}
 use Rattle.fax_line.specs.StoredRuns.{kept_if}
 use Rattle.fax_line.specs.Places.{PlaceValue}
 use Rattle.fax_line.specs.Settling.{EndsTurn, IsOfTurn, IsPageOf, has_page}
 use Rattle.fax_line.specs.declared.settling.PageToStore.{PageToStore}
 use Rattle.fax_queue.specs.Histories.{AreStoredOf, IsStoredPage}
-use Rattle.fax_queue.specs.OnLeg.{AreOnLeg, HasDoneOn, IsTurnOnLeg, UnputPagesLetNothingOut}
+use Rattle.fax_queue.specs.OnLeg.{AreOnLeg, IsTurnOnLeg, UnputPagesLetNothingOut}
 use Rattle.fax_spool.specs.RecordOctets as spool
 use Rattle.fax_queue.proofs.Lives.{one_page}
 use Rattle.fax_queue.proofs.BookTurns.{ActionOfTurn, NoPage, NoTick, OnePage}
 use Rattle.fax_queue.proofs.PastPuts.{after_none, kept_none, kept_of_none, not_eq}
 
 -- The actions of its wire are those of this trace, and these pages were put with an Ok.
-pub record Leg (setup : Setup) (trace : List Event) (holding : Option HoldingValue) (kept : List CallPage) : Type 0 where
+pub record Leg (setup : Setup) (trace : List Event) (holding : HoldingValue) (kept : List CallPage) : Type 0 where
   pub actions : List LegAction
-  pub did : HasDoneOn actions holding
+  pub did : HasDone actions holding
   pub on_leg : AreOnLeg setup actions trace kept
 
-done_on_still : (actions : List LegAction) (old new : Option HoldingValue) → StaysWhere old new → HasDoneOn actions old → HasDoneOn actions new
-done_on_still actions None new stays done = absurd done
-done_on_still actions (Some old) None stays done = absurd stays
-done_on_still actions (Some old) (Some new) stays done = done_where_still actions (Some old) (Some new) stays done
-
-begins_on : (actions : List LegAction) (old new : Option HoldingValue) → CeasesWhere legs.Calling old new → HasDoneOn actions old → HasDoneOn (Begins ∷ actions) new
-begins_on actions None new ceases done = absurd done
-begins_on actions (Some old) None ceases done = absurd ceases
-begins_on actions (Some old) (Some new) ceases done = begins_where actions (Some old) (Some new) ceases done
-
-no_turn_on : (actions : List LegAction) (is_stored : Bool) (wire : Option HoldingValue) → HasDoneOn (Turn None false is_stored ∷ actions) wire → HasDoneOn actions wire
-no_turn_on actions is_stored None done = absurd done
-no_turn_on actions is_stored (Some wire) done = no_turn_where actions is_stored (Some wire) done
-
-done_where : (actions : List LegAction) (wire : Option HoldingValue) → HasDoneOn actions wire → HasDoneWhere actions wire
-done_where actions None done = tt
-done_where actions (Some wire) done = done
-
-pub leg_fresh : (setup : Setup) (holding : Option HoldingValue) → HasDoneOn [] holding → Leg setup [] holding []
+pub leg_fresh : (setup : Setup) (holding : HoldingValue) → HasDone [] holding → Leg setup [] holding []
 leg_fresh setup holding fresh = record { actions = []; did = fresh; on_leg = (refl, refl) }
 
-pub leg_still : (setup : Setup) (trace : List Event) (old new : Option HoldingValue) (kept : List CallPage) → StaysWhere old new → Leg setup trace old kept → Leg setup trace new kept
-leg_still setup trace old new kept stays was = record { actions = was.actions; did = done_on_still was.actions old new stays was.did; on_leg = was.on_leg }
+pub leg_still : (setup : Setup) (trace : List Event) (old new : HoldingValue) (kept : List CallPage) → Stays old new → Leg setup trace old kept → Leg setup trace new kept
+leg_still setup trace old new kept stays was = record { actions = was.actions; did = done_still was.actions old new was.did stays; on_leg = was.on_leg }
 
-pub leg_rung : (setup : Setup) (trace : List Event) (now number : ℕ) (old new : Option HoldingValue) (kept : List CallPage) → CeasesWhere legs.Calling old new → Leg setup trace old kept → Leg setup (Ring now number ∷ trace) new kept
+pub leg_rung : (setup : Setup) (trace : List Event) (now number : ℕ) (old new : HoldingValue) (kept : List CallPage) → Ceases legs.Calling old new → Leg setup trace old kept → Leg setup (Ring now number ∷ trace) new kept
 leg_rung setup trace now number old new kept ceases was = record {
   actions = Begins ∷ was.actions;
-  did = begins_on was.actions old new ceases was.did;
+  did = begins_ceased was.actions old new ceases was.did;
   on_leg = (was.actions, refl, was.on_leg);
 }
 
 -- a call that is placed on the called leg is none of the calling one
-pub leg_placed : (setup : Setup) (trace : List Event) (now : ℕ) (connected : Bool) (old new : Option HoldingValue) (kept : List CallPage) → CeasesWhere legs.Called old new → Leg setup trace old kept
+pub leg_placed : (setup : Setup) (trace : List Event) (now : ℕ) (connected : Bool) (old new : HoldingValue) (kept : List CallPage) → Ceases legs.Called old new → Leg setup trace old kept
     → Leg setup (Placed now connected ∷ trace) new kept
 leg_placed setup trace now connected old new kept ceases was =
     let still = leg_still setup trace old new kept (ceases_beside old new ceases) was in
@@ -70,15 +52,13 @@ leg_placed setup trace now connected old new kept ceases was =
 -- ---- the end of a turn
 
 -- by what the end of a turn makes of the wire
-ended : (handed : Option (List ℕ)) (actions : List LegAction) (is_stored : Bool) (old new : LineValue) → EndsTurn is_stored old new → HoldsAfterWhere actions handed old.holding
-    → HasDoneOn (Turn handed (is_some old.turned.kept) is_stored ∷ actions) new.holding
-ended handed actions is_stored old new ends after =
-    subst (λ (w : Option HoldingValue). HasDoneOn (Turn handed (is_some old.turned.kept) is_stored ∷ actions) w) (sym ends.is)
-    (ends.done actions handed (subst (λ (w : Option HoldingValue). HoldsAfterWhere actions handed w) ends.was after))
+ended : (handed : Option (List ℕ)) (actions : List LegAction) (is_stored : Bool) (old new : LineValue) → EndsTurn is_stored old new → HoldsAfter actions handed old.holding
+    → HasDone (Turn handed (is_some old.turned.kept) is_stored ∷ actions) new.holding
+ended handed actions is_stored old new ends after = ends.done actions handed after
 
-confirming : (handed : Option (List ℕ)) (actions : List LegAction) (is_stored : Bool) (holding : Option HoldingValue) (o p : Option Kept) → o ≡ p → HasDoneOn (Turn handed (is_some o) is_stored ∷ actions) holding
-    → HasDoneOn (Turn handed (is_some p) is_stored ∷ actions) holding
-confirming handed actions is_stored holding o p is did = subst (λ (k : Option Kept). HasDoneOn (Turn handed (is_some k) is_stored ∷ actions) holding) is did
+confirming : (handed : Option (List ℕ)) (actions : List LegAction) (is_stored : Bool) (holding : HoldingValue) (o p : Option Kept) → o ≡ p → HasDone (Turn handed (is_some o) is_stored ∷ actions) holding
+    → HasDone (Turn handed (is_some p) is_stored ∷ actions) holding
+confirming handed actions is_stored holding o p is did = subst (λ (k : Option Kept). HasDone (Turn handed (is_some k) is_stored ∷ actions) holding) is did
 
 -- ---- the pages of the line among those that were put
 
@@ -127,28 +107,28 @@ none_kept number pages false none = refl
 -- ---- a turn of the line, and its end
 
 -- after it, by the pages that were put at once
-pub record LegSo (setup : Setup) (trace : List Event) (holding : Option HoldingValue) (kept : List CallPage) (number : ℕ) (pages : List PageToStore) : Type 0 where
+pub record LegSo (setup : Setup) (trace : List Event) (holding : HoldingValue) (kept : List CallPage) (number : ℕ) (pages : List PageToStore) : Type 0 where
   pub more : List CallPage
   pub are_put : AreStoredOf number pages more
   pub leg : Leg setup trace holding (kept ++ more)
 
-nothing_put : (setup : Setup) (trace : List Event) (holding : Option HoldingValue) (kept : List CallPage) (number : ℕ) (pages : List PageToStore) → AreStoredOf number pages [] → Leg setup trace holding kept
+nothing_put : (setup : Setup) (trace : List Event) (holding : HoldingValue) (kept : List CallPage) (number : ℕ) (pages : List PageToStore) → AreStoredOf number pages [] → Leg setup trace holding kept
     → LegSo setup trace holding kept number pages
 nothing_put setup trace holding kept number pages are leg = record { more = []; are_put = are; leg = subst (λ (k : List CallPage). Leg setup trace holding k) (sym (append-nil kept)) leg }
 
 pub leg_ended :
-    (setup : Setup) (older newer : List Event) (handed : Option (List ℕ)) (which : ℕ → Bool) (number : ℕ) (pages : List PageToStore) (is_ok : Bool) (lines : List PlaceValue) (other : PlaceValue) (mid : Option HoldingValue) (new : LineValue) (kept : List CallPage)
+    (setup : Setup) (older newer : List Event) (handed : Option (List ℕ)) (which : ℕ → Bool) (number : ℕ) (pages : List PageToStore) (is_ok : Bool) (lines : List PlaceValue) (other : PlaceValue) (mid : HoldingValue) (new : LineValue) (kept : List CallPage)
     → ActionOfTurn setup handed older newer (slice_index_or lines number other).line → All (IsPageOf which lines) pages → AllPairs (λ page after. page.line < after.line) pages
     → EndsTurn (has_page pages number && is_ok) (slice_index_or lines number other).line new
-    → ((actions : List LegAction) → HasDoneWhere actions mid → HoldsAfterWhere actions handed (slice_index_or lines number other).line.holding) → Leg setup older mid kept
+    → ((actions : List LegAction) → HasDone actions mid → HoldsAfter actions handed (slice_index_or lines number other).line.holding) → Leg setup older mid kept
     → LegSo setup newer new.holding kept number (kept_if is_ok pages)
 leg_ended setup older newer handed which number pages is_ok lines other mid new kept action each rising ends holds was = by action
   where
     own : LineValue
     own = (slice_index_or lines number other).line
 
-    did : HasDoneOn (Turn handed (is_some own.turned.kept) (has_page pages number && is_ok) ∷ was.actions) new.holding
-    did = ended handed was.actions (has_page pages number && is_ok) own new ends (holds was.actions (done_where was.actions mid was.did))
+    did : HasDone (Turn handed (is_some own.turned.kept) (has_page pages number && is_ok) ∷ was.actions) new.holding
+    did = ended handed was.actions (has_page pages number && is_ok) own new ends (holds was.actions was.did)
 
     nothing : own.turned.kept ≡ None → AreStoredOf number (kept_if is_ok pages) []
     nothing none = none_kept number pages is_ok (none_has which number lines other pages each none)
@@ -156,7 +136,7 @@ leg_ended setup older newer handed which number pages is_ok lines other mid new 
     of_page : (page : CallPage) → ((to_store : PageToStore) → IsOfTurn own to_store → IsStoredPage to_store page)
         → ((actions : List LegAction) (before : List CallPage) → AreOnLeg setup actions older before → AreOnLeg setup (Turn handed true true ∷ actions) newer (before ++ page ∷ []))
         → ((actions : List LegAction) (before : List CallPage) → AreOnLeg setup actions older before → AreOnLeg setup (Turn handed true false ∷ actions) newer before)
-        → (has ok : Bool) → has_page pages number ≡ has → is_ok ≡ ok → HasDoneOn (Turn handed true (has && ok) ∷ was.actions) new.holding
+        → (has ok : Bool) → has_page pages number ≡ has → is_ok ≡ ok → HasDone (Turn handed true (has && ok) ∷ was.actions) new.holding
         → LegSo setup newer new.holding kept number (kept_if is_ok pages)
     of_page page means put refused true true has ok done =
         let its : Own which number lines other pages = own_of which number lines other pages each rising has in record {
@@ -175,8 +155,8 @@ leg_ended setup older newer handed which number pages is_ok lines other mid new 
     by (NoTick none nothing_handed goes) =
         nothing_put setup newer new.holding kept number (kept_if is_ok pages) (nothing none) (record {
           actions = was.actions;
-          did = no_turn_on was.actions (has_page pages number && is_ok) new.holding
-              (subst (λ (h : Option (List ℕ)). HasDoneOn (Turn h false (has_page pages number && is_ok) ∷ was.actions) new.holding) nothing_handed
+          did = no_turn was.actions (has_page pages number && is_ok) new.holding
+              (subst (λ (h : Option (List ℕ)). HasDone (Turn h false (has_page pages number && is_ok) ∷ was.actions) new.holding) nothing_handed
               (confirming handed was.actions (has_page pages number && is_ok) new.holding own.turned.kept None none did));
           on_leg = goes was.actions kept was.on_leg;
         })

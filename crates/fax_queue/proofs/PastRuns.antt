@@ -16,8 +16,8 @@ use Rattle.fax_gateway.specs.Events.{Event, Placed, Ring}
 use Rattle.fax_gateway.specs.Lives.{Life}
 use Rattle.fax_gateway.specs.Reached.{GatewayValue, IsReachedBy}
 use Rattle.fax_gateway.specs.Driving.{Accepts, DriverValue, Entry, HasMade, RefusesRing, events}
-use Rattle.fax_wires.specs.holding.Holding.{HoldingValue, StaysWhere}
-use Rattle.fax_wires.specs.holding.Storing.{HoldsByLog, PutsIf, handed_by}
+use Rattle.fax_wires.specs.holding.Holding.{HoldingValue, Stays}
+use Rattle.fax_wires.specs.holding.Storing.{HasDone, HoldsByLog, PutsIf, handed_by}
 use Rattle.fax_line.specs.declared.asked.LineAnswer.{LineAnswer}
 use Rattle.fax_line.specs.declared.asked.LineAnswer.TheVariants as answered
 use Rattle.fax_line.specs.declared.asked.LineRequest.{LineRequest}
@@ -47,7 +47,7 @@ use Rattle.fax_queue.specs.Together.{EndsTogether}
 use Rattle.fax_queue.specs.Histories.{AreStoredOf, BeginsRun, HasPast, LeavesRun, RunsMakeHistory}
 use Rattle.fax_queue.specs.Jobs.{WaitSo}
 use Rattle.fax_queue.specs.NotedRuns.{EndsNoted, HasWholePast, IsNotedAlone, IsNotedWith, NotesOther, PutsWithOk, RunsNoteAll}
-use Rattle.fax_queue.specs.OnLeg.{AreOnLeg, HasDoneOn}
+use Rattle.fax_queue.specs.OnLeg.{AreOnLeg}
 use Rattle.fax_queue.proofs.BookTurns.{action_of_turn, turn_has_page}
 use Rattle.fax_queue.proofs.PastLegs.{Leg, kept_once, leg_ended, leg_fresh, leg_placed, leg_rung, leg_still}
 use Rattle.fax_queue.proofs.Lives.{restarts_are_actions}
@@ -77,11 +77,11 @@ AreQuiet (Asks now what answer ∷ actions) = AreQuiet actions
 AreQuiet (Wakes ∷ actions) = AreQuiet actions
 
 -- what they make of what the line's wire holds back
-abbrev HeldBy : Action → Option HoldingValue → Option HoldingValue → Type 0
-HeldBy (Turns now) old new = StaysWhere old new
-HeldBy (Rests now) old new = StaysWhere old new
+abbrev HeldBy : Action → HoldingValue → HoldingValue → Type 0
+HeldBy (Turns now) old new = Stays old new
+HeldBy (Rests now) old new = Stays old new
 HeldBy (Asks now what answer) old new = Frees (leg_begun answer) old new
-HeldBy Wakes old new = StaysWhere old new
+HeldBy Wakes old new = Stays old new
 
 module _ (setup : Setup) (writes : Writing) (before : List BookEntry) where
   told_none : (log : List Entry) (trace : List Event) → log ≡ [] → told_in setup (events log ++ trace) before ≡ told_in setup trace before
@@ -91,29 +91,29 @@ module _ (setup : Setup) (writes : Writing) (before : List BookEntry) where
   both_none newer older log is first second = is ∙ ap (λ (l : List Entry). l ++ older) first ∙ second
 
   -- where no event came
-  leg_quiet : (log : List Entry) (trace : List Event) (p : List CallPage) (old new : Option HoldingValue) → log ≡ [] → StaysWhere old new → Leg setup trace old p → Leg setup (events log ++ trace) new p
+  leg_quiet : (log : List Entry) (trace : List Event) (p : List CallPage) (old new : HoldingValue) → log ≡ [] → Stays old new → Leg setup trace old p → Leg setup (events log ++ trace) new p
   leg_quiet log trace p old new none stays leg = subst (λ (l : List Entry). Leg setup (events l ++ trace) new p) (sym none) (leg_still setup trace old new p stays leg)
 
   -- Where this is all that came, nothing is told, and what the wire did is of the trace still.
-  abbrev IsInert : List Entry → List Event → List CallPage → Option HoldingValue → Type 0
+  abbrev IsInert : List Entry → List Event → List CallPage → HoldingValue → Type 0
   IsInert log trace p new = (told_in setup (events log ++ trace) before ≡ told_in setup trace before) × Leg setup (events log ++ trace) new p
 
-  inert_by : (log is : List Entry) (trace : List Event) (p : List CallPage) (new : Option HoldingValue) → log ≡ is → IsInert is trace p new → IsInert log trace p new
+  inert_by : (log is : List Entry) (trace : List Event) (p : List CallPage) (new : HoldingValue) → log ≡ is → IsInert is trace p new → IsInert log trace p new
   inert_by log is trace p new same inert = subst (λ (l : List Entry). IsInert l trace p new) (sym same) inert
 
-  ring_is_inert : (now : ℕ) (result : Result ℕ RingFault) (log : List Entry) (trace : List Event) (p : List CallPage) (old new : Option HoldingValue) → IsRung now result log
+  ring_is_inert : (now : ℕ) (result : Result ℕ RingFault) (log : List Entry) (trace : List Event) (p : List CallPage) (old new : HoldingValue) → IsRung now result log
       → Frees (leg_begun (Some (answered.Rung result))) old new → Leg setup trace old p → IsInert log trace p new
   ring_is_inert now (Ok number) log trace p old new is frees leg = inert_by log (Accepts (Ring now number) ∷ []) trace p new is (refl, leg_rung setup trace now number old new p frees leg)
   ring_is_inert now (Err fault) log trace p old new is frees leg = inert_by log (RefusesRing fault ∷ []) trace p new is (refl, leg_still setup trace old new p frees leg)
 
-  place_is_inert : (after : List Event) (now : ℕ) (connected : Bool) (result : Result (Unit {0}) PlaceFault) (log : List Entry) (trace : List Event) (p : List CallPage) (old new : Option HoldingValue)
+  place_is_inert : (after : List Event) (now : ℕ) (connected : Bool) (result : Result (Unit {0}) PlaceFault) (log : List Entry) (trace : List Event) (p : List CallPage) (old new : HoldingValue)
       → IsPlaced setup writes after now connected result log → Frees (leg_begun (Some (answered.Placed result))) old new → Leg setup trace old p → IsInert log trace p new
   place_is_inert after now connected (Ok done) log trace p old new is frees leg =
       inert_by log (Accepts (Placed now connected) ∷ []) trace p new is (refl, leg_placed setup trace now connected old new p frees leg)
   place_is_inert after now connected (Err fault) log trace p old new is frees leg = inert_by log [] trace p new is.0 (refl, leg_still setup trace old new p frees leg)
 
   -- so it is of what is asked of a line alone
-  ask_is_inert : (after : List Event) (now : ℕ) (what : LineRequest) (answer : Option LineAnswer) (log : List Entry) (trace : List Event) (p : List CallPage) (old new : Option HoldingValue)
+  ask_is_inert : (after : List Event) (now : ℕ) (what : LineRequest) (answer : Option LineAnswer) (log : List Entry) (trace : List Event) (p : List CallPage) (old new : HoldingValue)
       → IsAsked setup writes after now what answer log → Frees (leg_begun answer) old new → Leg setup trace old p → IsInert log trace p new
   ask_is_inert after now (asked.Ring ringing) (Some (answered.Rung result)) log trace p old new is frees leg = ring_is_inert now result log trace p old new is frees leg
   ask_is_inert after now (asked.Peer peering) (Some answered.Done) log trace p old new is frees leg = (told_none log trace is, leg_quiet log trace p old new is frees leg)
@@ -163,7 +163,7 @@ module _ (setup : Setup) (writes : Writing) (before : List BookEntry) where
         leg = leg_quiet it.0 was.trace p old.holding new.holding (both_none it.1.0 it.1.1 it.0 it.1.2 it.1.3 it.1.4) stays was.leg;
       }
 
-  goes_still : (t : List BookEntry) (p : List CallPage) (old new : LineValue) → IsWriting writes → Goes [] old new → StaysWhere old.holding new.holding → Reaches setup writes before t p old → Reaches setup writes before t p new
+  goes_still : (t : List BookEntry) (p : List CallPage) (old new : LineValue) → IsWriting writes → Goes [] old new → Stays old.holding new.holding → Reaches setup writes before t p old → Reaches setup writes before t p new
   goes_still t p old new writing goes stays was =
       let it = goes.goes setup writes was.trace was.made writing was.reached was.driven in
       record {
@@ -185,7 +185,7 @@ module _ (setup : Setup) (writes : Writing) (before : List BookEntry) where
     driven : HasMade made line.driver
 
   -- And what its wire holds back then.
-  record TurnsOnLeg (t : List BookEntry) (p : List CallPage) (mid : Option HoldingValue) (line : LineValue) : Type 0 where
+  record TurnsOnLeg (t : List BookEntry) (p : List CallPage) (mid : HoldingValue) (line : LineValue) : Type 0 where
     so : TurnsSo t line
     leg : Leg setup so.older mid p
     holds : HoldsByLog so.ends.log mid line.holding
@@ -1009,7 +1009,7 @@ module _ {D K : Type 0} (seen : D → List ℕ) (may_leave : D → List ℕ → 
         reached = subst (λ (p : PlaceValue). IsReachedBy setup writes [] p.line.gateway) (sym place_is) (begins.begins.gateway setup writes begins.set);
         driven = subst (λ (p : PlaceValue). HasMade [] p.line.driver) (sym place_is) begins.begins.driver;
         told = refl;
-        leg = leg_fresh setup (slice_index_or begun number begins.place).line.holding (subst (λ (p : PlaceValue). HasDoneOn [] p.line.holding) (sym place_is) begins.fresh);
+        leg = leg_fresh setup (slice_index_or begun number begins.place).line.holding (subst (λ (p : PlaceValue). HasDone [] p.line.holding) (sym place_is) begins.fresh);
       } in
       let stands = run_on seen may_leave is_usable queues_of spool_of number line names alone low A Puts Notes Ends puts_are notes_are ends_are tell_both newest origins written mean setup writes before writing begins.place puts done settled begun left k l ran
       (record { many = sym begins.as_many ∙ sym many_names; entries = first_told; puts = []; are_put = refl; on_leg = []; are_on_leg = refl; reaches = reaches; held = held }) in

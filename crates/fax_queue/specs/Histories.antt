@@ -11,6 +11,7 @@ use Rattle.fax_gateway.specs.Events.{Event}
 use Rattle.fax_gateway.specs.Reached.{IsReachedBy}
 use Rattle.fax_gateway.specs.Lives.{Life}
 use Rattle.fax_wires.specs.holding.Storing as hold
+use Rattle.fax_wires.specs.holding.Storing.{HasDone}
 use Rattle.fax_line.specs.Actions.{BeginsWith}
 use Rattle.fax_line.specs.Places.{PlaceValue}
 use Rattle.fax_line.specs.Runs.{DoneOrder}
@@ -30,7 +31,7 @@ use Rattle.fax_queue.specs.Jobs.{PagesWait, WaitSo}
 use Rattle.fax_queue.specs.Lives.{PageAction, State, WasDone}
 use Rattle.fax_queue.specs.SpoolStorage.{EndsJobs, IsUnchanged, NotesPage, PutsPages}
 use Rattle.fax_queue.specs.Book.{AreOfLives, pages_put}
-use Rattle.fax_queue.specs.OnLeg.{AreOnLeg, HasDoneOn}
+use Rattle.fax_queue.specs.OnLeg.{AreOnLeg}
 
 -- THE PAST OF A LINE, where these pages wait on the disk: actions that were done, which are those of these lives of its gateway, and by
 -- which so many pages were put with an `Ok`.
@@ -83,7 +84,7 @@ pub record BeginsRun {D : Type 0} (seen : D → List ℕ) (may_leave : D → Lis
   pub place : PlaceValue
   pub there : slice_get lines number ≡ Some place
   pub begins : BeginsWith (map call_shown restored.calls.items) place.line
-  pub fresh : HasDoneOn [] place.line.holding
+  pub fresh : HasDone [] place.line.holding
   pub set : AreSetWith setup place.line.gateway.settings (map call_shown restored.calls.items)
   pub queued : slice_get queues number ≡ Some restored.queue
   pub as_many : length queues ≡ length lines
@@ -105,7 +106,7 @@ pub record LeavesRun {D : Type 0} (seen : D → List ℕ)
   pub kept : List CallPage
   pub are_stored : AreStoredOf number (stored_pages settled) kept
   pub leg : List hold.LegAction
-  pub did : HasDoneOn leg place.line.holding
+  pub did : HasDone leg place.line.holding
   pub on_leg : AreOnLeg setup leg trace kept
   pub past : WaitSo seen may_leave is_usable spool (HasPast writes line (record {
     setup = setup;

@@ -7,13 +7,7 @@ use Rattle.fax_gateway.specs.Setups.{Setup}
 use Rattle.fax_gateway.specs.Events.{Event, Given, Ring, FromCalling, FromCalled, Tick, Placed, clock}
 use Rattle.fax_gateway.specs.CallingLegs.{CallingLeg, calling_leg}
 use Rattle.fax_gateway.specs.Cuts.{confirmed_at}
-use Rattle.fax_wires.specs.holding.Holding.{HoldingValue}
-use Rattle.fax_wires.specs.holding.Storing.{LegAction, HasDone, Turn, Begins, went_out}
-
--- A line's wire, which holds back, has done these actions.
-abbrev pub HasDoneOn : List LegAction → Option HoldingValue → Type 0
-HasDoneOn actions None = ⊥
-HasDoneOn actions (Some wire) = HasDone actions wire
+use Rattle.fax_wires.specs.holding.Storing.{LegAction, Turn, Begins, went_out}
 
 -- What a turn handed over is what its tick gave on the calling leg, or nothing, where memory for that was refused.
 abbrev pub IsHandedOver : (gave handed : Option (List ℕ)) → Type 0

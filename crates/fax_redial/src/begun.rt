@@ -25,7 +25,7 @@ use std::marker::Model;
 /// nothing else; and its job, which has the numbers of all of those pages.
 #[derive(Drop)]
 pub struct RestoredTry<W: TimedWire + Drop> {
-    pub(crate) line: Line<HoldingWire<W>>,
+    pub(crate) line: Line<W>,
     pub(crate) job: RetryJob,
 }
 
@@ -118,7 +118,7 @@ fn line_of_job<W: TimedWire + Drop>(
     pages: &[WaitingPage],
     delivered: u32,
     wire: HoldingWire<W>,
-) -> Result<Line<HoldingWire<W>>, BeginFault>
+) -> Result<Line<W>, BeginFault>
     requires { AreAllowed settings }
     ensures begins { IfOk result (λ line. BeginsWithLeft name.now pages.now delivered line) }
     ensures fault { IfErr result (λ fault. IsFaultOf (drop delivered pages.now) fault) }

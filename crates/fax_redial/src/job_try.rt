@@ -15,7 +15,6 @@ use fax_gateway::TurnReport;
 use fax_jobs::{Outcome, Report};
 use fax_line::{Line, LineAnswer, LineRequest, Lines};
 use fax_spool::CallName;
-use fax_wires::holding::HoldingWire;
 use fax_wires::repeat::TimedWire;
 use std::alloc::Global;
 use std::marker::Model;
@@ -23,7 +22,7 @@ use std::marker::Model;
 /// A try of a job: a line that was restored with its pages, the only one of lines of its own, and so in slot 0 of them.
 pub struct JobTry<W: TimedWire + Drop> {
     job: RetryJob,
-    lines: Lines<HoldingWire<W>>,
+    lines: Lines<W>,
     /// The latest moment that they were told.
     moment: u64,
     total: TryTotal,
@@ -73,7 +72,7 @@ impl<W: TimedWire + Drop> JobTry<W> {
     }
 
     /// The line.
-    pub fn line(&self) -> Option<&Line<HoldingWire<W>>>
+    pub fn line(&self) -> Option<&Line<W>>
         ensures { MatchOption result (length self.now.lines.lines ≤ 0)
             (λ line. IsLineAt 0 self.now.lines.lines line.now) }
     {

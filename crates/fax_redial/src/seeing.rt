@@ -10,8 +10,7 @@ use crate::job_try::JobTry;
 use fax_desk::{AskedView, FirstJob, LegView, LineView, View};
 use fax_gateway::Leg;
 use fax_line::Line;
-use fax_wires::holding::LineWire;
-use fax_wires::repeat::TimedWire;
+use fax_wires::repeat::{TimedWire, TimedWire};
 
 /// A leg without a peer.
 const NO_LEG: LegView = LegView {
@@ -96,7 +95,7 @@ fn idle_seen() -> LineView
 }
 
 /// The line of a try of this job.
-fn line_seen<W: LineWire + Drop>(job: &RetryJob, line: &Line<W>) -> LineView
+fn line_seen<W: TimedWire + Drop>(job: &RetryJob, line: &Line<W>) -> LineView
     ensures { result ≡ line_seen job.now line.now }
 {
     LineView {
@@ -110,7 +109,7 @@ fn line_seen<W: LineWire + Drop>(job: &RetryJob, line: &Line<W>) -> LineView
 }
 
 /// The call whose job is being sent.
-fn sending<W: LineWire + Drop>(line: &Line<W>) -> Option<u32>
+fn sending<W: TimedWire + Drop>(line: &Line<W>) -> Option<u32>
     ensures { result ≡ option_map (λ sent. sent.call) line.now.gateway.book.sending }
 {
     match line.sending() {
@@ -120,7 +119,7 @@ fn sending<W: LineWire + Drop>(line: &Line<W>) -> Option<u32>
 }
 
 /// The job whose call is asked for.
-fn asked<W: LineWire + Drop>(line: &Line<W>) -> Option<AskedView>
+fn asked<W: TimedWire + Drop>(line: &Line<W>) -> Option<AskedView>
     ensures { result
         ≡ option_map job_seen (job_asked line.now.gateway.settings.asks line.now.gateway.book) }
 {
@@ -134,7 +133,7 @@ fn asked<W: LineWire + Drop>(line: &Line<W>) -> Option<AskedView>
 }
 
 /// The called leg.
-fn called_leg<W: LineWire + Drop>(line: &Line<W>) -> LegView
+fn called_leg<W: TimedWire + Drop>(line: &Line<W>) -> LegView
     ensures { result ≡ leg_seen (state_of (peer_on legs.Called line.now.peers)) }
 {
     let leg = line.leg_state(Leg::Called);

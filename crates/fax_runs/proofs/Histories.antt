@@ -9,15 +9,12 @@ use Rattle.fax_line.specs.Places.{PlaceValue}
 use Rattle.fax_line.specs.declared.settling.LineReport.{LineReport}
 use Rattle.fax_line.specs.declared.settling.PageToStore.{PageToStore}
 use Rattle.fax_spool.specs.RecordOctets as spool
-use Rattle.fax_spool.specs.Opened.{closed}
 use Rattle.fax_spool.specs.declared.spool.Spool.{Spool}
-use Rattle.fax_queue.specs.Jobs.{PagesWait}
 use Rattle.fax_queue.specs.Restorations.{Restores, WholeLinesAreRestored, whole_pages}
 use Rattle.fax_queue.specs.Queues.{QueueValue}
-use Rattle.fax_queue.specs.Histories.{RunsMakeHistory}
 use Rattle.fax_runs.specs.restarts.Runs.{WasRun}
 use Rattle.fax_runs.specs.Crossings.{ServedLine, run_of}
-use Rattle.fax_runs.specs.Histories.{IsOnDisk, ServersMakeHistory}
+use Rattle.fax_runs.specs.Histories.{IsOnDisk}
 use Rattle.fax_runs.proofs.Weaker.{weaker_run}
 use Rattle.fax_opening.specs.Openings.{AreRestored, IsRestored}
 
@@ -106,32 +103,6 @@ apart configs unlike number other line queue low its low_number name differs sam
 ]
 
 module _ {D K : Type 0} (seen : D → List ℕ) (may_leave : D → List ℕ → Type 0) (is_usable : D → Bool) (queues_of : K → List QueueValue) (spool_of : K → Spool D) (same : K → K → Type 0) (stores : List PageToStore → Bool → K → K → Type 0) (notes : ℕ → ℕ → K → K → Type 0) (ends : List LineReport → K → K → Type 0) (on_disk : IsOnDisk seen may_leave is_usable queues_of spool_of same stores notes ends) where
-  pub servers_make_history : WholeLinesAreRestored → RunsMakeHistory seen may_leave is_usable queues_of spool_of → ServersMakeHistory seen may_leave is_usable queues_of spool_of same stores notes ends
-  servers_make_history restore runs configs served number config place pages writes lives puts setup unlike at there opened whole writing set past =
-      let told : List spool.PageValue = whole_pages served.opened.torn.items served.opened.pages.items in
-      let mine : Its told config number served.begun (queues_of served.store) = its told configs served.begun (queues_of served.store) number config served.restored at in
-      let restores : Restores (string_bytes config.name) (closed pages) mine.is.restored =
-      subst (λ (l : List spool.PageValue). Restores (string_bytes config.name) l mine.is.restored) opened.told
-      (restore (string_bytes config.name) served.opened.torn.items served.opened.pages.items mine.is.restored whole mine.is.restores) in
-      let same : place ≡ mine.place = same_place place mine.place (sym there ∙ mine.there) in
-      let name = config_low configs number config at in
-      runs writes number (string_bytes config.name) pages lives puts setup served.run.done served.run.settled served.begun served.run.left served.store served.run.after writing past
-      (record {
-        waits = subst (λ (s : Spool D). PagesWait seen may_leave is_usable s pages) (sym served.spool_is) opened.wait;
-        restored = mine.is.restored;
-        restores = restores;
-        place = mine.place;
-        there = mine.there;
-        begins = mine.is.begins;
-        fresh = mine.is.fresh;
-        set = subst (λ (p : PlaceValue). AreSetWith setup p.line.gateway.settings (map call_shown mine.is.restored.calls.items)) same (set mine.is.restored restores);
-        queued = mine.queued ∙ ap (λ (s : QueueValue). Some s) (sym mine.is.queue_is);
-        as_many = as_many told configs served.begun (queues_of served.store) served.restored;
-        alone = λ other queue is differs same_name.
-            let its_name = named_at told configs served.begun (queues_of served.store) other queue served.restored is in
-            apart configs unlike number other (string_bytes config.name) queue its_name.0 (its_name.1 []) name.0 (name.1 []) differs same_name;
-      }) (weaker_run _ _ _ _ _ _ _ _ on_disk.unchanged on_disk.put on_disk.noted on_disk.ended served.run.done served.run.settled served.begun served.run.left served.store served.run.after served.run.ran)
-
   -- what a run of the server was to a line
   pub was_run : WholeLinesAreRestored → (line : List ℕ) (ran : ServedLine seen may_leave is_usable queues_of spool_of same stores notes ends line) → WasRun seen may_leave is_usable queues_of spool_of line (run_of ran)
   was_run restore line ran =

@@ -1,28 +1,13 @@
 //! Laws of the definitions: functions that do nothing, each of whose contracts is a theorem.
 ghost use Rattle.fax_runs.specs.Crossings.{KilledServersCross, ServersCross, ServersLead, ServersRunOn};
-ghost use Rattle.fax_runs.specs.Histories.{ServersMakeHistory};
 ghost use Rattle.fax_undelivered.specs.declared.paired_store.PairedStore.{PairedStore as StoreShown};
 
 use crate::restarts::laws::{killed_runs_cross, runs_cross, runs_join};
 use fax_line::{PageToStore, RunStore};
-use fax_queue::laws::histories::runs_make_history;
 use fax_queue::laws::whole_lines_are_restored;
 use fax_undelivered::PairedStore;
 use fax_wires::holding::PageStore;
 use sqlite_disk::Disk;
-
-/// What `run_serve` promises of a run with a spool leaves of each line a past with one life more, whatever crash follows: actions, which
-/// are those of the lives of its gateway.
-pub fn servers_make_history<D: Disk, U: Disk>()
-    ensures { ServersMakeHistory D.seen D.may_leave D.is_usable
-        (λ (store : StoreShown D U). store.storage.queues.items)
-        (λ (store : StoreShown D U). store.storage.spool) ⟦<PairedStore<D, U> as RunStore>⟧.is_same
-        ⟦<PairedStore<D, U> as PageStore<PageToStore>>⟧.puts
-        ⟦<PairedStore<D, U> as RunStore>⟧.notes ⟦<PairedStore<D, U> as RunStore>⟧.ends }
-{
-    whole_lines_are_restored();
-    runs_make_history::<D, PairedStore<D, U>>();
-}
 
 /// What `run_serve` promises of a run over files that held anything leads from these to whatever a crash leaves of them: of each line
 /// one life more.

@@ -7,7 +7,7 @@ use crate::supervisor::Supervisor;
 use fax_desk::RunEnd;
 use fax_line::{LineAnswer, Lines, Order, Pace, PutResult, RunStore};
 use fax_notify::{Notice, ServiceManager};
-use fax_wires::holding::LineWire;
+use fax_wires::repeat::TimedWire;
 use std::marker::Model;
 
 /// What gives the orders, and a supervisor, which is told as the server begins to stop, and reads its configuration again.
@@ -49,7 +49,7 @@ impl<P: EndingPace + Drop, M: Drop> NoticingPace<P, M> {
     }
 }
 
-impl<W: LineWire + Drop, K: RunStore, P: Pace<W, K> + EndingPace, M: Supervisor> Pace<W, K>
+impl<W: TimedWire + Drop, K: RunStore, P: Pace<W, K> + EndingPace, M: Supervisor> Pace<W, K>
     for NoticingPace<P, M> {
     ghost words = { P.words };
 

@@ -28,7 +28,7 @@ use fax_spool::{CallName, OpenedSpool, WaitingPage};
 use fax_spool_folder::{Folders, SpoolFolderFile};
 use fax_undelivered::held::HeldPages;
 use fax_undelivered::{PairedStore, Undelivered};
-use fax_wires::holding::{HoldingWire, PageStore};
+use fax_wires::holding::PageStore;
 use sqlite_disk::{Disk, Start};
 use std::alloc::{AllocError, Global};
 use std::fs::Files;
@@ -223,9 +223,9 @@ fn serve_in_memory<
         ≡ ready_after (length config.now.lines.items) (M.told manager.old)) }
     ensures untold { OnErr result (M.told manager.new ≡ M.told manager.old) }
 {
-    let lines: Lines<HoldingWire<W>> = open_lines(system, alloc, config.lines.as_slice())?;
+    let lines: Lines<W> = open_lines(system, alloc, config.lines.as_slice())?;
     let held = held_pages(alloc, config.lines.as_slice())?;
-    let seen = Seen::<HoldingWire<W>, D, U> {
+    let seen = Seen::<W, D, U> {
         lines: &lines,
         store: None,
     };
@@ -306,7 +306,7 @@ fn serve_opened<
 {
     let damage = damage_of(&opened, &kept);
     let mut queues = Vec::new(alloc);
-    let lines: Lines<HoldingWire<W>> = open_restored_lines(
+    let lines: Lines<W> = open_restored_lines(
         system,
         alloc,
         config.lines.as_slice(),
@@ -359,14 +359,14 @@ fn pace_beside<
     alloc: Global,
     config: &Config,
     sides: Sides<P, R>,
-    lines: &Lines<HoldingWire<W>>,
+    lines: &Lines<W>,
     aside: Aside<'_>,
     kept: &OpenedSpool<U>,
     spool_failures: u64,
 ) -> Result<RealPace<'a, N, R, P>, ServeFault>
     ensures { IfOk result (λ pace. pace.waits ≡ None) }
 {
-    let seen = Seen::<HoldingWire<W>, D, U> { lines, store: None };
+    let seen = Seen::<W, D, U> { lines, store: None };
     let mut pace = pace_of(
         system,
         alloc,
@@ -565,7 +565,7 @@ fn serve_new<
     C: Clock,
     D: Disk + Drop,
     U: Disk + Drop,
->(mut lines: Lines<HoldingWire<W>>, pace: &mut NoticingPace<RealPace<'_, C, R, P>, M>)
+>(mut lines: Lines<W>, pace: &mut NoticingPace<RealPace<'_, C, R, P>, M>)
     requires new { AreNew lines.lines }
     requires idle { pace.old.waits ≡ None }
     ensures { ServedAlone (length lines.lines) false }
@@ -583,11 +583,7 @@ fn serve_restored<
     C: Clock,
     D: Disk + Drop,
     U: Disk + Drop,
->(
-    mut lines: Lines<HoldingWire<W>>,
-    store: PairedStore<D, U>,
-    pace: &mut NoticingPace<RealPace<'_, C, R, P>, M>,
-)
+>(mut lines: Lines<W>, store: PairedStore<D, U>, pace: &mut NoticingPace<RealPace<'_, C, R, P>, M>)
     requires begun { AreBegun lines.lines }
     requires first { lines.slot ≡ 0 }
     requires idle { pace.old.waits ≡ None }

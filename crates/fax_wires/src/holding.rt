@@ -7,9 +7,7 @@
 
 mod holding;
 pub mod laws;
-mod line_wire;
 mod storing;
 
 pub use holding::HoldingWire;
-pub use line_wire::LineWire;
 pub use storing::{PageStore, StoreFault, end_turn, store_pages};

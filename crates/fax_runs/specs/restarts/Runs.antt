@@ -6,6 +6,7 @@ use Rattle.fax_gateway.specs.Setups.{AreSetWith, Setup}
 use Rattle.fax_gateway.specs.Reached.{IsReachedBy}
 use Rattle.fax_gateway.specs.Lives.{Life}
 use Rattle.fax_wires.specs.holding.Storing as hold
+use Rattle.fax_wires.specs.holding.Storing.{HasDone}
 use Rattle.fax_line.specs.Actions.{BeginsWith}
 use Rattle.fax_line.specs.Places.{PlaceValue}
 use Rattle.fax_line.specs.Runs.{DoneOrder}
@@ -16,7 +17,7 @@ use Rattle.fax_spool.specs.declared.spool.Spool.{Spool}
 use Rattle.fax_queue.specs.Queues.{QueueValue}
 use Rattle.fax_queue.specs.Restorations.{Restores}
 use Rattle.fax_queue.specs.declared.restored.RestoredLine.{RestoredLine}
-use Rattle.fax_queue.specs.OnLeg.{AreOnLeg, HasDoneOn}
+use Rattle.fax_queue.specs.OnLeg.{AreOnLeg}
 use Rattle.fax_queue.specs.Histories.{AreStoredOf, RanOnDisk}
 
 -- What there was of a run: the spool that was opened, the number of the line in it, the setup of its gateway, what was done, and the
@@ -43,7 +44,7 @@ pub record WasRun {D K : Type 0} (seen : D → List ℕ)
   pub place : PlaceValue
   pub there : slice_get run.begun run.number ≡ Some place
   pub begins : BeginsWith (map call_shown restored.calls.items) place.line
-  pub fresh : HasDoneOn [] place.line.holding
+  pub fresh : HasDone [] place.line.holding
   pub set : AreSetWith run.setup place.line.gateway.settings (map call_shown restored.calls.items)
   pub queued : slice_get (queues_of run.before) run.number ≡ Some restored.queue
   pub as_many : length (queues_of run.before) ≡ length run.begun
@@ -74,5 +75,5 @@ pub record IsLifeOf (writes : Writing) (run : RunTold) (life : Life) (kept : Lis
   pub reached : IsReachedBy life.setup writes life.trace place.line.gateway
   pub are_stored : AreStoredOf run.number (stored_pages run.settled) kept
   pub leg : List hold.LegAction
-  pub did : HasDoneOn leg place.line.holding
+  pub did : HasDone leg place.line.holding
   pub on_leg : AreOnLeg life.setup leg life.trace kept

@@ -1,9 +1,9 @@
 -- What a wire that holds back knows of its clock.
-use Rattle.std.proofs.Common.{◌≡◌, ℕ, max, Bool, List, [], ◌∷◌, Option, None, Some, refl, ◌∙◌, ap}
+use Rattle.std.proofs.Common.{◌≡◌, ℕ, max, Bool, List, [], ◌∷◌, ◌∙◌, ap}
 use Rattle.fax_gateway.specs.declared.leg.Leg.{Leg}
-use Rattle.fax_gateway.specs.Events.{Event, Ring, FromCalling, FromCalled, Tick, Placed}
+use Rattle.fax_gateway.specs.Events.{Ring, FromCalling, FromCalled, Tick, Placed}
 use Rattle.fax_gateway.specs.Driving.{Accepts, Entry, FailsToReceive, GoesBy, ReceivesNothing, RefusesDatagram, RefusesRing, RefusesTick, Sends, WireGoes}
-use Rattle.fax_wires.specs.holding.Holding.{HoldingValue, IsToldTimeWhere, KeepsClockWhere, TellsWhere}
+use Rattle.fax_wires.specs.holding.Holding.{HoldingValue, IsToldTime, KeepsClock}
 
 -- ---- a clock that neither receives nor sends move
 
@@ -32,25 +32,8 @@ same_over (entry ∷ earlier) old new goes = same_by entry goes.0 new goes.2 ∙
 
 -- ---- where it was told a moment, and its clock stayed before that and since
 
-pub time_then : (now : ℕ) (old mid new : Option HoldingValue) → IsToldTimeWhere now old mid → KeepsClockWhere mid new → IsToldTimeWhere now old new
-time_then now None None None told same = tt
-time_then now None None (Some new) told same = absurd same
-time_then now None (Some mid) new told same = absurd told
-time_then now (Some old) None new told same = absurd told
-time_then now (Some old) (Some mid) None told same = absurd same
-time_then now (Some old) (Some mid) (Some new) told same = same ∙ told
+pub time_then : (now : ℕ) (old mid new : HoldingValue) → IsToldTime now old mid → KeepsClock mid new → IsToldTime now old new
+time_then now old mid new told same = same ∙ told
 
-pub then_time : (now : ℕ) (old mid new : Option HoldingValue) → KeepsClockWhere old mid → IsToldTimeWhere now mid new → IsToldTimeWhere now old new
-then_time now None None None same told = tt
-then_time now None None (Some new) same told = absurd told
-then_time now None (Some mid) new same told = absurd same
-then_time now (Some old) None new same told = absurd same
-then_time now (Some old) (Some mid) None same told = absurd told
-then_time now (Some old) (Some mid) (Some new) same told = told ∙ ap (λ (clock : ℕ). max clock now) same
-
--- by what it is told of its peers it stays
-pub clock_told : (old new : Option HoldingValue) → TellsWhere old new → KeepsClockWhere old new
-clock_told None None tells = tt
-clock_told None (Some new) tells = absurd tells
-clock_told (Some old) None tells = absurd tells
-clock_told (Some old) (Some new) tells = tells.clock
+pub then_time : (now : ℕ) (old mid new : HoldingValue) → KeepsClock old mid → IsToldTime now mid new → IsToldTime now old new
+then_time now old mid new same told = told ∙ ap (λ (clock : ℕ). max clock now) same

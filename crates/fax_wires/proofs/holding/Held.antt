@@ -8,8 +8,9 @@ use Rattle.fax_wires.specs.repeat.Policies.{IsToldAs}
 use Rattle.fax_gateway.specs.declared.leg.Leg.{Leg}
 use Rattle.fax_gateway.specs.Events.{Ring, FromCalling, FromCalled, Tick, Placed}
 use Rattle.fax_gateway.specs.Driving.{Entry, Accepts, FailsToReceive, GoesBy, ReceivesNothing, RefusesDatagram, RefusesRing, RefusesTick, Sends, WireGoes}
-use Rattle.fax_wires.specs.holding.Holding.{Ceases, HoldingValue, CeasesWhere, HandsOn, Holds, Loses, Silences, Releases, SendsWhere, Speaks, Stays, StaysWhere, fresh, octets_of, what_is_held}
-use Rattle.fax_wires.specs.holding.Storing.{BeginsNone, HasDone, HasDoneWhere, HasSent, HoldsAfter, HoldsAfterWhere, HoldsByLog, LegAction, LogsAreHeld, failed, handed_by, handed_last, is_calling, on_calling, silenced_after, went_out, with_given}
+use Rattle.fax_wires.specs.holding.Holding.{Ceases, HandsOn, HoldingValue, Holds, Loses, Releases, Speaks, Stays, fresh, octets_of, what_is_held}
+use Rattle.fax_wires.specs.holding.Holding as holding
+use Rattle.fax_wires.specs.holding.Storing.{BeginsNone, HasDone, HasSent, HoldsAfter, HoldsByLog, LegAction, LogsAreHeld, failed, handed_by, handed_last, is_calling, on_calling, silenced_after, went_out, with_given}
 use Rattle.fax_wires.specs.holding.Storing.{Turn, Begins}
 
 or_true : (b : Bool) → (b || true) ≡ true
@@ -114,61 +115,42 @@ loses_next actions given old new h loses = record {
   out = subst (λ (w : KnownWire). HasSent (went_out actions) w.sent) (sym loses.wire) h.out;
 }
 
-pub stays_where : (actions : List LegAction) (given : Option (List ℕ)) (old new : Option HoldingValue) → StaysWhere old new → HoldsAfterWhere actions given old → HoldsAfterWhere actions given new
-stays_where actions given None None stays h = tt
-stays_where actions given None (Some new) stays h = absurd stays
-stays_where actions given (Some old) None stays h = tt
-stays_where actions given (Some old) (Some new) stays h = holds_still actions given old new h stays
+sends_after : (actions : List LegAction) (given : Option (List ℕ)) (at : Leg) (octets : List ℕ) (fails : Bool) (old new : HoldingValue) → holding.Sends at octets (not fails) old new → HoldsAfter actions given old
+    → HoldsAfter actions (handed_last at octets fails given) new
+sends_after actions given legs.Calling octets true old new sends h = loses_next actions given old new h sends
+sends_after actions given legs.Calling octets false old new sends h = holds_next actions given octets old new h sends
+sends_after actions given legs.Called octets fails old new sends h = holds_beside actions given octets old new h sends
 
-sends_where : (actions : List LegAction) (given : Option (List ℕ)) (at : Leg) (octets : List ℕ) (fails : Bool) (old new : Option HoldingValue) → SendsWhere at octets (not fails) old new → HoldsAfterWhere actions given old
-    → HoldsAfterWhere actions (handed_last at octets fails given) new
-sends_where actions given at octets fails None None sends h = tt
-sends_where actions given at octets fails None (Some new) sends h = absurd sends
-sends_where actions given at octets fails (Some old) None sends h = tt
-sends_where actions given legs.Calling octets true (Some old) (Some new) sends h = loses_next actions given old new h sends
-sends_where actions given legs.Calling octets false (Some old) (Some new) sends h = holds_next actions given octets old new h sends
-sends_where actions given legs.Called octets fails (Some old) (Some new) sends h = holds_beside actions given octets old new h sends
+same_after : (actions : List LegAction) (given : Option (List ℕ)) (old new : HoldingValue) → new ≡ old → HoldsAfter actions given old → HoldsAfter actions given new
+same_after actions given old new is h = subst (λ (w : HoldingValue). HoldsAfter actions given w) (sym is) h
 
-same_where : (actions : List LegAction) (given : Option (List ℕ)) (old new : Option HoldingValue) → new ≡ old → HoldsAfterWhere actions given old → HoldsAfterWhere actions given new
-same_where actions given old new is h = subst (λ (w : Option HoldingValue). HoldsAfterWhere actions given w) (sym is) h
+abbrev GoesOn : Entry → HoldingValue → HoldingValue → Type 0
+GoesOn entry old new = GoesBy (λ at. Stays) holding.Sends entry old new
 
-nothing_where : (actions : List LegAction) (old : Option HoldingValue) → HasDoneWhere actions old → HoldsAfterWhere actions None old
-nothing_where actions None done = tt
-nothing_where actions (Some old) done = holds_nothing actions old done
+held_on : (actions : List LegAction) (entry : Entry) (earlier : List Entry) (old new : HoldingValue) → GoesOn entry old new → HoldsAfter actions (handed_by earlier) old
+    → HoldsAfter actions (handed_by (entry ∷ earlier)) new
+held_on actions (Accepts (Ring now number)) earlier old new goes h = same_after actions (handed_by earlier) old new goes h
+held_on actions (Accepts (FromCalling octets now decided read)) earlier old new goes h = holds_still actions (handed_by earlier) old new h goes
+held_on actions (Accepts (FromCalled octets now decided)) earlier old new goes h = holds_still actions (handed_by earlier) old new h goes
+held_on actions (Accepts (Tick now given)) earlier old new goes h = same_after actions (handed_by earlier) old new goes h
+held_on actions (Accepts (Placed now connected)) earlier old new goes h = same_after actions (handed_by earlier) old new goes h
+held_on actions (RefusesRing fault) earlier old new goes h = same_after actions (handed_by earlier) old new goes h
+held_on actions (RefusesDatagram at octets) earlier old new goes h = holds_still actions (handed_by earlier) old new h goes
+held_on actions (RefusesTick now) earlier old new goes h = same_after actions (handed_by earlier) old new goes h
+held_on actions (ReceivesNothing at) earlier old new goes h = holds_still actions (handed_by earlier) old new h goes
+held_on actions (FailsToReceive at) earlier old new goes h = holds_still actions (handed_by earlier) old new h goes
+held_on actions (Sends at octets fails) earlier old new goes h = sends_after actions (handed_by earlier) at octets fails old new goes h
 
-abbrev GoesOn : Entry → Option HoldingValue → Option HoldingValue → Type 0
-GoesOn entry old new = GoesBy (λ at. StaysWhere) SendsWhere entry old new
-
-held_on : (actions : List LegAction) (entry : Entry) (earlier : List Entry) (old new : Option HoldingValue) → GoesOn entry old new → HoldsAfterWhere actions (handed_by earlier) old
-    → HoldsAfterWhere actions (handed_by (entry ∷ earlier)) new
-held_on actions (Accepts (Ring now number)) earlier old new goes h = same_where actions (handed_by earlier) old new goes h
-held_on actions (Accepts (FromCalling octets now decided read)) earlier old new goes h = stays_where actions (handed_by earlier) old new goes h
-held_on actions (Accepts (FromCalled octets now decided)) earlier old new goes h = stays_where actions (handed_by earlier) old new goes h
-held_on actions (Accepts (Tick now given)) earlier old new goes h = same_where actions (handed_by earlier) old new goes h
-held_on actions (Accepts (Placed now connected)) earlier old new goes h = same_where actions (handed_by earlier) old new goes h
-held_on actions (RefusesRing fault) earlier old new goes h = same_where actions (handed_by earlier) old new goes h
-held_on actions (RefusesDatagram at octets) earlier old new goes h = stays_where actions (handed_by earlier) old new goes h
-held_on actions (RefusesTick now) earlier old new goes h = same_where actions (handed_by earlier) old new goes h
-held_on actions (ReceivesNothing at) earlier old new goes h = stays_where actions (handed_by earlier) old new goes h
-held_on actions (FailsToReceive at) earlier old new goes h = stays_where actions (handed_by earlier) old new goes h
-held_on actions (Sends at octets fails) earlier old new goes h = sends_where actions (handed_by earlier) at octets fails old new goes h
-
-held_over : (log : List Entry) (actions : List LegAction) (old new : Option HoldingValue) → WireGoes (λ at. StaysWhere) SendsWhere log old new → HasDoneWhere actions old → HoldsAfterWhere actions (handed_by log) new
-held_over [] actions old new goes done = same_where actions None old new goes (nothing_where actions old done)
+held_over : (log : List Entry) (actions : List LegAction) (old new : HoldingValue) → WireGoes (λ at. Stays) holding.Sends log old new → HasDone actions old → HoldsAfter actions (handed_by log) new
+held_over [] actions old new goes done = same_after actions None old new goes (holds_nothing actions old done)
 held_over (entry ∷ earlier) actions old new goes done = held_on actions entry earlier goes.0 new goes.2 (held_over earlier actions old goes.0 goes.1 done)
 
 pub logs_are_held : LogsAreHeld
 logs_are_held log old new goes = λ actions done. held_over log actions old new goes done
 
 -- and so where time goes on before it
-pub done_where_still : (actions : List LegAction) (old new : Option HoldingValue) → StaysWhere old new → HasDoneWhere actions old → HasDoneWhere actions new
-done_where_still actions None None stays done = tt
-done_where_still actions None (Some new) stays done = absurd stays
-done_where_still actions (Some old) None stays done = tt
-done_where_still actions (Some old) (Some new) stays done = done_still actions old new done stays
-
-pub held_later : (log : List Entry) (old mid new : Option HoldingValue) → StaysWhere old mid → HoldsByLog log mid new → HoldsByLog log old new
-held_later log old mid new stays holds actions done = holds actions (done_where_still actions old mid stays done)
+pub held_later : (log : List Entry) (old mid new : HoldingValue) → Stays old mid → HoldsByLog log mid new → HoldsByLog log old new
+held_later log old mid new stays holds actions done = holds actions (done_still actions old mid done stays)
 
 -- ---- what stays
 
@@ -177,9 +159,8 @@ pub handed_none : {A : Type 0} (told : Option (List A)) → Grows [] told told
 handed_none None = tt
 handed_none (Some told) = (told, refl, refl)
 
-pub stays_same : (held : Option HoldingValue) → StaysWhere held held
-stays_same None = tt
-stays_same (Some held) = record { held = refl; is_silenced = refl; sent = handed_none held.wire.sent }
+pub stays_same : (held : HoldingValue) → Stays held held
+stays_same held = record { held = refl; is_silenced = refl; sent = handed_none held.wire.sent }
 
 pub grows_none_on : {A : Type 0} (a b c : Option (List A)) → Grows [] a b → Grows [] b c → Grows [] a c
 grows_none_on a b None first second = tt
@@ -187,13 +168,8 @@ grows_none_on {A = A} a b (Some told) first second =
     let g : Grows {A = A} [] a (Some second.0) = subst (λ (x : Option (List A)). Grows [] a x) second.1 first in
     (g.0, g.1, second.2 ∙ g.2)
 
-pub stays_more : (old mid new : Option HoldingValue) → StaysWhere old mid → StaysWhere mid new → StaysWhere old new
-stays_more None None None first second = tt
-stays_more None None (Some new) first second = absurd second
-stays_more None (Some mid) new first second = absurd first
-stays_more (Some old) None new first second = absurd first
-stays_more (Some old) (Some mid) None first second = absurd second
-stays_more (Some old) (Some mid) (Some new) first second = record {
+pub stays_more : (old mid new : HoldingValue) → Stays old mid → Stays mid new → Stays old new
+stays_more old mid new first second = record {
   held = second.held ∙ first.held;
   is_silenced = second.is_silenced ∙ first.is_silenced;
   sent = grows_none_on old.wire.sent mid.wire.sent new.wire.sent first.sent second.sent;
@@ -214,22 +190,16 @@ fresh_did_nothing known clock calling_due called_due peers none = record { held 
     none_told sent told = cc
 
 -- where a call begins on the calling leg
-pub begins_where : (actions : List LegAction) (old new : Option HoldingValue) → CeasesWhere legs.Calling old new → HasDoneWhere actions old → HasDoneWhere (Begins ∷ actions) new
-begins_where actions None None ceases done = tt
-begins_where actions None (Some new) ceases done = absurd ceases
-begins_where actions (Some old) None ceases done = tt
-begins_where actions (Some old) (Some new) ceases done = record {
+pub begins_ceased : (actions : List LegAction) (old new : HoldingValue) → Ceases legs.Calling old new → HasDone actions old → HasDone (Begins ∷ actions) new
+begins_ceased actions old new ceases done = record {
   held = ceases.speaks.0;
   is_silenced = ceases.speaks.1;
   out = sent_more [] (went_out actions) old.wire.sent new.wire.sent ceases.sent done.out;
 }
 
 -- where one begins on the called leg what is held stays
-pub ceases_beside : (old new : Option HoldingValue) → CeasesWhere legs.Called old new → StaysWhere old new
-ceases_beside None None ceases = tt
-ceases_beside None (Some new) ceases = absurd ceases
-ceases_beside (Some old) None ceases = absurd ceases
-ceases_beside (Some old) (Some new) ceases = record { held = ceases.speaks.0; is_silenced = ceases.speaks.1; sent = ceases.sent }
+pub ceases_beside : (old new : HoldingValue) → Ceases legs.Called old new → Stays old new
+ceases_beside old new ceases = record { held = ceases.speaks.0; is_silenced = ceases.speaks.1; sent = ceases.sent }
 
 or_none : (b : Bool) → (b || false) ≡ b
 or_none true = refl
@@ -240,9 +210,8 @@ same_out true out = refl
 same_out false out = refl
 
 -- a turn in which nothing was handed over, and no page confirmed, is none
-pub no_turn_where : (actions : List LegAction) (is_stored : Bool) (wire : Option HoldingValue) → HasDoneWhere (Turn None false is_stored ∷ actions) wire → HasDoneWhere actions wire
-no_turn_where actions is_stored None done = tt
-no_turn_where actions is_stored (Some wire) done = record {
+pub no_turn : (actions : List LegAction) (is_stored : Bool) (wire : HoldingValue) → HasDone (Turn None false is_stored ∷ actions) wire → HasDone actions wire
+no_turn actions is_stored wire done = record {
   held = done.held;
   is_silenced = done.is_silenced ∙ or_none (silenced_after actions);
   out = λ sent told. done.out sent told ∙ same_out (silenced_after actions || false) (went_out actions);

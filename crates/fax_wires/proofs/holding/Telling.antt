@@ -1,26 +1,18 @@
 -- What a wire that holds back makes of what it is told of its peers.
-use Rattle.std.proofs.Common.{◌≡◌, Option, None, Some, refl, ◌∙◌}
+use Rattle.std.proofs.Common.{refl, ◌∙◌}
 use Rattle.fax_gateway.specs.declared.leg.Leg.{Leg}
 use Rattle.fax_gateway.specs.declared.leg.Leg.TheVariants as legs
-use Rattle.fax_wires.specs.holding.Holding.{CeasesWhere, HoldingValue, Speaks, StaysWhere, TellsPeers, TellsWhere}
+use Rattle.fax_wires.specs.holding.Holding.{Ceases, HoldingValue, Speaks, Stays, TellsPeers}
 use Rattle.fax_wires.specs.repeat.Policies.{other_leg}
 use Rattle.fax_wires.specs.holding.Telling.{told_due}
 use Rattle.fax_wires.proofs.holding.Held.{grows_none_on, handed_none}
 
 -- what is held stays
-pub told_stays : (old new : Option HoldingValue) → TellsWhere old new → StaysWhere old new
-told_stays None None made = tt
-told_stays None (Some new) made = absurd made
-told_stays (Some old) None made = absurd made
-told_stays (Some old) (Some new) made = record { held = made.held; is_silenced = made.is_silenced; sent = made.sent }
+pub told_stays : (old new : HoldingValue) → TellsPeers old new → Stays old new
+told_stays old new made = record { held = made.held; is_silenced = made.is_silenced; sent = made.sent }
 
-pub told_more : (old mid new : Option HoldingValue) → TellsWhere old mid → TellsWhere mid new → TellsWhere old new
-told_more None None None first second = tt
-told_more None None (Some new) first second = absurd second
-told_more None (Some mid) new first second = absurd first
-told_more (Some old) None new first second = absurd first
-told_more (Some old) (Some mid) None first second = absurd second
-told_more (Some old) (Some mid) (Some new) first second = record {
+pub told_more : (old mid new : HoldingValue) → TellsPeers old mid → TellsPeers mid new → TellsPeers old new
+told_more old mid new first second = record {
   held = second.held ∙ first.held;
   is_silenced = second.is_silenced ∙ first.is_silenced;
   clock = second.clock ∙ first.clock;
@@ -29,9 +21,8 @@ told_more (Some old) (Some mid) (Some new) first second = record {
   sent = grows_none_on old.wire.sent mid.wire.sent new.wire.sent first.sent second.sent;
 }
 
-pub told_same : (held : Option HoldingValue) → TellsWhere held held
-told_same None = tt
-told_same (Some held) = record { held = refl; is_silenced = refl; clock = refl; calling_due = refl; called_due = refl; sent = handed_none held.wire.sent }
+pub told_same : (held : HoldingValue) → TellsPeers held held
+told_same held = record { held = refl; is_silenced = refl; clock = refl; calling_due = refl; called_due = refl; sent = handed_none held.wire.sent }
 
 -- ---- a leg on which a call begins
 
@@ -43,26 +34,16 @@ told_speaks : (at : Leg) (old mid new : HoldingValue) → TellsPeers old mid →
 told_speaks legs.Calling old mid new tells speaks = speaks
 told_speaks legs.Called old mid new tells speaks = (speaks.0 ∙ tells.held, speaks.1 ∙ tells.is_silenced)
 
-pub ceases_told : (at : Leg) (old mid new : Option HoldingValue) → CeasesWhere at old mid → TellsWhere mid new → CeasesWhere at old new
-ceases_told at None None None first second = tt
-ceases_told at None None (Some new) first second = absurd second
-ceases_told at None (Some mid) new first second = absurd first
-ceases_told at (Some old) None new first second = absurd first
-ceases_told at (Some old) (Some mid) None first second = absurd second
-ceases_told at (Some old) (Some mid) (Some new) first second = record {
+pub ceases_told : (at : Leg) (old mid new : HoldingValue) → Ceases at old mid → TellsPeers mid new → Ceases at old new
+ceases_told at old mid new first second = record {
   speaks = speaks_told at old mid new first.speaks second;
   ended = told_due at mid new second ∙ first.ended;
   beside = told_due (other_leg at) mid new second ∙ first.beside;
   sent = grows_none_on old.wire.sent mid.wire.sent new.wire.sent first.sent second.sent;
 }
 
-pub told_ceases : (at : Leg) (old mid new : Option HoldingValue) → TellsWhere old mid → CeasesWhere at mid new → CeasesWhere at old new
-told_ceases at None None None first second = tt
-told_ceases at None None (Some new) first second = absurd second
-told_ceases at None (Some mid) new first second = absurd first
-told_ceases at (Some old) None new first second = absurd first
-told_ceases at (Some old) (Some mid) None first second = absurd second
-told_ceases at (Some old) (Some mid) (Some new) first second = record {
+pub told_ceases : (at : Leg) (old mid new : HoldingValue) → TellsPeers old mid → Ceases at mid new → Ceases at old new
+told_ceases at old mid new first second = record {
   speaks = told_speaks at old mid new first second.speaks;
   ended = second.ended;
   beside = second.beside ∙ told_due (other_leg at) old mid first;

@@ -4,7 +4,8 @@ use Rattle.fax_gateway.specs.declared.leg.Leg.{Leg}
 use Rattle.fax_gateway.specs.declared.leg.Leg.TheVariants as legs
 use Rattle.fax_gateway.specs.Wires.{HandedDatagram}
 use Rattle.fax_gateway.specs.Driving.{Entry, Accepts, FailsToReceive, ReceivesNothing, RefusesDatagram, RefusesRing, RefusesTick, Sends, WireGoes}
-use Rattle.fax_wires.specs.holding.Holding.{HoldingValue, SendsWhere, StaysWhere}
+use Rattle.fax_wires.specs.holding.Holding.{HoldingValue, Stays}
+use Rattle.fax_wires.specs.holding.Holding as holding
 
 -- What happens on the calling leg of a line: a turn, which gave a datagram or none, confirmed a page or not, and had it stored or
 -- not; or the next call begins.
@@ -80,24 +81,15 @@ handed_by (ReceivesNothing at ∷ earlier) = handed_by earlier
 handed_by (FailsToReceive at ∷ earlier) = handed_by earlier
 handed_by (Sends at octets fails ∷ earlier) = handed_last at octets fails (handed_by earlier)
 
--- of a wire that holds back; of one that sends at once nothing is told
-abbrev pub HasDoneWhere : List LegAction → Option HoldingValue → Type 0
-HasDoneWhere actions None = Unit {0}
-HasDoneWhere actions (Some wire) = HasDone actions wire
-
-abbrev pub HoldsAfterWhere : List LegAction → Option (List ℕ) → Option HoldingValue → Type 0
-HoldsAfterWhere actions given None = Unit {0}
-HoldsAfterWhere actions given (Some wire) = HoldsAfter actions given wire
-
 -- BY A LOG A WIRE COMES TO HOLD WHAT IT HANDED OVER on the calling leg, whatever actions it had done before, and lets none of it out.
-abbrev pub HoldsByLog : List Entry → Option HoldingValue → Option HoldingValue → Type 0
+abbrev pub HoldsByLog : List Entry → HoldingValue → HoldingValue → Type 0
 HoldsByLog log old new = (actions : List LegAction)
-    → HasDoneWhere actions old → HoldsAfterWhere actions (handed_by log) new
+    → HasDone actions old → HoldsAfter actions (handed_by log) new
 
 -- It does so by any log, whose receives and sends are all that is done with it.
 abbrev pub LogsAreHeld : Type 0
-LogsAreHeld = (log : List Entry) (old new : Option HoldingValue)
-    → WireGoes (λ at. StaysWhere) SendsWhere log old new → HoldsByLog log old new
+LogsAreHeld = (log : List Entry) (old new : HoldingValue)
+    → WireGoes (λ at. Stays) holding.Sends log old new → HoldsByLog log old new
 
 -- no call begins in these actions
 abbrev pub BeginsNone : List LegAction → Type 0

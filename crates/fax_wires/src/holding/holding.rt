@@ -6,8 +6,7 @@ ghost use Rattle.fax_wires.specs.repeat.Peers.{peers_of};
 ghost use Rattle.fax_wires.specs.repeat.Policies.{IsToldAs, other_leg};
 ghost use Rattle.fax_wires.specs.holding.Holding.{Holds, IsToldTime, KeepsClock, Releases, Sends, Silences, Speaks, as_told, due_on, fresh};
 
-use crate::holding::line_wire::LineWire;
-use crate::repeat::{Bounds, LegState, LegWire, NoRoute, Peer, RepeatingWire, TimedWire};
+use crate::repeat::{Bounds, LegState, LegWire, NoRoute, Peer, TimedWire};
 use fax_gateway::{Leg, Wire, WireFault};
 use std::alloc::Global;
 use std::marker::Model;
@@ -307,46 +306,4 @@ impl<W: TimedWire + Drop> TimedWire for HoldingWire<W> {
     fn next_due(&self) -> Option<u64> {
         self.wire.next_due()
     }
-}
-
-/// It holds back.
-impl<W: TimedWire + Drop> LineWire for HoldingWire<W> {
-    ghost use Rattle.std.specs.Prelude.{Some};
-
-    ghost holding = { λ wire. Some wire };
-
-    ghost on_receive = { λ leg old new made. made.0 };
-
-    ghost on_send = { λ leg octets is_sent old new made. made.0 };
-
-    ghost on_time = { λ old new made. made.0 };
-
-    ghost on_cease = { λ leg old new made. made.0 };
-
-    ghost on_told = { λ old new made. made };
-
-    ghost holds_clock = { λ old new same. same };
-
-    ghost holds_time = { λ now old new told. told };
-}
-
-/// It sends at once.
-impl<W: LegWire + Drop> LineWire for RepeatingWire<W> {
-    ghost use Rattle.std.specs.Prelude.{None};
-
-    ghost holding = { λ wire. None };
-
-    ghost on_receive = { λ leg old new made. tt };
-
-    ghost on_send = { λ leg octets is_sent old new made. tt };
-
-    ghost on_time = { λ old new made. tt };
-
-    ghost on_cease = { λ leg old new made. tt };
-
-    ghost on_told = { λ old new made. tt };
-
-    ghost holds_clock = { λ old new same. tt };
-
-    ghost holds_time = { λ now old new told. tt };
 }

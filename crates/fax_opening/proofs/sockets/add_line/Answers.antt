@@ -2,7 +2,7 @@ use Rattle.std.proofs.Common.{◌≡◌, List, [], ℕ, map, refl, sym, ap, subs
 use Rattle.fax_gateway.specs.Restored.{RestoredCall, call_shown}
 use Rattle.fax_line.specs.Actions.{BeginsWith, LineValue}
 use Rattle.fax_spool.specs.RecordOctets as spool
-use Rattle.fax_queue.specs.OnLeg.{HasDoneOn}
+use Rattle.fax_wires.specs.holding.Storing.{HasDone}
 use Rattle.fax_queue.specs.Restorations.{Restores, whole_pages}
 use Rattle.fax_queue.proofs.Calls.{no_calls}
 use Rattle.fax_opening.specs.Openings.{settings_by}
@@ -27,7 +27,7 @@ returns-clause-restored g c =
         restored = c.in_ok-calls.field-0;
         restores = subst (λ (name : List ℕ). Restores name (whole_pages c.args.torn.now c.args.pages.now) c.in_ok-calls.field-0) c.as_str.ensures.value c.in_ok-calls.ensures;
         begins = subst (λ (line : LineValue). BeginsWith (map call_shown c.in_ok-calls.field-0.calls.items) line) (sym is_added.line_is) c.in_ok-line.ensures.begins;
-        fresh = subst (λ (line : LineValue). HasDoneOn [] line.holding) (sym is_added.line_is) c.in_ok-line.ensures.fresh;
+        fresh = subst (λ (line : LineValue). HasDone [] line.holding) (sym is_added.line_is) c.in_ok-line.ensures.fresh;
         settings = subst (λ (line : LineValue). line.gateway.settings ≡ settings_by c.args.config.now) (sym is_added.line_is) c.in_ok-line.ensures.settings;
         queue_is = refl;
       };
