@@ -8,14 +8,6 @@ pub const MOST_LINES: usize = 4000;
 /// The most octets of a line's name.
 pub const MOST_NAME_OCTETS: usize = 64;
 
-/// The most redundancy.
-pub const MOST_REDUNDANCY: u16 = 8;
-
-/// The least and the most that the packet after a preamble waits, in milliseconds.
-pub const LEAST_PREAMBLE_MS: u16 = 40;
-
-pub const MOST_PREAMBLE_MS: u16 = 2000;
-
 /// The least and the most that is waited for an answer where the call of a job is asked for, in seconds.
 pub const LEAST_DIAL_SECONDS: u32 = 1;
 

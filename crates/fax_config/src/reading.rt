@@ -10,10 +10,9 @@ ghost use Rattle.fax_config.specs.SipConfigurations.{IsSipAt};
 ghost use Rattle.fax_config.specs.Faults.{HasFlaw, HasMisfit, IsFaultOf, IsMisfitOf, IsToldAs, line_number};
 
 use crate::config::{
-    Config, LEAST_DIAL_SECONDS, LEAST_LINE_MEMORY, LEAST_MEMORY, LEAST_PREAMBLE_MS, LEAST_WAITING,
-    LegConfig, LineConfig, MOST_DIAL_SECONDS, MOST_LINE_MEMORY, MOST_LINES, MOST_MEMORY,
-    MOST_PREAMBLE_MS, MOST_REDUNDANCY, MOST_STOP_SECONDS, MOST_WAITING, RedialConfig,
-    USUAL_LINE_MEMORY,
+    Config, LEAST_DIAL_SECONDS, LEAST_LINE_MEMORY, LEAST_MEMORY, LEAST_WAITING, LegConfig,
+    LineConfig, MOST_DIAL_SECONDS, MOST_LINE_MEMORY, MOST_LINES, MOST_MEMORY, MOST_STOP_SECONDS,
+    MOST_WAITING, RedialConfig, USUAL_LINE_MEMORY,
 };
 use crate::fault::{ConfigFault, Flaw, LineName, Misfit, Trouble};
 use crate::keys::{Level, only_known_keys};
@@ -26,6 +25,7 @@ use crate::sip::SipConfig;
 use crate::sip_reading::sip_of;
 use crate::unlike::{locals_unlike, names_unlike, sip_unlike};
 use fax_control::Leg;
+use fax_gateway::{LEAST_PREAMBLE_MS, MOST_PREAMBLE_MS, MOST_REDUNDANCY};
 use std::alloc::{AllocError, Global};
 use std::net::SocketAddr;
 use toml::Table;

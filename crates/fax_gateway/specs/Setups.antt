@@ -1,6 +1,7 @@
 -- How a gateway is set up. (This project's profile.)
-use Rattle.std.specs.Prelude.{◌≡◌, ℕ, ◌≤◌, Bool, List, []}
+use Rattle.std.specs.Prelude.{◌≡◌, ℕ, ◌≤◌, max, min, Bool, List, []}
 use Rattle.fax_timers.specs.Paces.{IsPause}
+use Rattle.fax_timers.specs.Spans.{longest_pause, pace}
 use Rattle.fax_udptl.specs.Sending.{most_redundancy}
 use Rattle.fax_gateway.specs.declared.settings.Settings.{Settings}
 use Rattle.fax_gateway.specs.Restored.{RestoredCall, pages_restored, ArePages}
@@ -36,3 +37,10 @@ AreSet setup settings = AreSetWith setup settings []
 -- settings within their limits
 abbrev pub AreAllowed : Settings → Type 0
 AreAllowed settings = (settings.redundancy ≤ most_redundancy) × IsPause settings.preamble_ms
+
+-- the same settings within their limits: what is beyond one reads as it
+abbrev pub within_limits : Settings → Settings
+within_limits settings = record settings {
+  redundancy = min settings.redundancy most_redundancy;
+  preamble_ms = min (max settings.preamble_ms pace) longest_pause;
+}

@@ -29,7 +29,7 @@ use crate::endpoint::Endpoint;
 use crate::fault::{PlaceFault, RingFault};
 use crate::given::{Given, Kept, RefusedPage};
 use crate::restored::RestoredCall;
-use crate::settings::{PREAMBLE_MS, Settings};
+use crate::settings::{LEAST_PREAMBLE_MS, Settings};
 use fax_answer::{Confirmed, Refusal};
 use fax_bits::{NoMemory, Octets};
 use fax_jobs::{Job, Jobs, Outcome, Report};
@@ -108,7 +108,7 @@ impl<S: RowStore> Gateway<S> {
             alloc,
             Settings {
                 redundancy,
-                preamble_ms: PREAMBLE_MS,
+                preamble_ms: LEAST_PREAMBLE_MS,
                 asks: false,
                 memory: u64::MAX,
             },

@@ -36,6 +36,6 @@ pub use given::{Given, Kept, RefusedPage};
 pub use leg::Leg;
 pub use restored::RestoredCall;
 pub use run::drive;
-pub use settings::Settings;
+pub use settings::{LEAST_PREAMBLE_MS, MOST_PREAMBLE_MS, MOST_REDUNDANCY, Settings};
 pub use turn_report::TurnReport;
 pub use wire::{Wire, WireFault};

@@ -10,7 +10,7 @@ ghost use Rattle.fax_opening.specs.Openings.{AddsRestored, AreRestored, settings
 
 use crate::fault::ServeFault;
 use fax_config::{LegConfig, LineConfig, Repeat};
-use fax_gateway::{Leg, RestoredCall, Settings};
+use fax_gateway::{Leg, MOST_REDUNDANCY, RestoredCall, Settings};
 use fax_legs::{LegSocket, UdpWire};
 use fax_line::{Line, Lines};
 use fax_pagestore::PackedRows;
@@ -24,14 +24,6 @@ use std::net::{Net, UdpSocket};
 
 /// The sockets of a line that is served, whose datagrams are sent again.
 pub type ServedWire = RepeatingWire<UdpWire<UdpSocket>>;
-
-/// The most of the packets before its own that a datagram has.
-const MOST_REDUNDANCY: u16 = 8;
-
-/// The least and the most that the packet after a preamble waits, in milliseconds.
-const LEAST_PREAMBLE_MS: u16 = 40;
-
-const MOST_PREAMBLE_MS: u16 = 2_000;
 
 /// A wire over the sockets of both legs of a line.
 pub trait SocketWire: TimedWire + Sized {
@@ -165,7 +157,7 @@ fn open_leg<N: Net>(
     config: &LegConfig,
     redundancy: u16,
 ) -> io::Result<LegSocket<UdpSocket>> {
-    let redundancy = redundancy.min(MOST_REDUNDANCY) as u8;
+    let redundancy = redundancy.min(u16::from(MOST_REDUNDANCY)) as u8;
     let mut leg = LegSocket::new(net.bind_udp(config.local)?, redundancy)?;
     leg.add_tap(alloc);
     if let Some(peer) = config.peer {
@@ -190,13 +182,11 @@ pub fn settings_of(config: &LineConfig) -> Settings
     ensures allowed { AreAllowed result }
     ensures settings { result ≡ settings_by config.now }
 {
-    Settings {
-        redundancy: MOST_REDUNDANCY as u8,
-        preamble_ms: config
-            .preamble_ms
-            .max(LEAST_PREAMBLE_MS)
-            .min(MOST_PREAMBLE_MS),
+    let settings = Settings {
+        redundancy: MOST_REDUNDANCY,
+        preamble_ms: config.preamble_ms,
         asks: config.called.peer.is_none(),
         memory: u64::from(config.line_memory),
-    }
+    };
+    settings.within_limits()
 }

@@ -1,6 +1,5 @@
 //! The ladders of lines that clients watch: what comes to such a line is played on a gateway beside it, and told in the words of
 //! `faxgate explain`.
-ghost use Rattle.fax_gateway.specs.Setups.{AreAllowed};
 
 use crate::seen::SeenLines;
 use crate::telling::Teller;
@@ -14,14 +13,6 @@ use std::alloc::Global;
 
 /// The most lines that are watched at one time.
 const MOST_WATCHED: usize = 8;
-
-/// The most of the packets before its own that a datagram has.
-const MOST_REDUNDANCY: u8 = 8;
-
-/// The least and the most that the packet after a preamble waits, in milliseconds.
-const LEAST_PREAMBLE_MS: u16 = 40;
-
-const MOST_PREAMBLE_MS: u16 = 2_000;
 
 /// What is told where memory is refused.
 const LOST: &str = "memory is refused: no more is told until the line has no call and no job";
@@ -125,7 +116,7 @@ impl Ladders {
         }
         if let Some(settings) = self.settings.get(watched.line) {
             watched.refusals = seen.refusals(watched.line);
-            watched.ladder = LiveLadder::new(self.alloc, allowed(*settings)).ok();
+            watched.ladder = LiveLadder::new(self.alloc, settings.within_limits()).ok();
         }
     }
 
@@ -244,20 +235,6 @@ impl WatchedLine {
 fn tap<L: SeenLines>(i: usize, is_tapped: bool, seen: &L) {
     seen.set_tapped(i, Leg::Calling, is_tapped);
     seen.set_tapped(i, Leg::Called, is_tapped);
-}
-
-/// These settings. One beyond its limits, which no line has, reads as the limit.
-fn allowed(settings: Settings) -> Settings
-    ensures { AreAllowed result }
-{
-    Settings {
-        redundancy: settings.redundancy.min(MOST_REDUNDANCY),
-        preamble_ms: settings
-            .preamble_ms
-            .max(LEAST_PREAMBLE_MS)
-            .min(MOST_PREAMBLE_MS),
-        ..settings
-    }
 }
 
 /// A datagram came on a leg.

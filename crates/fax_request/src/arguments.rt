@@ -17,5 +17,4 @@ mod trace_line;
 
 pub use capture_line::{refused_address, refused_half, refused_machines};
 pub use command_line::{faxgate_command, refused_command};
-pub use options::{LEAST_PREAMBLE_MS, MOST_PREAMBLE_MS, MOST_REDUNDANCY};
 pub use say_line::refused_words;

@@ -3,9 +3,8 @@ ghost use Rattle.std.specs.Prelude.{◌≡◌, ◌≤◌, ◌^◌, codes, option
 ghost use Rattle.clap.specs.Words.{first_of, found_of, one_of, rows_of};
 ghost use Rattle.fax_request.specs.Given.{AreScriptSettingsOf, AreSettingsOf, IsFlagOf, IsFormatOf, IsNumberOf, coding_named, repeat_named, width_named};
 
-use crate::arguments::{LEAST_PREAMBLE_MS, MOST_PREAMBLE_MS, MOST_REDUNDANCY};
 use clap::ArgMatches;
-use fax_gateway::Settings;
+use fax_gateway::{LEAST_PREAMBLE_MS, MOST_PREAMBLE_MS, MOST_REDUNDANCY, Settings};
 use fax_pagestore::{Coding, Format};
 use fax_runcodes::Width;
 use fax_wires::repeat::RepeatPolicy;

@@ -7,7 +7,7 @@ use fax_clients::Asker;
 use fax_config::{Config, RedialConfig};
 use fax_control::Word;
 use fax_desk::{LineState, LineView, Listener, Reply, Tag, View};
-use fax_gateway::{Leg, Settings};
+use fax_gateway::{Leg, MOST_REDUNDANCY, Settings};
 use fax_legs::{LegSocket, LentSocket, UdpWire};
 use fax_opening::ServeFault;
 use fax_pace::RedialSide;
@@ -26,12 +26,6 @@ const BETWEEN_LOOKS_MS: u64 = 1_000;
 
 /// How many packets before its own a datagram has, where no word says otherwise.
 const REDUNDANCY: u8 = 3;
-
-/// The most that any call may have.
-const MOST_REDUNDANCY: u8 = 8;
-
-/// What the packet after a preamble waits, in milliseconds.
-const PREAMBLE_MS: u16 = 40;
 
 /// For so many seconds the question of a redial line is open.
 const DIAL_SECONDS: u32 = 180;
@@ -374,7 +368,6 @@ fn settings_of(config: &RedialConfig) -> Settings
 {
     Settings {
         redundancy: MOST_REDUNDANCY,
-        preamble_ms: PREAMBLE_MS,
         asks: config.called.peer.is_none(),
         ..Settings::default()
     }

@@ -1,14 +1,7 @@
 //! Options that several commands have, and their limits.
 use crate::arguments::building::{Argument, Need, Shape};
 use clap::builder::ValueParser;
-
-/// The most of the packets before its own that a datagram has.
-pub const MOST_REDUNDANCY: u8 = 8;
-
-/// The shortest and the longest pause after a preamble, in milliseconds.
-pub const LEAST_PREAMBLE_MS: u16 = 40;
-
-pub const MOST_PREAMBLE_MS: u16 = 2_000;
+use fax_gateway::{LEAST_PREAMBLE_MS, MOST_PREAMBLE_MS, MOST_REDUNDANCY};
 
 /// The option of the width.
 pub(crate) const WIDTH: Argument = Argument {
