@@ -2,6 +2,7 @@
 mod call;
 mod driving;
 mod restored;
+mod settings;
 mod watched;
 mod wire;
 
