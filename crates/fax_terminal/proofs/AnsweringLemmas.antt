@@ -1,5 +1,5 @@
 -- The terminal that is called, step by step.
-use Rattle.std.proofs.Common.{◌≡◌, ℕ, ◌+◌, ◌≤◌, Bool, true, false, List, [], ◌∷◌, ◌++◌, is_some, not, ◌&&◌, Option, Some, None, Result, Ok, Err, IfErr, IfOk, refl, sym, ◌∙◌, ap, subst, arith, append-nil}
+use Rattle.std.proofs.Common.{◌≡◌, ℕ, ◌+◌, ◌≤◌, Bool, true, false, List, [], ◌∷◌, ◌++◌, inl, is_some, not, ◌&&◌, Option, Some, None, Result, Ok, Err, IfErr, IfOk, refl, sym, ◌∙◌, ap, subst, arith, append-nil}
 use Rattle.fax_udptl.specs.declared.fault.UdptlFault.{UdptlFault}
 use Rattle.fax_udptl.specs.Datagrams.{DatagramValue, datagram_of}
 use Rattle.fax_ifp.specs.Pieces.{Piece}
@@ -25,7 +25,7 @@ use Rattle.fax_terminal.specs.declared.fault.TerminalFault.TheVariants as faults
 use Rattle.fax_terminal.specs.Ends.{EndTraffic, handed}
 use Rattle.fax_terminal.specs.Stores.{AreGiven, page_in, pages_of, stored_all}
 use Rattle.fax_terminal.specs.Terminals.{ReadDatagram, called_turned, called_with, datagrams_of, octets_of, page_given, pages_on, rung_once}
-use Rattle.fax_terminal.specs.Turns.{AnswererHears, AnswererListens, AnswererTurned, AnswererTurns, IsAnswering, ReceivingValue, handed_if}
+use Rattle.fax_terminal.specs.Turns.{AnswererHears, AnswererListens, AnswererStops, AnswererTurned, AnswererTurns, IsAnswering, MayBeRung, ReceivingValue, handed_if}
 
 -- ---- a datagram, by whether the call is over
 -- pieces confirm nothing
@@ -110,6 +110,34 @@ answerer_hears_all setup leg now some most a b c terminal low grew h = record {
   read = h.read;
   received = grows_more (octets_of h.came) [] a.received b.received c.received h.received grew;
   answering = h.answering;
+}
+
+-- or memory is refused for the next
+pub answerer_stops : (setup : Setup) (leg : Option CallingLeg) (now some most : ℕ) (octets : List ℕ) (a b c : EndTraffic) (old new : ReceivingValue) → some ≤ most → Grows (octets ∷ []) b.received c.received
+    → ((k : Option CallingLeg) → IsAnswering setup k old → MayBeRung setup k now new)
+    → AnswererHears setup leg now some a b old → AnswererStops setup leg now most a c new
+answerer_stops setup leg now some most octets a b c old new low grew left h = record {
+  came = h.came;
+  few = let few = h.few in omega arith;
+  read = h.read;
+  lost = octets ∷ [];
+  one = omega arith;
+  received = grows_more (octets_of h.came) (octets ∷ []) a.received b.received c.received h.received grew;
+  left = left (called_with setup now h.came leg) h.answering;
+}
+
+-- or then, for the tick
+pub answerer_waits : (setup : Setup) (leg : Option CallingLeg) (now most : ℕ) (a b : EndTraffic) (old new : ReceivingValue) → new.redundancy ≡ old.redundancy → new.has_rung ≡ old.has_rung
+    → ((setup : Setup) (leg : Option CallingLeg) → IsCalling setup leg old.endpoint → IsCalling setup leg new.endpoint)
+    → AnswererHears setup leg now most a b old → AnswererStops setup leg now most a b new
+answerer_waits setup leg now most a b old new redundancy has_rung same h = record {
+  came = h.came;
+  few = h.few;
+  read = h.read;
+  lost = [];
+  one = omega arith;
+  received = h.received;
+  left = inl record { set = redundancy ∙ h.answering.set; calling = same setup (called_with setup now h.came leg) h.answering.calling; rung = has_rung ∙ h.answering.rung };
 }
 
 -- ---- a turn

@@ -1,5 +1,5 @@
 -- What turns make of terminals. (This project's profile.) Lists have the newest first.
-use Rattle.std.specs.Prelude.{◌≡◌, ℕ, ◌≤◌, Bool, true, false, List, [], is_some, length, Option, Some, Result, Ok, Err}
+use Rattle.std.specs.Prelude.{◌≡◌, ◌⊎◌, ℕ, ◌≤◌, Bool, true, false, List, [], ◌++◌, is_some, length, Option, Some, Result, Ok, Err}
 use Rattle.fax_pagestore.specs.Pages.{PageValue}
 use Rattle.fax_jobs.specs.Jobs.{JobValue}
 use Rattle.fax_answer.specs.Confirmation.{IsRead}
@@ -17,7 +17,7 @@ use Rattle.fax_terminal.specs.declared.fault.TerminalFault.{TerminalFault}
 use Rattle.fax_terminal.specs.declared.fault.TerminalFault.TheVariants as faults
 use Rattle.fax_terminal.specs.Ends.{EndTraffic, handed}
 use Rattle.fax_terminal.specs.Stores.{AreGiven, pages_of}
-use Rattle.fax_terminal.specs.Terminals.{AreCame, ReadDatagram, called_turned, called_with, calling_turned, calling_with, octets_of, page_given}
+use Rattle.fax_terminal.specs.Terminals.{AreCame, ReadDatagram, called_turned, called_with, calling_turned, calling_with, octets_of, page_given, rung_once}
 
 -- ---- THE TERMINAL THAT CALLS. At most so many datagrams came over its end, and led on
 pub record CallerHears (setup : Setup) (writes : Writing) (l : CalledLeg)
@@ -82,6 +82,23 @@ pub record AnswererHears (setup : Setup) (leg : Option CallingLeg)
   pub received : Grows (octets_of came) before.received after.received
   pub answering : IsAnswering setup (called_with setup now came leg) terminal
 
+-- It is as this call left it, or it was rung at this moment besides, where that was its first datagram.
+abbrev pub MayBeRung : Setup → Option CallingLeg → (now : ℕ) → ReceivingValue → Type 0
+MayBeRung setup leg now terminal = IsAnswering setup leg terminal
+    ⊎ IsAnswering setup (Some (rung_once setup now leg)) terminal
+
+-- WHERE MEMORY IS WANTED so many of the datagrams that came over its end led on, at most, and one more may have been received, which is
+-- lost.
+pub record AnswererStops (setup : Setup) (leg : Option CallingLeg)
+    (now most : ℕ) (before after : EndTraffic) (terminal : ReceivingValue) : Type 0 where
+  pub came : List ReadDatagram
+  pub few : length came ≤ most
+  pub read : AreCame setup now came leg
+  pub lost : List (List ℕ)
+  pub one : length lost ≤ 1
+  pub received : Grows (lost ++ octets_of came) before.received after.received
+  pub left : MayBeRung setup (called_with setup now came leg) now terminal
+
 -- what is handed over where all pages were stored; where one was not, nothing is
 abbrev pub handed_if : (all_stored : Bool) → Option (List ℕ) → List (List ℕ)
 handed_if true given = handed given
@@ -103,7 +120,8 @@ pub record AnswererTurns {K : Type 0} (keeps : PageValue → Bool → K → K �
       before.sent after.sent
   pub answering : IsAnswering setup (called_turned setup now came leg) terminal
 
--- by what came of it: it answers the page that was confirmed; where memory was wanted, none was given to a store, and nothing was sent
+-- by what came of it: it answers the page that was confirmed; where memory was wanted, time did not go on, none was given to a store, and
+-- nothing was sent
 abbrev pub AnswererTurned : {K : Type 0} → (keeps : PageValue → Bool → K → K → Type 0)
     → Result (Option PageValue) TerminalFault → Setup → Option CallingLeg → (now : ℕ)
     → (before after : EndTraffic) → (old new : K) → ReceivingValue → Type 0
@@ -112,5 +130,7 @@ AnswererTurned keeps (Ok page) setup leg now before after old new terminal =
     × (page ≡ page_given (confirmed_on (called_with setup now turn.came leg) now))
 AnswererTurned keeps (Err faults.Storing) setup leg now before after old new terminal =
     AnswererTurns keeps false setup leg now before after old new terminal
-AnswererTurned keeps (Err fault) setup leg now before after old new terminal =
+AnswererTurned keeps (Err faults.Clock) setup leg now before after old new terminal = ⊥
+AnswererTurned keeps (Err faults.NoMemory) setup leg now before after old new terminal =
     (new ≡ old) × Grows [] before.sent after.sent
+    × AnswererStops setup leg now most_datagrams before after terminal

@@ -1,5 +1,5 @@
 //! A terminal that answers a call and has each page kept that it confirms.
-ghost use Rattle.std.specs.Prelude.{◌≡◌, ◌↔◌, [], Some, None, IsTrue, IfErr, IfOk, OnOk};
+ghost use Rattle.std.specs.Prelude.{◌≡◌, ◌↔◌, [], Some, None, IsTrue, IfErr, IfOk, OnErr, OnOk};
 ghost use Rattle.fax_answer.specs.declared.state.State.TheVariants as State;
 ghost use Rattle.fax_gateway.specs.CallingLegs.{idle_after};
 ghost use Rattle.fax_gateway.specs.Driving.{most_datagrams};
@@ -9,7 +9,7 @@ ghost use Rattle.fax_terminal.specs.Calls.{AnswersCall, StoresConfirmed, StoresW
 ghost use Rattle.fax_terminal.specs.Ends.{traffic_of};
 ghost use Rattle.fax_terminal.specs.Stores.{AreGiven, page_in, pages_of, stored_all};
 ghost use Rattle.fax_terminal.specs.Terminals.{rung_once};
-ghost use Rattle.fax_terminal.specs.Turns.{AnswererHears, AnswererListens, AnswererTurned, EachAnswering, IsAnswering, handed_if};
+ghost use Rattle.fax_terminal.specs.Turns.{AnswererHears, AnswererListens, AnswererStops, AnswererTurned, EachAnswering, IsAnswering, MayBeRung, handed_if};
 
 use crate::end::{End, MOST_OCTETS, WireEnd, hand_over};
 use crate::fault::TerminalFault;
@@ -103,7 +103,8 @@ impl<S: RowStore> ReceivingTerminal<S> {
     }
 
     /// Its turn: it hears what has come over its end, by the first of which it is rung, time goes on, and it has the page kept that is
-    /// confirmed, and then sends what it has to. It answers that page. Where it is not stored, nothing is sent.
+    /// confirmed, and then sends what it has to. It answers that page. Where it is not stored, nothing is sent. Where memory is refused,
+    /// one datagram is lost at most, and time does not go on: a later turn may.
     pub fn turn<E: End, K: PageStore<S>>(
         &mut self,
         end: &mut E,
@@ -119,10 +120,12 @@ impl<S: RowStore> ReceivingTerminal<S> {
         store_and_send(store, end, step)
     }
 
-    /// It hears a datagram, which rings it where none has before.
+    /// It hears a datagram, which rings it where none has before. An `Err`: it does not hear it, and it may have been rung.
     pub fn hear_one(&mut self, octets: &[u8], now: u64) -> Result<(), NoMemory>
-        ensures { OnOk result (EachAnswering self.old (λ setup leg.
+        ensures heard { OnOk result (EachAnswering self.old (λ setup leg.
             AnswererListens setup (rung_once setup now leg) now octets.now self.new)) }
+        ensures err { OnErr result (EachAnswering self.old
+            (λ setup leg. MayBeRung setup leg now self.new)) }
     {
         self.ring_once(now)?;
         self.endpoint.hear(octets, now, u128::MAX, &mut Unwatched)?;
@@ -143,6 +146,9 @@ impl<S: RowStore> ReceivingTerminal<S> {
         ensures heard { OnOk result (EachAnswering self.old (λ setup leg.
             AnswererHears setup leg now most_datagrams (E.told end.old) (E.told end.new)
             self.new)) }
+        ensures err { OnErr result (EachAnswering self.old (λ setup leg.
+            AnswererStops setup leg now most_datagrams (E.told end.old) (E.told end.new)
+            self.new)) }
     {
         let mut buffer = [0; MOST_OCTETS];
         for _i in 0..MOST_DATAGRAMS {
@@ -156,8 +162,9 @@ impl<S: RowStore> ReceivingTerminal<S> {
 
     /// It is rung, but where it was.
     fn ring_once(&mut self, now: u64) -> Result<(), NoMemory>
-        ensures { OnOk result (EachAnswering self.old (λ setup leg.
+        ensures rung { OnOk result (EachAnswering self.old (λ setup leg.
             IsAnswering setup (Some (rung_once setup now leg)) self.new)) }
+        ensures err { OnErr result (self.new ≡ self.old) }
     {
         if !self.has_rung && self.is_over() {
             self.endpoint.ring(0, self.redundancy, now)?;

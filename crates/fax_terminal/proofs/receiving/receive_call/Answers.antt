@@ -8,7 +8,7 @@ use Rattle.fax_terminal.proofs.receiving.receive_call.Goals as goal
 pub loop-init : goal.loop-init
 loop-init g c =
     let told = traffic_of (g.W.Wire.known c.args.end.now.wire) in
-    answers_first g.K.PageStore.keeps c.args.settings c.args.first.now c.in-Some.start told c.args.store.now c.hear_one.new.self (λ setup set. c.in_ok-hear_one.ensures setup None (c.in_ok-terminal.ensures setup set))
+    answers_first g.K.PageStore.keeps c.args.settings c.args.first.now c.in-Some.start told c.args.store.now c.hear_one.new.self (λ setup set. c.in_ok-hear_one.ensures.heard setup None (c.in_ok-terminal.ensures setup set))
 
 pub loop-preserved : goal.loop-preserved
 loop-preserved g c =

@@ -1,7 +1,7 @@
-use Rattle.std.proofs.Common.{[], arith}
+use Rattle.std.proofs.Common.{[], ◌∷◌, arith, inl, inr}
 use Rattle.fax_gateway.specs.Driving.{most_datagrams}
 use Rattle.fax_gateway.proofs.DrivingLemmas.{grows_more, grows_none}
-use Rattle.fax_terminal.proofs.AnsweringLemmas.{answerer_hears_all, answerer_hears_more, answerer_hears_none}
+use Rattle.fax_terminal.proofs.AnsweringLemmas.{answerer_hears_all, answerer_hears_more, answerer_hears_none, answerer_stops}
 use Rattle.fax_terminal.proofs.receiving.ReceivingTerminal.hear.Goals as goal
 
 pub loop-i-init : goal.loop-i-init
@@ -11,7 +11,7 @@ pub loop-i-preserved : goal.loop-i-preserved
 loop-i-preserved g c = record {
   sent = grows_more [] [] _ _ _ c.loop-i.invariant.sent c.in-Some.ensures.sent;
   heard = λ setup leg r.
-      answerer_hears_more setup leg c.args.now c.loop-i._i _ _ _ _ _ _ c.in-Some.ensures.received (λ k. c.in_ok-hear_one-in-Some.ensures setup k) (c.loop-i.invariant.heard setup leg r);
+      answerer_hears_more setup leg c.args.now c.loop-i._i _ _ _ _ _ _ c.in-Some.ensures.received (λ k. c.in_ok-hear_one-in-Some.ensures.heard setup k) (c.loop-i.invariant.heard setup leg r);
 }
 
 pub returns-in-None-clause-sent : goal.returns-in-None-clause-sent
@@ -23,6 +23,10 @@ returns-in-None-clause-heard g c = λ setup leg r.
 
 pub returns-in_err-hear_one-in-Some-clause-sent : goal.returns-in_err-hear_one-in-Some-clause-sent
 returns-in_err-hear_one-in-Some-clause-sent g c = grows_more [] [] _ _ _ c.loop-i.invariant.sent c.in-Some.ensures.sent
+
+pub returns-in_err-hear_one-in-Some-clause-err : goal.returns-in_err-hear_one-in-Some-clause-err
+returns-in_err-hear_one-in-Some-clause-err g c = λ setup leg r.
+    answerer_stops setup leg c.args.now c.loop-i._i most_datagrams _ _ _ _ _ _ (omega (arith, c.loop-i-test.true)) c.in-Some.ensures.received (λ k. c.in_err-hear_one-in-Some.ensures.err setup k) (c.loop-i.invariant.heard setup leg r)
 
 pub returns-clause-heard : goal.returns-clause-heard
 returns-clause-heard g c = λ setup leg r.
