@@ -9,4 +9,6 @@ mod loops;
 #[cfg(test)]
 mod page;
 #[cfg(test)]
+mod terminals;
+#[cfg(test)]
 mod trace;
