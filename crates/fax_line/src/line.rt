@@ -33,7 +33,7 @@ use fax_jobs::{Job, Report};
 use fax_pagestore::PackedRows;
 use fax_timers::earlier;
 use fax_wires::holding::{HoldingWire, StoreFault, end_turn};
-use fax_wires::repeat::{Bounds, LegState, NoRoute, Peer, TimedWire};
+use fax_wires::repeat::{Bounds, LegState, LegWire, NoRoute, Peer, TimedWire};
 use std::alloc::Global;
 use std::marker::Model;
 

@@ -10,7 +10,7 @@ use crate::job_try::JobTry;
 use fax_desk::{AskedView, FirstJob, LegView, LineView, View};
 use fax_gateway::Leg;
 use fax_line::Line;
-use fax_wires::repeat::{TimedWire, TimedWire};
+use fax_wires::repeat::TimedWire;
 
 /// A leg without a peer.
 const NO_LEG: LegView = LegView {
