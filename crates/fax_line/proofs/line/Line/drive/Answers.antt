@@ -52,13 +52,13 @@ returns-clause-drives g c =
       t.2,
       t.3,
       t.4,
-      held_later t.0 was mid is c.go_on.ensures.makes.0
+      held_later t.0 was mid is (record { held = c.go_on.ensures.held; is_silenced = c.go_on.ensures.silence; sent = c.go_on.ensures.wire.sent })
           (logs_are_held t.0 mid is
           (wire_shown (λ (w : HoldingValue). w) Receives SendsOn (λ at. Stays) Sends t.0 mid is (λ at old new made. made.0) (λ at octets is_sent old new made. made.0) t.5)),
     ))
     (λ (setup : Setup) (writes : Writing) (trace : List Event) (earlier : List Entry) (writing : IsWriting writes) (reached : IsReachedBy setup writes trace c.self.inside.gateway) (made : HasMade earlier c.self.inside.engine).
     let t = c.turn-self-inside.ensures.turned setup writes trace earlier writing reached made in
-    hear_later heard_was heard_mid heard_is c.go_on.ensures.makes.1
+    hear_later heard_was heard_mid heard_is c.go_on.ensures.peers
     (hear_over t.0 heard_mid heard_is
     (wire_shown (λ (w : HoldingValue). w.peers) Receives SendsOn HearsOn SendStays t.0 mid is (λ at old new made. made.1) (λ at octets is_sent old new made. made.1) t.5)))
     (λ (setup : Setup) (writes : Writing) (trace : List Event) (earlier : List Entry) (writing : IsWriting writes) (reached : IsReachedBy setup writes trace c.self.inside.gateway) (made : HasMade earlier c.self.inside.engine).
