@@ -1,5 +1,5 @@
 -- The terminal that is called, step by step.
-use Rattle.std.proofs.Common.{◌≡◌, ℕ, ◌+◌, ◌≤◌, Bool, true, false, List, [], ◌∷◌, ◌++◌, inl, is_some, not, ◌&&◌, Option, Some, None, Result, Ok, Err, IfErr, IfOk, refl, sym, ◌∙◌, ap, subst, arith, append-nil}
+use Rattle.std.proofs.Common.{◌≡◌, ℕ, ◌+◌, ◌≤◌, Bool, true, false, List, [], ◌∷◌, ◌++◌, inl, is_some, not, ◌&&◌, Option, Some, None, Result, Ok, Err, IfErr, IfOk, OnErr, refl, sym, ◌∙◌, ap, subst, arith, append-nil}
 use Rattle.fax_udptl.specs.declared.fault.UdptlFault.{UdptlFault}
 use Rattle.fax_udptl.specs.Datagrams.{DatagramValue, datagram_of}
 use Rattle.fax_ifp.specs.Pieces.{Piece}
@@ -111,6 +111,10 @@ answerer_hears_all setup leg now some most a b c terminal low grew h = record {
   received = grows_more (octets_of h.came) [] a.received b.received c.received h.received grew;
   answering = h.answering;
 }
+
+pub on_err : {A E : Type 0} {P : Type 0} (r : Result A E) → P → OnErr r P
+on_err (Ok a) p = tt
+on_err (Err e) p = p
 
 -- or memory is refused for the next
 pub answerer_stops : (setup : Setup) (leg : Option CallingLeg) (now some most : ℕ) (octets : List ℕ) (a b c : EndTraffic) (old new : ReceivingValue) → some ≤ most → Grows (octets ∷ []) b.received c.received

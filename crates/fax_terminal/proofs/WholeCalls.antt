@@ -292,8 +292,7 @@ turned_so keeps setup leg now b c begun before after new (Ok page) rung read giv
 turned_so keeps setup leg now b c begun before after new (Err faults.Storing) rung read given t = turned_confirmed keeps setup leg now b c begun before after new false rung read given t
 turned_so {K} keeps setup leg now b c begun before after new (Err faults.NoMemory) rung read given t =
     subst (λ (k : K). StoresConfirmed keeps setup.pause true begun k) (sym t.0) (confirmed_on_leg keeps setup true leg begun before rung read given)
-turned_so {K} keeps setup leg now b c begun before after new (Err faults.Clock) rung read given t =
-    subst (λ (k : K). StoresConfirmed keeps setup.pause true begun k) (sym t.0) (confirmed_on_leg keeps setup true leg begun before rung read given)
+turned_so {K} keeps setup leg now b c begun before after new (Err faults.Clock) rung read given t = absurd t
 
 pub stores_until : {K : Type 0} (keeps : PageValue → Bool → K → K → Type 0) (settings : Settings) → AreAllowed settings → (octets : List ℕ) (now : ℕ) (first a b c : EndTraffic) (begun before after : K) (old new : ReceivingValue) (result : Result (Option PageValue) TerminalFault)
     → ((setup : Setup) (leg : Option CallingLeg) → IsAnswering setup leg old → AnswererTurned keeps result setup leg now b c before after new)

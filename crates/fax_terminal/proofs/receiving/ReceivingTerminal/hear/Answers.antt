@@ -1,7 +1,8 @@
 use Rattle.std.proofs.Common.{[], ◌∷◌, arith, inl, inr}
 use Rattle.fax_gateway.specs.Driving.{most_datagrams}
 use Rattle.fax_gateway.proofs.DrivingLemmas.{grows_more, grows_none}
-use Rattle.fax_terminal.proofs.AnsweringLemmas.{answerer_hears_all, answerer_hears_more, answerer_hears_none, answerer_stops}
+use Rattle.fax_terminal.specs.Turns.{AnswererStops, EachAnswering}
+use Rattle.fax_terminal.proofs.AnsweringLemmas.{answerer_hears_all, answerer_hears_more, answerer_hears_none, answerer_stops, on_err}
 use Rattle.fax_terminal.proofs.receiving.ReceivingTerminal.hear.Goals as goal
 
 pub loop-i-init : goal.loop-i-init
@@ -25,8 +26,13 @@ pub returns-in_err-hear_one-in-Some-clause-sent : goal.returns-in_err-hear_one-i
 returns-in_err-hear_one-in-Some-clause-sent g c = grows_more [] [] _ _ _ c.loop-i.invariant.sent c.in-Some.ensures.sent
 
 pub returns-in_err-hear_one-in-Some-clause-err : goal.returns-in_err-hear_one-in-Some-clause-err
-returns-in_err-hear_one-in-Some-clause-err g c = λ setup leg r.
-    answerer_stops setup leg c.args.now c.loop-i._i most_datagrams _ _ _ _ _ _ (omega (arith, c.loop-i-test.true)) c.in-Some.ensures.received (λ k. c.in_err-hear_one-in-Some.ensures.err setup k) (c.loop-i.invariant.heard setup leg r)
+returns-in_err-hear_one-in-Some-clause-err g c =
+    let told = g.E.End.told in
+    let stops : EachAnswering c.args.self.now (λ setup leg. AnswererStops setup leg c.args.now most_datagrams (told c.args.end.now) (told c.receive.new.self) c.hear_one.new.self) =
+    λ setup leg r.
+    answerer_stops setup leg c.args.now c.loop-i._i most_datagrams _ _ _ _ _ _ (omega (arith, c.loop-i-test.true)) c.in-Some.ensures.received (λ k. c.in_err-hear_one-in-Some.ensures.err setup k)
+    (c.loop-i.invariant.heard setup leg r) in
+    on_err c.from_residual.result stops
 
 pub returns-clause-heard : goal.returns-clause-heard
 returns-clause-heard g c = λ setup leg r.
