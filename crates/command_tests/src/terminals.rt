@@ -123,8 +123,6 @@ struct Counts {
 }
 
 impl PageStore<PackedRows> for Counts {
-    ghost use Rattle.std.specs.Prelude.{Unit};
-
     ghost keeps = { λ page is_kept old new. Unit {0} };
 
     fn keep(&mut self, page: &Page<PackedRows>) -> Result<(), StoreFault> {
