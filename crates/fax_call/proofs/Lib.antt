@@ -24,6 +24,7 @@ pub mod FinePackets
 pub mod GivenSignals
 pub mod ImagesInOrder
 mod OneKind
+pub mod NoEom
 pub mod SignalsGiven
 pub mod ToldFrames
 pub mod Due

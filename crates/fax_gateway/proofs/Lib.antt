@@ -40,3 +40,9 @@ pub mod SentPages
 pub mod Zeros
 mod Resting
 mod OctetsLemmas
+pub mod McfGiven
+pub mod McfHeard
+pub mod OnePage
+pub mod ShortPackets
+pub mod EachLeg
+pub mod CalledHears

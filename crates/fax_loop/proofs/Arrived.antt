@@ -18,7 +18,7 @@ use Rattle.fax_loop.specs.Exchanges.{Round, answerer_after, moment_after}
 use Rattle.fax_loop.specs.Faithful.{arrived_by}
 use Rattle.fax_loop.specs.Links.{came_called, came_calling}
 use Rattle.fax_terminal.specs.Terminals.{ReadDatagram, called_with, octets_of, rung_once}
-use Rattle.fax_loop.proofs.EachLeg.{EachBack, IfLeg, RingsFirst, Stays, leg_each}
+use Rattle.fax_gateway.proofs.EachLeg.{EachBack, IfLeg, RingsFirst, Stays, leg_each}
 use Rattle.fax_loop.proofs.Linked.{AreIn, AreReadOf, IsIn, in_both}
 
 -- ---- one datagram

@@ -48,13 +48,13 @@ use Rattle.fax_loop.specs.Exchanges.{AreRounds, Round, answerer_after, caller_af
 use Rattle.fax_loop.specs.Faithful.{AreCarried, ConfirmsIfDelivered, arrived_by}
 use Rattle.fax_terminal.specs.Terminals.{pages_on}
 use Rattle.fax_loop.proofs.AnswererTrace.{IsFollowed, answerer_followed}
-use Rattle.fax_loop.proofs.CalledHears.{HasHeard, called_heard}
-use Rattle.fax_loop.proofs.EachLeg.{IfLeg}
+use Rattle.fax_gateway.proofs.CalledHears.{HasHeard, called_heard}
+use Rattle.fax_gateway.proofs.EachLeg.{IfLeg}
 use Rattle.fax_loop.proofs.Faithfully.{is_job_of, one_ring}
-use Rattle.fax_loop.proofs.McfGiven.{IsNoAck, TellsNoMcf, given_of, tells_no_mcf}
-use Rattle.fax_loop.proofs.McfHeard.{HasAckFrame, acks_frame, came_pieces, delivered_acks, turned_frame}
+use Rattle.fax_gateway.proofs.McfGiven.{IsNoAck, TellsNoMcf, given_of, tells_no_mcf}
+use Rattle.fax_gateway.proofs.McfHeard.{HasAckFrame, acks_frame, came_pieces, delivered_acks, turned_frame}
 use Rattle.fax_loop.proofs.OneCall.{IsTicked, IsTurned, OnlyComes, after_is, is_turned, none_reported, trace_before}
-use Rattle.fax_loop.proofs.OnePage.{Gives, call_begun}
+use Rattle.fax_gateway.proofs.OnePage.{Gives, call_begun}
 use Rattle.fax_loop.proofs.Relayed.{Carries, IfGives, called_gives, caller_gives, sends_of}
 
 -- ---- WHAT THE MACHINE THAT IS CALLED GAVE is what its call gave

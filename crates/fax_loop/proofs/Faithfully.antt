@@ -24,9 +24,9 @@ use Rattle.fax_loop.specs.Exchanges.{AreRounds, Round, answerer_after, caller_af
 use Rattle.fax_loop.specs.Faithful.{AreCarried, AreThePage, ConfirmsThePage, given_by}
 use Rattle.fax_terminal.specs.Terminals.{pages_on}
 use Rattle.fax_loop.proofs.AnswererTrace.{IsFollowed, answerer_followed}
-use Rattle.fax_loop.proofs.EachLeg.{RingsFirst}
+use Rattle.fax_gateway.proofs.EachLeg.{RingsFirst}
 use Rattle.fax_loop.proofs.OneCall.{IsTicked, IsTurned, OnlyComes, after_is, is_turned}
-use Rattle.fax_loop.proofs.OnePage.{Accepts, AreAll, Gives}
+use Rattle.fax_gateway.proofs.OnePage.{Accepts, AreAll, Gives}
 use Rattle.fax_loop.proofs.Relayed.{Carries, IfGives, called_gives, caller_gives, hears_the_page, sends_of}
 
 -- ---- THE ONE RING of the gateway's trace, in which no call is placed

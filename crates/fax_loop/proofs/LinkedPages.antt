@@ -27,9 +27,9 @@ use Rattle.fax_loop.proofs.Delivers.{confirms_if_delivered, none_told}
 use Rattle.fax_loop.proofs.Faithfully.{confirms_the_page, in_order, is_job_of, one_ring}
 use Rattle.fax_loop.proofs.Linked.{AreIn, are_carried, are_in, datagrams_many}
 use Rattle.fax_loop.proofs.OneCall.{hands_what_it_gave}
-use Rattle.fax_loop.proofs.OnePage.{Gives}
+use Rattle.fax_gateway.proofs.OnePage.{Gives}
 use Rattle.fax_loop.proofs.Relayed.{Carries, IfGives, called_gives, caller_gives, sends_of}
-use Rattle.fax_loop.proofs.ShortPackets.{gives_short}
+use Rattle.fax_gateway.proofs.ShortPackets.{gives_short}
 
 -- what went over a line since nothing had
 after_none : {A : Type 0} (newer list older : List A) → ◌≡◌ {A = Option (List A)} (Some []) (Some older) → list ≡ newer ++ older → list ≡ newer

@@ -28,7 +28,7 @@ use Rattle.fax_loop.specs.Links.{handed_called}
 use Rattle.fax_terminal.specs.Terminals.{datagrams_of}
 use Rattle.fax_gateway.proofs.DrivingLemmas.{sends_no_event}
 use Rattle.fax_terminal.proofs.CallingLemmas.{datagrams_of-given}
-use Rattle.fax_terminal.proofs.EachCame.{hears_each}
+use Rattle.fax_gateway.proofs.EachLeg.{hears_each}
 
 -- ---- A CALL THAT IS OVER WAS REPORTED
 abbrev HasReport : Option CalledLeg → List Report → Type 0

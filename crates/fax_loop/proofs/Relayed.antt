@@ -30,8 +30,8 @@ use Rattle.fax_gateway.proofs.Chained.{KeptLeg, hears_kept, kept_leg, later_kept
 use Rattle.fax_loop.specs.Exchanges.{Round, caller_after, moment_after}
 use Rattle.fax_terminal.specs.Terminals.{calling_with}
 use Rattle.fax_terminal.proofs.EachCame.{came_each}
-use Rattle.fax_loop.proofs.EachLeg.{IfLeg, RingsFirst, any_back, leg_each}
-use Rattle.fax_loop.proofs.OnePage.{Accepts, AreAll, Gives, IsThe, accepts_the_page}
+use Rattle.fax_gateway.proofs.EachLeg.{IfLeg, RingsFirst, any_back, leg_each}
+use Rattle.fax_gateway.proofs.OnePage.{Accepts, AreAll, Gives, IsThe, accepts_the_page}
 
 -- ---- THE MACHINE THAT CALLS gives what the call of its job gives
 came_kept : (writes : Writing) (page : PageValue) (now : ℕ) (came : List (List ℕ)) (l : CalledLeg) → KeptLeg writes (IsThe page) l → KeptLeg writes (IsThe page) (calling_with writes now came l)

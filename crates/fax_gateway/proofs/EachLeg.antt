@@ -11,7 +11,15 @@ use Rattle.fax_gateway.specs.Events.{Event, Ring, FromCalling, FromCalled, Tick,
 use Rattle.fax_gateway.specs.CallingLegs.{calling_leg}
 use Rattle.fax_gateway.specs.CalledLegs.{CalledLeg, begun_leg, calls, core_left, core_of, hears, leg_ticked, leg_with, with_tick}
 use Rattle.fax_gateway.specs.BothLegs.{BothLegs, begins_next, book_of, both_legs, heard_in_tick, in_tick, leg_of, sends, sends_if}
-use Rattle.fax_terminal.proofs.EachCame.{hears_each}
+
+-- what stays while a datagram comes holds after it, whatever it is
+pub hears_each : (P : CalledLeg → Type 0) (octets : List ℕ) → ((l : CalledLeg) (now : ℕ) (d : DatagramValue) → datagram_of octets ≡ Ok d → P l → P (leg_with (Ok d) now l)) → (writes : Writing) (now : ℕ) (l : CalledLeg) → P l → P (hears writes octets now l)
+hears_each P octets comes writes now l h = by (is_over (core_of writes l).state) (datagram_of octets) refl
+  where
+    by : (b : Bool) (r : Result DatagramValue UdptlFault) → datagram_of octets ≡ r → P (if◌then◌else◌ {A = CalledLeg} b l (leg_with r now l))
+    by true r e = h
+    by false (Ok d) e = comes l now d e h
+    by false (Err fault) e = h
 
 pub record Stays (writes : Writing) (On : List ℕ → Type 0) (P : CalledLeg → Type 0) : Type 0 where
   pub begins : (job : JobValue) (before : CallerCore) (now : ℕ) → P (begun_leg job before now)

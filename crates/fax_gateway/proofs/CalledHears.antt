@@ -12,8 +12,8 @@ use Rattle.fax_gateway.specs.Legs.{new_pieces}
 use Rattle.fax_gateway.specs.CalledLegs.{CalledLeg, comes_to, leg_with}
 use Rattle.fax_gateway.specs.BothLegs.{both_legs}
 use Rattle.fax_gateway.proofs.SentPages.{go_on, none_newest}
-use Rattle.fax_loop.proofs.EachLeg.{IfLeg, RingsFirst, any_back, leg_each}
-use Rattle.fax_loop.proofs.McfHeard.{came_pieces}
+use Rattle.fax_gateway.proofs.EachLeg.{IfLeg, RingsFirst, any_back, leg_each}
+use Rattle.fax_gateway.proofs.McfHeard.{came_pieces}
 
 abbrev pub HasHeard : CalledLeg → Type 0
 HasHeard l = came_pieces l.events ≡ reverse (pieces (newest_slots l.arrived))

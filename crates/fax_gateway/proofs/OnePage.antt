@@ -30,7 +30,7 @@ use Rattle.fax_gateway.proofs.Relayed.{HasDcs, answered_in, image_kind, means_as
 use Rattle.fax_gateway.proofs.ServedAlone.{same_page}
 use Rattle.fax_gateway.proofs.Unplaced.{from_begun}
 use Rattle.fax_gateway.proofs.Zeros.{zeros_mean_none}
-use Rattle.fax_loop.proofs.NoEom.{IsOneFormat, one_kind_of}
+use Rattle.fax_call.proofs.NoEom.{IsOneFormat, one_kind_of}
 
 -- ---- pages that are all one
 abbrev pub IsThe : PageValue → ℕ → PageValue → Type 0

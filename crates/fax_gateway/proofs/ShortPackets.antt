@@ -9,7 +9,7 @@ use Rattle.fax_call.specs.Calls.{CallerCore, CallEvent, Comes, Ticks, after_even
 use Rattle.fax_call.specs.Given.{packets_given, packets_with}
 use Rattle.fax_gateway.specs.CalledLegs.{CalledLeg}
 use Rattle.fax_gateway.proofs.Fitting.{AllFit, FitGiven, moved_fits, ticked_fits}
-use Rattle.fax_loop.proofs.OnePage.{Gives, call_begun, call_gave}
+use Rattle.fax_gateway.proofs.OnePage.{Gives, call_begun, call_gave}
 
 events_fit : (writes : Writing) (job : JobValue) (a : CallerCore) (events : List CallEvent) → AllFit a.waiting → AllFit (after_events writes job a events).waiting
 events_fit writes job a [] f = f

@@ -25,7 +25,7 @@ use Rattle.fax_call.specs.Replies.{Packet, Signals, Tells, Part, written}
 use Rattle.fax_call.proofs.ClosedPackets.{frame_closed, signal_closed}
 use Rattle.fax_call.proofs.ToldFrames.{AreFine, EachTold, IsFine}
 use Rattle.fax_gateway.specs.CallingLegs.{packets_with}
-use Rattle.fax_loop.proofs.McfHeard.{IsAck}
+use Rattle.fax_gateway.proofs.McfHeard.{IsAck}
 
 -- ---- WHAT WAITS: signals and frames; MCF alone acknowledges
 abbrev pub IsNoAck : List ℕ → Type 0
