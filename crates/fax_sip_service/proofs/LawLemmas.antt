@@ -1,5 +1,5 @@
 -- Each word of the switch is said.
-use Rattle.std.proofs.Common.{◌≡◌, ℕ, suc, zero, Bool, true, false, List, [], ◌∷◌, ◌++◌, map, Option, Some, None, option_map, Result, Ok, inl, inr, ap, sym, subst, refl, ◌∙◌, append_assoc, arith}
+use Rattle.std.proofs.Common.{◌≡◌, ℕ, suc, zero, Bool, true, false, List, [], ◌∷◌, ◌++◌, map, Option, Some, None, option_map, Result, Ok, inl, inr, ap, sym, subst, refl, ◌∙◌, append_assoc, arith, if◌then◌else◌}
 use Rattle.std.proofs.lemmas.List.{append-nil, map-append}
 use Rattle.std.proofs.lemmas.List.Concat.{flat_map-append}
 use Rattle.std.proofs.lemmas.Option.{none-some, same_Some}
@@ -14,9 +14,8 @@ use Rattle.fax_desk.specs.declared.told.LineEvent.TheVariants as happened
 use Rattle.fax_sip.specs.declared.fault.SipFault.{SipFault}
 use Rattle.fax_sip.specs.Messages.{MessageText}
 use Rattle.fax_switch.specs.declared.action.LineAction.{LineAction}
-use Rattle.fax_switch.specs.declared.event.Choice.{Choice}
 use Rattle.fax_switch.specs.declared.event.Event.{Event}
-use Rattle.fax_switch.specs.declared.event.Event.TheVariants.{Rung, NotRung, Dialled, CallOver, JobOver}
+use Rattle.fax_switch.specs.declared.event.Event.TheVariants.{Rung, NotRung, CallOver, JobOver}
 use Rattle.fax_switch.specs.declared.place.LineCall.{LineCall}
 use Rattle.fax_switch.specs.declared.place.Place.{Place}
 use Rattle.fax_switch.specs.Places.{called_place, calling_place}
@@ -26,17 +25,23 @@ use Rattle.fax_user_agent.specs.declared.out.Heard.TheVariants as heard
 use Rattle.fax_user_agent.specs.declared.out.LineOrder.{LineOrder}
 use Rattle.fax_user_agent.specs.declared.out.LineOrder.TheVariants as order
 use Rattle.fax_user_agent.specs.declared.out.Told.{Told}
-use Rattle.fax_user_agent.specs.Agents.{Agent, Hears, HearsDatagram, HearsDial, IsQuiet}
+use Rattle.fax_user_agent.specs.declared.settings.Trunk.{Trunk}
+use Rattle.fax_user_agent.specs.Agents.{Agent, Hears, HearsDatagram, HearsDial, HearsSome, IsQuiet, Queues}
+use Rattle.fax_user_agent.specs.Dues.{MayBeDue}
+use Rattle.fax_user_agent.specs.Events.{MayBe}
 use Rattle.fax_user_agent.specs.Orders.{word_of, words_of}
+use Rattle.fax_user_agent.specs.Placings.{IsDial}
 use Rattle.fax_sip_service.specs.declared.said.Said.{Said}
 use Rattle.fax_sip_service.specs.declared.said.Said.TheVariants as said
-use Rattle.fax_sip_service.specs.Laws.{Step, Came, Passed, Spoke, Waited, Ended, Answered, Happened, Stops, Stopped, Emptied, StepsBy, Passes, SaysItsWords, AnswerBrings, EachOf, IsBrought, LineBrings, MessageBrings, said_by, said_in, says, words_since}
+use Rattle.fax_trunks.specs.RouteValues.{RouteValue}
+use Rattle.fax_sip_service.specs.Laws.{Setting, Step, Came, Passed, Spoke, Waited, Ended, Answered, Happened, Stops, Stopped, Emptied, StepsBy, Passes, SaysItsWords, AnswerBrings, EachOf, IsBrought, IsNumberOf, LineBrings, MessageBrings, said_by, said_in, says, words_since}
+use Rattle.fax_sip_service.specs.Numbers.{has_route, number_for, number_in, routed}
 use Rattle.fax_sip_service.specs.Services.{Service, Answers, AnswersIf, Asks, Collects, Dials, DialsFrom, DialsIf, Does, EndsEach, EndsIf, GoesOnTimes, Happens, Holds, IsNoted, Keeps, KeepsIf, Leaves, Refuses, RingsIf, RingsOn, TakesNews, TakesOrder, TakesOrders, Tells, counted, line_call, over_of, without_words, without_news}
 use Rattle.fax_sip_service.specs.Words.{said_of}
 
 -- what was said so far is right, if no memory was refused, and what the switch heard is of this kind
 abbrev IsRight : ℕ → (ℕ × Event → Type 0) → List Said → Service → Type 0
-IsRight most C told service = service.lost ≡ 0 → SaysItsWords most C told service
+IsRight setting C told service = service.lost ≡ 0 → SaysItsWords setting C told service
 
 none_counted : {P : Type 0} (lost : ℕ) → counted lost ≡ 0 → P
 none_counted lost h = absurd (omega (arith, h))
@@ -108,23 +113,36 @@ news_kept (first ∷ others) old new (mid, inr is, rest) none =
 -- ---- each step
 
 -- what is not of the switch and says nothing
-same_right : (most : ℕ) (C : ℕ × Event → Type 0) (told : List Said) (old new : Service)
-    → new.agent.switch ≡ old.agent.switch → new.agent.words ≡ old.agent.words → new.to_say ≡ old.to_say → SaysItsWords most C told old → SaysItsWords most C told new
-same_right most C told old new switch words to_say right = record {
+record IsAlike (old new : Agent) : Type 0 where
+  trunks : new.trunks ≡ old.trunks
+  routes : new.routes ≡ old.routes
+  switch : new.switch ≡ old.switch
+  words : new.words ≡ old.words
+
+same_alike : (old new : Agent) → new ≡ old → IsAlike old new
+same_alike old new is = record { trunks = ap (λ (a : Agent). a.trunks) is; routes = ap (λ (a : Agent). a.routes) is; switch = ap (λ (a : Agent). a.switch) is; words = ap (λ (a : Agent). a.words) is }
+
+same_right : (setting : Setting) (C : ℕ × Event → Type 0) (told : List Said) (old new : Service)
+    → IsAlike old.agent new.agent → new.to_say ≡ old.to_say → SaysItsWords setting C told old → SaysItsWords setting C told new
+same_right setting C told old new alike to_say right = record {
+  trunks = alike.trunks ∙ right.trunks;
+  routes = alike.routes ∙ right.routes;
   past = right.past;
   came = right.came;
   orders = right.orders;
-  switch = switch ∙ right.switch;
-  words = ap (λ (l : List LineAction). map word_of right.orders ++ l) words ∙ right.words;
+  switch = alike.switch ∙ right.switch;
+  words = ap (λ (l : List LineAction). map word_of right.orders ++ l) alike.words ∙ right.words;
   same = ap (λ (l : List Said). told ++ l) to_say ∙ right.same;
 }
 
-collected : (most : ℕ) (C : ℕ × Event → Type 0) (told : List Said) (now : ℕ) (old new : Service) → IsRight most C told old → Collects now old new → IsRight most C told new
-collected most C told now old new right collects none =
+collected : (setting : Setting) (C : ℕ × Event → Type 0) (told : List Said) (now : ℕ) (old new : Service) → IsRight setting C told old → Collects now old new → IsRight setting C told new
+collected setting C told now old new right collects none =
     let news = news_kept collects.taken.agent.told (without_news collects.taken) new collects.tells none in
     let kept = orders_kept now collects.orders (without_words old) collects.taken collects.takes news.lost in
     let before = right kept.lost in
     record {
+      trunks = ap (λ (a : Agent). a.trunks) news.agent ∙ ap (λ (a : Agent). a.trunks) kept.agent ∙ before.trunks;
+      routes = ap (λ (a : Agent). a.routes) news.agent ∙ ap (λ (a : Agent). a.routes) kept.agent ∙ before.routes;
       past = before.past;
       came = before.came;
       orders = before.orders ++ collects.orders;
@@ -141,11 +159,13 @@ collected most C told now old new right collects none =
     }
 
 -- the switch hears an event
-hears_right : (most : ℕ) (C : ℕ × Event → Type 0) (told : List Said) (now : ℕ) (event : Event) (old new : Service)
-    → C (now, event) → new.to_say ≡ old.to_say → Hears now event old.agent new.agent → SaysItsWords most C told old → SaysItsWords most C told new
-hears_right most C told now event old new came to_say hears right =
+hears_right : (setting : Setting) (C : ℕ × Event → Type 0) (told : List Said) (now : ℕ) (event : Event) (old new : Service)
+    → C (now, event) → new.to_say ≡ old.to_say → Queues old.agent new.agent → Hears now event old.agent new.agent → SaysItsWords setting C told old → SaysItsWords setting C told new
+hears_right setting C told now event old new came to_say queues hears right =
     let switch = hears.switch ∙ ap (λ (t : Table). row t now event) right.switch in
     record {
+      trunks = queues.trunks ∙ right.trunks;
+      routes = queues.routes ∙ right.routes;
       past = (now, event) ∷ right.past;
       came = (came, right.came);
       orders = right.orders;
@@ -153,107 +173,131 @@ hears_right most C told now event old new came to_say hears right =
       words = ap (λ (l : List LineAction). map word_of right.orders ++ l) hears.words
           ∙ sym (append_assoc (map word_of right.orders) old.agent.words (words_of new.agent.switch.entries))
           ∙ ap (λ (l : List LineAction). l ++ words_of new.agent.switch.entries) right.words
-          ∙ ap (λ (t : Table). words_since most right.past ++ words_of t.entries) switch;
+          ∙ ap (λ (t : Table). words_since setting.most right.past ++ words_of t.entries) switch;
       same = ap (λ (l : List Said). told ++ l) to_say ∙ right.same;
     }
 
 -- what the agent does keeps what is right
-abbrev IsKept : (ℕ × Event → Type 0) → (Agent → Agent → Type 0) → Type 0
-IsKept C does = (most : ℕ) (told : List Said) (old new : Service) → new.to_say ≡ old.to_say → does old.agent new.agent → SaysItsWords most C told old → SaysItsWords most C told new
+abbrev IsKept : Setting → (ℕ × Event → Type 0) → (Agent → Agent → Type 0) → Type 0
+IsKept setting C does = (told : List Said) (old new : Service)
+    → new.to_say ≡ old.to_say → Queues old.agent new.agent → does old.agent new.agent → SaysItsWords setting C told old → SaysItsWords setting C told new
 
-does_right : (most : ℕ) (C : ℕ × Event → Type 0) (told : List Said) (whole part : Agent → Agent → Type 0) (old new : Service) → IsKept C whole → IsRight most C told old → Does whole part old new → IsRight most C told new
-does_right most C told whole part old new kept right (inl w) none =
-    kept most told old new (ap (λ (s : Service). s.to_say) w.rest) w.done (right (sym (ap (λ (s : Service). s.lost) w.rest) ∙ none))
-does_right most C told whole part old new kept right (inr p) none = none_counted old.lost (sym (ap (λ (s : Service). s.lost) p.rest) ∙ none)
+does_right : (setting : Setting) (C : ℕ × Event → Type 0) (told : List Said) (whole part : Agent → Agent → Type 0) (old new : Service) → IsKept setting C whole → IsRight setting C told old → Does whole part old new → IsRight setting C told new
+does_right setting C told whole part old new kept right (inl w) none =
+    kept told old new (ap (λ (s : Service). s.to_say) w.rest) w.queues w.done (right (sym (ap (λ (s : Service). s.lost) w.rest) ∙ none))
+does_right setting C told whole part old new kept right (inr p) none = none_counted old.lost (sym (ap (λ (s : Service). s.lost) p.rest) ∙ none)
 
-event_kept : (C : ℕ × Event → Type 0) (now : ℕ) (event : Event) → C (now, event) → IsKept C (Hears now event)
-event_kept C now event came most told old new to_say hears right = hears_right most C told now event old new came to_say hears right
+event_kept : (setting : Setting) (C : ℕ × Event → Type 0) (now : ℕ) (event : Event) → C (now, event) → IsKept setting C (Hears now event)
+event_kept setting C now event came told old new to_say queues hears right = hears_right setting C told now event old new came to_say queues hears right
 
-one_kept : (C : ℕ × Event → Type 0) (now : ℕ) → ((event : Event) → C (now, event)) → IsKept C (λ old new. (event : Event) × Hears now event old new)
-one_kept C now came most told old new to_say (event, hears) right = hears_right most C told now event old new (came event) to_say hears right
+some_kept : (setting : Setting) (C : ℕ × Event → Type 0) (now : ℕ) (may : Event → Type 0) → ((event : Event) → may event → C (now, event)) → IsKept setting C (HearsSome may now)
+some_kept setting C now may came told old new to_say queues (event, is, hears) right = hears_right setting C told now event old new (came event is) to_say queues hears right
 
-dial_kept : (C : ℕ × Event → Type 0) (now : ℕ) (on : LineCall) → ((choice : Choice) → C (now, Dialled on choice)) → IsKept C (HearsDial now on)
-dial_kept C now on came most told old new to_say (choice, hears) right = hears_right most C told now (Dialled on choice) old new (came choice) to_say hears right
+dial_kept : (setting : Setting) (C : ℕ × Event → Type 0) (now : ℕ) (on : LineCall) (number : List ℕ) → ((event : Event) → IsDial setting.trunks setting.routes on number event → C (now, event))
+    → IsKept setting C (HearsDial now on number)
+dial_kept setting C now on number came told old new to_say queues (event, is, hears) right =
+    hears_right setting C told now event old new
+    (came event (subst (λ (trunks : List Trunk). IsDial trunks setting.routes on number event) right.trunks (subst (λ (routes : List RouteValue). IsDial old.agent.trunks routes on number event) right.routes is)))
+    to_say queues hears right
 
-quiet_kept : (C : ℕ × Event → Type 0) → IsKept C IsQuiet
-quiet_kept C most told old new to_say quiet right = same_right most C told old new quiet.switch quiet.words to_say right
+quiet_kept : (setting : Setting) (C : ℕ × Event → Type 0) → IsKept setting C IsQuiet
+quiet_kept setting C told old new to_say queues quiet right =
+    same_right setting C told old new (record { trunks = queues.trunks; routes = queues.routes; switch = quiet.switch; words = quiet.words }) to_say right
 
-nothing_kept : (most : ℕ) (C : ℕ × Event → Type 0) (told : List Said) (old new : Service) → new.to_say ≡ old.to_say → new.agent ≡ old.agent → SaysItsWords most C told old → SaysItsWords most C told new
-nothing_kept most C told old new to_say is right = same_right most C told old new (ap (λ (a : Agent). a.switch) is) (ap (λ (a : Agent). a.words) is) to_say right
+nothing_kept : (setting : Setting) (C : ℕ × Event → Type 0) (told : List Said) (old new : Service) → new.to_say ≡ old.to_say → new.agent ≡ old.agent → SaysItsWords setting C told old → SaysItsWords setting C told new
+nothing_kept setting C told old new to_say is right = same_right setting C told old new (same_alike old.agent new.agent is) to_say right
 
-datagram_kept : (C : ℕ × Event → Type 0) (now : ℕ) (trunk : Option ℕ) (message : Result MessageText SipFault) → ((event : Event) → MessageBrings message event → C (now, event))
-    → IsKept C (λ old new. (it : Heard) × HearsDatagram {E = Unit {0}} now trunk message (Ok it) old new)
-datagram_kept C now trunk message came most told old new to_say (heard.Stranger, (strange, is)) right = nothing_kept most C told old new to_say is right
-datagram_kept C now trunk message came most told old new to_say (heard.NoMessage fault, (known, reads, is)) right = nothing_kept most C told old new to_say is right
-datagram_kept C now trunk message came most told old new to_say (heard.Message, (known, text, reads, inl quiet)) right = quiet_kept C most told old new to_say quiet right
-datagram_kept C now trunk message came most told old new to_say (heard.Message, (known, text, reads, inr (event, may, hears))) right =
-    hears_right most C told now event old new (came event (old.agent.routes, text, reads, may)) to_say hears right
+datagram_kept : (setting : Setting) (C : ℕ × Event → Type 0) (now : ℕ) (trunk : Option ℕ) (message : Result MessageText SipFault) → ((event : Event) → MessageBrings setting trunk message event → C (now, event))
+    → IsKept setting C (λ old new. (it : Heard) × HearsDatagram {E = Unit {0}} now trunk message (Ok it) old new)
+datagram_kept setting C now trunk message came told old new to_say queues (heard.Stranger, (strange, is)) right = nothing_kept setting C told old new to_say is right
+datagram_kept setting C now trunk message came told old new to_say queues (heard.NoMessage fault, (known, reads, is)) right = nothing_kept setting C told old new to_say is right
+datagram_kept setting C now trunk message came told old new to_say queues (heard.Message, (known, text, reads, inl quiet)) right = quiet_kept setting C told old new to_say queues quiet right
+datagram_kept setting C now trunk message came told old new to_say queues (heard.Message, (known, text, reads, inr (event, may, hears))) right =
+    hears_right setting C told now event old new (came event (known, text, reads, subst (λ (routes : List RouteValue). MayBe routes text event) right.routes may)) to_say queues hears right
 
-tells_right : (most : ℕ) (C : ℕ × Event → Type 0) (told : List Said) (now : ℕ) (event : Event) (old new : Service) → C (now, event) → IsRight most C told old → Tells now event old new → IsRight most C told new
-tells_right most C told now event old new came right tells = does_right most C told _ _ old new (event_kept C now event came) right tells
+tells_right : (setting : Setting) (C : ℕ × Event → Type 0) (told : List Said) (now : ℕ) (event : Event) (old new : Service) → C (now, event) → IsRight setting C told old → Tells now event old new → IsRight setting C told new
+tells_right setting C told now event old new came right tells = does_right setting C told _ _ old new (event_kept setting C now event came) right tells
 
-times_right : (most : ℕ) (C : ℕ × Event → Type 0) (told : List Said) (now count : ℕ) (old new : Service) → ((event : Event) → C (now, event)) → IsRight most C told old → GoesOnTimes now count old new → IsRight most C told new
-times_right most C told now zero old new came right is = subst (λ s. IsRight most C told s) (sym is) right
-times_right most C told now (suc count) old new came right (mid, earlier, once) = does_right most C told _ _ mid new (one_kept C now came) (times_right most C told now count old mid came right earlier) once
+times_right : (setting : Setting) (C : ℕ × Event → Type 0) (told : List Said) (now count : ℕ) (old new : Service) → ((event : Event) → MayBeDue event → C (now, event)) → IsRight setting C told old → GoesOnTimes now count old new → IsRight setting C told new
+times_right setting C told now zero old new came right is = subst (λ s. IsRight setting C told s) (sym is) right
+times_right setting C told now (suc count) old new came right (mid, earlier, once) = does_right setting C told _ _ mid new (some_kept setting C now MayBeDue came) (times_right setting C told now count old mid came right earlier) once
 
-is_right : (most : ℕ) (C : ℕ × Event → Type 0) (told : List Said) (old new : Service) → IsRight most C told old → new ≡ old → IsRight most C told new
-is_right most C told old new right is = subst (λ s. IsRight most C told s) (sym is) right
+is_right : (setting : Setting) (C : ℕ × Event → Type 0) (told : List Said) (old new : Service) → IsRight setting C told old → new ≡ old → IsRight setting C told new
+is_right setting C told old new right is = subst (λ s. IsRight setting C told s) (sym is) right
 
-holds_right : (most : ℕ) (C : ℕ × Event → Type 0) (told : List Said) (place : Place) (old new : Service) → IsRight most C told old → Holds place old new → IsRight most C told new
-holds_right most C told place old new right (inl is) none =
-    nothing_kept most C told old new (ap (λ (s : Service). s.to_say) is) (ap (λ (s : Service). s.agent) is) (right (sym (ap (λ (s : Service). s.lost) is) ∙ none))
-holds_right most C told place old new right (inr is) none = none_counted old.lost (sym (ap (λ (s : Service). s.lost) is) ∙ none)
+holds_right : (setting : Setting) (C : ℕ × Event → Type 0) (told : List Said) (place : Place) (old new : Service) → IsRight setting C told old → Holds place old new → IsRight setting C told new
+holds_right setting C told place old new right (inl is) none =
+    nothing_kept setting C told old new (ap (λ (s : Service). s.to_say) is) (ap (λ (s : Service). s.agent) is) (right (sym (ap (λ (s : Service). s.lost) is) ∙ none))
+holds_right setting C told place old new right (inr is) none = none_counted old.lost (sym (ap (λ (s : Service). s.lost) is) ∙ none)
 
-refuses_right : (most : ℕ) (C : ℕ × Event → Type 0) (told : List Said) (now : ℕ) (it : Said) (why : RefusedWord) (old new : Service) → ((event : Event) → AnswerBrings it (reply.Refused why) event → C (now, event)) → IsRight most C told old → Refuses now it old new → IsRight most C told new
-refuses_right most C told now (said.Ring call tag) why old new came right r = tells_right most C told now (NotRung call 503) old new (came (NotRung call 503) refl) right r
-refuses_right most C told now (said.Peer place end is_moved) why old new came right r = tells_right most C told now (over_of place) _ new (came (over_of place) refl) (λ none. nothing_kept most C told old _ refl refl (right none)) r
-refuses_right most C told now (said.Refuse place digits) why old new came right r = is_right most C told old new right r
-refuses_right most C told now (said.HangUp place) why old new came right r = is_right most C told old new right r
+refuses_right : (setting : Setting) (C : ℕ × Event → Type 0) (told : List Said) (now : ℕ) (it : Said) (why : RefusedWord) (old new : Service) → ((event : Event) → AnswerBrings it (reply.Refused why) event → C (now, event)) → IsRight setting C told old → Refuses now it old new → IsRight setting C told new
+refuses_right setting C told now (said.Ring call tag) why old new came right r = tells_right setting C told now (NotRung call 503) old new (came (NotRung call 503) refl) right r
+refuses_right setting C told now (said.Peer place end is_moved) why old new came right r = tells_right setting C told now (over_of place) _ new (came (over_of place) refl) (λ none. nothing_kept setting C told old _ refl refl (right none)) r
+refuses_right setting C told now (said.Refuse place digits) why old new came right r = is_right setting C told old new right r
+refuses_right setting C told now (said.HangUp place) why old new came right r = is_right setting C told old new right r
 
-rings_right : (most : ℕ) (C : ℕ × Event → Type 0) (told : List Said) (now call : ℕ) (on : LineCall) (leg : Option SocketAddr) (old new : Service) → C (now, Rung call on) → IsRight most C told old → RingsOn now call on leg old new → IsRight most C told new
-rings_right most C told now call on None old new came right is = is_right most C told old new right is
-rings_right most C told now call on (Some address) old new came right (mid, holds, tells) = tells_right most C told now _ mid new came (holds_right most C told _ old mid right holds) tells
+rings_right : (setting : Setting) (C : ℕ × Event → Type 0) (told : List Said) (now call : ℕ) (on : LineCall) (leg : Option SocketAddr) (old new : Service) → C (now, Rung call on) → IsRight setting C told old → RingsOn now call on leg old new → IsRight setting C told new
+rings_right setting C told now call on None old new came right is = is_right setting C told old new right is
+rings_right setting C told now call on (Some address) old new came right (mid, holds, tells) = tells_right setting C told now _ mid new came (holds_right setting C told _ old mid right holds) tells
 
-rings_if_right : (most : ℕ) (C : ℕ × Event → Type 0) (told : List Said) (now call : ℕ) (on : Option LineCall) (old new : Service) → ((it : LineCall) → on ≡ Some it → C (now, Rung call it)) → IsRight most C told old → RingsIf now call on old new → IsRight most C told new
-rings_if_right most C told now call None old new came right is = is_right most C told old new right is
-rings_if_right most C told now call (Some on) old new came right rings = rings_right most C told now call on _ old new (came on refl) right rings
+rings_if_right : (setting : Setting) (C : ℕ × Event → Type 0) (told : List Said) (now call : ℕ) (on : Option LineCall) (old new : Service) → ((it : LineCall) → on ≡ Some it → C (now, Rung call it)) → IsRight setting C told old → RingsIf now call on old new → IsRight setting C told new
+rings_if_right setting C told now call None old new came right is = is_right setting C told old new right is
+rings_if_right setting C told now call (Some on) old new came right rings = rings_right setting C told now call on _ old new (came on refl) right rings
 
-answers_right : (most : ℕ) (C : ℕ × Event → Type 0) (told : List Said) (now : ℕ) (it : Said) (answer : Reply) (old new : Service) → ((event : Event) → AnswerBrings it answer event → C (now, event)) → IsRight most C told old → Answers now it answer old new → IsRight most C told new
-answers_right most C told now it reply.Done old new came right is = is_right most C told old new right is
-answers_right most C told now it (reply.Rung call) old new came right is = is_right most C told old new right is
-answers_right most C told now (said.Ring call tag) (reply.RungOn rung) old new came right rings = rings_if_right most C told now call _ old new (λ on is. came (Rung call on) (on, is, refl)) right rings
-answers_right most C told now (said.Peer place end is_moved) (reply.RungOn rung) old new came right is = is_right most C told old new right is
-answers_right most C told now (said.Refuse place digits) (reply.RungOn rung) old new came right is = is_right most C told old new right is
-answers_right most C told now (said.HangUp place) (reply.RungOn rung) old new came right is = is_right most C told old new right is
-answers_right most C told now it (reply.Refused why) old new came right refuses = refuses_right most C told now it why old new came right refuses
+answers_right : (setting : Setting) (C : ℕ × Event → Type 0) (told : List Said) (now : ℕ) (it : Said) (answer : Reply) (old new : Service) → ((event : Event) → AnswerBrings it answer event → C (now, event)) → IsRight setting C told old → Answers now it answer old new → IsRight setting C told new
+answers_right setting C told now it reply.Done old new came right is = is_right setting C told old new right is
+answers_right setting C told now it (reply.Rung call) old new came right is = is_right setting C told old new right is
+answers_right setting C told now (said.Ring call tag) (reply.RungOn rung) old new came right rings = rings_if_right setting C told now call _ old new (λ on is. came (Rung call on) (on, is, refl)) right rings
+answers_right setting C told now (said.Peer place end is_moved) (reply.RungOn rung) old new came right is = is_right setting C told old new right is
+answers_right setting C told now (said.Refuse place digits) (reply.RungOn rung) old new came right is = is_right setting C told old new right is
+answers_right setting C told now (said.HangUp place) (reply.RungOn rung) old new came right is = is_right setting C told old new right is
+answers_right setting C told now it (reply.Refused why) old new came right refuses = refuses_right setting C told now it why old new came right refuses
 
-waited_right : (most : ℕ) (C : ℕ × Event → Type 0) (told : List Said) (now : ℕ) (waits : Option Said) (answer : Reply) (old new : Service) → ((it : Said) (event : Event) → AnswerBrings it answer event → C (now, event)) → IsRight most C told old → AnswersIf now waits answer old new → IsRight most C told new
-waited_right most C told now None answer old new came right is = is_right most C told old new right is
-waited_right most C told now (Some it) answer old new came right (mid, answers, collects) =
-    collected most C told now mid new (answers_right most C told now it answer _ mid (came it) (λ none. nothing_kept most C told old _ refl refl (right none)) answers) collects
+waited_right : (setting : Setting) (C : ℕ × Event → Type 0) (told : List Said) (now : ℕ) (waits : Option Said) (answer : Reply) (old new : Service) → ((it : Said) (event : Event) → AnswerBrings it answer event → C (now, event)) → IsRight setting C told old → AnswersIf now waits answer old new → IsRight setting C told new
+waited_right setting C told now None answer old new came right is = is_right setting C told old new right is
+waited_right setting C told now (Some it) answer old new came right (mid, answers, collects) =
+    collected setting C told now mid new (answers_right setting C told now it answer _ mid (came it) (λ none. nothing_kept setting C told old _ refl refl (right none)) answers) collects
 
-dials_right : (most : ℕ) (C : ℕ × Event → Type 0) (told : List Said) (now : ℕ) (on : LineCall) (old new : Service) → ((choice : Choice) → C (now, Dialled on choice)) → IsRight most C told old → Dials now on old new → IsRight most C told new
-dials_right most C told now on old new came right (inl w) none = dial_kept C now on came most told old new (ap (λ (s : Service). s.to_say) w.rest) w.done (right (sym (ap (λ (s : Service). s.lost) w.rest) ∙ none))
-dials_right most C told now on old new came right (inr (mid, part, takes)) none =
+-- the call of a job is asked for, to this number
+abbrev IsBroughtBy : Setting → (ℕ × Event → Type 0) → ℕ → LineCall → List ℕ → Type 0
+IsBroughtBy setting C now on number = (event : Event) → IsDial setting.trunks setting.routes on number event → C (now, event)
+
+dials_right : (setting : Setting) (C : ℕ × Event → Type 0) (told : List Said) (now : ℕ) (on : LineCall) (number : List ℕ) (old new : Service) → IsBroughtBy setting C now on number → IsRight setting C told old → Dials now on number old new → IsRight setting C told new
+dials_right setting C told now on number old new came right (inl w) none =
+    dial_kept setting C now on number came told old new (ap (λ (s : Service). s.to_say) w.rest) w.queues w.done (right (sym (ap (λ (s : Service). s.lost) w.rest) ∙ none))
+dials_right setting C told now on number old new came right (inr (mid, part, takes)) none =
     none_counted old.lost (sym (ap (λ (s : Service). s.lost) part.rest) ∙ (order_kept now (order.Refuse (called_place on) 500) mid new takes none).lost)
 
-dials_from_right : (most : ℕ) (C : ℕ × Event → Type 0) (told : List Said) (now : ℕ) (on : LineCall) (leg : Option SocketAddr) (old new : Service) → ((choice : Choice) → C (now, Dialled on choice)) → IsRight most C told old → DialsFrom now on leg old new → IsRight most C told new
-dials_from_right most C told now on None old new came right is = is_right most C told old new right is
-dials_from_right most C told now on (Some address) old new came right (mid, (held, holds, dials), collects) =
-    collected most C told now mid new (dials_right most C told now on held mid came (holds_right most C told _ old held right holds) dials) collects
+dials_from_right : (setting : Setting) (C : ℕ × Event → Type 0) (told : List Said) (now : ℕ) (on : LineCall) (number : List ℕ) (leg : Option SocketAddr) (old new : Service) → IsBroughtBy setting C now on number → IsRight setting C told old → DialsFrom now on number leg old new → IsRight setting C told new
+dials_from_right setting C told now on number None old new came right is = is_right setting C told old new right is
+dials_from_right setting C told now on number (Some address) old new came right (mid, (held, holds, dials), collects) =
+    collected setting C told now mid new (dials_right setting C told now on number held mid came (holds_right setting C told _ old held right holds) dials) collects
 
-dials_if_right : (most : ℕ) (C : ℕ × Event → Type 0) (told : List Said) (now : ℕ) (on : LineCall) (number : Option (List ℕ)) (leg : Option SocketAddr) (old new : Service) → ((choice : Choice) → C (now, Dialled on choice)) → IsRight most C told old → DialsIf now on number leg old new → IsRight most C told new
-dials_if_right most C told now on None leg old new came right is = is_right most C told old new right is
-dials_if_right most C told now on (Some number) leg old new came right dials = dials_from_right most C told now on leg old new came right dials
+dials_if_right : (setting : Setting) (C : ℕ × Event → Type 0) (told : List Said) (now : ℕ) (on : LineCall) (number : Option (List ℕ)) (leg : Option SocketAddr) (old new : Service) → ((it : List ℕ) → number ≡ Some it → IsBroughtBy setting C now on it) → IsRight setting C told old → DialsIf now on number leg old new → IsRight setting C told new
+dials_if_right setting C told now on None leg old new came right is = is_right setting C told old new right is
+dials_if_right setting C told now on (Some number) leg old new came right dials = dials_from_right setting C told now on number leg old new (came number refl) right dials
 
-asks_right : (most : ℕ) (C : ℕ × Event → Type 0) (told : List Said) (now : ℕ) (on : Option LineCall) (tag : Option Tag) (old new : Service) → ((it : LineCall) (choice : Choice) → on ≡ Some it → C (now, Dialled it choice)) → IsRight most C told old → Asks now on tag old new → IsRight most C told new
-asks_right most C told now None tag old new came right is = is_right most C told old new right is
-asks_right most C told now (Some on) tag old new came right dials = dials_if_right most C told now on _ _ old new (λ choice. came on choice refl) right dials
+-- the number that SIP calls for a tag is the tag's
+is_its_number : (routes : List RouteValue) (tag : Option Tag) (number : List ℕ) → number_for routes tag ≡ Some number → IsNumberOf tag number
+is_its_number routes None number is = absurd (none-some number is)
+is_its_number routes (Some tag) number is = (tag, refl, by (number_in tag) is)
+  where
+    only : (takes : Bool) (found : List ℕ) → if◌then◌else◌ {A = Option (List ℕ)} takes (Some found) None ≡ Some number → Some found ≡ Some number
+    only true found same = same
+    only false found same = absurd (none-some number same)
 
-ends_right : (most : ℕ) (C : ℕ × Event → Type 0) (told : List Said) (now : ℕ) (place : Option Place) (old new : Service) → ((it : Place) → place ≡ Some it → C (now, over_of it)) → IsRight most C told old → EndsIf now place old new → IsRight most C told new
-ends_right most C told now None old new came right is = is_right most C told old new right is
-ends_right most C told now (Some place) old new came right (mid, ends, collects) =
-    collected most C told now mid new (tells_right most C told now _ _ mid (came place refl) (λ none. nothing_kept most C told old _ refl refl (right none)) ends) collects
+    by : (found : Option (List ℕ)) → routed routes found ≡ Some number → found ≡ Some number
+    by None same = absurd (none-some number same)
+    by (Some found) same = only (has_route routes found) found same
+
+asks_right : (setting : Setting) (C : ℕ × Event → Type 0) (told : List Said) (now : ℕ) (on : Option LineCall) (tag : Option Tag) (old new : Service) → ((it : LineCall) (number : List ℕ) → on ≡ Some it → IsNumberOf tag number → IsBroughtBy setting C now it number) → IsRight setting C told old → Asks now on tag old new → IsRight setting C told new
+asks_right setting C told now None tag old new came right is = is_right setting C told old new right is
+asks_right setting C told now (Some on) tag old new came right dials = dials_if_right setting C told now on _ _ old new (λ number is. came on number refl (is_its_number old.routes tag number is)) right dials
+
+ends_right : (setting : Setting) (C : ℕ × Event → Type 0) (told : List Said) (now : ℕ) (place : Option Place) (old new : Service) → ((it : Place) → place ≡ Some it → C (now, over_of it)) → IsRight setting C told old → EndsIf now place old new → IsRight setting C told new
+ends_right setting C told now None old new came right is = is_right setting C told old new right is
+ends_right setting C told now (Some place) old new came right (mid, ends, collects) =
+    collected setting C told now mid new (tells_right setting C told now _ _ mid (came place refl) (λ none. nothing_kept setting C told old _ refl refl (right none)) ends) collects
 
 -- the call of a leg is over, where the line has such a number
 call_brought : (C : ℕ × Event → Type 0) (now : ℕ) (on : Option LineCall) → ((it : LineCall) → on ≡ Some it → C (now, CallOver it)) → (place : Place) → option_map calling_place on ≡ Some place → C (now, over_of place)
@@ -264,30 +308,32 @@ job_brought : (C : ℕ × Event → Type 0) (now : ℕ) (on : Option LineCall) �
 job_brought C now None came place is = absurd (none-some place is)
 job_brought C now (Some on) came place is = subst (λ (p : Place). C (now, over_of p)) (same_Some (called_place on) place is) (came on refl)
 
-happens_right : (most : ℕ) (C : ℕ × Event → Type 0) (told : List Said) (now line : ℕ) (what : LineEvent) (old new : Service) → ((event : Event) → LineBrings line what event → C (now, event)) → IsRight most C told old → Happens now line what old new → IsRight most C told new
-happens_right most C told now line (happened.Asked job tag) old new came right asks = asks_right most C told now _ tag old new (λ on choice is. came (Dialled on choice) (on, choice, is, refl)) right asks
-happens_right most C told now line (happened.Ended ended ending) old new came right ends = ends_right most C told now _ old new (call_brought C now (line_call line ended.call) (λ on is. came (CallOver on) (on, is, refl))) right ends
-happens_right most C told now line (happened.Job report tag cause) old new came right ends = ends_right most C told now _ old new (job_brought C now (line_call line report.call) (λ on is. came (JobOver on) (on, is, refl))) right ends
-happens_right most C told now line (happened.Rung rung) old new came right is = is_right most C told old new right is
-happens_right most C told now line (happened.NotStored lost) old new came right is = is_right most C told old new right is
-happens_right most C told now line (happened.Page page tag) old new came right is = is_right most C told old new right is
-happens_right most C told now line (happened.RefusedPage page tag) old new came right is = is_right most C told old new right is
-happens_right most C told now line (happened.Dial dialled) old new came right is = is_right most C told old new right is
-happens_right most C told now line (happened.Connected connected) old new came right is = is_right most C told old new right is
+happens_right : (setting : Setting) (C : ℕ × Event → Type 0) (told : List Said) (now line : ℕ) (what : LineEvent) (old new : Service) → ((event : Event) → LineBrings setting line what event → C (now, event)) → IsRight setting C told old → Happens now line what old new → IsRight setting C told new
+happens_right setting C told now line (happened.Asked job tag) old new came right asks = asks_right setting C told now _ tag old new (λ on number is tagged event dial. came event (on, number, is, tagged, dial)) right asks
+happens_right setting C told now line (happened.Ended ended ending) old new came right ends = ends_right setting C told now _ old new (call_brought C now (line_call line ended.call) (λ on is. came (CallOver on) (on, is, refl))) right ends
+happens_right setting C told now line (happened.Job report tag cause) old new came right ends = ends_right setting C told now _ old new (job_brought C now (line_call line report.call) (λ on is. came (JobOver on) (on, is, refl))) right ends
+happens_right setting C told now line (happened.Rung rung) old new came right is = is_right setting C told old new right is
+happens_right setting C told now line (happened.NotStored lost) old new came right is = is_right setting C told old new right is
+happens_right setting C told now line (happened.Page page tag) old new came right is = is_right setting C told old new right is
+happens_right setting C told now line (happened.RefusedPage page tag) old new came right is = is_right setting C told old new right is
+happens_right setting C told now line (happened.Dial dialled) old new came right is = is_right setting C told old new right is
+happens_right setting C told now line (happened.Connected connected) old new came right is = is_right setting C told old new right is
 
-leaves_right : (most : ℕ) (C : ℕ × Event → Type 0) (told : List Said) (now : ℕ) (before : Bool) (old new : Service) → IsRight most C told old → Leaves now before old new → IsRight most C told new
-leaves_right most C told now true old new right is = is_right most C told old new right is
-leaves_right most C told now false old new right (mid, quiet, collects) =
-    collected most C told now mid new (does_right most C told _ _ _ mid (quiet_kept C) (λ none. nothing_kept most C told old _ refl refl (right none)) quiet) collects
+leaves_right : (setting : Setting) (C : ℕ × Event → Type 0) (told : List Said) (now : ℕ) (before : Bool) (old new : Service) → IsRight setting C told old → Leaves now before old new → IsRight setting C told new
+leaves_right setting C told now true old new right is = is_right setting C told old new right is
+leaves_right setting C told now false old new right (mid, quiet, collects) =
+    collected setting C told now mid new (does_right setting C told _ _ _ mid (quiet_kept setting C) (λ none. nothing_kept setting C told old _ refl refl (right none)) quiet) collects
 
-each_right : (most : ℕ) (C : ℕ × Event → Type 0) (told : List Said) (now : ℕ) (places : List Place) (old new : Service) → ((place : Place) → C (now, over_of place)) → IsRight most C told old → EndsEach now places old new → IsRight most C told new
-each_right most C told now [] old new came right is = is_right most C told old new right is
-each_right most C told now (place ∷ others) old new came right (mid, tells, rest) = each_right most C told now others mid new came (tells_right most C told now _ old mid (came place) right tells) rest
+each_right : (setting : Setting) (C : ℕ × Event → Type 0) (told : List Said) (now : ℕ) (places : List Place) (old new : Service) → ((place : Place) → C (now, over_of place)) → IsRight setting C told old → EndsEach now places old new → IsRight setting C told new
+each_right setting C told now [] old new came right is = is_right setting C told old new right is
+each_right setting C told now (place ∷ others) old new came right (mid, tells, rest) = each_right setting C told now others mid new came (tells_right setting C told now _ old mid (came place) right tells) rest
 
-spoken : (most : ℕ) (C : ℕ × Event → Type 0) (told : List Said) (it : List Said) (old new : Service) → old.to_say ≡ it ++ new.to_say → new ≡ record old { to_say = new.to_say } → IsRight most C told old → IsRight most C (told ++ it) new
-spoken most C told it old new first rest right none =
+spoken : (setting : Setting) (C : ℕ × Event → Type 0) (told : List Said) (it : List Said) (old new : Service) → old.to_say ≡ it ++ new.to_say → new ≡ record old { to_say = new.to_say } → IsRight setting C told old → IsRight setting C (told ++ it) new
+spoken setting C told it old new first rest right none =
     let before = right (sym (ap (λ (s : Service). s.lost) rest) ∙ none) in
     record {
+      trunks = ap (λ (s : Service). s.agent.trunks) rest ∙ before.trunks;
+      routes = ap (λ (s : Service). s.agent.routes) rest ∙ before.routes;
       past = before.past;
       came = before.came;
       orders = before.orders;
@@ -301,51 +347,54 @@ wider P Q leads [] each = tt
 wider P Q leads (heard ∷ past) (here, rest) = (leads heard here, wider P Q leads past rest)
 
 -- what was brought before is brought still
-later_right : (most : ℕ) (step : Step) (earlier : List Step) (told : List Said) (service : Service) → IsRight most (IsBrought earlier) told service → IsRight most (IsBrought (step ∷ earlier)) told service
-later_right most step earlier told service right none =
+later_right : (setting : Setting) (step : Step) (earlier : List Step) (told : List Said) (service : Service) → IsRight setting (IsBrought setting earlier) told service → IsRight setting (IsBrought setting (step ∷ earlier)) told service
+later_right setting step earlier told service right none =
     let before = right none in
     record {
+      trunks = before.trunks;
+      routes = before.routes;
       past = before.past;
-      came = wider (IsBrought earlier) (IsBrought (step ∷ earlier)) (λ heard brought. inr brought) before.past before.came;
+      came = wider (IsBrought setting earlier) (IsBrought setting (step ∷ earlier)) (λ heard brought. inr brought) before.past before.came;
       orders = before.orders;
       switch = before.switch;
       words = before.words;
       same = before.same;
     }
 
-nothing_more : (most : ℕ) (C : ℕ × Event → Type 0) (told : List Said) (service : Service) → IsRight most C told service → IsRight most C (told ++ []) service
-nothing_more most C told service right = subst (λ (l : List Said). IsRight most C l service) (sym (append-nil told)) right
+nothing_more : (setting : Setting) (C : ℕ × Event → Type 0) (told : List Said) (service : Service) → IsRight setting C told service → IsRight setting C (told ++ []) service
+nothing_more setting C told service right = subst (λ (l : List Said). IsRight setting C l service) (sym (append-nil told)) right
 
-step_right : (most : ℕ) (step : Step) (earlier : List Step) (told : List Said) (old new : Service) → IsRight most (IsBrought (step ∷ earlier)) told old → StepsBy step old new → IsRight most (IsBrought (step ∷ earlier)) (told ++ said_by step) new
-step_right most (Came now trunk message) earlier told old new right (mid, hears, collects) =
-    let C = IsBrought (Came now trunk message ∷ earlier) in
-    nothing_more most C told new (collected most C told now mid new (does_right most C told _ _ old mid (datagram_kept C now trunk message (λ event may. inl (refl, may))) right hears) collects)
-step_right most (Passed now) earlier told old new right (mid, goes, collects) =
-    let C = IsBrought (Passed now ∷ earlier) in
-    nothing_more most C told new (collected most C told now mid new (times_right most C told now goes.0 old mid (λ event. inl refl) right goes.1) collects)
-step_right most (Spoke it) earlier told old new right speaks = spoken most (IsBrought (Spoke it ∷ earlier)) told (option_to_list it) old new speaks.first speaks.rest right
-step_right most (Waited it) earlier told old new right is =
-    let C = IsBrought (Waited it ∷ earlier) in
-    nothing_more most C told new (subst (λ s. IsRight most C told s) (sym is) (λ none. nothing_kept most C told old _ refl refl (right none)))
-step_right most (Ended now answer) earlier told old new right answers =
-    let C = IsBrought (Ended now answer ∷ earlier) in
-    nothing_more most C told new (waited_right most C told now old.waits answer old new (λ it event brings. inl (refl, (it, brings))) right answers)
-step_right most (Answered now it answer) earlier told old new right (mid, answers, collects) =
-    let C = IsBrought (Answered now it answer ∷ earlier) in
-    nothing_more most C told new (collected most C told now mid new (answers_right most C told now it answer old mid (λ event brings. inl (refl, brings)) right answers) collects)
-step_right most (Happened now line what) earlier told old new right happens =
-    let C = IsBrought (Happened now line what ∷ earlier) in
-    nothing_more most C told new (happens_right most C told now line what old new (λ event brings. inl (refl, brings)) right happens)
-step_right most (Stops now) earlier told old new right leaves =
-    let C = IsBrought (Stops now ∷ earlier) in
-    nothing_more most C told new (leaves_right most C told now old.is_leaving old new right leaves)
-step_right most (Stopped now) earlier told old new right (mid, each, collects) =
-    let C = IsBrought (Stopped now ∷ earlier) in
-    nothing_more most C told new (collected most C told now mid new (each_right most C told now old.places _ mid (λ place. inl (refl, (place, refl))) (λ none. nothing_kept most C told old _ refl refl (right none)) each) collects)
-step_right most Emptied earlier told old new right empties =
-    let C = IsBrought (Emptied ∷ earlier) in
-    nothing_more most C told new (λ none. same_right most C told old new empties.switch empties.words empties.to_say (right (sym empties.lost ∙ none)))
+step_right : (setting : Setting) (step : Step) (earlier : List Step) (told : List Said) (old new : Service) → IsRight setting (IsBrought setting (step ∷ earlier)) told old → StepsBy step old new → IsRight setting (IsBrought setting (step ∷ earlier)) (told ++ said_by step) new
+step_right setting (Came now trunk message) earlier told old new right (mid, hears, collects) =
+    let C = IsBrought setting (Came now trunk message ∷ earlier) in
+    nothing_more setting C told new (collected setting C told now mid new (does_right setting C told _ _ old mid (datagram_kept setting C now trunk message (λ event may. inl (refl, may))) right hears) collects)
+step_right setting (Passed now) earlier told old new right (mid, goes, collects) =
+    let C = IsBrought setting (Passed now ∷ earlier) in
+    nothing_more setting C told new (collected setting C told now mid new (times_right setting C told now goes.0 old mid (λ event due. inl (refl, due)) right goes.1) collects)
+step_right setting (Spoke it) earlier told old new right speaks = spoken setting (IsBrought setting (Spoke it ∷ earlier)) told (option_to_list it) old new speaks.first speaks.rest right
+step_right setting (Waited it) earlier told old new right is =
+    let C = IsBrought setting (Waited it ∷ earlier) in
+    nothing_more setting C told new (subst (λ s. IsRight setting C told s) (sym is) (λ none. nothing_kept setting C told old _ refl refl (right none)))
+step_right setting (Ended now answer) earlier told old new right answers =
+    let C = IsBrought setting (Ended now answer ∷ earlier) in
+    nothing_more setting C told new (waited_right setting C told now old.waits answer old new (λ it event brings. inl (refl, (it, brings))) right answers)
+step_right setting (Answered now it answer) earlier told old new right (mid, answers, collects) =
+    let C = IsBrought setting (Answered now it answer ∷ earlier) in
+    nothing_more setting C told new (collected setting C told now mid new (answers_right setting C told now it answer old mid (λ event brings. inl (refl, brings)) right answers) collects)
+step_right setting (Happened now line what) earlier told old new right happens =
+    let C = IsBrought setting (Happened now line what ∷ earlier) in
+    nothing_more setting C told new (happens_right setting C told now line what old new (λ event brings. inl (refl, brings)) right happens)
+step_right setting (Stops now) earlier told old new right leaves =
+    let C = IsBrought setting (Stops now ∷ earlier) in
+    nothing_more setting C told new (leaves_right setting C told now old.is_leaving old new right leaves)
+step_right setting (Stopped now) earlier told old new right (mid, each, collects) =
+    let C = IsBrought setting (Stopped now ∷ earlier) in
+    nothing_more setting C told new (collected setting C told now mid new (each_right setting C told now old.places _ mid (λ place. inl (refl, (place, refl))) (λ none. nothing_kept setting C told old _ refl refl (right none)) each) collects)
+step_right setting Emptied earlier told old new right empties =
+    let C = IsBrought setting (Emptied ∷ earlier) in
+    nothing_more setting C told new (λ none. same_right setting C told old new (record { trunks = empties.trunks; routes = empties.routes; switch = empties.switch; words = empties.words }) empties.to_say (right (sym empties.lost ∙ none)))
 
-pub each_word : (most : ℕ) (passed : List Step) (service : Service) → Passes most passed service → service.lost ≡ 0 → SaysItsWords most (IsBrought passed) (said_in passed) service
-each_word most [] service (switch, words, to_say) none = record { past = []; came = tt; orders = []; switch = switch; words = words; same = to_say }
-each_word most (step ∷ earlier) service (before, passes, steps) none = step_right most step earlier (said_in earlier) before service (later_right most step earlier (said_in earlier) before (each_word most earlier before passes)) steps none
+pub each_word : (setting : Setting) (passed : List Step) (service : Service) → Passes setting passed service → service.lost ≡ 0 → SaysItsWords setting (IsBrought setting passed) (said_in passed) service
+each_word setting [] service made none =
+    record { trunks = made.trunks; routes = made.routes; past = []; came = tt; orders = []; switch = made.switch; words = made.words; same = made.to_say }
+each_word setting (step ∷ earlier) service (before, passes, steps) none = step_right setting step earlier (said_in earlier) before service (later_right setting step earlier (said_in earlier) before (each_word setting earlier before passes)) steps none

@@ -1,3 +1,4 @@
 pub mod LawLemmas
 pub mod NumberLemmas
+pub mod PeerLemmas
 pub mod ServiceLemmas

@@ -1,27 +1,31 @@
 -- What SIP says at the desk, over whatever happens to it. Lists of steps have the newest first. (This project's profile.)
-use Rattle.std.specs.Prelude.{◌≡◌, ℕ, ◌⊎◌, List, [], ◌∷◌, ◌++◌, map, Option, Some, Result, Ok}
+use Rattle.std.specs.Prelude.{◌≡◌, ℕ, ◌⊎◌, List, [], ◌∷◌, ◌++◌, map, Option, Some, IsSome, Result, Ok}
 use Rattle.std.specs.List.{flat_map}
 use Rattle.std.specs.Option.{option_to_list}
 use Rattle.fax_desk.specs.declared.next.Reply.{Reply}
 use Rattle.fax_desk.specs.declared.next.Reply.TheVariants as reply
+use Rattle.fax_desk.specs.declared.tag.Tag.{Tag}
 use Rattle.fax_desk.specs.declared.told.LineEvent.{LineEvent}
 use Rattle.fax_desk.specs.declared.told.LineEvent.TheVariants as happened
 use Rattle.fax_sip.specs.declared.fault.SipFault.{SipFault}
 use Rattle.fax_sip.specs.Messages.{MessageText}
 use Rattle.fax_switch.specs.declared.action.LineAction.{LineAction}
-use Rattle.fax_switch.specs.declared.event.Choice.{Choice}
 use Rattle.fax_switch.specs.declared.event.Event.{Event}
-use Rattle.fax_switch.specs.declared.event.Event.TheVariants.{Rung, NotRung, Dialled, CallOver, JobOver}
+use Rattle.fax_switch.specs.declared.event.Event.TheVariants.{Rung, NotRung, CallOver, JobOver}
 use Rattle.fax_switch.specs.declared.place.LineCall.{LineCall}
 use Rattle.fax_switch.specs.declared.place.Place.{Place}
 use Rattle.fax_switch.specs.Histories.{table_after}
 use Rattle.fax_switch.specs.Tables.{begun}
 use Rattle.fax_trunks.specs.RouteValues.{RouteValue}
 use Rattle.fax_user_agent.specs.declared.out.LineOrder.{LineOrder}
+use Rattle.fax_user_agent.specs.declared.settings.Trunk.{Trunk}
+use Rattle.fax_user_agent.specs.Dues.{MayBeDue}
 use Rattle.fax_user_agent.specs.Events.{MayBe}
 use Rattle.fax_user_agent.specs.Orders.{word_of, words_of}
+use Rattle.fax_user_agent.specs.Placings.{IsDial}
 use Rattle.fax_sip_service.specs.declared.said.Said.{Said}
 use Rattle.fax_sip_service.specs.declared.said.Said.TheVariants as said
+use Rattle.fax_sip_service.specs.Numbers.{number_in}
 use Rattle.fax_sip_service.specs.Services.{Service, AndCollects, Answers, AnswersIf, EndsAll, GoesOn, Happens, HearsFrom, Leaves, line_call, over_of}
 use Rattle.fax_sip_service.specs.Words.{said_of}
 
@@ -46,6 +50,8 @@ pub record Speaks (it : Option Said) (old new : Service) : Type 0 where
 
 -- what is to be sent, or told, is taken
 pub record Empties (old new : Service) : Type 0 where
+  pub trunks : new.agent.trunks ≡ old.agent.trunks
+  pub routes : new.agent.routes ≡ old.agent.routes
   pub switch : new.agent.switch ≡ old.agent.switch
   pub words : new.agent.words ≡ old.agent.words
   pub to_say : new.to_say ≡ old.to_say
@@ -64,11 +70,24 @@ StepsBy (Stops now) old new = Leaves now old.is_leaving old new
 StepsBy (Stopped now) old new = EndsAll now old new
 StepsBy Emptied old new = Empties old new
 
-abbrev pub Passes : ℕ → List Step → Service → Type 0
-Passes most [] service =
-    (service.agent.switch ≡ begun most) × (service.agent.words ≡ []) × (service.to_say ≡ [])
-Passes most (step ∷ earlier) service =
-    (before : Service) × Passes most earlier before × StepsBy step before service
+-- what the agent was made with: its trunks and its routes, and how many calls there may be
+pub record Setting : Type 0 where
+  pub trunks : List Trunk
+  pub routes : List RouteValue
+  pub most : ℕ
+
+-- it has these trunks and routes, and nothing has happened
+pub record IsMade (setting : Setting) (service : Service) : Type 0 where
+  pub trunks : service.agent.trunks ≡ setting.trunks
+  pub routes : service.agent.routes ≡ setting.routes
+  pub switch : service.agent.switch ≡ begun setting.most
+  pub words : service.agent.words ≡ []
+  pub to_say : service.to_say ≡ []
+
+abbrev pub Passes : Setting → List Step → Service → Type 0
+Passes setting [] service = IsMade setting service
+Passes setting (step ∷ earlier) service =
+    (before : Service) × Passes setting earlier before × StepsBy step before service
 
 -- what was said, oldest first
 abbrev pub said_by : Step → List Said
@@ -113,57 +132,73 @@ AnswerBrings (said.Peer place end is_moved) (reply.Rung rung) event = ⊥
 AnswerBrings (said.Refuse place digits) answer event = ⊥
 AnswerBrings (said.HangUp place) answer event = ⊥
 
--- the call of a job of this line is asked for, its call is over, or its job
-abbrev pub LineBrings : ℕ → LineEvent → Event → Type 0
-LineBrings line (happened.Asked job tag) event = (on : LineCall)
-    × (choice : Choice) × (line_call line job.call ≡ Some on) × (event ≡ Dialled on choice)
-LineBrings line (happened.Ended ended ending) event =
-    (on : LineCall) × (line_call line ended.call ≡ Some on) × (event ≡ CallOver on)
-LineBrings line (happened.Job report tag cause) event =
-    (on : LineCall) × (line_call line report.call ≡ Some on) × (event ≡ JobOver on)
-LineBrings line other event = ⊥
+-- the number of a tag
+abbrev pub IsNumberOf : Option Tag → List ℕ → Type 0
+IsNumberOf tag number = (it : Tag) × (tag ≡ Some it) × (number_in it ≡ Some number)
 
--- a message is an event that it may be, over some routes
-abbrev pub MessageBrings : Result MessageText SipFault → Event → Type 0
-MessageBrings message event = (routes : List RouteValue)
-    × (text : MessageText) × (message ≡ Ok text) × MayBe routes text event
+-- The call of a job of this line is asked for, to the number of its tag; its call is over, or its job.
+abbrev pub LineBrings : Setting → ℕ → LineEvent → Event → Type 0
+LineBrings setting line (happened.Asked job tag) event = (on : LineCall)
+    × (number : List ℕ) × (line_call line job.call ≡ Some on) × IsNumberOf tag number
+    × IsDial setting.trunks setting.routes on number event
+LineBrings setting line (happened.Ended ended ending) event =
+    (on : LineCall) × (line_call line ended.call ≡ Some on) × (event ≡ CallOver on)
+LineBrings setting line (happened.Job report tag cause) event =
+    (on : LineCall) × (line_call line report.call ≡ Some on) × (event ≡ JobOver on)
+LineBrings setting line other event = ⊥
+
+-- a message of a trunk's host is an event that it may be
+abbrev pub MessageBrings : Setting → Option ℕ → Result MessageText SipFault → Event → Type 0
+MessageBrings setting trunk message event = IsSome trunk
+    × (text : MessageText) × (message ≡ Ok text) × MayBe setting.routes text event
 
 -- What a step brings the switch, if anything: a datagram what its message may be, time one thing after the other, an answer, a line's event; and as the server
 -- ends, the end of a call.
-abbrev pub Brings : Step → ℕ × Event → Type 0
-Brings (Came now trunk message) heard = (heard.0 ≡ now) × MessageBrings message heard.1
-Brings (Passed now) heard = heard.0 ≡ now
-Brings (Spoke it) heard = ⊥
-Brings (Waited it) heard = ⊥
-Brings (Ended now answer) heard = (heard.0 ≡ now) × ((it : Said) × AnswerBrings it answer heard.1)
-Brings (Answered now it answer) heard = (heard.0 ≡ now) × AnswerBrings it answer heard.1
-Brings (Happened now line what) heard = (heard.0 ≡ now) × LineBrings line what heard.1
-Brings (Stops now) heard = ⊥
-Brings (Stopped now) heard = (heard.0 ≡ now) × ((place : Place) × (heard.1 ≡ over_of place))
-Brings Emptied heard = ⊥
+abbrev pub Brings : Setting → Step → ℕ × Event → Type 0
+Brings setting (Came now trunk message) heard =
+    (heard.0 ≡ now) × MessageBrings setting trunk message heard.1
+Brings setting (Passed now) heard = (heard.0 ≡ now) × MayBeDue heard.1
+Brings setting (Spoke it) heard = ⊥
+Brings setting (Waited it) heard = ⊥
+Brings setting (Ended now answer) heard =
+    (heard.0 ≡ now) × ((it : Said) × AnswerBrings it answer heard.1)
+Brings setting (Answered now it answer) heard = (heard.0 ≡ now) × AnswerBrings it answer heard.1
+Brings setting (Happened now line what) heard =
+    (heard.0 ≡ now) × LineBrings setting line what heard.1
+Brings setting (Stops now) heard = ⊥
+Brings setting (Stopped now) heard =
+    (heard.0 ≡ now) × ((place : Place) × (heard.1 ≡ over_of place))
+Brings setting Emptied heard = ⊥
+
+abbrev pub SomeStep : (Step → Type 0) → List Step → Type 0
+SomeStep P [] = ⊥
+SomeStep P (step ∷ earlier) = P step ⊎ SomeStep P earlier
 
 -- some step brought it
-abbrev pub IsBrought : List Step → ℕ × Event → Type 0
-IsBrought [] heard = ⊥
-IsBrought (step ∷ earlier) heard = Brings step heard ⊎ IsBrought earlier heard
+abbrev pub IsBrought : Setting → List Step → ℕ × Event → Type 0
+IsBrought setting passed heard = SomeStep (λ step. Brings setting step heard) passed
 
 abbrev pub EachOf : (ℕ × Event → Type 0) → List (ℕ × Event) → Type 0
 EachOf P [] = Unit {0}
 EachOf P (heard ∷ past) = P heard × EachOf P past
 
--- What the switch heard, each of which was brought so, and the orders of the agent, which are its words: they say what was said and what is to be said.
-pub record SaysItsWords (most : ℕ)
+-- What the switch heard, each of which was brought so, and the orders of the agent, which are its words: they say what was said and what is to be said. The agent's
+-- trunks and routes are those that it was made with.
+pub record SaysItsWords (setting : Setting)
     (brought : ℕ × Event → Type 0) (told : List Said) (service : Service) : Type 0 where
+  pub trunks : service.agent.trunks ≡ setting.trunks
+  pub routes : service.agent.routes ≡ setting.routes
   pub past : List (ℕ × Event)
   pub came : EachOf brought past
   pub orders : List LineOrder
-  pub switch : service.agent.switch ≡ table_after most past
-  pub words : map word_of orders ++ service.agent.words ≡ words_since most past
+  pub switch : service.agent.switch ≡ table_after setting.most past
+  pub words : map word_of orders ++ service.agent.words ≡ words_since setting.most past
   pub same : told ++ service.to_say ≡ says orders
 
 -- EACH WORD OF THE SWITCH IS SAID, each once and in its order, while memory is not refused: the calls are those of the switch after what it heard, of which its
 -- own laws speak, and each thing that it heard was brought by a datagram, a moment, an answer or a line; what it has to say to lines since then is what the agent
 -- ordered; and these orders, in their order, are what was said at the desk and then what is still to be said.
 abbrev pub EachWordIsSaid : Type 0
-EachWordIsSaid = (most : ℕ) (passed : List Step) (service : Service) → Passes most passed service
-    → service.lost ≡ 0 → SaysItsWords most (IsBrought passed) (said_in passed) service
+EachWordIsSaid = (setting : Setting) (passed : List Step) (service : Service)
+    → Passes setting passed service → service.lost ≡ 0
+    → SaysItsWords setting (IsBrought setting passed) (said_in passed) service

@@ -1,4 +1,5 @@
 pub mod Laws
 pub mod Numbers
+pub mod Peers
 pub mod Services
 pub mod Words

@@ -20,7 +20,8 @@ use Rattle.fax_user_agent.specs.declared.out.Heard.{Heard}
 use Rattle.fax_user_agent.specs.declared.out.LineOrder.{LineOrder}
 use Rattle.fax_user_agent.specs.declared.out.LineOrder.TheVariants as order
 use Rattle.fax_user_agent.specs.declared.out.Told.{Told}
-use Rattle.fax_user_agent.specs.Agents.{Agent, Hears, HearsDatagram, HearsDial, HearsInPart, HearsOne, IsQuiet, MayHearInPart, Queues}
+use Rattle.fax_user_agent.specs.Agents.{Agent, Hears, HearsDatagram, HearsDial, HearsInPart, HearsSome, IsQuiet, MayHearDialInPart, MayHearInPart, Queues}
+use Rattle.fax_user_agent.specs.Dues.{MayBeDue}
 use Rattle.fax_user_agent.specs.Orders.{word_of}
 use Rattle.fax_sip_service.specs.declared.line.SipLine.{SipLine}
 use Rattle.fax_sip_service.specs.declared.said.Said.{Said}
@@ -88,7 +89,7 @@ HearsFrom now trunk message old new =
 
 -- time passed, and one thing was due
 abbrev pub GoesOnOnce : ℕ → Service → Service → Type 0
-GoesOnOnce now old new = Does (HearsOne now) (MayHearInPart now) old new
+GoesOnOnce now old new = Does (HearsSome MayBeDue now) (MayHearInPart MayBeDue now) old new
 
 abbrev pub GoesOnTimes : ℕ → ℕ → Service → Service → Type 0
 GoesOnTimes now zero old new = new ≡ old
@@ -226,24 +227,25 @@ AnswersIf now (Some it) answer old new =
 
 -- ---- WHAT HAPPENS ON LINES IS TOLD THE AGENT
 
--- the call of a job is asked for; where memory is refused, it is refused with 500
-abbrev pub Dials : ℕ → LineCall → Service → Service → Type 0
-Dials now on old new =
-    DoesWhole (HearsDial now on) old new ⊎ ((mid : Service) × DoesPart (MayHearInPart now) old mid
+-- the call of a job is asked for, to this number; where memory is refused, it is refused with 500
+abbrev pub Dials : ℕ → LineCall → List ℕ → Service → Service → Type 0
+Dials now on number old new = DoesWhole (HearsDial now on number) old new
+    ⊎ ((mid : Service) × DoesPart (MayHearDialInPart now on number) old mid
     × TakesOrder now (order.Refuse (called_place on) 500) mid new)
 
-abbrev pub HoldsAndDials : ℕ → LineCall → Service → Service → Type 0
-HoldsAndDials now on old new =
-    (mid : Service) × Holds (called_place on) old mid × Dials now on mid new
+abbrev pub HoldsAndDials : ℕ → LineCall → List ℕ → Service → Service → Type 0
+HoldsAndDials now on number old new =
+    (mid : Service) × Holds (called_place on) old mid × Dials now on number mid new
 
 -- SIP calls this number, from a leg that is heard there; it calls none that no route takes
-abbrev pub DialsFrom : ℕ → LineCall → Option SocketAddr → Service → Service → Type 0
-DialsFrom now on None old new = new ≡ old
-DialsFrom now on (Some address) old new = AndCollects now (HoldsAndDials now on) old new
+abbrev pub DialsFrom : ℕ → LineCall → List ℕ → Option SocketAddr → Service → Service → Type 0
+DialsFrom now on number None old new = new ≡ old
+DialsFrom now on number (Some address) old new =
+    AndCollects now (HoldsAndDials now on number) old new
 
 abbrev pub DialsIf : ℕ → LineCall → Option (List ℕ) → Option SocketAddr → Service → Service → Type 0
 DialsIf now on None address old new = new ≡ old
-DialsIf now on (Some number) address old new = DialsFrom now on address old new
+DialsIf now on (Some number) address old new = DialsFrom now on number address old new
 
 abbrev pub Asks : ℕ → Option LineCall → Option Tag → Service → Service → Type 0
 Asks now None tag old new = new ≡ old

@@ -5,7 +5,7 @@ ghost use Rattle.std.specs.Option.{option_to_list};
 ghost use Rattle.fax_sip.specs.Messages.{message_of};
 ghost use Rattle.fax_switch.specs.declared.event.Event.TheVariants.{CallOver, JobOver, NotRung, Rung};
 ghost use Rattle.fax_switch.specs.Places.{called_place, calling_place};
-ghost use Rattle.fax_user_agent.specs.Agents.{HearsDial, IsQuiet, MayHearInPart};
+ghost use Rattle.fax_user_agent.specs.Agents.{HearsDial, IsQuiet, MayHearDialInPart};
 ghost use Rattle.fax_user_agent.specs.Orders.{word_of};
 ghost use Rattle.fax_user_agent.specs.Senders.{trunk_of};
 ghost use Rattle.fax_sip_service.specs.Numbers.{is_placed, number_for};
@@ -628,7 +628,7 @@ impl SipService {
 
     /// The same from such a leg.
     fn dial_from(&mut self, now: u64, on: LineCall, number: &Number, leg: Option<SocketAddr>)
-        ensures { DialsFrom now on leg self.old self.new }
+        ensures { DialsFrom now on number.now leg self.old self.new }
     {
         match leg {
             Some(leg) => {
@@ -641,7 +641,7 @@ impl SipService {
 
     /// SIP holds the leg, and calls.
     fn hold_and_dial(&mut self, now: u64, on: LineCall, number: &Number, leg: SocketAddr)
-        ensures { HoldsAndDials now on self.old self.new }
+        ensures { HoldsAndDials now on number.now self.old self.new }
     {
         self.hold(on.on_called_leg());
         self.dial(now, on, number, leg);
@@ -649,7 +649,7 @@ impl SipService {
 
     /// The agent is told to call; where it lacks memory, the job's call is refused.
     fn dial(&mut self, now: u64, on: LineCall, number: &Number, leg: SocketAddr)
-        ensures { Dials now on self.old self.new }
+        ensures { Dials now on number.now self.old self.new }
     {
         match self.tell_dialled(now, on, number, leg) {
             Ok(()) => {}
@@ -667,8 +667,9 @@ impl SipService {
         number: &Number,
         leg: SocketAddr,
     ) -> Result<(), AllocError>
-        ensures ok { OnOk result (DoesWhole (HearsDial now on) self.old self.new) }
-        ensures err { OnErr result (DoesPart (MayHearInPart now) self.old self.new) }
+        ensures ok { OnOk result (DoesWhole (HearsDial now on number.now) self.old self.new) }
+        ensures err { OnErr result
+            (DoesPart (MayHearDialInPart now on number.now) self.old self.new) }
     {
         match self.agent.dialled(now, on, number.as_bytes(), leg) {
             Ok(()) => Ok(()),

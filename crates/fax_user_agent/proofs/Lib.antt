@@ -1,2 +1,3 @@
+pub mod ChoiceLemmas
 pub mod DueLemmas
 pub mod Hearing

@@ -3,9 +3,7 @@ use Rattle.std.specs.Prelude.{◌≡◌, ℕ, ◌⊎◌, List, ◌++◌, Option,
 use Rattle.fax_sip.specs.declared.fault.SipFault.{SipFault}
 use Rattle.fax_sip.specs.Messages.{MessageText}
 use Rattle.fax_switch.specs.declared.action.LineAction.{LineAction}
-use Rattle.fax_switch.specs.declared.event.Choice.{Choice}
 use Rattle.fax_switch.specs.declared.event.Event.{Event}
-use Rattle.fax_switch.specs.declared.event.Event.TheVariants.{Dialled}
 use Rattle.fax_switch.specs.declared.place.LineCall.{LineCall}
 use Rattle.fax_switch.specs.Tables.{Table, row, swept}
 use Rattle.fax_trunks.specs.RouteValues.{RouteValue}
@@ -16,6 +14,7 @@ use Rattle.fax_user_agent.specs.declared.out.Told.{Told}
 use Rattle.fax_user_agent.specs.declared.settings.Trunk.{Trunk}
 use Rattle.fax_user_agent.specs.Events.{MayBe}
 use Rattle.fax_user_agent.specs.Orders.{words_of}
+use Rattle.fax_user_agent.specs.Placings.{IsDial}
 
 -- its trunks and its routes, the calls of its switch, and what is to come out: datagrams, words to lines, and what is told
 pub record Agent : Type 0 where
@@ -52,24 +51,29 @@ pub record HearsInPart (now : ℕ) (event : Event) (old new : Agent) : Type 0 wh
   pub switch : (new.switch ≡ row old.switch now event) ⊎ (new.switch ≡ swept old.switch)
   pub words : Extends old.words new.words
 
-abbrev pub HearsOne : ℕ → Agent → Agent → Type 0
-HearsOne now old new = (event : Event) × Hears now event old new
+-- the switch hears one event of this kind
+abbrev pub HearsSome : (Event → Type 0) → ℕ → Agent → Agent → Type 0
+HearsSome may now old new = (event : Event) × may event × Hears now event old new
+
+-- Memory was refused before such an event was heard, or after it.
+abbrev pub MayHearInPart : (Event → Type 0) → ℕ → Agent → Agent → Type 0
+MayHearInPart may now old new =
+    IsQuiet old new ⊎ ((event : Event) × may event × HearsInPart now event old new)
 
 -- one event that the message may be, or none
 abbrev pub MayHear : ℕ → MessageText → Agent → Agent → Type 0
-MayHear now text old new =
-    IsQuiet old new ⊎ ((event : Event) × MayBe old.routes text event × Hears now event old new)
+MayHear now text old new = IsQuiet old new ⊎ HearsSome (MayBe old.routes text) now old new
 
 abbrev pub MayHearMessageInPart : ℕ → MessageText → Agent → Agent → Type 0
-MayHearMessageInPart now text old new = IsQuiet old new
-    ⊎ ((event : Event) × MayBe old.routes text event × HearsInPart now event old new)
+MayHearMessageInPart now text old new = MayHearInPart (MayBe old.routes text) now old new
 
-abbrev pub MayHearInPart : ℕ → Agent → Agent → Type 0
-MayHearInPart now old new = IsQuiet old new ⊎ ((event : Event) × HearsInPart now event old new)
+-- the call of a job is asked for, to this number, however it is placed
+abbrev pub HearsDial : ℕ → LineCall → List ℕ → Agent → Agent → Type 0
+HearsDial now on octets old new = HearsSome (IsDial old.trunks old.routes on octets) now old new
 
--- the call of a job is asked for, however it is placed
-abbrev pub HearsDial : ℕ → LineCall → Agent → Agent → Type 0
-HearsDial now on old new = (choice : Choice) × Hears now (Dialled on choice) old new
+abbrev pub MayHearDialInPart : ℕ → LineCall → List ℕ → Agent → Agent → Type 0
+MayHearDialInPart now on octets old new =
+    MayHearInPart (IsDial old.trunks old.routes on octets) now old new
 
 -- What is answered of a datagram, whose trunk and whose message are these, and what is done. Nothing is, where it is of nobody who is heard, or no message;
 -- a message is an event for the switch that it may be, or none.

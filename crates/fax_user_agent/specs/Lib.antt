@@ -4,4 +4,5 @@ pub mod Events
 pub mod Intervals
 pub mod Invites
 pub mod Orders
+pub mod Placings
 pub mod Senders

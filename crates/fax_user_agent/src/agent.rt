@@ -2,8 +2,8 @@
 ghost use Rattle.std.specs.Prelude.{◌≡◌, [], IfOk, None, OnErr, OnOk, map};
 ghost use Rattle.fax_sip.specs.Messages.{message_of, message_text};
 ghost use Rattle.fax_switch.specs.Tables.{begun};
-ghost use Rattle.fax_user_agent.specs.Agents.{Hears, HearsDatagram, HearsDial, HearsInPart, HearsOne, IsQuiet, MayHear, MayHearInPart, MayHearMessageInPart, Queues};
-ghost use Rattle.fax_user_agent.specs.Dues.{ComesByAll};
+ghost use Rattle.fax_user_agent.specs.Agents.{Hears, HearsDatagram, HearsDial, HearsInPart, HearsSome, IsQuiet, MayHear, MayHearDialInPart, MayHearInPart, MayHearMessageInPart, Queues};
+ghost use Rattle.fax_user_agent.specs.Dues.{ComesByAll, MayBeDue};
 ghost use Rattle.fax_user_agent.specs.Events.{Brings, MayBe};
 ghost use Rattle.fax_user_agent.specs.Orders.{word_of};
 ghost use Rattle.fax_user_agent.specs.Senders.{trunk_of};
@@ -222,8 +222,8 @@ impl UserAgent {
 
     /// Time passed: what is due first is done. Called once `next_due` is reached, until it is later; it does one thing in the switch at a time.
     pub fn go_on(&mut self, now: u64) -> Result<(), AllocError>
-        ensures ok { OnOk result (HearsOne now self.old self.new) }
-        ensures err { OnErr result (MayHearInPart now self.old self.new) }
+        ensures ok { OnOk result (HearsSome MayBeDue now self.old self.new) }
+        ensures err { OnErr result (MayHearInPart MayBeDue now self.old self.new) }
         ensures queues { Queues self.old self.new }
     {
         self.book.desk.now = now;
@@ -273,8 +273,8 @@ impl UserAgent {
         number: &[u8],
         leg: SocketAddr,
     ) -> Result<(), AllocError>
-        ensures ok { OnOk result (HearsDial now on self.old self.new) }
-        ensures err { OnErr result (MayHearInPart now self.old self.new) }
+        ensures ok { OnOk result (HearsDial now on number.now self.old self.new) }
+        ensures err { OnErr result (MayHearDialInPart now on number.now self.old self.new) }
         ensures queues { Queues self.old self.new }
     {
         self.book.desk.now = now;

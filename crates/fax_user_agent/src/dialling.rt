@@ -1,33 +1,48 @@
 //! Calls that we place, and what lines say.
+ghost use Rattle.fax_user_agent.specs.Placings.{IsPlacing, IsOver};
+
 use crate::book::Book;
-use crate::call::tag_of;
+use crate::call::{CallState, tag_of};
+use crate::desk::Desk;
 use crate::out::Direction;
-use crate::profile::Profile;
+use crate::profile::{Placing, Profile};
 use fax_switch::Choice;
-use fax_trunks::Number;
 use std::net::SocketAddr;
 
+impl Desk {
+    /// A call to the number that these octets are takes a place of the trunk of its route.
+    fn place_to(&mut self, call: &mut CallState, profile: &Profile, octets: &[u8]) -> Choice
+        ensures { IsPlacing profile.now.trunks.items profile.now.routes.items octets.now result }
+    {
+        match profile.placing(octets) {
+            Some(placing) => self.place(call, &placing),
+            None => Choice::Unrouted,
+        }
+    }
+
+    /// A call takes a place of its trunk, where there is one.
+    fn place(&mut self, call: &mut CallState, placing: &Placing<'_>) -> Choice
+        ensures { IsOver placing.now.place placing.now.trunk.now result }
+    {
+        call.trunk = placing.trunk_place;
+        call.dialled = tag_of(placing.dialled.as_bytes());
+        call.has_place = self.take_place(placing.trunk_place);
+        if call.has_place {
+            Choice::Routed(placing.place, placing.trunk.first_offer)
+        } else {
+            Choice::TrunkFull
+        }
+    }
+}
+
 impl Book {
-    /// The call of a job is asked for, to this number: how it is placed.
-    pub fn dial(&mut self, profile: &Profile, octets: &[u8], leg: SocketAddr) -> Choice {
+    /// The call of a job is asked for, to the number that these octets are: how it is placed.
+    pub fn dial(&mut self, profile: &Profile, octets: &[u8], leg: SocketAddr) -> Choice
+        ensures { IsPlacing profile.now.trunks.items profile.now.routes.items octets.now result }
+    {
         let mut call = self.new_call(0, Direction::Out, octets);
         call.leg = leg;
-        let mut choice = Choice::Unrouted;
-        if let Ok(number) = Number::read(octets)
-            && let Some(place) = profile.route_of(&number)
-            && let Some(route) = profile.routes.get(place)
-            && let Ok(dialled) = route.dialled(&number)
-            && let Some(trunk) = profile.trunks.get(route.trunk())
-        {
-            call.trunk = route.trunk();
-            call.dialled = tag_of(dialled.as_bytes());
-            call.has_place = self.desk.take_place(route.trunk());
-            choice = if call.has_place {
-                Choice::Routed(place, trunk.first_offer)
-            } else {
-                Choice::TrunkFull
-            };
-        }
+        let choice = self.desk.place_to(&mut call, profile, octets);
         self.opening = Some(call);
         choice
     }

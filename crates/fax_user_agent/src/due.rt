@@ -1,6 +1,7 @@
 //! What is due as time passes.
 ghost use Rattle.std.specs.Prelude.{◌≡◌, ℕ, Option};
-ghost use Rattle.fax_user_agent.specs.Dues.{ComesBy, ComesByAll, due_of, earlier_of};
+ghost use Rattle.fax_user_agent.specs.Dues.{ComesBy, ComesByAll, MayBeDue, due_of, earlier_of};
+ghost use Rattle.fax_user_agent.specs.Events.{Brings};
 
 use crate::book::Book;
 use crate::call::CallState;
@@ -132,7 +133,9 @@ impl Desk {
 }
 
 /// What is due in a call: what it is for the switch.
-fn go_on_call(desk: &mut Desk, call: &mut CallState) -> Result<Option<Event>, AllocError> {
+fn go_on_call(desk: &mut Desk, call: &mut CallState) -> Result<Option<Event>, AllocError>
+    ensures { Brings MayBeDue result }
+{
     if call.inviting.is_unsent {
         call.inviting.is_unsent = false;
         return Ok(Some(Event::Within(
@@ -159,7 +162,9 @@ fn go_on_call(desk: &mut Desk, call: &mut CallState) -> Result<Option<Event>, Al
 
 impl Book {
     /// What is due is done, up to the first thing that the switch is to know.
-    pub fn go_on(&mut self, profile: &Profile) -> Result<Option<Event>, AllocError> {
+    pub fn go_on(&mut self, profile: &Profile) -> Result<Option<Event>, AllocError>
+        ensures { Brings MayBeDue result }
+    {
         self.desk.go_on_servers()?;
         match self.desk.go_on_clients()? {
             Some(Purpose::Invite(id)) => {

@@ -1,7 +1,9 @@
 //! What a user agent is, as long as it runs.
-ghost use Rattle.std.specs.Prelude.{◌≡◌, ◌⊎◌, true, IfOk, IfSome};
-ghost use Rattle.fax_trunks.specs.Routes.{IsChoice, fits_of};
+ghost use Rattle.std.specs.Prelude.{◌≡◌, ◌⊎◌, ℕ, true, IfNone, IfOk, IfSome};
+ghost use Rattle.fax_trunks.specs.Routes.{IsChoice, NoneFits, fits_of};
+ghost use Rattle.fax_user_agent.specs.Placings.{IsRoutedOver};
 ghost use Rattle.fax_user_agent.specs.Senders.{is_of_trunk, is_one_host, trunk_of};
+ghost use Rattle.fax_user_agent.specs.declared.settings.Trunk.{Trunk as TrunkShown};
 
 use crate::settings::{Settings, Trunk};
 use fax_trunks::{Family, Host, Number, Route, allows, choose};
@@ -31,6 +33,28 @@ impl Drop for Profile {
             routes: _routes,
             sent_by: _sent_by,
             contact: _contact,
+        } = self;
+    }
+}
+
+/// How a call to a number is placed.
+pub(crate) struct Placing<'a> {
+    /// The place of the route.
+    pub place: usize,
+    /// The place of its trunk, and that trunk.
+    pub trunk_place: usize,
+    pub trunk: &'a Trunk,
+    /// What is dialled there.
+    pub dialled: Number,
+}
+
+impl Drop for Placing<'_> {
+    fn drop(self) {
+        let Placing {
+            place: _place,
+            trunk_place: _trunk_place,
+            trunk: _trunk,
+            dialled: _dialled,
         } = self;
     }
 }
@@ -121,8 +145,34 @@ impl Profile {
 
     /// The route of a number.
     pub fn route_of(&self, number: &Number) -> Option<usize>
-        ensures { IfSome result (IsChoice (fits_of self.now.routes.items number.now)) }
+        ensures some { IfSome result (IsChoice (fits_of self.now.routes.items number.now)) }
+        ensures none { IfNone result (NoneFits (fits_of self.now.routes.items number.now)) }
     {
         choose(self.routes.as_slice(), number)
+    }
+
+    /// How a call to the number that these octets are is placed; nowhere where they are none, no route takes it, or nothing is dialled there for it.
+    pub fn placing(&self, octets: &[u8]) -> Option<Placing<'_>>
+        ensures some { IfSome result (λ placing. IsRoutedOver self.now.trunks.items
+            self.now.routes.items octets.now placing.place placing.trunk.now) }
+        ensures none { IfNone result ((place : ℕ) (trunk : TrunkShown)
+            → IsRoutedOver self.now.trunks.items
+            self.now.routes.items octets.now place trunk → ⊥) }
+    {
+        let Ok(number) = Number::read(octets) else {
+            return None;
+        };
+        let place = self.route_of(&number)?;
+        let route = self.routes.get(place)?;
+        let Ok(dialled) = route.dialled(&number) else {
+            return None;
+        };
+        let trunk = self.trunks.get(route.trunk())?;
+        Some(Placing {
+            place,
+            trunk_place: route.trunk(),
+            trunk,
+            dialled,
+        })
     }
 }

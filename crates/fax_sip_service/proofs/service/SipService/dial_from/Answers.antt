@@ -5,5 +5,5 @@ use Rattle.fax_sip_service.proofs.service.SipService.dial_from.Goals as goal
 
 pub returns-in-Some : goal.returns-in-Some
 returns-in-Some c =
-    subst (λ (leg : Option SocketAddr). DialsFrom c.args.now c.args.on leg c.args.self.now c.collect.new.self) (sym c.in-Some.is)
+    subst (λ (leg : Option SocketAddr). DialsFrom c.args.now c.args.on c.args.number.now leg c.args.self.now c.collect.new.self) (sym c.in-Some.is)
     (c.hold_and_dial.new.self, c.hold_and_dial.ensures, c.collect.ensures)
