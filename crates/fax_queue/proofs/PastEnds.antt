@@ -6,13 +6,13 @@ use Rattle.fax_jobs.specs.declared.report.Report.{Report}
 use Rattle.fax_line.specs.StoredRuns.{reports_of}
 use Rattle.fax_line.specs.declared.settling.LineReport.{LineReport}
 use Rattle.fax_spool.specs.RecordOctets.{EndedValue, PageValue}
-use Rattle.fax_spool.specs.Calls.{Refuses, refuses_now}
+use Rattle.fax_spool.specs.Calls.{Refuses, refuses_now, Rests}
 use Rattle.fax_spool.specs.Waits.{ends, name_of, without, without_all}
 use Rattle.fax_spool.specs.declared.spool.Spool.{Spool}
 use Rattle.fax_queue.specs.Restorations.{own_pages}
 use Rattle.fax_queue.specs.Queues.{IsQueued, QueueValue, left_by, lines_of}
 use Rattle.fax_queue.specs.declared.queue.QueuedPage.{QueuedPage}
-use Rattle.fax_queue.specs.Jobs.{EndsJob, EndsJobAt, PagesWait, WaitSo}
+use Rattle.fax_queue.specs.Jobs.{EndsJob, EndsJobAt, WaitSo}
 use Rattle.fax_queue.specs.Storing.{AddsTo, placed_as}
 use Rattle.fax_queue.specs.Lives.{NotesStill, state_of}
 use Rattle.fax_queue.specs.Refusals.{EndsSomehow, EndsSomehowAt, IsAnEnd, notes_of}
@@ -259,7 +259,7 @@ module _ {D : Type 0} (seen : D → List ℕ) (may_leave : D → List ℕ → Ty
           → (refuses_now before ≡ false → (told : List PageValue) → P told → Q (without_all e.kept told)) → WaitSo seen may_leave is_usable before P → WaitSo seen may_leave is_usable after Q
       together_waits P Q refused still gone was = by (refuses_now before) refl was
         where
-          put : refuses_now before ≡ false → (told : List PageValue) → PagesWait seen may_leave is_usable before told → P told → (b : Bool) → e.is_ok ≡ b → WaitSo seen may_leave is_usable after Q
+          put : refuses_now before ≡ false → (told : List PageValue) → Rests seen may_leave is_usable before told → P told → (b : Bool) → e.is_ok ≡ b → WaitSo seen may_leave is_usable after Q
           put accepts told wait past true ok = wait_map seen may_leave is_usable after (λ more. more ≡ without_all e.kept told) Q (λ more same. subst Q (sym same) (gone accepts told past)) (e.wait ok told wait)
           put accepts told wait past false err = wait_map seen may_leave is_usable after (λ more. (more ≡ told) ⊎ (more ≡ without_all e.kept told)) Q
               (λ more some. elim some [ inl same ↦ subst Q (sym same) (still err told past) | inr same ↦ subst Q (sym same) (gone accepts told past) ]) (e.left err told wait)

@@ -9,7 +9,7 @@ use Rattle.std.proofs.lemmas.Slice.Eq.{bytes_eq-Decides}
 use Rattle.fax_wires.specs.declared.holding.storing.StoreFault.{StoreFault}
 use Rattle.fax_line.specs.declared.settling.PageToStore.{PageToStore}
 use Rattle.fax_spool.specs.RecordOctets.{EndedValue, PageValue}
-use Rattle.fax_spool.specs.Calls.{Accepts}
+use Rattle.fax_spool.specs.Calls.{Accepts, Rests}
 use Rattle.fax_spool.specs.Spools.{Stores}
 use Rattle.fax_spool.specs.SpoolRecords.{page_record}
 use Rattle.fax_spool.specs.Waits.{PageName, ends, name_of, waiting, without}
@@ -17,7 +17,7 @@ use Rattle.fax_spool.specs.declared.spool_record.SpoolRecord.{SpoolRecord}
 use Rattle.fax_spool.specs.declared.spool.Spool.{Spool}
 use Rattle.fax_queue.specs.declared.queue.QueuedPage.{QueuedPage}
 use Rattle.fax_queue.specs.Queues.{AreAmong, IsAmong, IsQueued, QueueValue, left_by, lines_of, name_in}
-use Rattle.fax_queue.specs.Jobs.{EndsJobAt, PagesWait, WaitSo}
+use Rattle.fax_queue.specs.Jobs.{EndsJobAt, WaitSo}
 use Rattle.fax_queue.specs.Storing.{AddAll, AddsAt, AddsTo, Agree, AllAreAmong, AllArePlaced, AllArePut, ArePut, AreRecordsUnder, HaveOwnNames, IsOther, IsPlaced, IsPut, IsRecordUnder, PutsRecords, noted_as, placed_as}
 use Rattle.fax_spool.proofs.Order.{order_pages}
 use Rattle.fax_queue.proofs.Waits.{ends_none_of, none_is_forgotten, put_after}
@@ -27,7 +27,7 @@ use Rattle.fax_queue.proofs.Waits.{ends_none_of, none_is_forgotten, put_after}
 pub wait_put :
     {D : Type 0} {seen : D → List ℕ} {may_leave : D → List ℕ → Type 0} {is_usable : D → Bool} (old new : Spool D) (values : List PageValue)
     → ((olds news : List SpoolRecord) → Stores seen may_leave is_usable old olds news → Stores seen may_leave is_usable new olds (news ++ map page_record values))
-    → (waits : List PageValue) → PagesWait seen may_leave is_usable old waits → PagesWait seen may_leave is_usable new (waits ++ values)
+    → (waits : List PageValue) → Rests seen may_leave is_usable old waits → Rests seen may_leave is_usable new (waits ++ values)
 wait_put old new values put waits was = record {
   olds = was.olds;
   news = was.news ++ map page_record values;
@@ -100,8 +100,8 @@ put_through {D = D} seen may_leave is_usable (Ok u) life pages numbers numbers_1
       (subst (λ (n : List ℕ). AddAll life true pages n olds_2 news) e2
       (subst (λ (t : Bool). AddAll life t pages numbers_2 olds_2 news) kept adds)));
   wait = λ waits was.
-      subst (λ (s : Spool D). PagesWait seen may_leave is_usable s (waits ++ puts.values)) (sym e6)
-      (wait_put before_1 put puts.values puts.put waits (subst (λ (s : Spool D). PagesWait seen may_leave is_usable s waits) (sym e5) was));
+      subst (λ (s : Spool D). Rests seen may_leave is_usable s (waits ++ puts.values)) (sym e6)
+      (wait_put before_1 put puts.values puts.put waits (subst (λ (s : Spool D). Rests seen may_leave is_usable s waits) (sym e5) was));
 }
 put_through seen may_leave is_usable (Err e) life pages numbers numbers_1 numbers_2 b olds olds_1 olds_2 news before before_1 put last e1 e2 e3 e4 e5 e6 kept puts adds = tt
 
@@ -238,8 +238,8 @@ end_agrees seen may_leave is_usable pages place olds news before after ends own 
       (ended_among ends.ends.ended olds place ends.old ends.new was.pages own ends.was ends.ends.named ends.ends.line_is ends.ends.leaves was.among);
 }
   where
-    as_told : (left : List PageValue) → WaitSo seen may_leave is_usable after (λ told. told ≡ left) → PagesWait seen may_leave is_usable after left
-    as_told left (inl is) = subst (λ (l : List PageValue). PagesWait seen may_leave is_usable after l) is.2 is.1
+    as_told : (left : List PageValue) → WaitSo seen may_leave is_usable after (λ told. told ≡ left) → Rests seen may_leave is_usable after left
+    as_told left (inl is) = subst (λ (l : List PageValue). Rests seen may_leave is_usable after l) is.2 is.1
     as_told left (inr is) = let no : true ≡ false = sym is.0 ∙ accepts in absurd (cc)
 
 -- ---- where an answer is an `Ok`

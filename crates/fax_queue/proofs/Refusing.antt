@@ -4,14 +4,14 @@ use Rattle.std.specs.Prelude.{slice_set}
 use Rattle.fax_wires.specs.declared.holding.storing.StoreFault.{StoreFault}
 use Rattle.fax_line.specs.declared.settling.PageToStore.{PageToStore}
 use Rattle.fax_spool.specs.RecordOctets.{EndedValue, PageValue}
-use Rattle.fax_spool.specs.Calls.{Call, Does, IsAsBefore, Refuses, refuses_now}
+use Rattle.fax_spool.specs.Calls.{Call, Does, IsAsBefore, Refuses, refuses_now, Rests}
 use Rattle.fax_spool.specs.Calls.{Puts as PutsCall, Ends as EndsCall, Turns as TurnsCall}
 use Rattle.fax_spool.specs.Waits.{without}
 use Rattle.fax_spool.specs.declared.spool.Spool.{Spool}
 use Rattle.fax_queue.specs.declared.queue.EndedJob.{EndedJob}
 use Rattle.fax_queue.specs.declared.queue.QueuedPage.{QueuedPage}
 use Rattle.fax_queue.specs.Queues.{IsEndOf, NamesFirst, QueueValue, left_by, lines_of}
-use Rattle.fax_queue.specs.Jobs.{EndsJob, PagesWait, WaitSo}
+use Rattle.fax_queue.specs.Jobs.{EndsJob, WaitSo}
 use Rattle.fax_queue.specs.Storing.{AddAll, AddsTo, AllArePlaced, AreRecordsUnder, IsPlaced, noted_as}
 use Rattle.fax_queue.specs.Lives.{State, state_of}
 use Rattle.fax_queue.specs.Lives.{Turns, Begins, Stores, Refuses as RefusesAction, Ends, Leaves, Lets, Beside, Stops}
@@ -80,7 +80,7 @@ refused_values life (p ∷ pages) (n ∷ numbers) olds news all adds =
     (first.0 ∷ rest.0, (adds.0, first.1, rest.1))
 
 module _ {D : Type 0} (seen : D → List ℕ) (may_leave : D → List ℕ → Type 0) (is_usable : D → Bool) where
-  pub rest_still : (before after : Spool D) (waits : List PageValue) → IsAsBefore seen may_leave is_usable before after → PagesWait seen may_leave is_usable before waits → PagesWait seen may_leave is_usable after waits
+  pub rest_still : (before after : Spool D) (waits : List PageValue) → IsAsBefore seen may_leave is_usable before after → Rests seen may_leave is_usable before waits → Rests seen may_leave is_usable after waits
   rest_still before after waits same was = record { olds = was.olds; news = was.news; kept = same.keeps was.olds was.news was.kept; in_order = was.in_order; wait = was.wait }
 
   -- ---- pages that are not put
@@ -102,7 +102,7 @@ module _ {D : Type 0} (seen : D → List ℕ) (may_leave : D → List ℕ → Ty
       let placed = refused_values life pages numbers olds news all adds in record {
         values = placed.0;
         queued = placed.1;
-        left = λ waits was. inl (subst (λ (s : Spool D). PagesWait seen may_leave is_usable s waits) (sym same) was);
+        left = λ waits was. inl (subst (λ (s : Spool D). Rests seen may_leave is_usable s waits) (sym same) was);
       }
 
   pub refuse_through :
@@ -230,7 +230,7 @@ module _ {D : Type 0} (seen : D → List ℕ) (may_leave : D → List ℕ → Ty
   job_is_sure queue before after ended line whole puts = sure_so before queue whole (accepted (refuses_now before) (EndsCall (puts.kept ∷ [])) before after refl puts.does)
 
   -- a file is not cleared, nor taken into use, and what waits is as it was
-  pub not_turned : (before after : Spool D) → Does seen may_leave is_usable TurnsCall false before after → (waits : List PageValue) → PagesWait seen may_leave is_usable before waits
+  pub not_turned : (before after : Spool D) → Does seen may_leave is_usable TurnsCall false before after → (waits : List PageValue) → Rests seen may_leave is_usable before waits
       → WaitSo seen may_leave is_usable after (λ told. told ≡ waits)
   not_turned before after does waits was = elim (does.failed refl) [
     | inl refuses ↦ inr (refuses, λ older newer left. let it = does.left refl waits was older newer left in (it.0, it.1, elim it.2 [ inl same ↦ same | inr same ↦ same ]))

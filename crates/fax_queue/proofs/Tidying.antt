@@ -2,17 +2,17 @@
 use Rattle.std.proofs.Common.{◌≡◌, ℕ, inl, inr, Bool, true, false, List, [], Result, Ok, Err, OnOk, OnErr, refl, sym, subst, MatchBool}
 use Rattle.fax_wires.specs.declared.holding.storing.StoreFault.{StoreFault}
 use Rattle.fax_spool.specs.RecordOctets.{PageValue}
-use Rattle.fax_spool.specs.Calls.{Accepts, Does, Refuses, Turns}
+use Rattle.fax_spool.specs.Calls.{Accepts, Does, Refuses, Turns, Rests}
 use Rattle.fax_spool.specs.Spools.{NoneIsLeft, Stores}
 use Rattle.fax_spool.specs.declared.spool_record.SpoolRecord.{SpoolRecord}
 use Rattle.fax_spool.specs.declared.spool.Spool.{Spool}
-use Rattle.fax_queue.specs.Jobs.{IsTidy, PagesWait, WaitSo}
+use Rattle.fax_queue.specs.Jobs.{IsTidy, WaitSo}
 
 module _ {D : Type 0} (seen : D → List ℕ) (may_leave : D → List ℕ → Type 0) (is_usable : D → Bool) where
   pub tidy_cleared : (old new : Spool D) (was : Bool)
       → ((olds news : List SpoolRecord) → Stores seen may_leave is_usable old olds news
       → MatchBool was (NoneIsLeft olds news × Stores seen may_leave is_usable new [] news) ((¬ NoneIsLeft olds news) × Stores seen may_leave is_usable new olds news))
-      → (waits : List PageValue) → PagesWait seen may_leave is_usable old waits → IsTidy seen may_leave is_usable new
+      → (waits : List PageValue) → Rests seen may_leave is_usable old waits → IsTidy seen may_leave is_usable new
   tidy_cleared old new true cleared waits rest =
       let is = cleared rest.olds rest.news rest.kept in record { olds = []; news = rest.news; kept = is.1; tidy = λ none. refl }
   tidy_cleared old new false cleared waits rest =
@@ -32,7 +32,7 @@ module _ {D : Type 0} (seen : D → List ℕ) (may_leave : D → List ℕ → Ty
 
   -- where what waits is known, or the spool refuses
   pub tidy_ended : (P : List PageValue → Type 0) (between after : Spool D) → WaitSo seen may_leave is_usable between P
-      → ((waits : List PageValue) → PagesWait seen may_leave is_usable between waits → Accepts after → IsTidy seen may_leave is_usable after) → (Refuses between → after ≡ between)
+      → ((waits : List PageValue) → Rests seen may_leave is_usable between waits → Accepts after → IsTidy seen may_leave is_usable after) → (Refuses between → after ≡ between)
       → Accepts after → IsTidy seen may_leave is_usable after
   tidy_ended P between after (inl wait) tidy same accepts = tidy wait.0 wait.1 accepts
   tidy_ended P between after (inr refuses) tidy same accepts =
@@ -40,22 +40,22 @@ module _ {D : Type 0} (seen : D → List ℕ) (may_leave : D → List ℕ → Ty
 
   -- what may be done once more, and is not asked for its answer
   pub told_again : (answer : Result Bool StoreFault) (between after : Spool D)
-      → OnOk answer ((waits : List PageValue) → PagesWait seen may_leave is_usable between waits → PagesWait seen may_leave is_usable after waits)
-      → OnErr answer ((waits : List PageValue) → PagesWait seen may_leave is_usable between waits → WaitSo seen may_leave is_usable after (λ told. told ≡ waits))
-      → (waits : List PageValue) → PagesWait seen may_leave is_usable between waits → WaitSo seen may_leave is_usable after (λ told. told ≡ waits)
+      → OnOk answer ((waits : List PageValue) → Rests seen may_leave is_usable between waits → Rests seen may_leave is_usable after waits)
+      → OnErr answer ((waits : List PageValue) → Rests seen may_leave is_usable between waits → WaitSo seen may_leave is_usable after (λ told. told ≡ waits))
+      → (waits : List PageValue) → Rests seen may_leave is_usable between waits → WaitSo seen may_leave is_usable after (λ told. told ≡ waits)
   told_again (Ok was) between after stays told waits rest = inl (waits, stays waits rest, refl)
   told_again (Err e) between after stays told waits rest = told waits rest
 
   pub tidy_again : (answer : Result Bool StoreFault) (between after : Spool D)
-      → OnOk answer ((waits : List PageValue) → PagesWait seen may_leave is_usable between waits → IsTidy seen may_leave is_usable after)
-      → OnErr answer ((waits : List PageValue) → PagesWait seen may_leave is_usable between waits → Refuses after)
-      → (waits : List PageValue) → PagesWait seen may_leave is_usable between waits → Accepts after → IsTidy seen may_leave is_usable after
+      → OnOk answer ((waits : List PageValue) → Rests seen may_leave is_usable between waits → IsTidy seen may_leave is_usable after)
+      → OnErr answer ((waits : List PageValue) → Rests seen may_leave is_usable between waits → Refuses after)
+      → (waits : List PageValue) → Rests seen may_leave is_usable between waits → Accepts after → IsTidy seen may_leave is_usable after
   tidy_again (Ok was) between after tidy failed waits rest accepts = tidy waits rest
   tidy_again (Err e) between after tidy failed waits rest accepts = let no : Refuses after = failed waits rest in absurd (cc)
 
   -- and where the spool refuses, it stays as it is
   pub so_on : (waits : List PageValue) (between after : Spool D) → WaitSo seen may_leave is_usable between (λ told. told ≡ waits)
-      → ((pages : List PageValue) → PagesWait seen may_leave is_usable between pages → WaitSo seen may_leave is_usable after (λ told. told ≡ pages)) → (Refuses between → after ≡ between)
+      → ((pages : List PageValue) → Rests seen may_leave is_usable between pages → WaitSo seen may_leave is_usable after (λ told. told ≡ pages)) → (Refuses between → after ≡ between)
       → WaitSo seen may_leave is_usable after (λ told. told ≡ waits)
   so_on waits between after (inl wait) told same =
       subst (λ (l : List PageValue). WaitSo seen may_leave is_usable after (λ told. told ≡ l)) wait.2 (told wait.0 wait.1)

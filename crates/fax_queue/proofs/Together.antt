@@ -11,7 +11,7 @@ use Rattle.fax_line.specs.Settling.{RiseByLine}
 use Rattle.fax_line.specs.declared.settling.LineReport.{LineReport}
 use Rattle.fax_line.proofs.Telling.{reports_append}
 use Rattle.fax_spool.specs.RecordOctets.{EndedValue, PageValue}
-use Rattle.fax_spool.specs.Calls.{Accepts, Does, Refuses}
+use Rattle.fax_spool.specs.Calls.{Accepts, Does, Refuses, Rests}
 use Rattle.fax_spool.specs.Calls.{Ends as EndsCall}
 use Rattle.fax_spool.specs.Waits.{PageName, name_of, without, without_all}
 use Rattle.fax_spool.specs.declared.spool.Spool.{Spool}
@@ -19,7 +19,7 @@ use Rattle.fax_queue.specs.declared.ending.PlannedEnd.{PlannedEnd}
 use Rattle.fax_queue.specs.declared.queue.EndedJob.{EndedJob}
 use Rattle.fax_queue.specs.declared.queue.QueuedPage.{QueuedPage}
 use Rattle.fax_queue.specs.Storing.{Agree, AllAreAmong, HaveOwnNames, IsOther}
-use Rattle.fax_queue.specs.Jobs.{IsTidy, PagesWait, WaitSo}
+use Rattle.fax_queue.specs.Jobs.{IsTidy, WaitSo}
 use Rattle.fax_queue.specs.Queues.{AreAmong, IsEndOf, QueueValue, left_by, lines_of}
 use Rattle.fax_queue.specs.Together.{AreEndsOf, AreOfOthers, EndsOne, EndsTogether, HasRecord, IsNotedSo, IsPlanned, IsTaken, MayPutEnds, NoneIsOf, Planned, Plans, StaysUnnoted, unsure_all, unsure_at}
 use Rattle.fax_queue.proofs.PastPuts.{line_at, set_line}
@@ -427,11 +427,11 @@ module _ {D : Type 0} (seen : D → List ℕ) (may_leave : D → List ℕ → Ty
   one_noted kept are place report old new there (inr is) = (false, inr (is.0, others_of (lines_of olds) place plan kept are is.1))
 
   -- a spool that does not refuse has just these
-  accepted : (after : Spool D) → Accepts after → (pages left : List PageValue) → WaitSo seen may_leave is_usable after (λ told. told ≡ left) → PagesWait seen may_leave is_usable after left
-  accepted after accepts pages left (inl is) = subst (λ (l : List PageValue). PagesWait seen may_leave is_usable after l) is.2 is.1
+  accepted : (after : Spool D) → Accepts after → (pages left : List PageValue) → WaitSo seen may_leave is_usable after (λ told. told ≡ left) → Rests seen may_leave is_usable after left
+  accepted after accepts pages left (inl is) = subst (λ (l : List PageValue). Rests seen may_leave is_usable after l) is.2 is.1
   accepted after accepts pages left (inr is) = absurd (let no : false ≡ true = sym accepts ∙ is.0 in cc)
 
-  so_agree : {after : Spool D} (kept : List EndedValue) → AreEndsOf (lines_of olds) plan kept → HaveOwnNames olds → (agrees : Agree seen may_leave is_usable before olds) → PagesWait seen may_leave is_usable after (without_all kept agrees.pages)
+  so_agree : {after : Spool D} (kept : List EndedValue) → AreEndsOf (lines_of olds) plan kept → HaveOwnNames olds → (agrees : Agree seen may_leave is_usable before olds) → Rests seen may_leave is_usable after (without_all kept agrees.pages)
       → Agree seen may_leave is_usable after mids
   so_agree kept are own agrees wait = record {
     pages = without_all kept agrees.pages;
@@ -455,7 +455,7 @@ module _ {D : Type 0} (seen : D → List ℕ) (may_leave : D → List ℕ → Ty
 
   -- they were put
   pub put_together : (between after : Spool D) → MayPutEnds seen may_leave is_usable (lines_of mids) plan true before between
-      → ((waits : List PageValue) → PagesWait seen may_leave is_usable between waits → WaitSo seen may_leave is_usable after (λ told. told ≡ waits))
+      → ((waits : List PageValue) → Rests seen may_leave is_usable between waits → WaitSo seen may_leave is_usable after (λ told. told ≡ waits))
       → (e : EndsTogether seen may_leave is_usable jobs olds mids before after) × (e.is_ok ≡ true)
   put_together between after (inl none) turned = absurd (let no : true ≡ false = none.0 in cc)
   put_together between after (inr put) turned =
@@ -508,7 +508,7 @@ module _ {D : Type 0} (seen : D → List ℕ) (may_leave : D → List ℕ → Ty
           let mid = there_among olds mids place old planned.lines there in
           one_left place report old mid.0 new mid.1 now (planned.each place report old mid.0 is there mid.1);
       wait = λ ok. absurd (let no : false ≡ true = ok in cc);
-      left = λ err waits was. inl (waits, subst (λ (s : Spool D). PagesWait seen may_leave is_usable s waits) (sym none.1) was, inl refl);
+      left = λ err waits was. inl (waits, subst (λ (s : Spool D). Rests seen may_leave is_usable s waits) (sym none.1) was, inl refl);
       agree = λ ok. absurd (let no : false ≡ true = ok in cc);
       refuses = λ is. (refl, none.1);
     },
@@ -538,7 +538,7 @@ module _ {D : Type 0} (seen : D → List ℕ) (may_leave : D → List ℕ → Ty
 
   -- no file is kept for nothing then
   pub tidy_together : (between after : Spool D) → MayPutEnds seen may_leave is_usable (lines_of mids) plan true before between
-      → ((waits : List PageValue) → PagesWait seen may_leave is_usable between waits → Accepts after → IsTidy seen may_leave is_usable after)
-      → (waits : List PageValue) → PagesWait seen may_leave is_usable before waits → Accepts after → IsTidy seen may_leave is_usable after
+      → ((waits : List PageValue) → Rests seen may_leave is_usable between waits → Accepts after → IsTidy seen may_leave is_usable after)
+      → (waits : List PageValue) → Rests seen may_leave is_usable before waits → Accepts after → IsTidy seen may_leave is_usable after
   tidy_together between after (inl none) tidy waits was accepts = absurd (let no : true ≡ false = none.0 in cc)
   tidy_together between after (inr put) tidy waits was accepts = tidy (without_all put.0 waits) (put.2.done refl waits was) accepts

@@ -2,7 +2,7 @@
 use Rattle.std.proofs.Common.{◌≡◌, ◌∙◌, ℕ, ◌+◌, ◌<◌, ◌&&◌, nat_eq, nat_le, nat_lt, bytes_eq, inl, inr, Bool, true, false, not, cond, List, [], ◌∷◌, ◌++◌, map, refl, sym, ap, subst, append_assoc, append-nil}
 use Rattle.std.specs.Bool.{MatchBool}
 use Rattle.fax_spool.specs.RecordOctets.{EndedValue, PageValue}
-use Rattle.fax_spool.specs.Calls.{Refuses}
+use Rattle.fax_spool.specs.Calls.{Refuses, Rests}
 use Rattle.fax_spool.specs.SpoolRecords.{page_record}
 use Rattle.fax_spool.specs.Spools.{NoneIsLeft, Stores, epoch_records, greatest_epoch}
 use Rattle.fax_spool.specs.Waits.{PageName, SharesWhatWaits, after, ends, name_of, waiting, waiting_after, without}
@@ -11,7 +11,7 @@ use Rattle.fax_spool.specs.declared.spool.Spool.{Spool}
 use Rattle.fax_spool.proofs.Order.{order_changed, waits_after_epoch}
 use Rattle.fax_queue.specs.declared.queue.QueuedPage.{QueuedPage}
 use Rattle.fax_queue.specs.Queues.{AreAmong, IsAmong, NoneIsForgotten, QueueValue, left_by, name_in}
-use Rattle.fax_queue.specs.Jobs.{EndsJob, PagesWait, WaitSo}
+use Rattle.fax_queue.specs.Jobs.{EndsJob, WaitSo}
 
 -- ---- records
 
@@ -35,7 +35,7 @@ pub wait_cleared :
     {D : Type 0} {seen : D → List ℕ} {may_leave : D → List ℕ → Type 0} {is_usable : D → Bool} (old new : Spool D) (cleared : Bool) → SharesWhatWaits
     → ((olds news : List SpoolRecord) → Stores seen may_leave is_usable old olds news
     → MatchBool cleared (NoneIsLeft olds news × Stores seen may_leave is_usable new [] news) ((¬ NoneIsLeft olds news) × Stores seen may_leave is_usable new olds news))
-    → (waits : List PageValue) → PagesWait seen may_leave is_usable old waits → PagesWait seen may_leave is_usable new waits
+    → (waits : List PageValue) → Rests seen may_leave is_usable old waits → Rests seen may_leave is_usable new waits
 wait_cleared old new true shares cleared waits was =
     let is = cleared was.olds was.news was.kept in record {
       olds = [];
@@ -50,7 +50,7 @@ pub wait_changed :
     {D : Type 0} {seen : D → List ℕ} {may_leave : D → List ℕ → Type 0} {is_usable : D → Bool} (old new : Spool D) (changed : Bool) (number : ℕ)
     → ((olds news : List SpoolRecord) → Stores seen may_leave is_usable old olds news
     → MatchBool changed ((olds ≡ []) × (greatest_epoch news < number) × Stores seen may_leave is_usable new news (epoch_records number)) (Stores seen may_leave is_usable new olds news))
-    → (waits : List PageValue) → PagesWait seen may_leave is_usable old waits → PagesWait seen may_leave is_usable new waits
+    → (waits : List PageValue) → Rests seen may_leave is_usable old waits → Rests seen may_leave is_usable new waits
 wait_changed old new true number changed waits was =
     let is = changed was.olds was.news was.kept in record {
       olds = was.news;
@@ -66,7 +66,7 @@ wait_changed old new false number changed waits was = record { olds = was.olds; 
 -- what is done with the files after it changes nothing of what waits
 pub job_stays :
     {D : Type 0} (seen : D → List ℕ) (may_leave : D → List ℕ → Type 0) (is_usable : D → Bool) (pages : ℕ) (old new : QueueValue) (before between after : Spool D) → EndsJob seen may_leave is_usable pages old new before between
-    → ((waits : List PageValue) → PagesWait seen may_leave is_usable between waits → WaitSo seen may_leave is_usable after (λ told. told ≡ waits)) → (Refuses between → after ≡ between)
+    → ((waits : List PageValue) → Rests seen may_leave is_usable between waits → WaitSo seen may_leave is_usable after (λ told. told ≡ waits)) → (Refuses between → after ≡ between)
     → EndsJob seen may_leave is_usable pages old new before after
 job_stays {D = D} seen may_leave is_usable pages old new before between after ends told same = record {
   ended = ends.ended;

@@ -20,14 +20,14 @@ use Rattle.fax_line.specs.declared.settling.LineReport.{LineReport}
 use Rattle.fax_line.specs.declared.settling.PageToStore.{PageToStore}
 use Rattle.fax_line.specs.declared.settling.PutResult.{PutResult}
 use Rattle.fax_spool.specs.RecordOctets as spool
-use Rattle.fax_spool.specs.Calls.{TellWaits}
+use Rattle.fax_spool.specs.Calls.{TellWaits, Rests}
 use Rattle.fax_spool.specs.Opened.{AreBoth, IsOpened, closed}
 use Rattle.fax_spool.specs.declared.opening.OpenedSpool.{OpenedSpool}
 use Rattle.fax_spool.specs.declared.spool.Spool.{Spool}
 use Rattle.fax_queue.specs.Queues.{QueueValue}
 use Rattle.fax_queue.specs.Restorations.{Restores}
 use Rattle.fax_queue.specs.declared.restored.RestoredLine.{RestoredLine}
-use Rattle.fax_queue.specs.Jobs.{PagesWait, WaitSo}
+use Rattle.fax_queue.specs.Jobs.{WaitSo}
 use Rattle.fax_queue.specs.Lives.{PageAction, State, WasDone}
 use Rattle.fax_queue.specs.SpoolStorage.{EndsJobs, IsUnchanged, NotesPage, PutsPages}
 use Rattle.fax_queue.specs.Book.{AreOfLives, pages_put}
@@ -47,7 +47,7 @@ pub record HasPast (writes : Writing) (line : List ℕ)
 -- these pages wait in the spool that was opened, and were told
 pub record WasOpened {D : Type 0} (seen : D → List ℕ) (may_leave : D → List ℕ → Type 0)
     (is_usable : D → Bool) (opened : OpenedSpool D) (pages : List spool.PageValue) : Type 0 where
-  pub wait : PagesWait seen may_leave is_usable opened.spool pages
+  pub wait : Rests seen may_leave is_usable opened.spool pages
   pub told : opened.pages.items ≡ closed pages
 
 -- AN OPENING FINDS WHAT WAITS by the records of both files, whichever of them it is handed first.
@@ -78,7 +78,7 @@ pub record BeginsRun {D : Type 0} (seen : D → List ℕ) (may_leave : D → Lis
     (is_usable : D → Bool) (number : ℕ) (line : List ℕ) (pages : List spool.PageValue)
     (setup : Setup) (lines : List PlaceValue) (queues : List QueueValue) (spool : Spool D) :
     Type 0 where
-  pub waits : PagesWait seen may_leave is_usable spool pages
+  pub waits : Rests seen may_leave is_usable spool pages
   pub restored : RestoredLine
   pub restores : Restores line (closed pages) restored
   pub place : PlaceValue

@@ -9,16 +9,11 @@ use Rattle.fax_spool.specs.declared.spool.Spool.{Spool}
 use Rattle.fax_queue.specs.declared.queue.EndedJob.{EndedJob}
 use Rattle.fax_queue.specs.Queues.{AreAmong, IsEndOf, NamesLeft, QueueValue, left_by, not_delivered}
 
--- THESE PAGES WAIT ON THE DISK, in the order in which they were put, whatever crash follows.
-abbrev pub PagesWait : {D : Type 0}
-    → (D → List ℕ) → (D → List ℕ → Type 0) → (D → Bool) → Spool D → List PageValue → Type 0
-PagesWait seen may_leave is_usable spool pages = Rests seen may_leave is_usable spool pages
-
 -- Pages wait on the disk of which this holds; or the spool refuses everything from now on, and each crash tells such pages.
 abbrev pub WaitSo : {D : Type 0} → (D → List ℕ)
     → (D → List ℕ → Type 0) → (D → Bool) → Spool D → (List PageValue → Type 0) → Type 0
 WaitSo seen may_leave is_usable now P =
-    ((told : List PageValue) × PagesWait seen may_leave is_usable now told × P told)
+    ((told : List PageValue) × Rests seen may_leave is_usable now told × P told)
     ⊎ (Refuses now × EachCrashTells may_leave now P)
 
 -- NO FILE IS KEPT FOR NOTHING: where the older one has records, one of its pages waits.
@@ -40,7 +35,7 @@ pub record EndsJob {D : Type 0} (seen : D → List ℕ) (may_leave : D → List 
   pub first : new.waits ≡ drop pages old.waits
   pub whole : new.is_whole ≡ true
   pub leaves : left_by ended old.line old.waits ≡ new.waits
-  pub wait : (waits : List PageValue) → PagesWait seen may_leave is_usable before waits
+  pub wait : (waits : List PageValue) → Rests seen may_leave is_usable before waits
       → WaitSo seen may_leave is_usable after (λ told. told ≡ without ended waits)
 
 -- the same of the line at a place among the others, which stay as they were
@@ -63,7 +58,7 @@ pub record ReadsNamed {D : Type 0} (seen : D → List ℕ)
   pub ended : EndedValue
   pub is_end : IsEndOf left line ended
   pub found : AreClean is_clean (files_of after) → (waits : List PageValue)
-      → PagesWait seen may_leave is_usable before waits → read ≡ ended_by ended waits
+      → Rests seen may_leave is_usable before waits → read ≡ ended_by ended waits
 
 -- and that record names those of a job that were not delivered
 pub record AreLeft {D : Type 0} (seen : D → List ℕ)

@@ -3,12 +3,12 @@
 use Rattle.std.specs.Prelude.{◌≡◌, ◌≢◌, ◌⊎◌, ◌<◌, ℕ, Bool, true, false, not, ◌&&◌, List, ◌∷◌, ◌++◌, [], All, AllPairs, Option, Some, slice_get, slice_set, if◌then◌else◌}
 use Rattle.fax_line.specs.declared.settling.PageToStore.{PageToStore}
 use Rattle.fax_spool.specs.RecordOctets as spool
-use Rattle.fax_spool.specs.Calls.{Does, DoneOrNot, EachCrashTells, Refuses, refuses_now}
+use Rattle.fax_spool.specs.Calls.{Does, DoneOrNot, EachCrashTells, Refuses, refuses_now, Rests}
 use Rattle.fax_spool.specs.Calls.{Puts as PutsCall, Ends as EndsCall}
 use Rattle.fax_spool.specs.declared.spool.Spool.{Spool}
 use Rattle.fax_queue.specs.declared.queue.EndedJob.{EndedJob}
 use Rattle.fax_queue.specs.declared.queue.QueuedPage.{QueuedPage}
-use Rattle.fax_queue.specs.Jobs.{PagesWait, WaitSo}
+use Rattle.fax_queue.specs.Jobs.{WaitSo}
 use Rattle.fax_queue.specs.Storing.{AllArePlaced, AreRecordsUnder, placed_as}
 use Rattle.fax_queue.specs.Lives as lives
 use Rattle.fax_queue.specs.Lives.{EachIsPlaced, Goes, NotesStill, State, state_of}
@@ -28,8 +28,8 @@ pub record AreRefused {D : Type 0} (seen : D → List ℕ)
     (pages : List PageToStore) (olds news : List QueueValue) (before after : Spool D) : Type 0 where
   pub values : List spool.PageValue
   pub queued : AllArePlaced false pages values olds news
-  pub left : (waits : List spool.PageValue) → PagesWait seen may_leave is_usable before waits
-      → PagesWait seen may_leave is_usable after waits
+  pub left : (waits : List spool.PageValue) → Rests seen may_leave is_usable before waits
+      → Rests seen may_leave is_usable after waits
       ⊎ (Refuses after × EachCrashTells may_leave after (DoneOrNot (PutsCall values) waits))
 
 -- the records of these pages may have been put, though the answer is an `Err`
@@ -52,7 +52,7 @@ pub record EndsSomehow {D : Type 0} (seen : D → List ℕ) (may_leave : D → L
     (is_usable : D → Bool) (pages : ℕ) (old new : QueueValue) (before after : Spool D) :
     Type 0 where
   pub line_is : new.line ≡ old.line
-  pub left : (waits : List spool.PageValue) → PagesWait seen may_leave is_usable before waits
+  pub left : (waits : List spool.PageValue) → Rests seen may_leave is_usable before waits
       → WaitSo seen may_leave is_usable after (λ told. IsAnEnd old.line
       pages (state_of old (notes_of before old) waits) (state_of new (notes_of after new) told))
 

@@ -8,7 +8,7 @@ use Rattle.fax_spool.specs.declared.spool_record.SpoolRecord.TheVariants.{Page}
 use Rattle.fax_spool.specs.declared.spool.Spool.{Spool}
 use Rattle.fax_spool.specs.SpoolRecords.{page_record}
 use Rattle.fax_spool.specs.Waits.{PageName, name_of}
-use Rattle.fax_queue.specs.Jobs.{PagesWait}
+use Rattle.fax_spool.specs.Calls.{Rests}
 use Rattle.fax_queue.specs.Queues.{AreAmong, IsQueued, QueueValue, next_number}
 use Rattle.fax_queue.specs.declared.queue.QueuedPage.{QueuedPage}
 
@@ -94,8 +94,8 @@ pub record PutsNumbered {D : Type 0} (seen : D → List ℕ)
   pub values : List PageValue
   pub are : AreRecordsOf pages (map page_record values)
   pub numbered : AreNumbered queues life pages values
-  pub wait : (waits : List PageValue) → PagesWait seen may_leave is_usable before waits
-      → PagesWait seen may_leave is_usable after (waits ++ values)
+  pub wait : (waits : List PageValue) → Rests seen may_leave is_usable before waits
+      → Rests seen may_leave is_usable after (waits ++ values)
 
 -- ---- the queues
 
@@ -162,8 +162,8 @@ pub record ArePut {D : Type 0} (seen : D → List ℕ)
     (pages : List PageToStore) (olds news : List QueueValue) (before after : Spool D) : Type 0 where
   pub values : List PageValue
   pub queued : AllArePut pages values olds news
-  pub wait : (waits : List PageValue) → PagesWait seen may_leave is_usable before waits
-      → PagesWait seen may_leave is_usable after (waits ++ values)
+  pub wait : (waits : List PageValue) → Rests seen may_leave is_usable before waits
+      → Rests seen may_leave is_usable after (waits ++ values)
 
 -- each page that one of the queues says to be on the disk is among these
 abbrev pub AllAreAmong : List QueueValue → List PageName → Type 0
@@ -184,5 +184,5 @@ HaveOwnNames (queue ∷ queues) = IsOther queue.line queues × HaveOwnNames queu
 pub record Agree {D : Type 0} (seen : D → List ℕ) (may_leave : D → List ℕ → Type 0)
     (is_usable : D → Bool) (spool : Spool D) (queues : List QueueValue) : Type 0 where
   pub pages : List PageValue
-  pub wait : PagesWait seen may_leave is_usable spool pages
+  pub wait : Rests seen may_leave is_usable spool pages
   pub among : AllAreAmong queues (map name_of pages)

@@ -4,8 +4,8 @@ use Rattle.fax_line.specs.declared.settling.PageToStore.{PageToStore}
 use Rattle.fax_spool.specs.RecordOctets.{PageValue}
 use Rattle.fax_spool.specs.SpoolRecords.{page_record}
 use Rattle.fax_spool.specs.declared.spool.Spool.{Spool}
+use Rattle.fax_spool.specs.Calls.{Rests}
 use Rattle.fax_queue.specs.CallTags.{CallTagValue}
-use Rattle.fax_queue.specs.Jobs.{PagesWait}
 use Rattle.fax_queue.specs.Storing.{AreRecordsOf}
 
 -- the tag of a line's call, as it was noted: no octets where none was
@@ -32,5 +32,5 @@ pub record PutsTagged {D : Type 0} (seen : D → List ℕ)
   pub values : List PageValue
   pub are : AreRecordsOf pages (map page_record values)
   pub tagged : AreTagged tags pages values
-  pub wait : (waits : List PageValue) → PagesWait seen may_leave is_usable before waits
-      → PagesWait seen may_leave is_usable after (waits ++ values)
+  pub wait : (waits : List PageValue) → Rests seen may_leave is_usable before waits
+      → Rests seen may_leave is_usable after (waits ++ values)

@@ -4,7 +4,7 @@ use Rattle.fax_jobs.specs.declared.report.Report.{Report}
 use Rattle.fax_line.specs.StoredRuns.{reports_of}
 use Rattle.fax_line.specs.declared.settling.LineReport.{LineReport}
 use Rattle.fax_spool.specs.RecordOctets.{EndedValue, PageValue}
-use Rattle.fax_spool.specs.Calls.{Accepts, Does, Refuses}
+use Rattle.fax_spool.specs.Calls.{Accepts, Does, Refuses, Rests}
 use Rattle.fax_spool.specs.Calls.{Ends as EndsCall}
 use Rattle.fax_spool.specs.Waits.{without_all}
 use Rattle.fax_spool.specs.declared.spool.Spool.{Spool}
@@ -12,7 +12,7 @@ use Rattle.fax_queue.specs.declared.end_fault.EndFault.{EndFault}
 use Rattle.fax_queue.specs.declared.end_fault.EndFault.TheVariants as faults
 use Rattle.fax_queue.specs.declared.ending.PlannedEnd.{PlannedEnd}
 use Rattle.fax_queue.specs.declared.queue.EndedJob.{EndedJob}
-use Rattle.fax_queue.specs.Jobs.{PagesWait, WaitSo}
+use Rattle.fax_queue.specs.Jobs.{WaitSo}
 use Rattle.fax_queue.specs.Storing.{Agree, HaveOwnNames}
 use Rattle.fax_queue.specs.Queues.{IsEndOf, IsFirstJob, NamesFirst, QueueValue, left_by, lines_of, stored_count}
 
@@ -163,9 +163,9 @@ pub record EndsTogether {D : Type 0} (seen : D → List ℕ)
       → reports_of place jobs ≡ report ∷ [] → slice_get olds place ≡ Some old
       → slice_get news place ≡ Some new → (is_noted : Bool)
       × EndsOne is_noted (lines_of olds) report.pages place kept is_ok old new
-  pub wait : is_ok ≡ true → (waits : List PageValue) → PagesWait seen may_leave is_usable before waits
+  pub wait : is_ok ≡ true → (waits : List PageValue) → Rests seen may_leave is_usable before waits
       → WaitSo seen may_leave is_usable after (λ told. told ≡ without_all kept waits)
-  pub left : is_ok ≡ false → (waits : List PageValue) → PagesWait seen may_leave is_usable before waits
+  pub left : is_ok ≡ false → (waits : List PageValue) → Rests seen may_leave is_usable before waits
       → WaitSo seen may_leave is_usable after
       (λ told. (told ≡ waits) ⊎ (told ≡ without_all kept waits))
   pub agree : is_ok ≡ true → HaveOwnNames olds → Agree seen may_leave is_usable before olds

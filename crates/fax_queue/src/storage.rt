@@ -1,12 +1,12 @@
 //! The pages of a server that are stored on a disk.
 ghost use Rattle.std.specs.Prelude.{ℕ, ◌≡◌, ◌<◌, false, true, List, [], ◌++◌, All, IfErr, IfOk, IsErr, MatchOption, None, Some, OnErr, OnOk, is_ok, length, slice_get, slice_set};
-ghost use Rattle.fax_spool.specs.Calls.{Accepts, IsRead, Refuses, refuses_now};
+ghost use Rattle.fax_spool.specs.Calls.{Accepts, IsRead, Refuses, refuses_now, Rests};
 ghost use Rattle.fax_spool.specs.RecordOctets.{PageValue as SpoolPage};
 ghost use Rattle.fax_spool.specs.Spools.{epoch_now};
 ghost use Rattle.fax_spool.specs.Waits.{PageName};
 ghost use Rattle.fax_line.specs.declared.settling.PageToStore.{PageToStore as ToStore};
 ghost use Rattle.fax_queue.specs.EndFaults.{IsWhy, IsWhyAt};
-ghost use Rattle.fax_queue.specs.Jobs.{EndsJob, EndsJobAt, IsTidy, PagesWait, ReadsLeft, WaitSo};
+ghost use Rattle.fax_queue.specs.Jobs.{EndsJob, EndsJobAt, IsTidy, ReadsLeft, WaitSo};
 ghost use Rattle.fax_queue.specs.Storing.{AddAll, AddsAt, Agree, AllAreAmong, AreNumbersOf, ArePut, HaveOwnNames, PutsNumbered, StoresPages, number_at};
 ghost use Rattle.fax_queue.specs.Refusals.{AreRefused, EndsSomehow, EndsSomehowAt, PutsEnd, notes_of};
 ghost use Rattle.fax_queue.specs.Queues.{QueueValue, first_tag, is_of_earlier_life};
@@ -279,7 +279,7 @@ impl<D: Disk> Storage<D> {
         ensures ends { OnOk result (EndsJobAt D.seen D.may_leave D.is_usable report.pages
             i self.old.queues.items self.new.queues.items self.old.spool self.new.spool) }
         ensures tidy { OnOk result ((waits : List SpoolPage)
-            → PagesWait D.seen D.may_leave D.is_usable self.old.spool waits
+            → Rests D.seen D.may_leave D.is_usable self.old.spool waits
             → Accepts self.new.spool → IsTidy D.seen D.may_leave D.is_usable self.new.spool) }
         ensures sure { OnOk result ((queue : QueueValue) → slice_get self.old.queues.items i
             ≡ Some queue → notes_of self.old.spool queue ≡ true) }
@@ -309,7 +309,7 @@ impl<D: Disk> Storage<D> {
             self.old.queues.items self.new.queues.items self.old.spool self.new.spool)
             × (ends.is_ok ≡ is_ok result) }
         ensures tidy { OnOk result ((waits : List SpoolPage)
-            → PagesWait D.seen D.may_leave D.is_usable self.old.spool waits
+            → Rests D.seen D.may_leave D.is_usable self.old.spool waits
             → Accepts self.new.spool → IsTidy D.seen D.may_leave D.is_usable self.new.spool) }
     {
         let plan = plan_ends(self.alloc, self.queues.as_mut_slice(), ended);
@@ -428,10 +428,10 @@ fn put_ended<D: Disk>(
 /// tried again after the next end of a job.
 pub fn change_files<D: Disk>(alloc: Global, spool: &mut Spool<D>, octets: usize) -> usize
     ensures told { (waits : List SpoolPage)
-        → PagesWait D.seen D.may_leave D.is_usable spool.old waits
+        → Rests D.seen D.may_leave D.is_usable spool.old waits
         → WaitSo D.seen D.may_leave D.is_usable spool.new (λ told. told ≡ waits) }
     ensures tidy { (waits : List SpoolPage)
-        → PagesWait D.seen D.may_leave D.is_usable spool.old waits
+        → Rests D.seen D.may_leave D.is_usable spool.old waits
         → Accepts spool.new → IsTidy D.seen D.may_leave D.is_usable spool.new }
     ensures refuses { Refuses spool.old → spool.new ≡ spool.old }
 {
@@ -451,10 +451,10 @@ pub fn change_files<D: Disk>(alloc: Global, spool: &mut Spool<D>, octets: usize)
 /// many octets count from then on.
 fn take_other<D: Disk>(alloc: Global, spool: &mut Spool<D>, octets: usize) -> usize
     ensures told { (waits : List SpoolPage)
-        → PagesWait D.seen D.may_leave D.is_usable spool.old waits
+        → Rests D.seen D.may_leave D.is_usable spool.old waits
         → WaitSo D.seen D.may_leave D.is_usable spool.new (λ told. told ≡ waits) }
     ensures tidy { (waits : List SpoolPage)
-        → PagesWait D.seen D.may_leave D.is_usable spool.old waits
+        → Rests D.seen D.may_leave D.is_usable spool.old waits
         → IsTidy D.seen D.may_leave D.is_usable spool.old
         → Accepts spool.new → IsTidy D.seen D.may_leave D.is_usable spool.new }
     ensures refuses { Refuses spool.old → spool.new ≡ spool.old }
@@ -473,10 +473,10 @@ fn take_other<D: Disk>(alloc: Global, spool: &mut Spool<D>, octets: usize) -> us
 /// taken into use; and once more into that, so that the one before is cleared too. It answers how many of these octets count from then on.
 fn copy_forward<D: Disk>(alloc: Global, spool: &mut Spool<D>, octets: usize) -> usize
     ensures told { (waits : List SpoolPage)
-        → PagesWait D.seen D.may_leave D.is_usable spool.old waits
+        → Rests D.seen D.may_leave D.is_usable spool.old waits
         → WaitSo D.seen D.may_leave D.is_usable spool.new (λ told. told ≡ waits) }
     ensures tidy { (waits : List SpoolPage)
-        → PagesWait D.seen D.may_leave D.is_usable spool.old waits
+        → Rests D.seen D.may_leave D.is_usable spool.old waits
         → IsTidy D.seen D.may_leave D.is_usable spool.old
         → Accepts spool.new → IsTidy D.seen D.may_leave D.is_usable spool.new }
     ensures refuses { Refuses spool.old → spool.new ≡ spool.old }
@@ -499,15 +499,15 @@ fn copy_forward<D: Disk>(alloc: Global, spool: &mut Spool<D>, octets: usize) -> 
 /// The older file is cleared where nothing in it waits.
 fn clear_older<D: Disk>(spool: &mut Spool<D>) -> Result<bool, StoreFault>
     ensures tidy { OnOk result ((waits : List SpoolPage)
-        → PagesWait D.seen D.may_leave D.is_usable spool.old waits
+        → Rests D.seen D.may_leave D.is_usable spool.old waits
         → IsTidy D.seen D.may_leave D.is_usable spool.new) }
     ensures failed { OnErr result ((waits : List SpoolPage)
-        → PagesWait D.seen D.may_leave D.is_usable spool.old waits → Refuses spool.new) }
+        → Rests D.seen D.may_leave D.is_usable spool.old waits → Refuses spool.new) }
     ensures stays { OnOk result ((waits : List SpoolPage)
-        → PagesWait D.seen D.may_leave D.is_usable spool.old waits
-        → PagesWait D.seen D.may_leave D.is_usable spool.new waits) }
+        → Rests D.seen D.may_leave D.is_usable spool.old waits
+        → Rests D.seen D.may_leave D.is_usable spool.new waits) }
     ensures told { OnErr result ((waits : List SpoolPage)
-        → PagesWait D.seen D.may_leave D.is_usable spool.old waits
+        → Rests D.seen D.may_leave D.is_usable spool.old waits
         → WaitSo D.seen D.may_leave D.is_usable spool.new (λ told. told ≡ waits)) }
     ensures refuses { Refuses spool.old → IsErr result × (spool.new ≡ spool.old) }
 {
@@ -525,10 +525,10 @@ fn change<D: Disk>(alloc: Global, spool: &mut Spool<D>) -> Result<bool, StoreFau
     ensures failed { OnErr result (IsTidy D.seen D.may_leave D.is_usable spool.old
         → Accepts spool.new → IsTidy D.seen D.may_leave D.is_usable spool.new) }
     ensures stays { OnOk result ((waits : List SpoolPage)
-        → PagesWait D.seen D.may_leave D.is_usable spool.old waits
-        → PagesWait D.seen D.may_leave D.is_usable spool.new waits) }
+        → Rests D.seen D.may_leave D.is_usable spool.old waits
+        → Rests D.seen D.may_leave D.is_usable spool.new waits) }
     ensures told { OnErr result ((waits : List SpoolPage)
-        → PagesWait D.seen D.may_leave D.is_usable spool.old waits
+        → Rests D.seen D.may_leave D.is_usable spool.old waits
         → WaitSo D.seen D.may_leave D.is_usable spool.new (λ told. told ≡ waits)) }
     ensures refuses { Refuses spool.old → IsErr result × (spool.new ≡ spool.old) }
 {
@@ -545,10 +545,10 @@ fn put_again<D: Disk>(alloc: Global, spool: &mut Spool<D>, most: usize) -> Resul
     ensures failed { OnErr result (IsTidy D.seen D.may_leave D.is_usable spool.old
         → Accepts spool.new → IsTidy D.seen D.may_leave D.is_usable spool.new) }
     ensures stays { OnOk result ((waits : List SpoolPage)
-        → PagesWait D.seen D.may_leave D.is_usable spool.old waits
-        → PagesWait D.seen D.may_leave D.is_usable spool.new waits) }
+        → Rests D.seen D.may_leave D.is_usable spool.old waits
+        → Rests D.seen D.may_leave D.is_usable spool.new waits) }
     ensures told { OnErr result ((waits : List SpoolPage)
-        → PagesWait D.seen D.may_leave D.is_usable spool.old waits
+        → Rests D.seen D.may_leave D.is_usable spool.old waits
         → WaitSo D.seen D.may_leave D.is_usable spool.new (λ told. told ≡ waits)) }
     ensures refuses { Refuses spool.old → IsErr result × (spool.new ≡ spool.old) }
 {

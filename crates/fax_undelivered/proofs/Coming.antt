@@ -3,9 +3,9 @@ use Rattle.std.proofs.Common.{◌≡◌, ℕ, Bool, true, false, List, [], ◌�
 use Rattle.fax_spool.specs.RecordOctets.{PageValue}
 use Rattle.fax_spool.specs.Torn.{CallName}
 use Rattle.fax_spool.specs.Waits.{without}
-use Rattle.fax_spool.specs.Calls.{Does, Ends, Puts}
+use Rattle.fax_spool.specs.Calls.{Does, Ends, Puts, Rests}
 use Rattle.fax_spool.specs.declared.spool.Spool.{Spool}
-use Rattle.fax_queue.specs.Jobs.{PagesWait, WaitSo}
+use Rattle.fax_queue.specs.Jobs.{WaitSo}
 use Rattle.fax_undelivered.specs.Calls.{CallValue, but, calls_after, calls_of, end_of, with_page}
 use Rattle.fax_undelivered.specs.Keeps.{Keeps, KeepsStill}
 use Rattle.fax_undelivered.specs.declared.undelivered.Undelivered.{Undelivered}
@@ -26,11 +26,11 @@ module _ {D : Type 0} (seen : D → List ℕ) (may_leave : D → List ℕ → Ty
 
   -- it keeps what another does that has the same
   pub keeps_too : (old new : Undelivered D) (waits : List PageValue) → new.spool ≡ old.spool → new.calls.items ≡ old.calls.items → Keeps seen may_leave is_usable old waits → Keeps seen may_leave is_usable new waits
-  keeps_too old new waits spool calls keeps = record { wait = subst (λ (s : Spool D). PagesWait seen may_leave is_usable s waits) (sym spool) keeps.wait; listed = calls ∙ keeps.listed }
+  keeps_too old new waits spool calls keeps = record { wait = subst (λ (s : Spool D). Rests seen may_leave is_usable s waits) (sym spool) keeps.wait; listed = calls ∙ keeps.listed }
 
   -- a call was discarded
   pub leaves : (old new : Undelivered D) (between : Spool D) (name : CallName) (waits : List PageValue) → Does seen may_leave is_usable (Ends (end_of name ∷ [])) true old.spool between
-      → ((told : List PageValue) → PagesWait seen may_leave is_usable between told → WaitSo seen may_leave is_usable new.spool (λ l. l ≡ told)) → new.calls.items ≡ but name old.calls.items
+      → ((told : List PageValue) → Rests seen may_leave is_usable between told → WaitSo seen may_leave is_usable new.spool (λ l. l ≡ told)) → new.calls.items ≡ but name old.calls.items
       → Keeps seen may_leave is_usable old waits → KeepsStill seen may_leave is_usable new (without (end_of name) waits)
   leaves old new between name waits does told calls keeps = record {
     wait = told (without (end_of name) waits) (does.done refl waits keeps.wait);

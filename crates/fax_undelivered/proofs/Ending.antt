@@ -1,7 +1,7 @@
 -- The end of a job, after its pages were read and kept.
 use Rattle.std.specs.Result.{is_ok}
 use Rattle.std.specs.Prelude.{◌==◌}
-use Rattle.fax_spool.specs.Calls.{Does, Puts}
+use Rattle.fax_spool.specs.Calls.{Does, Puts, Rests}
 use Rattle.fax_undelivered.specs.Calls.{with_its_card}
 use Rattle.fax_undelivered.specs.Keeps.{Keeps}
 use Rattle.std.proofs.Common.{Result, Ok, Err, OnOk, OnErr, ◌≡◌, ◌⊎◌, ℕ, ◌<◌, inl, inr, Bool, true, false, not, ◌&&◌, List, [], ◌∷◌, ◌++◌, length, MatchOption, Option, Some, None, slice_get, refl, sym, ◌∙◌, ap, subst}
@@ -12,7 +12,7 @@ use Rattle.fax_spool.specs.declared.spool.Spool.{Spool}
 use Rattle.fax_queue.specs.declared.end_fault.EndFault.{EndFault}
 use Rattle.fax_queue.specs.declared.end_fault.EndFault.TheVariants as faults
 use Rattle.fax_queue.specs.EndFaults.{IsWhy}
-use Rattle.fax_queue.specs.Jobs.{EndsJobAt, PagesWait, ReadsLeft, WaitSo}
+use Rattle.fax_queue.specs.Jobs.{EndsJobAt, ReadsLeft, WaitSo}
 use Rattle.fax_queue.specs.Lives.{state_of}
 use Rattle.fax_queue.specs.Queues.{QueueValue}
 use Rattle.fax_queue.specs.Refusals.{EndsSomehowAt, IsAnEnd, notes_of}
@@ -25,7 +25,7 @@ use Rattle.fax_undelivered.specs.declared.undelivered.Undelivered.{Undelivered}
 -- ---- a spool that was read
 
 module _ {D : Type 0} (seen : D → List ℕ) (may_leave : D → List ℕ → Type 0) (is_usable : D → Bool) (before read : Spool D) (is : IsRead seen may_leave is_usable before read) where
-  pub wait_still : (waits : List PageValue) → PagesWait seen may_leave is_usable before waits → PagesWait seen may_leave is_usable read waits
+  pub wait_still : (waits : List PageValue) → Rests seen may_leave is_usable before waits → Rests seen may_leave is_usable read waits
   wait_still waits was = record { olds = was.olds; news = was.news; kept = is.keeps was.olds was.news was.kept; in_order = was.in_order; wait = was.wait }
 
   agree_still : (queues : List QueueValue) → Agree seen may_leave is_usable before queues → Agree seen may_leave is_usable read queues

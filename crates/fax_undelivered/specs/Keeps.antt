@@ -2,14 +2,15 @@
 use Rattle.std.specs.Prelude.{◌≡◌, ◌⊎◌, ℕ, Bool, List, [], ◌∷◌, ◌++◌}
 use Rattle.fax_spool.specs.RecordOctets.{PageValue}
 use Rattle.fax_spool.specs.Torn.{CallName, call_of}
-use Rattle.fax_queue.specs.Jobs.{PagesWait, WaitSo}
+use Rattle.fax_spool.specs.Calls.{Rests}
+use Rattle.fax_queue.specs.Jobs.{WaitSo}
 use Rattle.fax_undelivered.specs.Calls.{calls_of}
 use Rattle.fax_undelivered.specs.declared.undelivered.Undelivered.{Undelivered}
 
 -- THESE PAGES AND CARDS WAIT in the second pair, whatever crash follows, and just their calls are listed.
 pub record Keeps {D : Type 0} (seen : D → List ℕ) (may_leave : D → List ℕ → Type 0)
     (is_usable : D → Bool) (kept : Undelivered D) (waits : List PageValue) : Type 0 where
-  pub wait : PagesWait seen may_leave is_usable kept.spool waits
+  pub wait : Rests seen may_leave is_usable kept.spool waits
   pub listed : kept.calls.items ≡ calls_of waits
 
 -- the same; or the pair refuses everything from now on, and each crash tells these

@@ -5,10 +5,9 @@ ghost use Rattle.std.specs.List.{list_all, list_any};
 ghost use Rattle.fax_spool.specs.RecordOctets.{PageValue};
 ghost use Rattle.fax_spool.specs.Torn.{CallName as CallNameValue, call_of};
 ghost use Rattle.fax_spool.specs.Opened.{closed};
-ghost use Rattle.fax_spool.specs.Calls.{Does, Ends, IsRead, Puts, Refuses, refuses_now};
+ghost use Rattle.fax_spool.specs.Calls.{Does, Ends, IsRead, Puts, Refuses, refuses_now, Rests};
 ghost use Rattle.fax_spool.specs.Spools.{AreClean, files_of};
 ghost use Rattle.fax_spool.specs.Waits.{without};
-ghost use Rattle.fax_queue.specs.Jobs.{PagesWait};
 ghost use Rattle.fax_undelivered.specs.Cards.{card_page, card_record};
 ghost use Rattle.fax_undelivered.specs.Calls.{but, calls_of, card_records, end_from, end_of, is_named, is_page, pages_named, with_its_card};
 ghost use Rattle.fax_undelivered.specs.Keeps.{Keeps, KeepsStill, TellsCall};
@@ -74,7 +73,7 @@ impl<D: Disk + Drop> Undelivered<D> {
         ensures spool { IfOk result (λ kept. kept.spool ≡ opened.spool) }
         ensures calls { IfOk result (λ kept. kept.calls.items ≡ calls_of opened.pages.items) }
         ensures keeps { IfOk result (λ kept. (waits : List PageValue)
-            → PagesWait D.seen D.may_leave D.is_usable opened.spool waits → opened.pages.items
+            → Rests D.seen D.may_leave D.is_usable opened.spool waits → opened.pages.items
             ≡ closed waits → Keeps D.seen D.may_leave D.is_usable kept waits) }
     {
         let OpenedSpool {
@@ -258,7 +257,7 @@ impl<D: Disk> Undelivered<D> {
     ) -> io::Result<Vec<WaitingPage>>
         ensures found { IfOk result
             (λ pages. AreClean D.is_clean (files_of self.new.spool) → (waits : List PageValue)
-            → PagesWait D.seen D.may_leave D.is_usable self.old.spool waits → pages.items
+            → Rests D.seen D.may_leave D.is_usable self.old.spool waits → pages.items
             ≡ pages_named (record { life = life; call = call; line = line.now }) waits) }
         ensures read { IsRead D.seen D.may_leave D.is_usable self.old.spool self.new.spool }
         ensures same { self.new.calls.items ≡ self.old.calls.items }

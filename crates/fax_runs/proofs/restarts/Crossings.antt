@@ -4,11 +4,11 @@ use Rattle.fax_call.specs.Writings.{Writing}
 use Rattle.fax_gateway.specs.Restored.{CallPage}
 use Rattle.fax_gateway.specs.Lives.{Life}
 use Rattle.fax_spool.specs.RecordOctets as spool
-use Rattle.fax_spool.specs.Calls.{CrashesLeaveWhatWaits, NewSpoolsTellNone}
+use Rattle.fax_spool.specs.Calls.{CrashesLeaveWhatWaits, NewSpoolsTellNone, Rests}
 use Rattle.fax_spool.specs.Spools.{MayLeaveBoth}
 use Rattle.fax_spool.specs.Stopped.{StoppedOpeningsLeaveWhatWaits}
 use Rattle.fax_spool.specs.declared.spool.Spool.{Spool}
-use Rattle.fax_queue.specs.Jobs.{PagesWait, WaitSo}
+use Rattle.fax_queue.specs.Jobs.{WaitSo}
 use Rattle.fax_queue.specs.Queues.{QueueValue}
 use Rattle.fax_queue.specs.Restorations.{Restores}
 use Rattle.fax_queue.specs.Histories.{BeginsRun, HasPast, LeavesRun, OpeningsFindWhatWaits, RunsMakeHistory, WasOpened}
@@ -37,7 +37,7 @@ module _ {D : Type 0} (seen : D → List ℕ) (may_leave : D → List ℕ → Ty
     pub begins : (line : List ℕ) (pages : List spool.PageValue) (run : OneRun D K) → WasOpened seen may_leave is_usable run.opened pages → WasRun seen may_leave is_usable queues_of spool_of line run
         → BeginsRun seen may_leave is_usable run.number line pages run.setup run.begun (queues_of run.before) (spool_of run.before)
     begins line pages run found was = record {
-      waits = subst (λ (s : Spool D). PagesWait seen may_leave is_usable s pages) (sym was.spool_is) found.wait;
+      waits = subst (λ (s : Spool D). Rests seen may_leave is_usable s pages) (sym was.spool_is) found.wait;
       restored = was.restored;
       restores = subst (λ (l : List spool.PageValue). Restores line l was.restored) found.told was.restores;
       place = was.place;
