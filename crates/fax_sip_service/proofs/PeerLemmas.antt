@@ -309,7 +309,7 @@ word_so : (setting : Setting) (passed : List Step) (id route at : ℕ) (event : 
     → (line : LineAction) → IsOfItsDial (dial_of setting.most past) (fax_told event id) id route line → All (IsSo setting passed) (said_by line)
 word_so setting passed id route at event past brought each (word.Peer place end moved) is =
     All-cons (IsSo setting passed) (word.Peer place end moved) []
-    (on_called place.leg _ (IsItsMachine setting passed place end) (λ both. its_machine setting passed place end id route at event past brought each both.0 both.1) is)
+    (on_called place.leg ((dial_of setting.most past place.line ≡ Some (dial_with id place.call route)) × (fax_told event id ≡ Some end)) (IsItsMachine setting passed place end) (λ both. its_machine setting passed place end id route at event past brought each both.0 both.1) is)
     (All-nil (IsSo setting passed))
 word_so setting passed id route at event past brought each word.NoWord is = All-nil (IsSo setting passed)
 word_so setting passed id route at event past brought each word.RingAny is = All-cons (IsSo setting passed) word.RingAny [] tt (All-nil (IsSo setting passed))
