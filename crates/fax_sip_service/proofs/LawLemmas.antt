@@ -40,7 +40,7 @@ use Rattle.fax_sip_service.specs.Services.{Service, Answers, AnswersIf, Asks, Co
 use Rattle.fax_sip_service.specs.Words.{said_of}
 
 -- what was said so far is right, if no memory was refused, and what the switch heard is of this kind
-abbrev IsRight : ℕ → (ℕ × Event → Type 0) → List Said → Service → Type 0
+abbrev IsRight : Setting → (ℕ × Event → Type 0) → List Said → Service → Type 0
 IsRight setting C told service = service.lost ≡ 0 → SaysItsWords setting C told service
 
 none_counted : {P : Type 0} (lost : ℕ) → counted lost ≡ 0 → P

@@ -1,13 +1,12 @@
 -- Each peer that SIP says of a called leg is the machine of its job.
-use Rattle.std.proofs.Common.{◌≡◌, ℕ, Bool, true, false, ◌==◌, ◌&&◌, List, [], ◌∷◌, ◌++◌, map, Option, Some, None, Result, Ok, inl, inr, ap, sym, subst, refl, ◌∙◌, if◌then◌else◌}
+use Rattle.std.proofs.Common.{◌≡◌, ℕ, Bool, true, false, ◌==◌, ◌&&◌, List, [], ◌∷◌, ◌++◌, map, Option, Some, None, inl, inr, ap, sym, subst, refl, ◌∙◌, if◌then◌else◌}
 use Rattle.std.proofs.lemmas.List.Elements.{All-append, All-cons, All-head, All-nil, All-same, All-tail}
 use Rattle.std.proofs.lemmas.Bool.{eqb-true}
 use Rattle.std.proofs.lemmas.Option.{none-some, same_Some}
-use Rattle.std.specs.List.{All, flat_map}
+use Rattle.std.specs.List.{All}
 use Rattle.std.specs.Option.{option_to_list}
 use Rattle.fax_desk.specs.declared.next.Reply.{Reply}
 use Rattle.fax_desk.specs.declared.next.Reply.TheVariants as reply
-use Rattle.fax_desk.specs.declared.told.LineEvent.{LineEvent}
 use Rattle.fax_desk.specs.declared.told.LineEvent.TheVariants as happened
 use Rattle.fax_sip.specs.declared.start.Method.{Method}
 use Rattle.fax_sip.specs.Messages.{MessageText}
@@ -31,22 +30,22 @@ use Rattle.fax_switch.specs.declared.place.LineCall.{LineCall}
 use Rattle.fax_switch.specs.declared.place.Place.{Place}
 use Rattle.fax_switch.specs.Descriptions.{Says}
 use Rattle.fax_switch.specs.Entries.{Each}
-use Rattle.fax_switch.specs.Histories.{Dial, dial_after, dial_by, dial_of, dial_with, fax_in, fax_said, fax_told, is_dial_of, table_after}
-use Rattle.fax_switch.specs.SwitchLaws.{IsOfItsDial, OnCalled, PeersAreOfTheirDials}
+use Rattle.fax_switch.specs.Histories.{Dial, dial_by, dial_of, dial_with, fax_in, fax_said, fax_told, is_dial_of, table_after}
+use Rattle.fax_switch.specs.SwitchLaws.{IsOfItsDial, OnCalled}
 use Rattle.fax_switch.proofs.SwitchProofs.{peers_are_of_their_dials}
 use Rattle.fax_user_agent.specs.declared.out.LineOrder.{LineOrder}
 use Rattle.fax_user_agent.specs.declared.out.LineOrder.TheVariants as order
 use Rattle.fax_user_agent.specs.declared.settings.Trunk.{Trunk}
-use Rattle.fax_user_agent.specs.Dues.{IsOfTime, MayBeDue}
-use Rattle.fax_user_agent.specs.Events.{IsFinal, IsOfAnswer, IsOfRequest, MayBe, MayBeOf}
+use Rattle.fax_user_agent.specs.Dues.{IsOfTime}
+use Rattle.fax_user_agent.specs.Events.{IsFinal, IsOfAnswer, IsOfRequest, MayBeOf}
 use Rattle.fax_user_agent.specs.Orders.{said_by, word_of, words_of}
-use Rattle.fax_user_agent.specs.Placings.{IsDial, IsPlacing, IsRoutedOver}
+use Rattle.fax_user_agent.specs.Placings.{IsPlacing, IsRoutedOver}
 use Rattle.fax_sip_service.specs.declared.said.Said.{Said}
 use Rattle.fax_sip_service.specs.declared.said.Said.TheVariants as said
 use Rattle.fax_sip_service.specs.Laws as laws
 use Rattle.fax_sip_service.specs.Laws.{Setting, Step, Passes, AnswerBrings, Brings, EachOf, IsBrought, IsNumberOf, LineBrings, SaysItsWords, SomeStep, said_in, says, words_since}
 use Rattle.fax_sip_service.specs.Peers.{AsksFor, Describes, IsItsMachine, IsToItsMachine, PeersAreOfTheirJobs}
-use Rattle.fax_sip_service.specs.Services.{Service, line_call, over_of, over_on}
+use Rattle.fax_sip_service.specs.Services.{over_of, over_on}
 use Rattle.fax_sip_service.specs.Words.{said_of}
 use Rattle.fax_sip_service.proofs.LawLemmas.{each_word}
 
@@ -104,13 +103,13 @@ no_dial setting text (Request method uri) on choice may = absurd may
 no_dial setting text (Answer status) on choice may = absurd may
 
 dial_asks : (setting : Setting) (on : LineCall) (choice : Choice) (at : ℕ) (step : Step) → Brings setting step (at, Dialled on choice) → (number : List ℕ) × AsksSo setting on choice number step
-dial_asks setting on choice at (laws.Came now trunk message) (same, known, text, reads, may) = no_dial setting text text.start on choice may
+dial_asks setting on choice at (laws.Came now trunk message) (same, (known, text, reads, may)) = no_dial setting text text.start on choice may
 dial_asks setting on choice at (laws.Passed now) (same, due) = absurd due
 dial_asks setting on choice at (laws.Spoke it) brings = absurd brings
 dial_asks setting on choice at (laws.Waited it) brings = absurd brings
-dial_asks setting on choice at (laws.Ended now answer) (same, it, brings) = absurd (answer_elsewhere it answer (Dialled on choice) brings)
+dial_asks setting on choice at (laws.Ended now answer) (same, (it, brings)) = absurd (answer_elsewhere it answer (Dialled on choice) brings)
 dial_asks setting on choice at (laws.Answered now it answer) (same, brings) = absurd (answer_elsewhere it answer (Dialled on choice) brings)
-dial_asks setting on choice at (laws.Happened now line (happened.Asked job tag)) (same, it, number, is, tagged, chosen, placed, event) =
+dial_asks setting on choice at (laws.Happened now line (happened.Asked job tag)) (same, (it, number, is, tagged, (chosen, placed, event))) =
     let both = dialled_same on it choice chosen event in (
       number,
       record {
@@ -118,8 +117,8 @@ dial_asks setting on choice at (laws.Happened now line (happened.Asked job tag))
         placed = subst (λ (c : Choice). IsPlacing setting.trunks setting.routes number c) (sym both.1) placed;
       },
     )
-dial_asks setting on choice at (laws.Happened now line (happened.Ended ended ending)) (same, it, is, event) = elsewhere_dial (CallOver it) on choice tt event
-dial_asks setting on choice at (laws.Happened now line (happened.Job report tag cause)) (same, it, is, event) = elsewhere_dial (JobOver it) on choice tt event
+dial_asks setting on choice at (laws.Happened now line (happened.Ended ended ending)) (same, (it, is, event)) = elsewhere_dial (CallOver it) on choice tt event
+dial_asks setting on choice at (laws.Happened now line (happened.Job report tag cause)) (same, (it, is, event)) = elsewhere_dial (JobOver it) on choice tt event
 dial_asks setting on choice at (laws.Happened now line (happened.Rung rung)) (same, brings) = absurd brings
 dial_asks setting on choice at (laws.Happened now line (happened.NotStored lost)) (same, brings) = absurd brings
 dial_asks setting on choice at (laws.Happened now line (happened.Page page tag)) (same, brings) = absurd brings
@@ -127,7 +126,7 @@ dial_asks setting on choice at (laws.Happened now line (happened.RefusedPage pag
 dial_asks setting on choice at (laws.Happened now line (happened.Dial dialled)) (same, brings) = absurd brings
 dial_asks setting on choice at (laws.Happened now line (happened.Connected connected)) (same, brings) = absurd brings
 dial_asks setting on choice at (laws.Stops now) brings = absurd brings
-dial_asks setting on choice at (laws.Stopped now) (same, place, event) = elsewhere_dial (over_of place) on choice (over_elsewhere place.leg _) event
+dial_asks setting on choice at (laws.Stopped now) (same, (place, event)) = elsewhere_dial (over_of place) on choice (over_elsewhere place.leg _) event
 dial_asks setting on choice at laws.Emptied brings = absurd brings
 
 -- the job of this call asked for its call, by a tag whose number has this route
@@ -145,7 +144,7 @@ routed_asked setting [] on route offer at brought = absurd brought
 routed_asked setting (step ∷ earlier) on route offer at (inl brings) =
     let asks = dial_asks setting on (Routed route offer) at step brings in
     let placed = asks.1.placed in
-    record { number = asks.0; asked = inl asks.1.asked; trunk = placed.0; routed = placed.1.0 }
+    record { number = asks.0; asked = inl asks.1.asked; trunk = placed.0; routed = placed.1 }
 routed_asked setting (step ∷ earlier) on route offer at (inr brought) = earlier_asked setting step earlier on route (routed_asked setting earlier on route offer at brought)
 
 dial_fields : (dial other : Dial) → Some dial ≡ Some other → (dial.call ≡ other.call) × (dial.route ≡ other.route)
@@ -164,17 +163,19 @@ placed_asked setting passed line dial id at on TrunkFull here brought is = absur
 dial_asked : (setting : Setting) (passed : List Step) (line : ℕ) (dial : Dial) (past : List (ℕ × Event)) → EachOf (IsBrought setting passed) past
     → dial_of setting.most past line ≡ Some dial → IsAsked setting passed (record { line = line; call = dial.call }) dial.route
 dial_asked setting passed line dial [] each is = absurd (none-some dial is)
-dial_asked setting passed line dial ((at, Dialled on choice) ∷ past) (here, rest) is = by (line == on.line) refl is
+dial_asked setting passed line dial ((at, Dialled on choice) ∷ past) (here, rest) is = by (line == on.line) refl (dial_asked setting passed line dial past rest) is
   where
-    by : (b : Bool) → (line == on.line) ≡ b → if◌then◌else◌ {A = Option Dial} b (dial_by (table_after setting.most past).next on choice) (dial_of setting.most past line) ≡ Some dial
+    by : (b : Bool) → (line == on.line) ≡ b → (dial_of setting.most past line ≡ Some dial → IsAsked setting passed (record { line = line; call = dial.call }) dial.route)
+        → if◌then◌else◌ {A = Option Dial} b (dial_by (table_after setting.most past).next on choice) (dial_of setting.most past line) ≡ Some dial
         → IsAsked setting passed (record { line = line; call = dial.call }) dial.route
-    by true same found = placed_asked setting passed line dial _ at on choice (eqb-true line on.line same) here found
-    by false other found = dial_asked setting passed line dial past rest found
-dial_asked setting passed line dial ((at, JobOver on) ∷ past) (here, rest) is = by (line == on.line && is_dial_of on (dial_of setting.most past line)) is
+    by true same before found = placed_asked setting passed line dial _ at on choice (eqb-true line on.line same) here found
+    by false other before found = before found
+dial_asked setting passed line dial ((at, JobOver on) ∷ past) (here, rest) is = by (line == on.line && is_dial_of on (dial_of setting.most past line)) (dial_asked setting passed line dial past rest) is
   where
-    by : (b : Bool) → if◌then◌else◌ {A = Option Dial} b None (dial_of setting.most past line) ≡ Some dial → IsAsked setting passed (record { line = line; call = dial.call }) dial.route
-    by true found = absurd (none-some dial found)
-    by false found = dial_asked setting passed line dial past rest found
+    by : (b : Bool) → (dial_of setting.most past line ≡ Some dial → IsAsked setting passed (record { line = line; call = dial.call }) dial.route)
+        → if◌then◌else◌ {A = Option Dial} b None (dial_of setting.most past line) ≡ Some dial → IsAsked setting passed (record { line = line; call = dial.call }) dial.route
+    by true before found = absurd (none-some dial found)
+    by false before found = before found
 dial_asked setting passed line dial ((at, Elapsed) ∷ past) (here, rest) is = dial_asked setting passed line dial past rest is
 dial_asked setting passed line dial ((at, Came route said) ∷ past) (here, rest) is = dial_asked setting passed line dial past rest is
 dial_asked setting passed line dial ((at, Rung id on) ∷ past) (here, rest) is = dial_asked setting passed line dial past rest is
@@ -243,15 +244,15 @@ no_call : {P : Type 0} (on : LineCall) (choice : Choice) (id : ℕ) (happening :
 no_call on choice id happening same = cc (same)
 
 within_described : (setting : Setting) (id : ℕ) (event : CallEvent) (end : FaxEnd) (at : ℕ) (step : Step) → fax_in event ≡ Some end → Brings setting step (at, Within id event) → Describes setting id end step
-within_described setting id event end at (laws.Came now trunk message) is (same, known, text, reads, may) = (known, text, reads, event, may, message_says setting text text.start id event end may is)
+within_described setting id event end at (laws.Came now trunk message) is (same, (known, text, reads, may)) = (known, text, reads, event, may, message_says setting text text.start id event end may is)
 within_described setting id event end at (laws.Passed now) is (same, due) = time_says event end due is
 within_described setting id event end at (laws.Spoke it) is brings = absurd brings
 within_described setting id event end at (laws.Waited it) is brings = absurd brings
-within_described setting id event end at (laws.Ended now answer) is (same, it, brings) = absurd (answer_elsewhere it answer (Within id event) brings)
+within_described setting id event end at (laws.Ended now answer) is (same, (it, brings)) = absurd (answer_elsewhere it answer (Within id event) brings)
 within_described setting id event end at (laws.Answered now it answer) is (same, brings) = absurd (answer_elsewhere it answer (Within id event) brings)
-within_described setting id event end at (laws.Happened now line (happened.Asked job tag)) is (same, it, number, on, tagged, chosen, placed, event_is) = no_call it chosen id event event_is
-within_described setting id event end at (laws.Happened now line (happened.Ended ended ending)) is (same, it, on, event_is) = elsewhere_call (CallOver it) id event tt event_is
-within_described setting id event end at (laws.Happened now line (happened.Job report tag cause)) is (same, it, on, event_is) = elsewhere_call (JobOver it) id event tt event_is
+within_described setting id event end at (laws.Happened now line (happened.Asked job tag)) is (same, (it, number, on, tagged, (chosen, placed, event_is))) = no_call it chosen id event event_is
+within_described setting id event end at (laws.Happened now line (happened.Ended ended ending)) is (same, (it, on, event_is)) = elsewhere_call (CallOver it) id event tt event_is
+within_described setting id event end at (laws.Happened now line (happened.Job report tag cause)) is (same, (it, on, event_is)) = elsewhere_call (JobOver it) id event tt event_is
 within_described setting id event end at (laws.Happened now line (happened.Rung rung)) is (same, brings) = absurd brings
 within_described setting id event end at (laws.Happened now line (happened.NotStored lost)) is (same, brings) = absurd brings
 within_described setting id event end at (laws.Happened now line (happened.Page page tag)) is (same, brings) = absurd brings
@@ -259,7 +260,7 @@ within_described setting id event end at (laws.Happened now line (happened.Refus
 within_described setting id event end at (laws.Happened now line (happened.Dial dialled)) is (same, brings) = absurd brings
 within_described setting id event end at (laws.Happened now line (happened.Connected connected)) is (same, brings) = absurd brings
 within_described setting id event end at (laws.Stops now) is brings = absurd brings
-within_described setting id event end at (laws.Stopped now) is (same, place, event_is) = elsewhere_call (over_of place) id event (over_elsewhere place.leg _) event_is
+within_described setting id event end at (laws.Stopped now) is (same, (place, event_is)) = elsewhere_call (over_of place) id event (over_elsewhere place.leg _) event_is
 within_described setting id event end at laws.Emptied is brings = absurd brings
 
 told_described : (setting : Setting) (passed : List Step) (id : ℕ) (end : FaxEnd) (at : ℕ) (event : Event) → fax_told event id ≡ Some end → IsBrought setting passed (at, event) → SomeStep (Describes setting id end) passed

@@ -1,5 +1,5 @@
 -- A page goes to the machine that its job's number calls, whatever happens. (This project's profile.)
-use Rattle.std.specs.Prelude.{◌≡◌, ℕ, List, Option, Some, IsSome, Result, Ok}
+use Rattle.std.specs.Prelude.{◌≡◌, ℕ, List, Some, IsSome, Ok}
 use Rattle.std.specs.List.{All}
 use Rattle.fax_desk.specs.declared.told.LineEvent.TheVariants as happened
 use Rattle.fax_sip.specs.Messages.{MessageText}
