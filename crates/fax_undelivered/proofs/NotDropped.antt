@@ -5,12 +5,12 @@ use Rattle.std.proofs.lemmas.List.{append-nil}
 use Rattle.std.proofs.lemmas.Bool.Decides.{nat_tests}
 use Rattle.fax_jobs.specs.declared.outcome.Outcome.TheVariants.{Delivered}
 use Rattle.fax_jobs.specs.declared.report.Report.{Report}
+use Rattle.fax_spool.specs.Calls as spools
 use Rattle.fax_spool.specs.RecordOctets.{EndedValue, PageValue}
 use Rattle.fax_spool.specs.Spools.{AreClean, files_of}
 use Rattle.fax_spool.specs.Torn.{CallName}
 use Rattle.fax_spool.specs.Waits.{PageName, ended_by, ends, name_of, without}
 use Rattle.fax_spool.specs.declared.spool.Spool.{Spool}
-use Rattle.fax_spool.specs.Calls.{Rests}
 use Rattle.fax_queue.specs.Jobs.{AreLeft}
 use Rattle.fax_queue.specs.Queues.{QueueValue}
 use Rattle.fax_undelivered.specs.Cards.{CardValue, card_octets}
@@ -151,7 +151,7 @@ module _ {D U : Type 0} (seen : D → List ℕ) (may_leave : D → List ℕ → 
 
   module _ (line : ℕ) (report : Report) (card : CardValue) (olds news : List QueueValue) (before after : Spool D) (old : Undelivered U) (new : Option (Undelivered U)) (waits kept : List PageValue)
       (e : EndsStored seen may_leave is_usable is_clean seen_too may_leave_too is_usable_too line report card olds news before after (Some old) new) (so : e.ends.noted ≡ true)
-      (wait : Rests seen may_leave is_usable before waits) (keeps : Keeps seen_too may_leave_too is_usable_too old kept) (clean : AreClean is_clean (files_of e.read)) where
+      (wait : spools.Rests seen may_leave is_usable before waits) (keeps : Keeps seen_too may_leave_too is_usable_too old kept) (clean : AreClean is_clean (files_of e.read)) where
     may_so : (b : Bool) → e.may ≡ b → e.may ≡ true
     may_so true is = is
     may_so false is = let wrong : true ≡ false = sym so ∙ (e.owed is).0 in absurd (cc)
@@ -201,4 +201,4 @@ module _ {D U : Type 0} (seen : D → List ℕ) (may_leave : D → List ℕ → 
 
   pub failed_puts_leave_jobs : FailedPutsLeaveJobs seen may_leave is_usable is_clean seen_too may_leave_too is_usable_too
   failed_puts_leave_jobs line report card olds news before after old new waits e failed wait =
-      subst (λ (s : Spool D). Rests seen may_leave is_usable s waits) (sym (e.owed failed).1) (wait_still seen may_leave is_usable before e.read e.is_read waits wait)
+      subst (λ (s : Spool D). spools.Rests seen may_leave is_usable s waits) (sym (e.owed failed).1) (wait_still seen may_leave is_usable before e.read e.is_read waits wait)

@@ -4,12 +4,12 @@ use Rattle.std.specs.Prelude.{◌≡◌, ◌⊎◌, ◌<◌, ◌≤◌, ℕ, Boo
 use Rattle.fax_jobs.specs.declared.outcome.Outcome.TheVariants.{Delivered}
 use Rattle.fax_jobs.specs.declared.report.Report.{Report}
 use Rattle.fax_line.specs.declared.settling.LineReport.{LineReport}
+use Rattle.fax_spool.specs.Calls as spools
 use Rattle.fax_spool.specs.RecordOctets.{EndedValue, PageValue}
 use Rattle.fax_spool.specs.Spools.{AreClean, files_of}
 use Rattle.fax_spool.specs.Torn.{CallName, call_of}
 use Rattle.fax_spool.specs.Waits.{ends, name_of, without}
 use Rattle.fax_spool.specs.declared.spool.Spool.{Spool}
-use Rattle.fax_spool.specs.Calls.{Rests}
 use Rattle.fax_queue.specs.Jobs.{WaitSo}
 use Rattle.fax_queue.specs.Queues.{IsEndOf, NamesLeft, QueueValue}
 use Rattle.fax_queue.specs.Together.{EndsTogether}
@@ -165,7 +165,7 @@ StoredEndsAreEvents {D} {U} seen may_leave is_usable is_clean seen_too may_leave
     (before after : Spool D) (old : Undelivered U) (new : Option (Undelivered U))
     (waits kept : List PageValue) → (e : EndsStored seen may_leave is_usable is_clean
     seen_too may_leave_too is_usable_too line report card olds news before after (Some old) new)
-    → e.ends.noted ≡ true → Rests seen may_leave is_usable before waits
+    → e.ends.noted ≡ true → spools.Rests seen may_leave is_usable before waits
     → Keeps seen_too may_leave_too is_usable_too old kept
     → AreClean is_clean (files_of e.read) → EndsAs seen
     may_leave is_usable seen_too may_leave_too is_usable_too line report olds waits kept after new
@@ -178,8 +178,8 @@ FailedPutsLeaveJobs {D} {U} seen may_leave is_usable is_clean seen_too may_leave
     (before after : Spool D) (old new : Option (Undelivered U)) (waits : List PageValue)
     → (e : EndsStored seen may_leave is_usable
     is_clean seen_too may_leave_too is_usable_too line report card olds news before after old new)
-    → e.may ≡ false → Rests seen may_leave is_usable before waits
-    → Rests seen may_leave is_usable after waits
+    → e.may ≡ false → spools.Rests seen may_leave is_usable before waits
+    → spools.Rests seen may_leave is_usable after waits
 
 -- many ends at once, of jobs that were delivered, one after the other: of none of them a page was not
 abbrev pub delivered_ends : List EndedValue → List Event → List Event
@@ -192,6 +192,6 @@ abbrev pub EndsAtOnceAreEvents : {D : Type 0} → (D → List ℕ) → (D → Li
 EndsAtOnceAreEvents {D} seen may_leave is_usable = (jobs : List LineReport)
     (olds news : List QueueValue) (before after : Spool D) (waits kept : List PageValue)
     (e : EndsTogether seen may_leave is_usable jobs olds news before after)
-    → e.is_ok ≡ true → Rests seen may_leave is_usable before waits
+    → e.is_ok ≡ true → spools.Rests seen may_leave is_usable before waits
     → WaitSo seen may_leave is_usable after (λ told. Befell (record { first = waits; second = kept })
     (delivered_ends e.kept []) (record { first = told; second = kept }))
