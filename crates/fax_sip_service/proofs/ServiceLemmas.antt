@@ -6,8 +6,9 @@ use Rattle.fax_desk.specs.declared.next.Reply.{Reply}
 use Rattle.fax_sip.specs.declared.fault.SipFault.{SipFault}
 use Rattle.fax_sip.specs.Messages.{MessageText}
 use Rattle.fax_switch.specs.declared.event.Event.{Event}
+use Rattle.fax_switch.specs.declared.place.LineCall.{LineCall}
 use Rattle.fax_switch.specs.declared.place.Place.{Place}
-use Rattle.fax_user_agent.specs.Agents.{Agent, Hears, HearsDatagram, HearsInPart, IsQuiet, Queues}
+use Rattle.fax_user_agent.specs.Agents.{Agent, Hears, HearsDatagram, HearsDial, HearsInPart, IsQuiet, MayHearDialInPart, Queues}
 use Rattle.fax_user_agent.specs.Orders.{word_of}
 use Rattle.fax_user_agent.specs.Senders.{trunk_of}
 use Rattle.fax_user_agent.specs.declared.out.Heard.{Heard}
@@ -15,7 +16,7 @@ use Rattle.fax_user_agent.specs.declared.out.Heard.TheVariants as heard
 use Rattle.fax_user_agent.specs.declared.out.LineOrder.{LineOrder}
 use Rattle.fax_user_agent.specs.declared.out.Told.{Told}
 use Rattle.fax_sip_service.specs.declared.said.Said.{Said}
-use Rattle.fax_sip_service.specs.Services.{Service, AndCollects, Answers, AnswersIf, Collects, Does, Ends, EndsAll, EndsEach, GoesOn, GoesOnOnce, HearsFrom, IsNoted, Keeps, Leaves, Refuses, Tells, TakesNews, TakesOrders, counted, noted, over_of, without, without_news, without_words}
+use Rattle.fax_sip_service.specs.Services.{Service, AndCollects, Answers, AnswersIf, Collects, Does, DoesPart, DoesWhole, Ends, EndsAll, EndsEach, GoesOn, GoesOnOnce, HearsFrom, IsNoted, Keeps, Leaves, Refuses, Tells, TakesNews, TakesOrders, counted, noted, over_of, without, without_news, without_words}
 
 does_so : {E : Type 0} (whole part : Agent → Agent → Type 0) (outcome : Result (Unit {0}) E) (old : Service) (after : Agent)
     → Queues old.agent after → OnOk outcome (whole old.agent after) → OnErr outcome (part old.agent after) → Does whole part old (noted outcome (record old { agent = after }))
@@ -31,6 +32,18 @@ does whole part outcome seen old after new is queues ok err notes =
 pub tells : {E : Type 0} (now : ℕ) (event : Event) (outcome : Result (Unit {0}) E) (seen old : Service) (after : Agent) (new : Service)
     → seen ≡ old → Queues seen.agent after → OnOk outcome (Hears now event seen.agent after) → OnErr outcome (HearsInPart now event seen.agent after) → new ≡ noted outcome (record seen { agent = after }) → Tells now event old new
 tells now event = does (Hears now event) (HearsInPart now event)
+
+-- the agent was told to call the number that these octets are
+pub dials_whole : (now : ℕ) (on : LineCall) (octets number : List ℕ) (seen old : Service) (after : Agent)
+    → seen ≡ old → octets ≡ number → Queues seen.agent after → HearsDial now on octets seen.agent after → DoesWhole (HearsDial now on number) old (record seen { agent = after })
+dials_whole now on octets number seen old after is same queues done =
+    subst (λ s. DoesWhole (HearsDial now on number) s (record seen { agent = after })) is (record { rest = refl; queues = queues; done = subst (λ (n : List ℕ). HearsDial now on n seen.agent after) same done })
+
+pub dials_part : (now : ℕ) (on : LineCall) (octets number : List ℕ) (seen old : Service) (after : Agent) (new : Service)
+    → seen ≡ old → octets ≡ number → Queues seen.agent after → MayHearDialInPart now on octets seen.agent after → new ≡ record seen { agent = after; lost = counted seen.lost } → DoesPart (MayHearDialInPart now on number) old new
+dials_part now on octets number seen old after new is same queues done notes =
+    subst (λ s. DoesPart (MayHearDialInPart now on number) s new) is (subst (λ s. DoesPart (MayHearDialInPart now on number) seen s) (sym notes)
+    (record { rest = refl; queues = queues; done = subst (λ (n : List ℕ). MayHearDialInPart now on n seen.agent after) same done }))
 
 -- orders and news were taken
 pub collects : (now : ℕ) (orders : List LineOrder) (news : List Told) (old given taken late new : Service)
